@@ -1,0 +1,45 @@
+-- Worked examples of fields in two's complement and in two parts.
+use Rattle.std.proofs.Common.{◌≡◌, ℕ, List, [], ◌∷◌, refl}
+use Rattle.std.specs.Prelude.{ℤ, pos, neg_ℤ, map, Option, Some, find, codes, bytes_eq, replicate, option_and_then, option_map}
+use Rattle.definitions.specs.Frames.{Subframe}
+use Rattle.definitions.specs.Fields.{Field, clock_fields, eph2_fields, almanac_fields, field_of}
+use Rattle.definitions.specs.Pages.{Page, page_of}
+
+-- the field of a table by its name
+abbrev value_in : List Field → List ℕ → Subframe → Option ℤ
+value_in fields name s = option_and_then (field_of s) (find (λ (f : Field). bytes_eq f.name name) fields)
+
+abbrev words : List ℕ → Subframe
+words data_words = record { words = map (λ w. Some w) data_words }
+
+tgd_of_clock : value_in clock_fields (codes "tgd") (words (0x8b0000 ∷ 0x84 ∷ 0 ∷ 0 ∷ 0 ∷ 0 ∷ 0x80 ∷ 0 ∷ 0 ∷ 0 ∷ [])) ≡ Some (neg_ℤ (pos 128))
+unfolding field_of
+tgd_of_clock = refl
+
+abbrev second_subframe : Subframe
+second_subframe = words (0x8b0000 ∷ 0x88 ∷ 0 ∷ 0x80 ∷ 0 ∷ 0xff ∷ 0xffffff ∷ 0 ∷ 0 ∷ 0 ∷ [])
+
+mean_anomaly : value_in eph2_fields (codes "m0") second_subframe ≡ Some (neg_ℤ (pos 2147483648))
+unfolding field_of
+mean_anomaly = refl
+
+eccentricity : value_in eph2_fields (codes "e") second_subframe ≡ Some (pos 4294967295)
+unfolding field_of
+eccentricity = refl
+
+abbrev almanac_subframe : Subframe
+almanac_subframe = words (0x8b0000 ∷ 0x94 ∷ 0 ∷ 0 ∷ 0 ∷ 0 ∷ 0 ∷ 0 ∷ 0 ∷ 0x800004 ∷ [])
+
+almanac_clock_offset : value_in almanac_fields (codes "af0") almanac_subframe ≡ Some (neg_ℤ (pos 1023))
+unfolding field_of
+almanac_clock_offset = refl
+
+almanac_clock_drift : value_in almanac_fields (codes "af1") almanac_subframe ≡ Some (pos 0)
+unfolding field_of
+almanac_clock_drift = refl
+
+-- an almanac page of satellite 5 with time of applicability 7
+almanac_page : option_map (λ (p : Page). p.values) (page_of (words (0x8b0000 ∷ 0x94 ∷ 0x450000 ∷ 0x070000 ∷ 0 ∷ 0 ∷ 0 ∷ 0 ∷ 0 ∷ 0 ∷ [])))
+    ≡ Some (pos 1 ∷ pos 5 ∷ pos 0 ∷ pos 7 ∷ replicate 9 (pos 0))
+unfolding page_of
+almanac_page = refl
