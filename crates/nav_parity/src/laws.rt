@@ -1,0 +1,28 @@
+//! What holds of all words (IS-GPS-200, section 20.3.5). Each law is a call that does nothing, and
+//! promises it.
+
+ghost use Rattle.nav_parity.specs.Laws.{DetectsThreeErrors, IsHarmlessInverted, EachDataHaveAWord, EachWordIsEncoded};
+
+/// Where a word passes, no word that differs from it in one, two or three bits passes with the same
+/// prior.
+pub fn three_errors_are_detected()
+    ensures { DetectsThreeErrors }
+{}
+
+/// A word and its prior with all bits inverted, as a receiver may see them, pass alike and have the
+/// same data.
+pub fn inversion_is_harmless()
+    ensures { IsHarmlessInverted }
+{}
+
+/// `check` of `encode` gives the data back: with each prior, each 24 bits have one word, which
+/// checks to them.
+pub fn check_of_encode()
+    ensures { EachDataHaveAWord }
+{}
+
+/// `encode` of `check` gives the word back: a word that passes is the one word for its data, and
+/// these are below 2 ^ 24.
+pub fn encode_of_check()
+    ensures { EachWordIsEncoded }
+{}

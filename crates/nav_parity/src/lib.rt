@@ -1,0 +1,18 @@
+//! The parity of the words of GPS navigation data (IS-GPS-200, section 20.3.5).
+//!
+//! [`check`] takes a word and the last two bits of the word before, and gives the 24 bits of data
+//! exactly where the six parity equations hold; [`encode`] gives the one word that passes with such
+//! bits and has these data. Both are promised against the table of the standard, and beside them
+//! stand laws on all words: what passes does not pass any more with one, two or three bits changed,
+//! and a receiver that sees every bit inverted reads the same.
+#![tactic(auto)]
+
+mod laws;
+mod parity;
+#[cfg(test)]
+mod tests;
+
+pub use laws::{
+    check_of_encode, encode_of_check, inversion_is_harmless, three_errors_are_detected,
+};
+pub use parity::{check, encode};
