@@ -23,3 +23,5 @@ pub mod DueLemmas
 pub mod StretchLemmas
 pub mod SampleLemmas
 pub mod TellLemmas
+pub mod GreatestLemmas
+pub mod LaterLemmas

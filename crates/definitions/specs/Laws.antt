@@ -6,13 +6,13 @@ use Rattle.definitions.specs.Samples.{Sample, real}
 use Rattle.definitions.specs.Oscillators.{Settings}
 use Rattle.definitions.specs.Correlation.{Replica, in_phase_sum, quadrature_sum, six_sums, added}
 use Rattle.definitions.specs.Segments.{Channel, Dump, dumps_of, progress, followed}
-use Rattle.definitions.specs.Acquisition.{Plan, dwell_end, result_of}
+use Rattle.definitions.specs.Acquisition.{Plan, cell_count, bin_of, half_chip_of, named_cell, dwell_end, result_of}
 use Rattle.definitions.specs.BitEdge.{edge_of}
 use Rattle.definitions.specs.Parity.{passes, data_of}
 use Rattle.definitions.specs.Frames.{Found, starts_of, subframe_at, found_by, word_at, prior_at}
 use Rattle.definitions.specs.Commands.{TimedRequest, Start}
 use Rattle.definitions.specs.Lines.{lines_of, as_bytes}
-use Rattle.definitions.specs.Texts.{for_client}
+use Rattle.definitions.specs.Texts.{for_client, at_time}
 use Rattle.definitions.specs.Lives.{is_over, life_of, life_after}
 use Rattle.definitions.specs.Answers.{answer_at_end, refused}
 use Rattle.definitions.specs.Receiver.{Client, Profile, alone, alone_to_end, lines_alone_at, lines_at, body_lines, body, full, lines_of_client}
@@ -50,6 +50,15 @@ abbrev pub BodyGrows : Type 0
 BodyGrows = (profile : Profile) (settings : Settings) (clients : List Client) (xs ys : List Sample)
     → BeginsWith (body profile settings (xs ++ ys) clients) (body profile settings xs clients)
 
+-- A client's line at a time after t.
+abbrev pub IsLaterThan : ℕ → List ℕ → Type 0
+IsLaterThan t line = (client : ℕ) × (time : ℕ) × (text : List ℕ) × (t < time) × (line ≡ for_client client (at_time time text))
+
+-- More samples add lines of later times alone: a line rests on the samples before its time.
+abbrev pub MoreSamplesTellLater : Type 0
+MoreSamplesTellLater = (profile : Profile) (settings : Settings) (clients : List Client) (xs ys : List Sample)
+    → (rest : List (List ℕ)) × (body_lines profile settings (xs ++ ys) clients ≡ body_lines profile settings xs clients ++ rest) × AllByRecursion (IsLaterThan (length xs)) rest
+
 -- The whole text begins with the text without the ends.
 abbrev pub FullBeginsWithBody : Type 0
 FullBeginsWithBody = (profile : Profile) (settings : Settings) (clients : List Client) (xs : List Sample)
@@ -86,6 +95,18 @@ EndsStay = (settings : Settings) (xs ys : List Sample) (begun : ℕ) (start : St
 abbrev pub AcquisitionsStay : Type 0
 AcquisitionsStay = (settings : Settings) (plan : Plan) (xs ys : List Sample) (start : ℕ) → dwell_end settings plan start ≤ length xs
     → result_of settings plan (xs ++ ys) start ≡ result_of settings plan xs start
+
+-- Of the first count cells, the first that none of them exceeds.
+pub record IsFirstGreatest (power : ℕ → ℕ) (count named : ℕ) : Type 0 where
+  pub is_cell : named < count
+  pub none_exceeds : (k : ℕ) → k < count → power k ≤ power named
+  pub none_before : (k : ℕ) → k < named → power k < power named
+
+-- The cell that is named has a power that no cell exceeds, and no earlier cell has the same.
+abbrev pub NamedCellIsGreatest : Type 0
+NamedCellIsGreatest = (plan : Plan) (power : ℕ → ℕ)
+    → (named : ℕ) × IsFirstGreatest power (cell_count plan) named × ((named_cell plan power).bin ≡ bin_of plan named)
+    × ((named_cell plan power).half_chip ≡ half_chip_of named) × ((named_cell plan power).power ≡ power named)
 
 -- The dumps of more samples begin with those of fewer.
 abbrev pub DumpsStay : Type 0
