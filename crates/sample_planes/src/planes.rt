@@ -26,7 +26,8 @@ impl Model for Planes {
 impl Planes {
     /// How many samples there are: 0 to 1,024.
     pub fn len(&self) -> usize
-        ensures { result ≡ length self.now }
+        ensures count { result ≡ length self.now }
+        ensures most { result ≤ 1024 }
     {
         self.len
     }
@@ -37,6 +38,7 @@ impl Planes {
         ensures value { result ≡ (sample_at self.now i).in_phase }
         ensures real_sample { (sample_at self.now i).quadrature ≡ pos 0 }
         ensures small { unsigned_abs result ≤ 3 }
+        ensures in_run { i < 1024 }
     {
         self.values[i]
     }

@@ -1,0 +1,14 @@
+//! The sums of a correlator over a run of samples: samples times the conjugate of a carrier, times the chips of a code.
+//!
+//! `six_sums` gives the sums with the early, prompt and late chips, in phase and in quadrature, and `pair_sum` those with the prompt
+//! chips alone. Both are proved to be the plain sums over every range of the run. (IS-GPS-200 has the signal alone; how a receiver
+//! correlates with it is this project's own.)
+#![tactic(auto)]
+
+mod counts;
+mod sums;
+#[cfg(test)]
+mod tests;
+
+pub use counts::Counts;
+pub use sums::{pair_sum, six_sums};

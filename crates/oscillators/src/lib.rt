@@ -1,0 +1,23 @@
+//! The settings of a recording, and the oscillators that follow a satellite's carrier and code through its samples.
+//!
+//! `Settings` gives the steps for a Doppler shift; `CarrierOsc` and `CodeOsc` keep a phase, step it on, and give the replica of up to
+//! 1,024 samples as planes. Each step, phase and value is proved to be that of its definition, for every step of 32 bits.
+#![tactic(auto)]
+
+mod carrier;
+mod chip_signs;
+mod code;
+mod doppler;
+mod half_chip;
+mod settings;
+#[cfg(test)]
+mod tests;
+
+pub use carrier::{CarrierOsc, CarrierPlanes};
+pub use code::{CodeOsc, CodePlanes};
+pub use doppler::Doppler;
+pub use half_chip::HalfChip;
+pub use settings::{Settings, SettingsFault};
+
+/// The most samples that planes hold.
+pub const MAX_SAMPLES: usize = 1024;
