@@ -46,15 +46,27 @@ integer values i = get_or values i (pos 0)
 abbrev pub plan_of : List ℤ → Plan
 plan_of values = record { prn = number values 0; centre = integer values 1; bins = number values 2; dwell = number values 3; threshold = number values 4 }
 
+abbrev pub hold_verb : Verb
+hold_verb = record { name = codes "hold"; ranges = up_to 1 32 ∷ around_zero 16000 ∷ up_to 0 2045 ∷ []; meaning = λ v. begin (hold (number v 0) (integer v 1) (number v 2)) }
+
+abbrev pub track_verb : Verb
+track_verb = record { name = codes "track"; ranges = up_to 1 32 ∷ around_zero 16000 ∷ up_to 0 2045 ∷ []; meaning = λ v. begin (track (number v 0) (integer v 1) (number v 2)) }
+
+abbrev pub acquire_verb : Verb
+acquire_verb = record { name = codes "acquire"; ranges = up_to 1 32 ∷ around_zero 6000 ∷ up_to 0 40 ∷ up_to 1 10 ∷ up_to 1 1000 ∷ []; meaning = λ v. begin (acquire (plan_of v)) }
+
+abbrev pub counts_verb : Verb
+counts_verb = record { name = codes "counts"; ranges = up_to 0 1000000 ∷ []; meaning = λ v. counts (number v 0) }
+
+abbrev pub state_verb : Verb
+state_verb = record { name = codes "state"; ranges = []; meaning = λ v. state }
+
+abbrev pub stop_verb : Verb
+stop_verb = record { name = codes "stop"; ranges = []; meaning = λ v. stop }
+
 -- all six verbs. A receiver that knows fewer of them has a shorter table
 abbrev pub verbs : List Verb
-verbs = record { name = codes "hold"; ranges = up_to 1 32 ∷ around_zero 16000 ∷ up_to 0 2045 ∷ []; meaning = λ v. begin (hold (number v 0) (integer v 1) (number v 2)) }
-    ∷ record { name = codes "track"; ranges = up_to 1 32 ∷ around_zero 16000 ∷ up_to 0 2045 ∷ []; meaning = λ v. begin (track (number v 0) (integer v 1) (number v 2)) }
-    ∷ record { name = codes "acquire"; ranges = up_to 1 32 ∷ around_zero 6000 ∷ up_to 0 40 ∷ up_to 1 10 ∷ up_to 1 1000 ∷ []; meaning = λ v. begin (acquire (plan_of v)) }
-    ∷ record { name = codes "counts"; ranges = up_to 0 1000000 ∷ []; meaning = λ v. counts (number v 0) }
-    ∷ record { name = codes "state"; ranges = []; meaning = λ v. state }
-    ∷ record { name = codes "stop"; ranges = []; meaning = λ v. stop }
-    ∷ []
+verbs = hold_verb ∷ track_verb ∷ acquire_verb ∷ counts_verb ∷ state_verb ∷ stop_verb ∷ []
 
 -- a value behind the others, or the refusal that came first
 abbrev pub with_value : ℤ → Result (List ℤ) ℕ → Result (List ℤ) ℕ
