@@ -3,17 +3,17 @@ ghost use Rattle.std.specs.List.{range_with_len};
 ghost use Rattle.definitions.specs.Oscillators.{carrier_phase_after, cosine, sine};
 ghost use Rattle.oscillators.specs.Views.{Oscillation, CarrierViews};
 
-use crate::MAX_SAMPLES;
+use sample_planes::MAX_SAMPLES;
 use std::marker::Model;
 
-/// The cosine at each eighth of a cycle, to one of the sizes 1 and 2.
+/// The cosine in each eighth of a cycle, rounded to the sizes 1 and 2.
 const COSINES: [i8; 8] = [2, 1, -1, -2, -2, -1, 1, 2];
 
-/// The sine at each eighth of a cycle, to one of the sizes 1 and 2.
+/// The sine in each eighth of a cycle, rounded to the sizes 1 and 2.
 const SINES: [i8; 8] = [1, 2, 2, 1, -1, -2, -2, -1];
 
-/// An oscillator at the carrier's frequency. Its phase is in 2^-32 cycle, and its step is what a sample adds to it. Both are this
-/// project's own.
+/// An oscillator at the carrier's frequency. Its phase is in 2^-32 cycle, from 0 to below 2^32, and its step is what a sample adds to
+/// it. The fixed-point form and the values of `planes` are this project's own.
 #[derive(Clone, Copy, Debug, PartialEq, Eq)]
 pub struct CarrierOsc {
     phase: u32,
@@ -40,7 +40,7 @@ impl CarrierOsc {
     pub fn advance(&mut self, n: u64)
         ensures { self.new ≡ record self.old { phase = carrier_phase_after self.old.phase self.old.step n } }
     {
-        // Whole cycles add nothing.
+        // 2^32 samples add whole cycles, whatever the step, and so nothing.
         let turns = (n % (1 << 32)) as u32;
         self.phase = self.phase.wrapping_add(turns.wrapping_mul(self.step));
     }
@@ -52,7 +52,7 @@ impl CarrierOsc {
         self.step = step;
     }
 
-    /// The carrier at this sample and the `n` - 1 behind it; `n` is at most 1,024. The oscillator stays where it is.
+    /// Cosine and sine at this sample and the `n` - 1 that follow; `n` is at most 1,024. The oscillator stays where it is.
     pub fn planes(&self, n: usize) -> CarrierPlanes
         requires { n ≤ 1024 }
         ensures cos_len { length result.cos ≡ n }

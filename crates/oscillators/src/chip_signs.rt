@@ -2,8 +2,8 @@ ghost use Rattle.std.specs.Prelude.{◌≡◌, ◌*◌, ◌+◌, ◌/◌, ◌%�
 ghost use Rattle.std.specs.List.{range_with_len};
 ghost use Rattle.definitions.specs.Oscillators.{code_cycle, code_phase_after, prompt_sign};
 
-use crate::MAX_SAMPLES;
 use ca_codes::{CodeBook, Prn};
+use sample_planes::MAX_SAMPLES;
 
 /// The code's cycle of 1,023 chips, in 2^-32 chip.
 pub(crate) const CODE_CYCLE: u64 = 1023 << 32;

@@ -3,10 +3,10 @@ ghost use Rattle.std.specs.List.{range_with_len};
 ghost use Rattle.definitions.specs.Oscillators.{code_cycle, code_phase_after, early_sign, prompt_sign, late_sign};
 ghost use Rattle.oscillators.specs.Views.{Oscillation, CodeViews};
 
-use crate::MAX_SAMPLES;
 use crate::chip_signs::{CODE_CYCLE, signs_of};
 use crate::half_chip::HalfChip;
 use ca_codes::{CodeBook, Prn};
+use sample_planes::MAX_SAMPLES;
 use std::marker::Model;
 
 /// Half a chip, in 2^-32 chip.
@@ -90,9 +90,9 @@ impl CodeOsc {
         self.phase = (phase % CODE_CYCLE as u128) as u64;
     }
 
-    /// The signs of a satellite's chips at this sample and the `n` - 1 behind it, at the phase and half a chip ahead and behind; `n` is
-    /// at most 1,024. The code goes round as often as the samples take it round. The oscillator stays where it is, and the book stands
-    /// for the codes as before.
+    /// The signs of a satellite's chips at this sample and the `n` - 1 that follow: at the phase, half a chip ahead of it and half a chip
+    /// behind; `n` is at most 1,024. The code goes round as often as the samples take it round. The oscillator stays where it is, and
+    /// the book stands for the codes as before.
     pub fn planes(&self, n: usize, book: &mut CodeBook, prn: Prn) -> CodePlanes
         requires { n ≤ 1024 }
         ensures early_len { length result.early ≡ n }
@@ -113,8 +113,8 @@ impl CodeOsc {
     }
 }
 
-/// The signs of a code's chips, +1 for 0 and -1 for 1, at a run of at most 1,024 samples: half a chip ahead, in time and half a chip
-/// behind.
+/// The signs of a code's chips, +1 for 0 and -1 for 1, at a run of at most 1,024 samples: half a chip ahead (early), in time
+/// (prompt) and half a chip behind (late).
 #[derive(Drop)]
 pub struct CodePlanes {
     early: [i8; MAX_SAMPLES],

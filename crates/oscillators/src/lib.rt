@@ -18,6 +18,3 @@ pub use code::{CodeOsc, CodePlanes};
 pub use doppler::Doppler;
 pub use half_chip::HalfChip;
 pub use settings::{Settings, SettingsFault};
-
-/// The most samples that planes hold.
-pub const MAX_SAMPLES: usize = 1024;
