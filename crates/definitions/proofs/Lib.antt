@@ -25,3 +25,4 @@ pub mod SampleLemmas
 pub mod TellLemmas
 pub mod GreatestLemmas
 pub mod LaterLemmas
+pub mod EntryLemmas
