@@ -1,0 +1,4 @@
+pub mod CountLemmas
+pub mod ChangeLemmas
+pub mod SearchLemmas
+pub mod BitsLemmas

@@ -1,0 +1,77 @@
+ghost use Rattle.std.specs.Prelude.{◌≡◌, ◌^◌, ◌≤◌, unsigned_abs, ℤ, List, [], ◌∷◌, ◌++◌};
+
+use crate::bit_sum::BitSum;
+use crate::edge_search::EdgeSearch;
+
+/// What a prompt sum tells that is pushed.
+#[derive(Debug, Clone, Copy, PartialEq, Eq)]
+pub enum BitNews {
+    /// Neither an edge nor a whole bit.
+    Nothing,
+    /// The push is the first of bit 0. It comes once, before all bits.
+    Edge,
+    /// The push is the last of a bit's 20. `true` stands for 1, where they sum up to less than zero.
+    Bit(bool),
+}
+
+#[derive(Debug, Drop)]
+enum Stage {
+    Searching(EdgeSearch),
+    Summing(BitSum),
+}
+
+/// Finds the data bits among the prompt sums of a channel that is locked, one sum (a code period, 1 ms) a push.
+///
+/// How the edge is found is this project's own: a change is a push whose sign isn't that of the push before it, and the edge is a
+/// change that is the sixteenth at its place modulo 20. Where two places have four changes or more, all are counted anew.
+#[derive(Debug, Drop)]
+pub struct BitSync {
+    stage: Stage,
+}
+
+impl BitSync {
+    ghost use Rattle.definitions.specs.BitEdge.{has_edge};
+    ghost use Rattle.bit_sync.specs.Standing.{StandsFor};
+    ghost use Rattle.bit_sync.specs.News.{Tells};
+
+    /// Stands for no pushes.
+    pub fn new() -> Self
+        ensures { StandsFor [] result }
+    {
+        BitSync {
+            stage: Stage::Searching(EdgeSearch::new()),
+        }
+    }
+
+    /// Takes the next prompt sum in phase, at most 2^18 in size. There may be any number of pushes.
+    pub fn push(&mut self, ip: i32) -> BitNews
+        requires { unsigned_abs ip ≤ 2 ^ 18 }
+        ensures stands { (pushes : List ℤ) → StandsFor pushes self.old → StandsFor (pushes ++ ip ∷ []) self.new }
+        ensures tells { (pushes : List ℤ) → StandsFor pushes self.old → Tells pushes (pushes ++ ip ∷ []) result }
+    {
+        match &mut self.stage {
+            Stage::Searching(search) => {
+                if search.push(ip) {
+                    self.stage = Stage::Summing(BitSum::begun_with(ip));
+                    BitNews::Edge
+                } else {
+                    BitNews::Nothing
+                }
+            }
+            Stage::Summing(sum) => match sum.push(ip) {
+                Some(bit) => BitNews::Bit(bit),
+                None => BitNews::Nothing,
+            },
+        }
+    }
+
+    /// Says whether the edge is among the pushes.
+    pub fn has_edge(&self) -> bool
+        ensures { (pushes : List ℤ) → StandsFor pushes self.now → result ≡ has_edge pushes }
+    {
+        match &self.stage {
+            Stage::Searching(_) => false,
+            Stage::Summing(_) => true,
+        }
+    }
+}

@@ -1,0 +1,86 @@
+ghost use Rattle.std.specs.Prelude.{◌≡◌, ◌<◌, ◌+◌, ℕ, ℤ, List, [], ◌∷◌, ◌++◌, length, slice_index, nat_le, count_by, false};
+ghost use Rattle.bit_sync.specs.Changes.{sign_turns};
+
+/// Places in a bit: the 20 code periods of one (IS-GPS-200, section 3.2.2).
+const PLACES: usize = 20;
+
+/// So many changes at one place make the last of them the edge. (This project's own, as is all of the search.)
+const EDGE_CHANGES: u8 = 16;
+
+/// A place with so many changes is a candidate.
+const CANDIDATE_CHANGES: u8 = 4;
+
+/// With so many candidates all changes are counted anew.
+const CROWDED_CANDIDATES: usize = 2;
+
+/// The search for the first push of bit 0.
+#[derive(Debug, Drop)]
+pub struct EdgeSearch {
+    /// The number of pushes, modulo 20, since there is no bound on it.
+    place: usize,
+    /// Whether the last push is below zero. Before the first push there is none.
+    last: Option<bool>,
+    /// The changes at each place since they were last counted anew.
+    changes: [u8; PLACES],
+    ghost place_in_range: { place < 20 },
+    ghost changes_in_range: { (at : ℕ) → at < 20 → slice_index changes at < 16 },
+}
+
+impl EdgeSearch {
+    ghost use Rattle.definitions.specs.BitEdge.{is_edge};
+    ghost use Rattle.bit_sync.specs.Standing.{IsSearching};
+
+    /// Stands for no pushes.
+    pub fn new() -> Self
+        ensures { IsSearching [] result }
+    {
+        EdgeSearch {
+            place: 0,
+            last: None,
+            changes: [0; PLACES],
+        }
+    }
+
+    /// Takes the next push and says whether it is the edge. Where it is, the search is over.
+    pub fn push(&mut self, ip: i32) -> bool
+        ensures found { (pushes : List ℤ) → IsSearching pushes self.old
+            → is_edge (pushes ++ ip ∷ []) (length pushes) ≡ result }
+        ensures goes_on { (pushes : List ℤ) → IsSearching pushes self.old
+            → result ≡ false → IsSearching (pushes ++ ip ∷ []) self.new }
+    {
+        let is_negative = ip < 0;
+        let is_change = turns(self.last, is_negative);
+        let place = self.place;
+        self.last = Some(is_negative);
+        self.place = (self.place + 1) % PLACES;
+        if !is_change {
+            return false;
+        }
+        let changes = self.changes[place] + 1;
+        if changes == EDGE_CHANGES {
+            return true;
+        }
+        self.changes[place] = changes;
+        if is_crowded(&self.changes) {
+            self.changes = [0; PLACES];
+        }
+        false
+    }
+}
+
+/// Says whether a push's sign isn't that of the push before it. The first push has none before it.
+fn turns(last: Option<bool>, is_negative: bool) -> bool
+    ensures { result ≡ sign_turns last is_negative }
+{
+    match last {
+        Some(last) => last != is_negative,
+        None => false,
+    }
+}
+
+/// Says whether two places are candidates.
+fn is_crowded(changes: &[u8; PLACES]) -> bool
+    ensures { result ≡ nat_le 2 (count_by (λ n. nat_le 4 n) changes.now) }
+{
+    changes.iter().filter(|n| **n >= CANDIDATE_CHANGES).count() >= CROWDED_CANDIDATES
+}

@@ -1,0 +1,3 @@
+pub mod NewsIn
+pub mod Windows
+pub mod Standing

@@ -1,0 +1,103 @@
+ghost use Rattle.std.specs.Prelude.{◌≡◌, ◌^◌, ◌≤◌, ◌+◌, ◌*◌, ℤ, ◌*ℤ◌, ◌+ℤ◌, ◌-ℤ◌, unsigned_abs};
+ghost use Rattle.definitions.specs.Loops.{sgn, ratio as ratio_of, frequency_error as frequency_error_of, phase_error as phase_error_of, code_error as code_error_of};
+ghost use Rattle.lane_correlator.specs.Counting.{counts_in, AreWithin};
+
+use lane_correlator::Counts;
+
+/// An error is a quotient of -1 to 1, in so many units of one.
+const UNITS: i64 = 4096;
+
+/// The turn of the carrier from one dump to the next.
+pub fn frequency_error(before: &Counts, counts: &Counts) -> i64
+    requires before_small { AreWithin (2 ^ 18) (counts_in before.now) }
+    requires counts_small { AreWithin (2 ^ 18) (counts_in counts.now) }
+    ensures is { result ≡ frequency_error_of (counts_in before.now) (counts_in counts.now) }
+    ensures small { unsigned_abs result ≤ 4096 }
+{
+    let cross = cross(before, counts);
+    let dot = dot(before, counts);
+    let size = cross.unsigned_abs() + dot.unsigned_abs();
+    ratio(signed(cross, dot), size)
+}
+
+/// How far the prompt sum is turned away from the in-phase axis.
+pub fn phase_error(counts: &Counts) -> i64
+    requires { AreWithin (2 ^ 18) (counts_in counts.now) }
+    ensures is { result ≡ phase_error_of (counts_in counts.now) }
+    ensures small { unsigned_abs result ≤ 4096 }
+{
+    let in_phase = i64::from(counts.ip);
+    let quadrature = i64::from(counts.qp);
+    let size = in_phase.unsigned_abs() + quadrature.unsigned_abs();
+    ratio(signed(quadrature, in_phase), size)
+}
+
+/// How much more power the early chips have than the late ones.
+pub fn code_error(counts: &Counts) -> i64
+    requires { AreWithin (2 ^ 18) (counts_in counts.now) }
+    ensures is { result ≡ code_error_of (counts_in counts.now) }
+    ensures small { unsigned_abs result ≤ 4096 }
+{
+    let early = power(counts.ie, counts.qe);
+    let late = power(counts.il, counts.ql);
+    let size = early.unsigned_abs() + late.unsigned_abs();
+    ratio(early - late, size)
+}
+
+/// What part of `size` `a` is, in units, rounded toward minus infinity. Of a size of 0 it is 0.
+fn ratio(a: i64, size: u64) -> i64
+    requires within { unsigned_abs a ≤ size }
+    requires fits { size ≤ 2 ^ 38 }
+    ensures is { result ≡ ratio_of a size }
+    ensures small { unsigned_abs result ≤ 4096 }
+{
+    (UNITS * a).div_euclid(size.max(1) as i64)
+}
+
+/// `a`, or `-a` where `by` is below zero.
+fn signed(a: i64, by: i64) -> i64
+    requires { unsigned_abs a ≤ 2 ^ 38 }
+    ensures is { result ≡ a *ℤ sgn by }
+    ensures size { unsigned_abs result ≡ unsigned_abs a }
+{
+    if by < 0 { -a } else { a }
+}
+
+/// The cross product of two prompt sums.
+fn cross(before: &Counts, counts: &Counts) -> i64
+    requires before_small { AreWithin (2 ^ 18) (counts_in before.now) }
+    requires counts_small { AreWithin (2 ^ 18) (counts_in counts.now) }
+    ensures is { result ≡ before.now.ip *ℤ counts.now.qp -ℤ counts.now.ip *ℤ before.now.qp }
+    ensures small { unsigned_abs result ≤ 2 ^ 37 }
+{
+    product(before.ip, counts.qp) - product(counts.ip, before.qp)
+}
+
+/// Their scalar product.
+fn dot(before: &Counts, counts: &Counts) -> i64
+    requires before_small { AreWithin (2 ^ 18) (counts_in before.now) }
+    requires counts_small { AreWithin (2 ^ 18) (counts_in counts.now) }
+    ensures is { result ≡ before.now.ip *ℤ counts.now.ip +ℤ before.now.qp *ℤ counts.now.qp }
+    ensures small { unsigned_abs result ≤ 2 ^ 37 }
+{
+    product(before.ip, counts.ip) + product(before.qp, counts.qp)
+}
+
+/// The power of a sum with these parts.
+fn power(in_phase: i32, quadrature: i32) -> i64
+    requires in_phase_in { unsigned_abs in_phase ≤ 2 ^ 18 }
+    requires quadrature_in { unsigned_abs quadrature ≤ 2 ^ 18 }
+    ensures is { result ≡ in_phase *ℤ in_phase +ℤ quadrature *ℤ quadrature }
+    ensures small { unsigned_abs result ≤ 2 ^ 37 }
+{
+    product(in_phase, in_phase) + product(quadrature, quadrature)
+}
+
+fn product(a: i32, b: i32) -> i64
+    requires a_in { unsigned_abs a ≤ 2 ^ 18 }
+    requires b_in { unsigned_abs b ≤ 2 ^ 18 }
+    ensures is { result ≡ a *ℤ b }
+    ensures small { unsigned_abs result ≤ 2 ^ 36 }
+{
+    i64::from(a) * i64::from(b)
+}

@@ -1,0 +1,98 @@
+ghost use Rattle.std.specs.Prelude.{◌≡◌, ◌^◌, ◌≤◌, ◌<◌, unsigned_abs};
+ghost use Rattle.definitions.specs.Loops.{loops_start, loops_after_dump, clamped as clamped_to};
+ghost use Rattle.lane_correlator.specs.Counting.{counts_in, AreWithin};
+
+use crate::discriminators::{code_error, frequency_error, phase_error};
+use lane_correlator::Counts;
+
+/// The first dump, numbered from 1, that holds the phase. Those before it pull the frequency in.
+pub const FIRST_HOLDING: u64 = 200;
+
+/// The carrier's shift is kept within this size, in 1/65536 Hz: 16,384 Hz.
+const SHIFT_LIMIT: i64 = 1 << 30;
+
+/// What a frequency error of one unit moves the shift by, while the frequency is pulled in.
+const PULLING_GAIN: i64 = 160;
+
+/// What a phase error of one unit moves the shift by for good.
+const SLOW_GAIN: i64 = 6;
+
+/// And what it moves it by until the next dump.
+const FAST_GAIN: i64 = 170;
+
+/// What a code error of one unit makes the correction of the code's rate.
+const CODE_GAIN: i64 = 16;
+
+/// What the dumps so far make of the shift.
+#[derive(Debug, Drop)]
+pub struct Steering {
+    /// How many were taken.
+    pub dumps: u64,
+    /// The last of them; before the first all six sums are 0.
+    last: Counts,
+    /// The part of `v` that stays until the next dump.
+    u: i64,
+    /// The carrier's shift, in 1/65536 Hz.
+    pub v: i64,
+    /// The correction of the code's rate, in 1/65536 chip a second.
+    pub w: i64,
+    ghost last_is_small: { AreWithin (2 ^ 18) (counts_in last) },
+    ghost u_in_range: { unsigned_abs u ≤ 2 ^ 30 },
+    ghost v_in_range: { unsigned_abs v ≤ 2 ^ 30 },
+    ghost w_in_range: { unsigned_abs w ≤ 2 ^ 16 },
+}
+
+impl Steering {
+    ghost use Rattle.tracking_loops.specs.Standing.{steering_in};
+
+    /// Begins with the shift `v`, and no dumps.
+    pub fn start(v: i64) -> Self
+        requires { unsigned_abs v ≤ 2 ^ 30 }
+        ensures { steering_in result ≡ loops_start v }
+    {
+        Steering {
+            dumps: 0,
+            last: Counts::NONE,
+            u: v,
+            v,
+            w: 0,
+        }
+    }
+
+    /// Takes the next dump.
+    pub fn take(&mut self, counts: Counts)
+        requires small { AreWithin (2 ^ 18) (counts_in counts) }
+        requires room { self.old.dumps < 2 ^ 40 }
+        ensures { steering_in self.new ≡ loops_after_dump (steering_in self.old) (counts_in counts) }
+    {
+        (self.u, self.v) = self.carrier_with(&counts);
+        self.dumps += 1;
+        self.w = CODE_GAIN * code_error(&counts);
+        self.last = counts;
+    }
+
+    /// The new `u` and `v`, with one more dump.
+    fn carrier_with(&self, counts: &Counts) -> (i64, i64)
+        requires small { AreWithin (2 ^ 18) (counts_in counts.now) }
+        requires room { self.now.dumps < 2 ^ 40 }
+        ensures u { result.0 ≡ (loops_after_dump (steering_in self.now) (counts_in counts.now)).u }
+        ensures v { result.1 ≡ (loops_after_dump (steering_in self.now) (counts_in counts.now)).v }
+        ensures u_small { unsigned_abs result.0 ≤ 2 ^ 30 }
+        ensures v_small { unsigned_abs result.1 ≤ 2 ^ 30 }
+    {
+        if self.dumps + 1 < FIRST_HOLDING {
+            let u = clamped(self.u + PULLING_GAIN * frequency_error(&self.last, counts));
+            return (u, u);
+        }
+        let error = phase_error(counts);
+        let u = clamped(self.u + SLOW_GAIN * error);
+        (u, clamped(u + FAST_GAIN * error))
+    }
+}
+
+fn clamped(shift: i64) -> i64
+    ensures is { result ≡ clamped_to shift }
+    ensures small { unsigned_abs result ≤ 2 ^ 30 }
+{
+    shift.clamp(-SHIFT_LIMIT, SHIFT_LIMIT)
+}

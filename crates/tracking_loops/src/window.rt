@@ -1,0 +1,60 @@
+ghost use Rattle.std.specs.Prelude.{◌≡◌, ◌^◌, ◌≤◌, ◌<◌, ◌*◌, List, [], ◌∷◌, ◌++◌, length, unsigned_abs, ◌+◌};
+ghost use Rattle.definitions.specs.Correlation.{Counts as DefinedCounts};
+ghost use Rattle.lane_correlator.specs.Counting.{counts_in};
+
+use lane_correlator::Counts;
+
+/// Dumps of a window: as many as a data bit has code periods.
+const DUMPS_OF_WINDOW: u8 = 20;
+
+/// The window that isn't whole yet.
+#[derive(Debug, Drop)]
+pub struct Window {
+    /// How many dumps it has.
+    count: u8,
+    /// The sum of the sizes of their prompt sums in phase.
+    in_phase: u32,
+    /// And in quadrature.
+    quadrature: u32,
+    ghost count_in_range: { count < 20 },
+    ghost in_phase_in_range: { in_phase ≤ count * 2 ^ 18 },
+    ghost quadrature_in_range: { quadrature ≤ count * 2 ^ 18 },
+}
+
+impl Window {
+    ghost use Rattle.tracking_loops.specs.Windows.{good_window};
+    ghost use Rattle.tracking_loops.specs.Standing.{IsFilling};
+
+    /// Has no dump.
+    pub fn new() -> Self
+        ensures { IsFilling [] result }
+    {
+        Window {
+            count: 0,
+            in_phase: 0,
+            quadrature: 0,
+        }
+    }
+
+    /// Takes the next dump and, where it makes the window whole, says whether that is good. Then the next window begins.
+    pub fn take(&mut self, counts: &Counts) -> Option<bool>
+        requires ip { unsigned_abs counts.now.ip ≤ 2 ^ 18 }
+        requires qp { unsigned_abs counts.now.qp ≤ 2 ^ 18 }
+        ensures goes_on { (dumps : List DefinedCounts) → 199 ≤ length dumps → IsFilling dumps self.old
+            → IsFilling (dumps ++ counts_in counts.now ∷ []) self.new }
+        ensures whole { (dumps : List DefinedCounts) → 199 ≤ length dumps → IsFilling dumps self.old
+            → result ≡ good_window (dumps ++ counts_in counts.now ∷ []) }
+    {
+        self.in_phase += counts.ip.unsigned_abs();
+        self.quadrature += counts.qp.unsigned_abs();
+        self.count += 1;
+        if self.count < DUMPS_OF_WINDOW {
+            return None;
+        }
+        let is_good = self.in_phase >= 2 * self.quadrature;
+        self.count = 0;
+        self.in_phase = 0;
+        self.quadrature = 0;
+        Some(is_good)
+    }
+}
