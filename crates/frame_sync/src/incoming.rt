@@ -1,0 +1,58 @@
+//! The subframe whose bits are coming in.
+
+ghost use Rattle.std.specs.Prelude.{◌≡◌, ◌+◌, ◌<◌, ◌≤◌, SomeIff};
+
+use crate::subframe::Subframe;
+use crate::window::Window;
+
+/// The bits that a start is told by: words 1 and 2.
+const HEADER_BITS: u64 = 60;
+
+/// The bits of a word (IS-GPS-200, section 20.3.2).
+const WORD_BITS: u64 = 30;
+
+/// The first place that has the two bits before it which its word is checked with.
+const FIRST_PLACE: u64 = 2;
+
+/// A subframe of which the header is there, and the words behind it as far as their bits are: the
+/// place of its first bit, from 0, and the words.
+#[derive(Clone, Copy, Debug)]
+pub(crate) struct Incoming {
+    pub(crate) start: u64,
+    pub(crate) subframe: Subframe,
+}
+
+impl Incoming {
+    ghost use Rattle.frame_sync.specs.Incoming.{StartsHere, header_in, with_word_in};
+
+    /// The subframe whose header ends with the newest bit, if there is one and it may start there:
+    /// not inside the subframe before it, at whose end it is awaited.
+    pub(crate) fn starting(window: &Window, pushed: u64, awaited: Option<u64>) -> Option<Self>
+        ensures { SomeIff result (StartsHere window.now.bits pushed awaited)
+            (header_in window.now.bits pushed) }
+    {
+        let start = pushed.checked_sub(HEADER_BITS)?;
+        if start < awaited.unwrap_or(FIRST_PLACE) {
+            return None;
+        }
+        let subframe = window.header()?;
+        Some(Incoming { start, subframe })
+    }
+
+    /// With the word that ends with the newest bit, if one does.
+    pub(crate) fn with_word(self, window: &Window, pushed: u64) -> Self
+        requires behind_header { self.start + 60 < pushed }
+        requires within { pushed ≤ self.start + 300 }
+        ensures { result ≡ with_word_in window.now.bits pushed self }
+    {
+        let taken = pushed - self.start;
+        if taken % WORD_BITS != 0 {
+            return self;
+        }
+        let word = window.word(0);
+        Incoming {
+            start: self.start,
+            subframe: self.subframe.with_word((taken / WORD_BITS) as usize, word),
+        }
+    }
+}

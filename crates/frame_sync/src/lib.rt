@@ -1,0 +1,17 @@
+//! Subframes among the bits of GPS navigation data (IS-GPS-200, sections 20.3.2 and 20.3.3).
+//!
+//! [`FrameSync`] takes bits one at a time, damaged ones too, and gives each [`Subframe`] with the
+//! last of its 300 bits: a word is there exactly where its parity holds, and a start is the least
+//! header at or behind the end of the subframe before. It keeps a window of 64 bits, and promises
+//! what the definition says of the whole list of bits that were pushed.
+#![tactic(auto)]
+
+mod incoming;
+mod subframe;
+mod sync;
+#[cfg(test)]
+mod tests;
+mod window;
+
+pub use subframe::Subframe;
+pub use sync::{Found, FrameSync};

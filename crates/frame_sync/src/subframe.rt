@@ -1,0 +1,134 @@
+//! The ten words of a subframe, as far as they passed.
+
+ghost use Rattle.std.specs.Prelude.{◌≡◌, ◌-◌, ◌^◌, ◌<◌, ◌≤◌, ◌↔◌, IsTrue, IfSome, SomeIff, Some, slice_set};
+ghost use Rattle.definitions.specs.Frames.{word_of, id_of, tow_of, id_in, is_complete};
+ghost use Rattle.frame_sync.specs.Words.{IsWord, IsSubframe, has_header};
+
+use std::marker::Model;
+
+/// d1 to d8 of each telemetry word (IS-GPS-200, section 20.3.3.1).
+const PREAMBLE: u32 = 0b1000_1011;
+
+/// The data of a word, d1 to d24, are below this.
+const DATA_LIMIT: u32 = 1 << 24;
+
+/// The words of a subframe (IS-GPS-200, section 20.3.2), each as its data, d1 to d24 with d24
+/// lowest, or missing where it did not pass the parity. Words 1 and 2 are always there.
+#[derive(Clone, Copy, Debug, PartialEq, Eq)]
+pub struct Subframe {
+    words: [Option<u32>; 10],
+}
+
+impl Model for Subframe {
+    ghost use Rattle.definitions.specs.Frames as frames;
+    ghost use Rattle.frame_sync.specs.Words.{IsSubframe};
+
+    ghost Value = { frames.Subframe };
+
+    ghost view = { λ s. record { words = s.words } };
+
+    ghost invariant = { λ s. IsSubframe s.words };
+
+    ghost inverse = { λ s. record { words = s.words } };
+}
+
+impl Subframe {
+    /// The subframe of these words, word 1 first, or `None` unless each word that is there is below
+    /// 2^24, word 1 is there and begins with the preamble, and word 2 is there and has an ID of
+    /// 1 to 5 (IS-GPS-200, sections 20.3.3.1 and 20.3.3.2).
+    pub fn from_words(words: [Option<u32>; 10]) -> Option<Subframe>
+        ensures { SomeIff result (IsSubframe words) (record { words = words }) }
+    {
+        if has_header(words[0], words[1]) && words.iter().all(|word| is_word(*word)) {
+            Some(Subframe { words })
+        } else {
+            None
+        }
+    }
+
+    /// The data of word `i`, d1 to d24 with d24 lowest, or `None` where it did not pass the parity
+    /// (IS-GPS-200, section 20.3.5).
+    pub fn word(&self, i: usize) -> Option<u32>
+        requires from_one { 1 ≤ i }
+        requires to_ten { i ≤ 10 }
+        ensures word { result ≡ word_of self.now i }
+        ensures in_range { IfSome result (λ found. found < 2 ^ 24) }
+    {
+        self.words[i - 1]
+    }
+
+    /// The subframe's ID, d20 to d22 of the handover word, from 1 to 5 (IS-GPS-200, section
+    /// 20.3.3.2).
+    pub fn id(&self) -> u8
+        ensures id { result ≡ id_of self.now }
+        ensures from_one { 1 ≤ result }
+        ensures to_five { result ≤ 5 }
+    {
+        id_in(self.handover())
+    }
+
+    /// The time-of-week count, d1 to d17 of the handover word: the start of the next subframe, in
+    /// units of 6 seconds (IS-GPS-200, section 20.3.3.2).
+    pub fn tow(&self) -> u32
+        ensures tow { result ≡ tow_of self.now }
+        ensures in_range { result < 2 ^ 17 }
+    {
+        self.handover() >> 7
+    }
+
+    /// Whether no word is missing.
+    pub fn complete(&self) -> bool
+        ensures { result ≡ is_complete self.now }
+    {
+        self.words.iter().all(|word| word.is_some())
+    }
+
+    /// The same subframe with this as word `i`, or with that word missing.
+    pub(crate) fn with_word(self, i: usize, word: Option<u32>) -> Subframe
+        requires behind_header { 3 ≤ i }
+        requires to_ten { i ≤ 10 }
+        requires in_range { IsWord word }
+        ensures { result ≡ record { words = slice_set self.words (i - 1) word } }
+    {
+        let mut words = self.words;
+        words[i - 1] = word;
+        Subframe { words }
+    }
+
+    /// The data of word 2.
+    fn handover(&self) -> u32
+        ensures handover { word_of self.now 2 ≡ Some result }
+        ensures from_one { 1 ≤ id_in result }
+        ensures to_five { id_in result ≤ 5 }
+        ensures in_range { result < 2 ^ 24 }
+    {
+        match self.words[1] {
+            Some(handover) => handover,
+            None => unreachable!(),
+        }
+    }
+}
+
+/// Whether word 1 has the preamble, and word 2 an ID of 1 to 5.
+fn has_header(first: Option<u32>, second: Option<u32>) -> bool
+    ensures { result ≡ has_header first second }
+{
+    let (Some(telemetry), Some(handover)) = (first, second) else {
+        return false;
+    };
+    telemetry >> 16 == PREAMBLE && matches!(id_in(handover), 1..=5)
+}
+
+/// d20 to d22 of the handover word.
+fn id_in(handover: u32) -> u8
+    ensures { result ≡ id_in handover }
+{
+    (handover >> 2 & 7) as u8
+}
+
+/// Whether a word, if it is there, is one of 24 bits.
+fn is_word(word: Option<u32>) -> bool
+    ensures { IsTrue result ↔ IsWord word }
+{
+    word.is_none_or(|found| found < DATA_LIMIT)
+}

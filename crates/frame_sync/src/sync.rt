@@ -1,0 +1,109 @@
+//! The search for subframes: where they start, and what gap is before each.
+
+ghost use Rattle.std.specs.Prelude.{◌≡◌, ◌+◌, ◌^◌, ◌<◌, ◌≤◌, Bool, List, [], ◌∷◌, ◌++◌, length};
+ghost use Rattle.std.specs.Option.{ForSome};
+ghost use Rattle.definitions.specs.Frames.{gap_from};
+
+use crate::incoming::Incoming;
+use crate::subframe::Subframe;
+use crate::window::Window;
+
+/// The bits of a subframe's ten words (IS-GPS-200, section 20.3.2).
+const SUBFRAME_BITS: u64 = 300;
+
+/// A subframe that was found, and the gap before it.
+#[derive(Clone, Copy, Debug, PartialEq, Eq)]
+pub struct Found {
+    /// The ten words, each there exactly where it passes with the two bits before it (IS-GPS-200,
+    /// section 20.3.5).
+    pub subframe: Subframe,
+    /// How many bits are between the end of the subframe before and this one's start, if there was
+    /// one before and there are such bits.
+    pub gap: Option<u64>,
+}
+
+/// A search for subframes among bits that are pushed one by one. It keeps the last 64 bits and the
+/// words of one subframe, whatever was pushed.
+#[derive(Debug, Drop)]
+pub struct FrameSync {
+    window: Window,
+    pushed: u64,
+    awaited: Option<u64>,
+    incoming: Option<Incoming>,
+    ghost has_header: { ForSome incoming (λ i. i.start + 60 ≤ pushed) },
+    ghost is_open: { ForSome incoming (λ i. pushed < i.start + 300) },
+    ghost is_behind: { ForSome incoming (λ i. ForSome awaited (λ place. place ≤ i.start)) },
+}
+
+impl FrameSync {
+    ghost use Rattle.definitions.specs.Frames.{found_by};
+    ghost use Rattle.frame_sync.specs.Search.{StandsFor, pushed_of, found_in};
+
+    /// A search that no bit was pushed to.
+    pub fn new() -> Self
+        ensures { StandsFor [] result }
+    {
+        FrameSync {
+            window: Window::new(),
+            pushed: 0,
+            awaited: None,
+            incoming: None,
+        }
+    }
+
+    /// How many bits were pushed.
+    pub fn pushed(&self) -> u64
+        ensures pushed { result ≡ pushed_of self.now }
+        ensures counted { (bits : List Bool) → StandsFor bits self.now → result ≡ length bits }
+    {
+        self.pushed
+    }
+
+    /// Takes the next bit, and gives the subframe of which it is the 300th bit, if there is one, with
+    /// the gap before it.
+    ///
+    /// A start is the first place, from the end of the subframe before on, where a header stands:
+    /// two words that pass with the bits before them (IS-GPS-200, section 20.3.5), the first with
+    /// the preamble (section 20.3.3.1), the second with an ID of 1 to 5 (section 20.3.3.2). The two
+    /// bits before it are equal, and so are they to the last two. That search is this project's own.
+    pub fn push(&mut self, bit: bool) -> Option<Found>
+        requires { pushed_of self.old < 2 ^ 40 }
+        ensures counted { pushed_of self.new ≡ pushed_of self.old + 1 }
+        ensures stands { (bits : List Bool) → StandsFor bits self.old →
+            StandsFor (bits ++ bit ∷ []) self.new }
+        ensures found { (bits : List Bool) → StandsFor bits self.old →
+            found_in result ≡ found_by (bits ++ bit ∷ []) }
+    {
+        let before = self.incoming.take();
+        self.window.push(bit);
+        self.pushed += 1;
+        let Some(before) = before else {
+            self.incoming = Incoming::starting(&self.window, self.pushed, self.awaited);
+            return None;
+        };
+        let incoming = before.with_word(&self.window, self.pushed);
+        if self.pushed - incoming.start < SUBFRAME_BITS {
+            self.incoming = Some(incoming);
+            return None;
+        }
+        let gap = gap_between(self.awaited, incoming.start);
+        self.awaited = Some(self.pushed);
+        Some(Found {
+            subframe: incoming.subframe,
+            gap,
+        })
+    }
+}
+
+/// How far behind the place where it was awaited a subframe starts.
+fn gap_between(awaited: Option<u64>, start: u64) -> Option<u64>
+    requires { ForSome awaited (λ place. place ≤ start) }
+    ensures { result ≡ gap_from awaited start }
+{
+    let place = awaited?;
+    if place == start {
+        None
+    } else {
+        Some(start - place)
+    }
+}
