@@ -1,0 +1,20 @@
+-- Commands as the definitions have them.
+use Rattle.std.specs.Prelude.{ℕ}
+use Rattle.definitions.specs.Commands.{Request, Command as Asked, begin, hold, counts, state, stop}
+use Rattle.channel_slots.specs.declared.command.Command.{Command}
+use Rattle.channel_slots.specs.declared.command.Command.TheVariants.{Hold, Counts, State, Stop}
+
+abbrev pub slot_of : Command → ℕ
+slot_of (Hold slot prn doppler half) = slot
+slot_of (Counts slot n) = slot
+slot_of (State slot) = slot
+slot_of (Stop slot) = slot
+
+abbrev pub request_in : Command → Request
+request_in (Hold slot prn doppler half) = begin (hold prn doppler half)
+request_in (Counts slot n) = counts n
+request_in (State slot) = state
+request_in (Stop slot) = stop
+
+abbrev pub command_in : Command → Asked
+command_in command = record { slot = slot_of command; request = request_in command }

@@ -1,0 +1,6 @@
+pub mod Commands
+pub mod Following
+pub mod Holdings
+pub mod Replies
+pub mod Sizes
+pub mod Slots

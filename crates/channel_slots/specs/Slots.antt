@@ -1,0 +1,49 @@
+-- What a slot stands for: the samples so far and the commands that it was given.
+use Rattle.std.specs.Prelude.{◌≡◌, ◌≤◌, ◌<◌, ◌+◌, ◌-◌, ◌*◌, ℤ, ℕ, List, [], ◌++◌, length, take, Option, Some, None}
+use Rattle.std.specs.List.{AllByRecursion}
+use Rattle.definitions.specs.Samples.{Sample}
+use Rattle.definitions.specs.Oscillators.{Settings, code_cycle}
+use Rattle.definitions.specs.Commands.{TimedRequest}
+use Rattle.definitions.specs.Lives.{Life, life_of, life_now}
+use Rattle.definitions.specs.Events.{events_at_end}
+use Rattle.lane_correlator.specs.declared.counts.Counts.{Counts}
+use Rattle.channel_slots.specs.declared.slot.Slot.{Slot}
+use Rattle.channel_slots.specs.declared.slot.Slot.TheVariants.{Idle, Holds}
+use Rattle.channel_slots.specs.declared.reply.Event.{Event}
+use Rattle.channel_slots.specs.declared.reply.Event.TheVariants.{Accepted, Refused, Count, State}
+use Rattle.channel_slots.specs.Holdings.{chance, HoldsFor, events_in}
+
+abbrev pub IsRefusal : Event → Type 0
+IsRefusal Accepted = ⊥
+IsRefusal (Refused n) = Unit
+IsRefusal (Count counts) = ⊥
+IsRefusal (State state) = ⊥
+
+-- a run of n samples doesn't go past the slot's next event
+abbrev pub MayStep : Slot → ℕ → Type 0
+MayStep Idle n = Unit
+MayStep (Holds h) n = h.follower.code.phase + (n - 1) * h.follower.code.step < code_cycle
+
+-- how many events the slot may tell within so many samples
+abbrev pub chances : Slot → ℕ → ℕ
+chances Idle left = 0
+chances (Holds h) left = chance h left
+
+abbrev pub dumps_of : Slot → ℕ
+dumps_of Idle = 0
+dumps_of (Holds h) = h.dumps
+
+-- the life that is on after the samples and commands: none, whatever samples come, or the one that is held
+abbrev pub IsOn : Settings → List Sample → List TimedRequest → Slot → Type 0
+IsOn settings xs commands Idle = (ys : List Sample) → life_now settings (xs ++ ys) commands ≡ None
+IsOn settings xs commands (Holds h) = (life : Life) × (life_of settings xs commands ≡ Some life) × HoldsFor settings xs life h
+
+pub record StandsFor (settings : Settings) (xs : List Sample) (commands : List TimedRequest) (slot : Slot) : Type 0 where
+  pub early : AllByRecursion (λ (c : TimedRequest). c.time ≤ length xs) commands
+  pub on : IsOn settings xs commands slot
+
+-- with ys behind xs nothing is told before the last of them, and then what was answered
+pub record Tells (settings : Settings) (xs ys : List Sample) (commands : List TimedRequest) (slot : Slot) (answer : Option Counts) : Type 0 where
+  pub inside : (j : ℕ) → 0 < j → j < length ys → events_at_end settings (xs ++ take j ys) commands ≡ []
+  pub told : events_at_end settings (xs ++ ys) commands ≡ events_in answer
+  pub stands : StandsFor settings (xs ++ ys) commands slot

@@ -1,0 +1,55 @@
+ghost use Rattle.std.specs.Prelude.{◌≡◌, ◌<◌, ◌↔◌, ℕ, IsSome, IfSome};
+
+use ca_codes::Prn;
+use oscillators::{Doppler, HalfChip};
+use std::marker::Model;
+
+/// The number of a client's slot, 0 to 3. Clauses see it as a number.
+#[derive(Clone, Copy, Debug, PartialEq, Eq)]
+pub struct SlotNo(u8);
+
+impl Model for SlotNo {
+    ghost Value = { ℕ };
+
+    ghost view = { λ s. s.0 };
+
+    ghost invariant = { λ s. s.0 < 4 };
+
+    ghost inverse = { λ n. record { 0 = n } };
+}
+
+impl SlotNo {
+    /// The slot of that number, or `None` outside 0 to 3.
+    pub fn new(number: u8) -> Option<SlotNo>
+        ensures valid { IsSome result ↔ (number < 4) }
+        ensures same { IfSome result (λ slot. slot ≡ number) }
+    {
+        if number < 4 { Some(SlotNo(number)) } else { None }
+    }
+
+    /// Its number.
+    pub fn get(self) -> u8
+        ensures same { result ≡ self }
+        ensures range { result < 4 }
+    {
+        self.0
+    }
+}
+
+/// What a client asks of one of its slots.
+#[derive(Clone, Copy, Debug, PartialEq, Eq)]
+pub enum Command {
+    /// Follow a satellite at a fixed Doppler shift, from a half chip of its code on.
+    Hold {
+        slot: SlotNo,
+        prn: Prn,
+        doppler: Doppler,
+        half: HalfChip,
+    },
+    /// Print the next `n` dumps; 0 ends printing.
+    Counts { slot: SlotNo, n: u32 },
+    /// Show the slot.
+    State { slot: SlotNo },
+    /// Make the slot idle.
+    Stop { slot: SlotNo },
+}

@@ -1,0 +1,117 @@
+ghost use Rattle.std.specs.Prelude.{◌≡◌, ◌≤◌, ◌<◌, ◌+◌, ◌-◌, ◌*◌, ◌^◌};
+
+use crate::command::Command;
+use crate::holding::Holding;
+use crate::reply::{Event, SlotState};
+use ca_codes::CodeBook;
+use lane_correlator::Counts;
+use oscillators::Settings;
+use sample_planes::Planes;
+
+/// The refusal of a command that wants an idle slot.
+const BUSY: u8 = 9;
+
+/// The refusal of a command that wants a slot that isn't idle.
+const IDLE: u8 = 10;
+
+/// A slot: idle, or holding a satellite.
+#[derive(Debug, Drop)]
+pub enum Slot {
+    Idle,
+    Holds(Holding),
+}
+
+impl Slot {
+    ghost use Rattle.std.specs.Prelude.{ℕ, List, [], ◌∷◌, ◌++◌, length, Some};
+    ghost use Rattle.definitions.specs.Samples.{Sample};
+    ghost use Rattle.definitions.specs.Oscillators.{Settings as Recording};
+    ghost use Rattle.definitions.specs.Commands.{TimedRequest};
+    ghost use Rattle.definitions.specs.Answers.{answer_at_end};
+    ghost use Rattle.channel_slots.specs.Commands.{request_in};
+    ghost use Rattle.channel_slots.specs.Replies.{answer_in};
+    ghost use Rattle.channel_slots.specs.Holdings.{how_many};
+    ghost use Rattle.channel_slots.specs.Slots.{chances, StandsFor, Tells, MayStep, dumps_of, IsRefusal};
+
+    /// A slot that was never asked for anything.
+    pub fn new() -> Slot
+        ensures stands { (settings : Recording) → StandsFor settings [] [] result }
+        ensures dumps { dumps_of result ≡ 0 }
+    {
+        Slot::Idle
+    }
+
+    /// How many samples there are to the next event, but `most` if that is fewer.
+    pub fn room(&self, most: usize) -> usize
+        requires { 0 < most }
+        ensures some { 0 < result }
+        ensures within { result ≤ most }
+        ensures may { MayStep self.now result }
+    {
+        match self {
+            Slot::Idle => most,
+            Slot::Holds(holding) => {
+                let next = holding.to_event();
+                if next < most as u64 {
+                    next as usize
+                } else {
+                    most
+                }
+            }
+        }
+    }
+
+    /// Takes samples that don't go past the slot's next event, and answers the counts that are told with the last of them. The book
+    /// is any book of codes.
+    pub fn step(&mut self, samples: &Planes, book: &mut CodeBook) -> Option<Counts>
+        requires some { 0 < length samples.now }
+        requires may { MayStep self.old (length samples.now) }
+        requires few { dumps_of self.old < 2 ^ 62 }
+        ensures tells { (settings : Recording) (xs : List Sample) (commands : List TimedRequest) → StandsFor settings xs commands self.old → Tells settings xs samples.now commands self.new result }
+        ensures dumps { dumps_of self.new ≤ dumps_of self.old + 1 }
+        ensures chances { (left : ℕ) → length samples.now ≤ left → left ≤ 1024 → chances self.new (left - length samples.now) + how_many result ≤ chances self.old left }
+    {
+        match self {
+            Slot::Idle => None,
+            Slot::Holds(holding) => holding.step(samples, book),
+        }
+    }
+
+    /// Does what a client asks of this slot, and answers it: a refused command changes nothing.
+    pub fn command(&mut self, settings: &Settings, command: Command) -> Event
+        ensures answer { (xs : List Sample) (commands : List TimedRequest) → StandsFor settings.now xs commands self.old
+            → answer_in result ≡ Some (answer_at_end settings.now xs commands (request_in command)) }
+        ensures stands { (xs : List Sample) (commands : List TimedRequest) → StandsFor settings.now xs commands self.old
+            → StandsFor settings.now xs (commands ++ record { time = length xs; request = request_in command } ∷ []) self.new }
+        ensures refused { IsRefusal result → self.new ≡ self.old }
+        ensures dumps { dumps_of self.new ≤ dumps_of self.old }
+    {
+        match self {
+            Slot::Idle => match command {
+                Command::Hold {
+                    slot: _,
+                    prn,
+                    doppler,
+                    half,
+                } => {
+                    *self = Slot::Holds(Holding::start(settings, prn, doppler, half));
+                    Event::Accepted
+                }
+                Command::State { .. } => Event::State(SlotState::Idle),
+                Command::Counts { .. } => Event::Refused(IDLE),
+                Command::Stop { .. } => Event::Refused(IDLE),
+            },
+            Slot::Holds(holding) => match command {
+                Command::Hold { .. } => Event::Refused(BUSY),
+                Command::Counts { slot: _, n } => {
+                    holding.print(n);
+                    Event::Accepted
+                }
+                Command::State { .. } => Event::State(holding.state()),
+                Command::Stop { .. } => {
+                    *self = Slot::Idle;
+                    Event::Accepted
+                }
+            },
+        }
+    }
+}
