@@ -39,6 +39,7 @@ some_greatest power (suc zero) h = (0, lit_one, λ k below. only k below)
   where
     lit_one : 0 < suc zero
     lit_one = omega arith
+
     only : (k : ℕ) → k < suc zero → power k ≤ power 0
     only k below = let e : k ≡ 0 = omega arith in rw e (omega arith)
 some_greatest power (suc (suc n)) h =
@@ -50,6 +51,7 @@ some_greatest power (suc (suc n)) h =
   where
     either : (a b : ℕ) → (b ≤ a) ⊎ (a ≤ b)
     either a b = grind arith
+
     last_or_before : (k : ℕ) → k < suc (suc n) → (k ≡ suc n) ⊎ (k < suc n)
     last_or_before k below = grind arith
 
@@ -63,6 +65,7 @@ first_greatest power n cell least = record {
   where
     below_or_not : (a b : ℕ) → a ≤ b → (a ≡ b → ⊥) → a < b
     below_or_not a b le other = grind (arith, other)
+
     refuted : (k : ℕ) → k < cell → power k ≡ power cell → ⊥
     refuted k before same =
         let also : is_greatest power n k ≡ true = greatest-from power n k (λ j below. omega (arith, greatest-means power n cell least.passes j below, same)) in

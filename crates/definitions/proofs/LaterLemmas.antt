@@ -40,8 +40,7 @@ added-later profile settings clients t xs [] h =
 added-later profile settings clients t xs (y ∷ ys) h =
     let long : length (xs ++ y ∷ []) ≡ suc (length xs) = length-append xs (y ∷ []) ∙ omega arith in
     let later = added-later profile settings clients t (xs ++ y ∷ []) ys (omega arith) in
-    let now = lines_at profile settings clients (xs ++ y ∷ []) in
-    (
+    let now = lines_at profile settings clients (xs ++ y ∷ []) in (
       now ++ later.0,
       ap (λ zs. body_lines profile settings zs clients) (sym (append_assoc xs (y ∷ []) ys)) ∙ later.1 ∙ ap (λ ls. ls ++ later.0) (body_lines-more profile settings xs y clients) ∙ append_assoc (body_lines profile settings xs clients) now later.0,
       all-append (IsLaterThan t) now later.0 (lines_at-later profile settings clients t (xs ++ y ∷ []) (omega arith)) later.2,
