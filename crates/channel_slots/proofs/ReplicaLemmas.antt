@@ -35,13 +35,13 @@ quadrature-agrees x cos sin chip cos' sin' chip' n c s p =
 six_sums-agree : (x : ℕ → Sample) (r s : Replica) (n : ℕ) → AgreeBelow n r s → six_sums x r 0 n ≡ six_sums x s 0 n
 unfolding six_sums
 six_sums-agree x r s n a = rw (
-    in_phase-agrees x r.cos r.sin r.early s.cos s.sin s.early n a.cos a.sin a.early,
-    quadrature-agrees x r.cos r.sin r.early s.cos s.sin s.early n a.cos a.sin a.early,
-    in_phase-agrees x r.cos r.sin r.prompt s.cos s.sin s.prompt n a.cos a.sin a.prompt,
-    quadrature-agrees x r.cos r.sin r.prompt s.cos s.sin s.prompt n a.cos a.sin a.prompt,
-    in_phase-agrees x r.cos r.sin r.late s.cos s.sin s.late n a.cos a.sin a.late,
-    quadrature-agrees x r.cos r.sin r.late s.cos s.sin s.late n a.cos a.sin a.late
-  ) refl
+  in_phase-agrees x r.cos r.sin r.early s.cos s.sin s.early n a.cos a.sin a.early,
+  quadrature-agrees x r.cos r.sin r.early s.cos s.sin s.early n a.cos a.sin a.early,
+  in_phase-agrees x r.cos r.sin r.prompt s.cos s.sin s.prompt n a.cos a.sin a.prompt,
+  quadrature-agrees x r.cos r.sin r.prompt s.cos s.sin s.prompt n a.cos a.sin a.prompt,
+  in_phase-agrees x r.cos r.sin r.late s.cos s.sin s.late n a.cos a.sin a.late,
+  quadrature-agrees x r.cos r.sin r.late s.cos s.sin s.late n a.cos a.sin a.late,
+) refl
 
 view : (f : ℕ → ℤ) (views : List ℤ) (n : ℕ) → views ≡ map f (range_with_len 0 n) → (j : ℕ) → j < n → get_or views j (pos 0) ≡ f j
 view f views n is j h = rw is (get_or-map-range_with_len f 0 n j j (pos 0) h (omega arith))

@@ -11,9 +11,9 @@ use Rattle.oscillators.specs.Views.{Oscillation}
 pub before_wrap : (phase step n w : ℕ) → 0 < n → phase + (n - 1) * step < code_cycle → code_cycle ≤ phase + w * step
     → ((k : ℕ) → k < w → phase + k * step < code_cycle) → (w ≡ n → ⊥) → phase + n * step < code_cycle
 before_wrap phase step n w some before through least other = elim (cases_lt n w) [
-    inl less ↦ least n less
+  | inl less ↦ least n less
   | inr more ↦ omega (arith, before, through, mul-le-mul_right step (below n w more other))
-  ]
+]
   where
     below : (n w : ℕ) → w ≤ n → (w ≡ n → ⊥) → w ≤ n - 1
     below n w more other = omega (arith, more, other)

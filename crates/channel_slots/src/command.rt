@@ -24,7 +24,11 @@ impl SlotNo {
         ensures valid { IsSome result ↔ (number < 4) }
         ensures same { IfSome result (λ slot. slot ≡ number) }
     {
-        if number < 4 { Some(SlotNo(number)) } else { None }
+        if number < 4 {
+            Some(SlotNo(number))
+        } else {
+            None
+        }
     }
 
     /// Its number.
@@ -47,9 +51,16 @@ pub enum Command {
         half: HalfChip,
     },
     /// Print the next `n` dumps; 0 ends printing.
-    Counts { slot: SlotNo, n: u32 },
+    Counts {
+        slot: SlotNo,
+        n: u32,
+    },
     /// Show the slot.
-    State { slot: SlotNo },
+    State {
+        slot: SlotNo,
+    },
     /// Make the slot idle.
-    Stop { slot: SlotNo },
+    Stop {
+        slot: SlotNo,
+    },
 }

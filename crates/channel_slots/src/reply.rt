@@ -38,6 +38,11 @@ pub struct Reply {
 // The rooms of an array that no reply was put into.
 impl Default for Reply {
     fn default() -> Reply {
-        Reply { client: 0, slot: 0, time: 0, event: Event::Accepted }
+        Reply {
+            client: 0,
+            slot: 0,
+            time: 0,
+            event: Event::Accepted,
+        }
     }
 }

@@ -32,7 +32,7 @@ returns-then-ends-clause-closes c settings channel xs s =
     let f = c.args.self.now in
     let after = wraps f.code c.advance.new.self c.len-len.result (length c.args.samples.now) c.to_wrap.result c.len-len.ensures.count c.advance.ensures c.requires.some c.requires.before f.slow c.to_wrap.ensures.through c.if-ends.true in
     let moves = moves_by f c.args.samples.now c.len-len.result c.advance-2.new.self.phase c.planes-carrier.result c.planes-code.result (counts_in c.six_sums.result) (counts_in c.add-sums.result) c.len-len.ensures.count
-        c.planes-carrier.ensures.cos c.planes-carrier.ensures.sin c.planes-code.ensures.early c.planes-code.ensures.prompt c.planes-code.ensures.late (ap (λ (o : Oscillation). o.phase) c.advance-2.ensures) c.six_sums.ensures.sums c.add-sums.ensures in
+    c.planes-carrier.ensures.cos c.planes-carrier.ensures.sin c.planes-code.ensures.early c.planes-code.ensures.prompt c.planes-code.ensures.late (ap (λ (o : Oscillation). o.phase) c.advance-2.ensures) c.six_sums.ensures.sums c.add-sums.ensures in
     closes settings channel xs c.args.samples.now f s _ c.advance-2.new.self.phase (counts_in c.add-sums.result) moves c.requires.some c.requires.before (after.0) _ refl (after.1) refl (ap (λ (o : Oscillation). o.step) c.advance.ensures) (ap (λ (o : Oscillation). o.step) c.advance-2.ensures) refl
 
 pub returns-else-ends-clause-stays : goal.returns-else-ends-clause-stays
@@ -40,7 +40,7 @@ returns-else-ends-clause-stays c none settings channel xs s =
     let f = c.args.self.now in
     let after = quiet f.code c.advance.new.self c.len-len.result (length c.args.samples.now) c.to_wrap.result c.len-len.ensures.count c.advance.ensures c.requires.some c.requires.before c.to_wrap.ensures.through c.to_wrap.ensures.least c.if-ends.false in
     let moves = moves_by f c.args.samples.now c.len-len.result c.advance-2.new.self.phase c.planes-carrier.result c.planes-code.result (counts_in c.six_sums.result) (counts_in c.add-sums.result) c.len-len.ensures.count
-        c.planes-carrier.ensures.cos c.planes-carrier.ensures.sin c.planes-code.ensures.early c.planes-code.ensures.prompt c.planes-code.ensures.late (ap (λ (o : Oscillation). o.phase) c.advance-2.ensures) c.six_sums.ensures.sums c.add-sums.ensures in
+    c.planes-carrier.ensures.cos c.planes-carrier.ensures.sin c.planes-code.ensures.early c.planes-code.ensures.prompt c.planes-code.ensures.late (ap (λ (o : Oscillation). o.phase) c.advance-2.ensures) c.six_sums.ensures.sums c.add-sums.ensures in
     stays settings channel xs c.args.samples.now f s _ c.advance-2.new.self.phase (counts_in c.add-sums.result) moves c.requires.some (after.0) _ refl (after.1) refl (ap (λ (o : Oscillation). o.step) c.advance.ensures) (ap (λ (o : Oscillation). o.step) c.advance-2.ensures) refl
 
 pub returns-else-ends-clause-moved : goal.returns-else-ends-clause-moved

@@ -1,0 +1,136 @@
+//! Slots by hand: what they answer, and sums of samples of which each product is plain.
+
+ghost use Rattle.std.specs.Prelude.{◌≡◌, ◌+◌, ◌<◌, ◌≤◌, IfOk};
+ghost use Rattle.channel_slots.specs.Slots.{dumps_of};
+
+use super::*;
+use ca_codes::{CodeBook, Prn};
+use lane_correlator::Counts;
+use oscillators::{Doppler, HalfChip, Settings};
+use sample_planes::{Format, unpack};
+use std::test::Fail;
+
+mod recording;
+
+/// A recording of one-bit samples at two samples a chip, with the carrier at 0 Hz.
+fn plain_settings() -> Result<Settings, Fail> {
+    Ok(Settings::new(2_046_000, 0, Format::Real1)?)
+}
+
+fn slot_zero() -> Result<SlotNo, Fail> {
+    Ok(SlotNo::new(0).ok_or("a slot")?)
+}
+
+/// A hold that begins half a chip before the end of the code.
+fn hold(prn: u8, doppler: i32) -> Result<Command, Fail> {
+    Ok(Command::Hold {
+        slot: slot_zero()?,
+        prn: Prn::new(prn).ok_or("a satellite")?,
+        doppler: Doppler::new(doppler).ok_or("a shift")?,
+        half: HalfChip::new(2_045).ok_or("a half chip")?,
+    })
+}
+
+#[test]
+fn idle_and_busy_slots_answer(rt: HostRuntime) -> Result<(), Fail> {
+    let settings = plain_settings()?;
+    let slot = slot_zero()?;
+    let counts = Command::Counts { slot, n: 3 };
+    let state = Command::State { slot };
+    let stop = Command::Stop { slot };
+    let mut held = Slot::new();
+    for (command, answer) in [
+        (counts, Event::Refused(10)),
+        (stop, Event::Refused(10)),
+        (state, Event::State(SlotState::Idle)),
+        (hold(1, 0)?, Event::Accepted),
+        (hold(2, 0)?, Event::Refused(9)),
+        (counts, Event::Accepted),
+        (
+            state,
+            Event::State(SlotState::Hold {
+                prn: Prn::new(1).ok_or("a satellite")?,
+                dumps: 0,
+            }),
+        ),
+        (stop, Event::Accepted),
+        (state, Event::State(SlotState::Idle)),
+    ] {
+        assert_eq!(rt; held.command(&settings, command), answer);
+    }
+    Ok(())
+}
+
+/// A slot that began to hold before the first sample, with counts asked for.
+fn held(settings: &Settings, prn: u8, doppler: i32) -> Result<Slot, Fail>
+    ensures few { IfOk result (λ slot. dumps_of slot ≡ 0) }
+{
+    let mut slot = Slot::new();
+    slot.command(settings, hold(prn, doppler)?);
+    let counts = Command::Counts {
+        slot: slot_zero()?,
+        n: 1,
+    };
+    slot.command(settings, counts);
+    Ok(slot)
+}
+
+/// What `len` samples of value 1 make it tell, where they go to its next event, or are `most` before it, and not beyond.
+fn told(slot: &mut Slot, most: usize, len: usize) -> Option<Counts>
+    requires few { dumps_of slot.old < 4 }
+    requires some { 0 < most }
+    requires in_byte { len ≤ 8 }
+    ensures { dumps_of slot.new ≤ dumps_of slot.old + 1 }
+{
+    let samples = unpack(Format::Real1, &[0], 0, len);
+    if samples.len() != slot.room(most) {
+        return None;
+    }
+    slot.step(&samples, &mut CodeBook::new())
+}
+
+// At two samples a chip the code begins half a chip before its end, so one sample ends the segment. Chip 0 of satellite 1 is 1 and
+// chip 1022 is 0, and the carrier's first pair is 2, 1: the early chip, of the next period, has the sign -1, the others +1.
+#[test]
+fn early_wraps(rt: HostRuntime) -> Result<(), Fail> {
+    let settings = plain_settings()?;
+    let mut slot = held(&settings, 1, 0)?;
+    let counts = Counts {
+        ie: -2,
+        qe: 1,
+        ip: 2,
+        qp: -1,
+        il: 2,
+        ql: -1,
+    };
+    assert_eq!(rt; told(&mut slot, 8, 1), Some(counts));
+    Ok(())
+}
+
+// A little slower than half a chip a sample, so the second sample ends the segment. Chip 0 of satellite 7 is 1 and chip 1022 is 0. The
+// carrier has turned a little less than a whole cycle back at the second sample, where its pair is 2, -1: the signs of the quadrature
+// cancel.
+#[test]
+fn sums_do_not_depend_on_the_cut(rt: HostRuntime) -> Result<(), Fail> {
+    let settings = plain_settings()?;
+    let counts = Counts {
+        ie: -4,
+        qe: 0,
+        ip: 4,
+        qp: 0,
+        il: 4,
+        ql: 0,
+    };
+    let mut whole = held(&settings, 7, -1_000)?;
+    assert_eq!(rt; told(&mut whole, 8, 2), Some(counts));
+    let mut cut = held(&settings, 7, -1_000)?;
+    assert_eq!(rt; told(&mut cut, 1, 1), None);
+    assert_eq!(rt; told(&mut cut, 8, 1), Some(counts));
+    Ok(())
+}
+
+#[test]
+fn slots_are_0_to_3(rt: HostRuntime) {
+    assert_eq!(rt; SlotNo::new(3).map(|slot| slot.get()), Some(3));
+    assert_eq!(rt; SlotNo::new(4), None);
+}
