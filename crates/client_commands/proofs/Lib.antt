@@ -1,0 +1,5 @@
+pub mod DigitLemmas
+pub mod EntryLemmas
+pub mod PieceLemmas
+pub mod RangeLemmas
+pub mod ValueLemmas

@@ -1,0 +1,77 @@
+ghost use Rattle.std.specs.Prelude.{◌≡◌};
+ghost use Rattle.std.specs.List.{list_all};
+ghost use Rattle.definitions.specs.Scripts.{entry_of, command_in, is_printable as is_printable_byte, time_in as time_of_word};
+ghost use Rattle.definitions.specs.Lines.{words_of};
+ghost use Rattle.client_commands.specs.Entries.{entries_in, result_in};
+ghost use Rattle.client_commands.specs.Known.{known};
+
+use crate::number::number_in;
+use crate::refusal::Refusal;
+use crate::script::Timed;
+use crate::verb::Verb;
+use crate::words::{count_words, next_word};
+use channel_slots::Command;
+
+/// The most bytes of a line.
+const LINE_BYTES: usize = 80;
+
+/// The latest time of a command, in samples.
+const LAST_TIME: u64 = 1 << 40;
+
+/// The entry of a line that stands behind one of time `before`. A line without words has none.
+#[tactic(auto, unfolding(definitions::specs::Scripts::entry_of))]
+pub(crate) fn entry(line: &[u8], before: u64) -> Option<Timed>
+    ensures { entries_in result ≡ entry_of known 4 before line.now }
+{
+    if LINE_BYTES < line.len() {
+        return refused(before, Refusal::LineTooLong);
+    }
+    if !is_printable(line) {
+        return refused(before, Refusal::NotPrintable);
+    }
+    let (word, rest) = next_word(line)?;
+    match time_in(word) {
+        None => refused(before, Refusal::NoTime),
+        Some(time) if time < before => refused(before, Refusal::TimeGoesBack),
+        Some(time) => Some(Timed {
+            time,
+            what: command(rest),
+        }),
+    }
+}
+
+/// Whether each byte is one from 0x20 to 0x7e.
+fn is_printable(line: &[u8]) -> bool
+    ensures { result ≡ list_all is_printable_byte line.now }
+{
+    line.iter().all(|b| 0x20 <= *b && *b <= 0x7e)
+}
+
+/// The time that a word gives.
+fn time_in(word: &[u8]) -> Option<u64>
+    ensures { result ≡ time_of_word word.now }
+{
+    number_in(word).filter(|time| *time <= LAST_TIME)
+}
+
+/// A refusal at a time.
+fn refused(time: u64, refusal: Refusal) -> Option<Timed>
+    ensures { result ≡ Some (record { time = time; what = Err refusal }) }
+{
+    Some(Timed {
+        time,
+        what: Err(refusal),
+    })
+}
+
+/// The command that the words behind the time ask for.
+fn command(words: &[u8]) -> Result<Command, Refusal>
+    ensures { result_in result ≡ command_in known 4 (words_of words.now) }
+{
+    let (name, words) = next_word(words).ok_or(Refusal::NoVerb)?;
+    let verb = Verb::named(name).ok_or(Refusal::NoVerb)?;
+    if count_words(words) != verb.ranges().len() {
+        return Err(Refusal::WrongWordCount);
+    }
+    verb.command(words)
+}

@@ -1,0 +1,33 @@
+ghost use Rattle.std.specs.Prelude.{◌≡◌, ◌<◌, ◌^◌, IfSome, unsigned_abs};
+ghost use Rattle.definitions.specs.Scripts.{number_in as number_of_word, signed_number_in as signed_number_of_word};
+
+/// The most digits of a number.
+const MOST_DIGITS: usize = 13;
+
+/// The number that a word of 1 to 13 digits writes.
+pub(crate) fn number_in(word: &[u8]) -> Option<u64>
+    ensures same { result ≡ number_of_word word.now }
+    ensures short { IfSome result (λ number. number < 10 ^ 13) }
+{
+    if word.is_empty() || MOST_DIGITS < word.len() {
+        return None;
+    }
+    let mut number = 0;
+    for digit in word {
+        if !digit.is_ascii_digit() {
+            return None;
+        }
+        number = 10 * number + u64::from(*digit - b'0');
+    }
+    Some(number)
+}
+
+/// The same, with a `-` in front or not.
+pub(crate) fn signed_number_in(word: &[u8]) -> Option<i64>
+    ensures { result ≡ signed_number_of_word word.now }
+{
+    match word {
+        [b'-', digits @ ..] => number_in(digits).map(|number| -(number as i64)),
+        _ => number_in(word).map(|number| number as i64),
+    }
+}

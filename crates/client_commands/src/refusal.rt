@@ -1,0 +1,41 @@
+ghost use Rattle.std.specs.Prelude.{◌≡◌};
+ghost use Rattle.client_commands.specs.Entries.{number_of};
+
+/// Why a line of a script is refused. The first case that applies is answered.
+#[derive(Clone, Copy, Debug, PartialEq, Eq)]
+pub enum Refusal {
+    /// The line is longer than 80 bytes.
+    LineTooLong,
+    /// A byte is outside 0x20 to 0x7e.
+    NotPrintable,
+    /// The first word isn't 1 to 13 digits with a value of at most 2^40.
+    NoTime,
+    /// The time is before that of the line before.
+    TimeGoesBack,
+    /// There is no verb, or an unknown one.
+    NoVerb,
+    /// There are more or fewer words than the verb takes.
+    WrongWordCount,
+    /// A word isn't a number: a `-` or none, and then 1 to 13 digits.
+    NotANumber,
+    /// A number is out of its range.
+    OutOfRange,
+}
+
+impl Refusal {
+    /// The number that is printed: 1 to 8.
+    pub fn number(self) -> u8
+        ensures { result ≡ number_of self }
+    {
+        match self {
+            Refusal::LineTooLong => 1,
+            Refusal::NotPrintable => 2,
+            Refusal::NoTime => 3,
+            Refusal::TimeGoesBack => 4,
+            Refusal::NoVerb => 5,
+            Refusal::WrongWordCount => 6,
+            Refusal::NotANumber => 7,
+            Refusal::OutOfRange => 8,
+        }
+    }
+}

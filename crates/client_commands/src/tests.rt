@@ -1,0 +1,205 @@
+//! Scripts and what the rules say of their lines.
+
+use super::*;
+use ca_codes::Prn;
+use channel_slots::{Command, SlotNo};
+use oscillators::{Doppler, HalfChip};
+use std::alloc::{AllocError, Global};
+use std::test::Fail;
+
+/// An entry: its time, and a command or the number of a refusal.
+type Answer = (u64, Result<Command, u8>);
+
+/// An entry as it is compared.
+fn answer(timed: Timed) -> Answer {
+    let Timed { time, what } = timed;
+    match what {
+        Ok(command) => (time, Ok(command)),
+        Err(refusal) => (time, Err(refusal.number())),
+    }
+}
+
+/// The first three entries of a script.
+fn answers(text: &[u8]) -> [Option<Answer>; 3] {
+    let mut script = Script::new(text);
+    let mut found = [None; 3];
+    for place in &mut found {
+        if let Some(timed) = script.next() {
+            *place = Some(answer(timed));
+        }
+    }
+    found
+}
+
+/// A command at its time.
+fn asked(time: u64, command: Option<Command>) -> Option<Answer> {
+    Some((time, Ok(command?)))
+}
+
+/// A refused line at its time.
+fn refused(time: u64, number: u8) -> Option<Answer> {
+    Some((time, Err(number)))
+}
+
+fn hold(slot: u8, prn: u8, doppler: i32, half: u16) -> Option<Command> {
+    Some(Command::Hold {
+        slot: SlotNo::new(slot)?,
+        prn: Prn::new(prn)?,
+        doppler: Doppler::new(doppler)?,
+        half: HalfChip::new(half)?,
+    })
+}
+
+fn counts(slot: u8, n: u32) -> Option<Command> {
+    Some(Command::Counts {
+        slot: SlotNo::new(slot)?,
+        n,
+    })
+}
+
+fn state(slot: u8) -> Option<Command> {
+    Some(Command::State {
+        slot: SlotNo::new(slot)?,
+    })
+}
+
+fn stop(slot: u8) -> Option<Command> {
+    Some(Command::Stop {
+        slot: SlotNo::new(slot)?,
+    })
+}
+
+#[test]
+fn a_line_is_refused_by_its_first_case(rt: HostRuntime) {
+    let rows = [
+        ("0 state 0\r", 0, 2),
+        ("00000000000000 state 0", 0, 3),
+        ("-0 state 0", 0, 3),
+        ("x", 0, 3),
+        ("1099511627777 state 0", 0, 3),
+        ("0 State 0", 0, 5),
+        ("0", 0, 5),
+        ("6 fly 0", 6, 5),
+        ("0 track 0 1 0 0", 0, 5),
+        ("6 stop", 6, 6),
+        ("0 state 0 0", 0, 6),
+        ("0 state 00000000000000", 0, 7),
+        ("0 state --0", 0, 7),
+        ("6 stop z", 6, 7),
+        ("6 hold 0 z 0 0", 6, 7),
+        ("6 hold 4 z 0 0", 6, 8),
+        ("0 hold 0 1 -16001 x", 0, 8),
+        ("0 hold 0 33 0 0", 0, 8),
+        ("0 hold 0 0 0 0", 0, 8),
+        ("0 counts 0 1000001", 0, 8),
+    ];
+    for (line, time, number) in rows {
+        assert_eq!(rt;
+            answers(line.as_bytes()),
+            [refused(time, number), None, None],
+            "at {line}"
+        );
+    }
+}
+
+#[test]
+fn a_line_asks_for_its_command(rt: HostRuntime) {
+    let rows = [
+        ("0 state 0", 0, state(0)),
+        ("0 state -0", 0, state(0)),
+        ("0 state 00", 0, state(0)),
+        (" 0   state  3 ", 0, state(3)),
+        ("1099511627776 stop 3", 1_099_511_627_776, stop(3)),
+        (
+            "0000000000007 hold 1 32 -16000 2045",
+            7,
+            hold(1, 32, -16_000, 2_045),
+        ),
+        ("8 hold 2 1 16000 0\n", 8, hold(2, 1, 16_000, 0)),
+        ("9 counts 0 1000000", 9, counts(0, 1_000_000)),
+    ];
+    for (line, time, command) in rows {
+        assert!(rt; command.is_some(), "at {line}");
+        assert_eq!(rt;
+            answers(line.as_bytes()),
+            [asked(time, command), None, None],
+            "at {line}"
+        );
+    }
+}
+
+#[test]
+fn a_line_without_words_has_no_entry(rt: HostRuntime) {
+    let spaces = [b' '; 81];
+    assert_eq!(rt; answers(&spaces), [refused(0, 1), None, None]);
+    assert_eq!(rt; answers(&spaces[..80]), [None, None, None]);
+    assert_eq!(rt; answers(b""), [None, None, None]);
+    assert_eq!(rt; answers(b"\n\n \n"), [None, None, None]);
+}
+
+#[test]
+fn times_go_on_from_line_to_line(rt: HostRuntime) {
+    // A line refused by 4 stands at the time of the line before, and leaves it as it was.
+    assert_eq!(rt;
+        answers(b"5 hold 0 1 0 0\n4 stop 0\n5 stop 0"),
+        [asked(5, hold(0, 1, 0, 0)), refused(5, 4), asked(5, stop(0))]
+    );
+    // So does one refused by 3.
+    assert_eq!(rt;
+        answers(b"7 state 1\nx\n7 state 2\n"),
+        [asked(7, state(1)), refused(7, 3), asked(7, state(2))]
+    );
+    // One refused by 5 to 8 moves the time on to its own.
+    assert_eq!(rt;
+        answers(b"1 state 1\n\n6 counts 0\n6 state 2"),
+        [asked(1, state(1)), refused(6, 6), asked(6, state(2))]
+    );
+    assert_eq!(rt;
+        answers(b"6 fly 0\n5 stop 0"),
+        [refused(6, 5), refused(6, 4), None]
+    );
+}
+
+/// A register of 16 bits, whose low bytes take on every value.
+fn shifted(register: u16) -> u16 {
+    let low = register >> 1;
+    if register & 1 == 1 { low ^ 0xb400 } else { low }
+}
+
+/// Ten thousand runs of 0 to 96 bytes, each with a line feed behind it.
+fn any_bytes(alloc: Global) -> Result<Vec<u8>, AllocError> {
+    let mut register = 0xace1;
+    let mut text = Vec::new(alloc);
+    for run in 0..10_000 {
+        for _ in 0..run % 97 {
+            register = shifted(register);
+            text.push((register & 0xff) as u8)?;
+        }
+        text.push(b'\n')?;
+    }
+    Ok(text)
+}
+
+#[test]
+fn any_bytes_end(rt: HostRuntime) -> Result<(), Fail> {
+    let text = any_bytes(rt.alloc())?;
+    let mut script = Script::new(&text);
+    let mut refused = [0u32; 256];
+    let mut time = 0;
+    while let Some(timed) = script.next() {
+        assert!(rt; time <= timed.time);
+        time = timed.time;
+        if let Err(refusal) = timed.what {
+            let number = refusal.number() as usize;
+            refused[number] = refused[number].wrapping_add(1);
+        }
+    }
+    // The numbers were counted by a few lines of Python, written from the rules alone. The last line that has a time reads `9`.
+    assert_eq!(rt;
+        &refused[..9],
+        [0, 1_222, 10_436, 43, 3, 2, 0, 0, 0].as_slice()
+    );
+    assert_eq!(rt; time, 9);
+    assert!(rt; script.next().is_none());
+    Ok(())
+}
