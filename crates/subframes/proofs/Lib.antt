@@ -1,0 +1,5 @@
+pub mod Numbers
+pub mod Parts
+pub mod Presence
+pub mod HealthLines
+pub mod PageSteps

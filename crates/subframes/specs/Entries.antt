@@ -1,0 +1,190 @@
+-- The names of the code's fields, and the entries of the definitions' tables with these names.
+use Rattle.std.specs.Prelude.{ℕ, List, [], ◌∷◌, pos, find, unwrap_or, codes, bytes_eq}
+use Rattle.definitions.specs.Fields as fields
+use Rattle.definitions.specs.Fields.{unsigned, bits, clock_fields, eph2_fields, eph3_fields, almanac_fields, utc_fields, health_fields}
+use Rattle.subframes.specs.declared.clock.ClockField.TheVariants as clock
+use Rattle.subframes.specs.declared.clock.ClockField.{ClockField}
+use Rattle.subframes.specs.declared.ephemeris.Eph2Field.TheVariants as eph2
+use Rattle.subframes.specs.declared.ephemeris.Eph2Field.{Eph2Field}
+use Rattle.subframes.specs.declared.ephemeris.Eph3Field.TheVariants as eph3
+use Rattle.subframes.specs.declared.ephemeris.Eph3Field.{Eph3Field}
+use Rattle.subframes.specs.declared.almanac.AlmanacField.TheVariants as almanac
+use Rattle.subframes.specs.declared.almanac.AlmanacField.{AlmanacField}
+use Rattle.subframes.specs.declared.utc.UtcField.TheVariants as utc
+use Rattle.subframes.specs.declared.utc.UtcField.{UtcField}
+use Rattle.subframes.specs.declared.health.HealthField.TheVariants as health
+use Rattle.subframes.specs.declared.health.HealthField.{HealthField}
+use Rattle.subframes.specs.declared.fields.Field.{Field}
+use Rattle.subframes.specs.declared.fields.Field.TheVariants.{Clock, Eph2, Eph3, Almanac, Utc, Health}
+
+abbrev pub clock_name : ClockField → List ℕ
+clock_name clock.Wn = codes "wn"
+clock_name clock.L2 = codes "l2"
+clock_name clock.Ura = codes "ura"
+clock_name clock.Health = codes "health"
+clock_name clock.Iodc = codes "iodc"
+clock_name clock.L2p = codes "l2p"
+clock_name clock.Tgd = codes "tgd"
+clock_name clock.Toc = codes "toc"
+clock_name clock.Af2 = codes "af2"
+clock_name clock.Af1 = codes "af1"
+clock_name clock.Af0 = codes "af0"
+
+abbrev pub eph2_name : Eph2Field → List ℕ
+eph2_name eph2.Iode = codes "iode"
+eph2_name eph2.Crs = codes "crs"
+eph2_name eph2.Dn = codes "dn"
+eph2_name eph2.M0 = codes "m0"
+eph2_name eph2.Cuc = codes "cuc"
+eph2_name eph2.E = codes "e"
+eph2_name eph2.Cus = codes "cus"
+eph2_name eph2.Sqrta = codes "sqrta"
+eph2_name eph2.Toe = codes "toe"
+eph2_name eph2.Fit = codes "fit"
+eph2_name eph2.Aodo = codes "aodo"
+
+abbrev pub eph3_name : Eph3Field → List ℕ
+eph3_name eph3.Cic = codes "cic"
+eph3_name eph3.Om0 = codes "om0"
+eph3_name eph3.Cis = codes "cis"
+eph3_name eph3.I0 = codes "i0"
+eph3_name eph3.Crc = codes "crc"
+eph3_name eph3.W = codes "w"
+eph3_name eph3.Omdot = codes "omdot"
+eph3_name eph3.Iode = codes "iode3"
+eph3_name eph3.Idot = codes "idot"
+
+abbrev pub almanac_name : AlmanacField → List ℕ
+almanac_name almanac.Data = codes "data"
+almanac_name almanac.Sv = codes "sv"
+almanac_name almanac.E = codes "e"
+almanac_name almanac.Toa = codes "toa"
+almanac_name almanac.Di = codes "di"
+almanac_name almanac.Omdot = codes "omdot"
+almanac_name almanac.Health = codes "health"
+almanac_name almanac.Sqrta = codes "sqrta"
+almanac_name almanac.Om0 = codes "om0"
+almanac_name almanac.W = codes "w"
+almanac_name almanac.M0 = codes "m0"
+almanac_name almanac.Af0 = codes "af0"
+almanac_name almanac.Af1 = codes "af1"
+
+abbrev pub utc_name : UtcField → List ℕ
+utc_name utc.Data = codes "data"
+utc_name utc.Sv = codes "sv"
+utc_name utc.Al0 = codes "al0"
+utc_name utc.Al1 = codes "al1"
+utc_name utc.Al2 = codes "al2"
+utc_name utc.Al3 = codes "al3"
+utc_name utc.Be0 = codes "be0"
+utc_name utc.Be1 = codes "be1"
+utc_name utc.Be2 = codes "be2"
+utc_name utc.Be3 = codes "be3"
+utc_name utc.A1 = codes "a1"
+utc_name utc.A0 = codes "a0"
+utc_name utc.Tot = codes "tot"
+utc_name utc.Wnt = codes "wnt"
+utc_name utc.Dtls = codes "dtls"
+utc_name utc.Wnlsf = codes "wnlsf"
+utc_name utc.Dn = codes "dn"
+utc_name utc.Dtlsf = codes "dtlsf"
+
+abbrev pub health_name : HealthField → List ℕ
+health_name health.Data = codes "data"
+health_name health.Sv = codes "sv"
+health_name health.Toa = codes "toa"
+health_name health.Wna = codes "wna"
+health_name health.H1 = codes "h1"
+health_name health.H2 = codes "h2"
+health_name health.H3 = codes "h3"
+health_name health.H4 = codes "h4"
+health_name health.H5 = codes "h5"
+health_name health.H6 = codes "h6"
+health_name health.H7 = codes "h7"
+health_name health.H8 = codes "h8"
+health_name health.H9 = codes "h9"
+health_name health.H10 = codes "h10"
+health_name health.H11 = codes "h11"
+health_name health.H12 = codes "h12"
+health_name health.H13 = codes "h13"
+health_name health.H14 = codes "h14"
+health_name health.H15 = codes "h15"
+health_name health.H16 = codes "h16"
+health_name health.H17 = codes "h17"
+health_name health.H18 = codes "h18"
+health_name health.H19 = codes "h19"
+health_name health.H20 = codes "h20"
+health_name health.H21 = codes "h21"
+health_name health.H22 = codes "h22"
+health_name health.H23 = codes "h23"
+health_name health.H24 = codes "h24"
+
+-- the lines of the table of health, with the numbers of the names written out
+abbrev pub health_line : HealthField → fields.Field
+health_line health.Data = unsigned (codes "data") (bits 61 62 ∷ []) (pos 0)
+health_line health.Sv = unsigned (codes "sv") (bits 63 68 ∷ []) (pos 0)
+health_line health.Toa = unsigned (codes "toa") (bits 69 76 ∷ []) (pos 12)
+health_line health.Wna = unsigned (codes "wna") (bits 77 84 ∷ []) (pos 0)
+health_line health.H1 = unsigned (codes "h1") (bits 91 96 ∷ []) (pos 0)
+health_line health.H2 = unsigned (codes "h2") (bits 97 102 ∷ []) (pos 0)
+health_line health.H3 = unsigned (codes "h3") (bits 103 108 ∷ []) (pos 0)
+health_line health.H4 = unsigned (codes "h4") (bits 109 114 ∷ []) (pos 0)
+health_line health.H5 = unsigned (codes "h5") (bits 121 126 ∷ []) (pos 0)
+health_line health.H6 = unsigned (codes "h6") (bits 127 132 ∷ []) (pos 0)
+health_line health.H7 = unsigned (codes "h7") (bits 133 138 ∷ []) (pos 0)
+health_line health.H8 = unsigned (codes "h8") (bits 139 144 ∷ []) (pos 0)
+health_line health.H9 = unsigned (codes "h9") (bits 151 156 ∷ []) (pos 0)
+health_line health.H10 = unsigned (codes "h10") (bits 157 162 ∷ []) (pos 0)
+health_line health.H11 = unsigned (codes "h11") (bits 163 168 ∷ []) (pos 0)
+health_line health.H12 = unsigned (codes "h12") (bits 169 174 ∷ []) (pos 0)
+health_line health.H13 = unsigned (codes "h13") (bits 181 186 ∷ []) (pos 0)
+health_line health.H14 = unsigned (codes "h14") (bits 187 192 ∷ []) (pos 0)
+health_line health.H15 = unsigned (codes "h15") (bits 193 198 ∷ []) (pos 0)
+health_line health.H16 = unsigned (codes "h16") (bits 199 204 ∷ []) (pos 0)
+health_line health.H17 = unsigned (codes "h17") (bits 211 216 ∷ []) (pos 0)
+health_line health.H18 = unsigned (codes "h18") (bits 217 222 ∷ []) (pos 0)
+health_line health.H19 = unsigned (codes "h19") (bits 223 228 ∷ []) (pos 0)
+health_line health.H20 = unsigned (codes "h20") (bits 229 234 ∷ []) (pos 0)
+health_line health.H21 = unsigned (codes "h21") (bits 241 246 ∷ []) (pos 0)
+health_line health.H22 = unsigned (codes "h22") (bits 247 252 ∷ []) (pos 0)
+health_line health.H23 = unsigned (codes "h23") (bits 253 258 ∷ []) (pos 0)
+health_line health.H24 = unsigned (codes "h24") (bits 259 264 ∷ []) (pos 0)
+
+-- the entry of a table with a name
+abbrev pub named : List fields.Field → List ℕ → fields.Field
+named table name = unwrap_or (find (λ (f : fields.Field). bytes_eq f.name name) table) (unsigned [] [] (pos 0))
+
+abbrev pub clock_entry : ClockField → fields.Field
+clock_entry f = named clock_fields (clock_name f)
+
+abbrev pub eph2_entry : Eph2Field → fields.Field
+eph2_entry f = named eph2_fields (eph2_name f)
+
+abbrev pub eph3_entry : Eph3Field → fields.Field
+eph3_entry f = named eph3_fields (eph3_name f)
+
+abbrev pub almanac_entry : AlmanacField → fields.Field
+almanac_entry f = named almanac_fields (almanac_name f)
+
+abbrev pub utc_entry : UtcField → fields.Field
+utc_entry f = named utc_fields (utc_name f)
+
+abbrev pub health_entry : HealthField → fields.Field
+health_entry f = named health_fields (health_name f)
+
+unfoldable pub name_of : Field → List ℕ
+name_of (Clock f) = clock_name f
+name_of (Eph2 f) = eph2_name f
+name_of (Eph3 f) = eph3_name f
+name_of (Almanac f) = almanac_name f
+name_of (Utc f) = utc_name f
+name_of (Health f) = health_name f
+
+-- the entry that a field is
+unfoldable pub entry_of : Field → fields.Field
+entry_of (Clock f) = clock_entry f
+entry_of (Eph2 f) = eph2_entry f
+entry_of (Eph3 f) = eph3_entry f
+entry_of (Almanac f) = almanac_entry f
+entry_of (Utc f) = utc_entry f
+entry_of (Health f) = health_entry f

@@ -1,0 +1,64 @@
+//! An almanac page, in subframe 4 or 5 (IS-GPS-200, section 20.3.3.5.1.2, table 20-VI).
+
+ghost use Rattle.std.specs.Prelude.{◌≡◌, IsTrue};
+ghost use Rattle.subframes.specs.Entries.{almanac_name, almanac_entry};
+ghost use Rattle.subframes.specs.Layouts.{layout_in, is_readable};
+
+use crate::layout::{Bits, Layout, layout, signed, unsigned};
+
+/// A field of an almanac page (IS-GPS-200, section 20.3.3.5.1.2, table 20-VI).
+#[derive(Clone, Copy, Debug, PartialEq, Eq)]
+pub enum AlmanacField {
+    /// The data ID.
+    Data,
+    /// The SV ID.
+    Sv,
+    /// The eccentricity.
+    E,
+    /// The time of applicability, in seconds of the week.
+    Toa,
+    /// What the inclination is above 0.3 semicircles, in semicircles.
+    Di,
+    /// The rate of the right ascension, in semicircles per second.
+    Omdot,
+    /// The health of the satellite.
+    Health,
+    /// The root of the semi-major axis, in roots of metres.
+    Sqrta,
+    /// The longitude of the ascending node at the week's start, in semicircles.
+    Om0,
+    /// The argument of perigee, in semicircles.
+    W,
+    /// The mean anomaly at the reference time, in semicircles.
+    M0,
+    /// The offset of the clock, in seconds.
+    Af0,
+    /// The drift of the clock, in seconds per second.
+    Af1,
+}
+
+impl AlmanacField {
+    /// Where the field stands, and the power of two of its scale factor. The parts of
+    /// af0 stand before and behind af1.
+    pub(crate) fn layout(self) -> Layout
+        ensures name { result.name.now ≡ almanac_name self }
+        ensures entry { layout_in result ≡ almanac_entry self }
+        ensures readable { IsTrue (is_readable (layout_in result)) }
+    {
+        match self {
+            AlmanacField::Data => unsigned!("data", 61..=62; 0),
+            AlmanacField::Sv => unsigned!("sv", 63..=68; 0),
+            AlmanacField::E => unsigned!("e", 69..=84; -21),
+            AlmanacField::Toa => unsigned!("toa", 91..=98; 12),
+            AlmanacField::Di => signed!("di", 99..=114; -19),
+            AlmanacField::Omdot => signed!("omdot", 121..=136; -38),
+            AlmanacField::Health => unsigned!("health", 137..=144; 0),
+            AlmanacField::Sqrta => unsigned!("sqrta", 151..=174; -11),
+            AlmanacField::Om0 => signed!("om0", 181..=204; -23),
+            AlmanacField::W => signed!("w", 211..=234; -23),
+            AlmanacField::M0 => signed!("m0", 241..=264; -23),
+            AlmanacField::Af0 => signed!("af0", 271..=278, 290..=292; -20),
+            AlmanacField::Af1 => signed!("af1", 279..=289; -38),
+        }
+    }
+}

@@ -1,0 +1,64 @@
+//! Each field by its name.
+
+ghost use Rattle.std.specs.Prelude.{◌≡◌, IsTrue};
+ghost use Rattle.subframes.specs.Entries.{entry_of, name_of};
+ghost use Rattle.subframes.specs.Layouts.{layout_in, is_readable};
+
+use crate::almanac::AlmanacField;
+use crate::clock::ClockField;
+use crate::ephemeris::{Eph2Field, Eph3Field};
+use crate::health::HealthField;
+use crate::layout::Layout;
+use crate::utc::UtcField;
+
+/// A field of the message, by the table that it stands in (IS-GPS-200, sections 20.3.3.3 to
+/// 20.3.3.5). Its number times two to the power of [`Field::exponent`] is its value, in the unit
+/// that its variant tells.
+#[derive(Clone, Copy, Debug, PartialEq, Eq)]
+pub enum Field {
+    /// Subframe 1, the clock (section 20.3.3.3.1).
+    Clock(ClockField),
+    /// Subframe 2, the first part of the ephemeris (section 20.3.3.4.1).
+    Eph2(Eph2Field),
+    /// Subframe 3, the second part of the ephemeris (section 20.3.3.4.1).
+    Eph3(Eph3Field),
+    /// An almanac (section 20.3.3.5.1.2).
+    Almanac(AlmanacField),
+    /// The ionosphere and coordinated universal time (section 20.3.3.5.1.6).
+    Utc(UtcField),
+    /// The health of satellites 1 to 24 (section 20.3.3.5.1.3).
+    Health(HealthField),
+}
+
+impl Field {
+    /// The field's name within its table, as `tgd`.
+    pub fn name(self) -> &'static str
+        ensures { result.now ≡ name_of self }
+    {
+        self.layout().name
+    }
+
+    /// The power of two that is the field's scale factor: 0 where it is counted in its own unit.
+    pub fn exponent(self) -> i8
+        ensures { result ≡ (entry_of self).exponent }
+    {
+        self.layout().exponent
+    }
+
+    /// Its line of its table.
+    #[tactic(auto, unfolding(crate::specs::Entries::entry_of, crate::specs::Entries::name_of))]
+    pub(crate) fn layout(self) -> Layout
+        ensures name { result.name.now ≡ name_of self }
+        ensures entry { layout_in result ≡ entry_of self }
+        ensures readable { IsTrue (is_readable (layout_in result)) }
+    {
+        match self {
+            Field::Clock(field) => field.layout(),
+            Field::Eph2(field) => field.layout(),
+            Field::Eph3(field) => field.layout(),
+            Field::Almanac(field) => field.layout(),
+            Field::Utc(field) => field.layout(),
+            Field::Health(field) => field.layout(),
+        }
+    }
+}

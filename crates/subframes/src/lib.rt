@@ -1,0 +1,31 @@
+//! The numbers of the GPS navigation message (IS-GPS-200, section 20.3.3).
+//!
+//! [`field`] reads one [`Field`] of a subframe, and [`Page::read`] a whole [`Page`] where the
+//! subframe is complete and its kind is known. Both go by tables of the standard's own bit numbers,
+//! and promise the number that the bits of the definitions' table write, in two's complement where
+//! the standard marks it.
+#![tactic(auto)]
+
+mod almanac;
+mod clock;
+mod ephemeris;
+mod fields;
+mod health;
+mod kind;
+mod layout;
+mod message;
+mod page;
+mod reading;
+#[cfg(test)]
+mod tests;
+mod utc;
+
+pub use almanac::AlmanacField;
+pub use clock::ClockField;
+pub use ephemeris::{Eph2Field, Eph3Field};
+pub use fields::Field;
+pub use health::HealthField;
+pub use kind::Kind;
+pub use page::Page;
+pub use reading::field;
+pub use utc::UtcField;

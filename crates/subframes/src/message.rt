@@ -1,0 +1,42 @@
+//! The special message, in subframe 4 (IS-GPS-200, section 20.3.3.5.1.8).
+
+ghost use Rattle.std.specs.Prelude.{◌≡◌, ◌+◌, map, pos, IsTrue};
+ghost use Rattle.definitions.specs.Fields.{bits, character, message_fields, value_of};
+ghost use Rattle.subframes.specs.Layouts.{is_in_one_word};
+
+use crate::layout::Bits;
+use frame_sync::Subframe;
+
+/// The characters of a message.
+pub(crate) const CHARACTERS: usize = 22;
+
+/// The bits of a character.
+const WIDTH: usize = 8;
+
+/// The characters with these first bits.
+macro_rules! characters_at {
+    ($subframe:ident; $($first:literal),*) => { [$(character($subframe, $first)),*] };
+}
+
+/// The characters of a message as they are sent, missing words read as 0: two in word 3, three in
+/// each of words 4 to 9, two in word 10.
+pub(crate) fn characters(subframe: &Subframe) -> [u8; CHARACTERS]
+    ensures { map (λ c. pos c) result ≡ map (value_of subframe.now) message_fields }
+{
+    characters_at!(subframe;
+        69, 77, 91, 99, 107, 121, 129, 137, 151, 159, 167, 181, 189, 197, 211, 219, 227, 241, 249,
+        257, 271, 279
+    )
+}
+
+/// The character with this first bit.
+fn character(subframe: &Subframe, first: usize) -> u8
+    requires { IsTrue (is_in_one_word (bits first (first + 7))) }
+    ensures { pos result ≡ value_of subframe.now (character first) }
+{
+    let bits = Bits {
+        first,
+        last: first + (WIDTH - 1),
+    };
+    bits.number(subframe) as u8
+}

@@ -1,0 +1,83 @@
+//! The page that a subframe holds.
+
+ghost use Rattle.std.specs.Prelude.{◌≡◌, map, option_map};
+ghost use Rattle.definitions.specs.Fields.{value_of};
+ghost use Rattle.definitions.specs.Pages.{page_of};
+ghost use Rattle.subframes.specs.Entries.{entry_of};
+ghost use Rattle.subframes.specs.PageViews.{kind_in, page_in};
+
+use crate::fields::Field;
+use crate::kind::{
+    ALMANAC_FIELDS, CLOCK_FIELDS, EPH2_FIELDS, EPH3_FIELDS, HEALTH_FIELDS, Kind, UTC_FIELDS,
+};
+use crate::message::{CHARACTERS, characters};
+use crate::reading::value;
+use frame_sync::Subframe;
+
+/// The page of a complete subframe: the numbers of its fields in the order of its table, each from
+/// -2^31 to 2^32 - 1, or the characters of its message (IS-GPS-200, sections 20.3.3.3 to 20.3.3.5).
+#[derive(Clone, Copy, Debug, PartialEq, Eq)]
+pub enum Page {
+    /// Subframe 1 (section 20.3.3.3.1).
+    Clock([i64; 11]),
+    /// Subframe 2 (section 20.3.3.4.1).
+    Eph2([i64; 11]),
+    /// Subframe 3 (section 20.3.3.4.1).
+    Eph3([i64; 9]),
+    /// SV ID 1 to 32 in subframe 4 or 5 (section 20.3.3.5.1.2).
+    Almanac([i64; 13]),
+    /// SV ID 56 in subframe 4 (section 20.3.3.5.1.6).
+    Utc([i64; 18]),
+    /// SV ID 51 in subframe 5 (section 20.3.3.5.1.3).
+    Health([i64; 28]),
+    /// SV ID 55 in subframe 4, as it is sent (section 20.3.3.5.1.8).
+    Message([u8; CHARACTERS]),
+}
+
+impl Page {
+    /// The page that a subframe holds, by its ID and, in subframes 4 and 5, by its SV ID, whatever
+    /// the data ID. `None` where a word is missing or the page is of no [`Kind`] (IS-GPS-200,
+    /// section 20.3.3.5.1.1, table 20-V).
+    pub fn read(subframe: &Subframe) -> Option<Page>
+        ensures { option_map page_in result ≡ page_of subframe.now }
+    {
+        if !subframe.complete() {
+            return None;
+        }
+        Some(match Kind::of(subframe)? {
+            Kind::Clock => Page::Clock(values(subframe, &CLOCK_FIELDS)),
+            Kind::Eph2 => Page::Eph2(values(subframe, &EPH2_FIELDS)),
+            Kind::Eph3 => Page::Eph3(values(subframe, &EPH3_FIELDS)),
+            Kind::Almanac => Page::Almanac(values(subframe, &ALMANAC_FIELDS)),
+            Kind::Utc => Page::Utc(values(subframe, &UTC_FIELDS)),
+            Kind::Health => Page::Health(values(subframe, &HEALTH_FIELDS)),
+            Kind::Message => Page::Message(characters(subframe)),
+        })
+    }
+
+    /// The page's kind, whose fields name its values.
+    pub fn kind(&self) -> Kind
+        ensures { kind_in result ≡ (page_in self.now).kind }
+    {
+        match self {
+            Page::Clock(_) => Kind::Clock,
+            Page::Eph2(_) => Kind::Eph2,
+            Page::Eph3(_) => Kind::Eph3,
+            Page::Almanac(_) => Kind::Almanac,
+            Page::Utc(_) => Kind::Utc,
+            Page::Health(_) => Kind::Health,
+            Page::Message(_) => Kind::Message,
+        }
+    }
+}
+
+/// The numbers of these fields, missing words read as 0.
+fn values<const N: usize>(subframe: &Subframe, fields: &[Field; N]) -> [i64; N]
+    ensures { result ≡ map (λ field. value_of subframe.now (entry_of field)) fields.now }
+{
+    let mut values = [0; N];
+    for (i, field) in fields.iter().enumerate() {
+        values[i] = value(subframe, *field);
+    }
+    values
+}

@@ -1,0 +1,79 @@
+//! The page of the ionosphere and of coordinated universal time, in subframe 4 (IS-GPS-200,
+//! sections 20.3.3.5.1.6 and 20.3.3.5.1.7, tables 20-IX and 20-X).
+
+ghost use Rattle.std.specs.Prelude.{◌≡◌, IsTrue};
+ghost use Rattle.subframes.specs.Entries.{utc_name, utc_entry};
+ghost use Rattle.subframes.specs.Layouts.{layout_in, is_readable};
+
+use crate::layout::{Bits, Layout, layout, signed, unsigned};
+
+/// A field of the page with SV ID 56 of subframe 4 (IS-GPS-200, section 20.3.3.5.1.6, table 20-IX).
+#[derive(Clone, Copy, Debug, PartialEq, Eq)]
+pub enum UtcField {
+    /// The data ID.
+    Data,
+    /// The SV ID.
+    Sv,
+    /// The amplitude of the ionosphere's delay, in seconds.
+    Al0,
+    /// Its term in seconds per semicircle.
+    Al1,
+    /// Its term in seconds per semicircle squared.
+    Al2,
+    /// Its term in seconds per semicircle cubed.
+    Al3,
+    /// The period of the ionosphere's delay, in seconds.
+    Be0,
+    /// Its term in seconds per semicircle.
+    Be1,
+    /// Its term in seconds per semicircle squared.
+    Be2,
+    /// Its term in seconds per semicircle cubed.
+    Be3,
+    /// The drift of GPS time against UTC, in seconds per second.
+    A1,
+    /// The offset of GPS time from UTC, in seconds.
+    A0,
+    /// The reference time of the UTC data, in seconds of the week.
+    Tot,
+    /// The week of that reference time, modulo 256.
+    Wnt,
+    /// The leap seconds so far.
+    Dtls,
+    /// The week of the next leap second, modulo 256.
+    Wnlsf,
+    /// The day of the next leap second, from 1 for Sunday.
+    Dn,
+    /// The leap seconds from then on.
+    Dtlsf,
+}
+
+impl UtcField {
+    /// Where the field stands, and the power of two of its scale factor.
+    pub(crate) fn layout(self) -> Layout
+        ensures name { result.name.now ≡ utc_name self }
+        ensures entry { layout_in result ≡ utc_entry self }
+        ensures readable { IsTrue (is_readable (layout_in result)) }
+    {
+        match self {
+            UtcField::Data => unsigned!("data", 61..=62; 0),
+            UtcField::Sv => unsigned!("sv", 63..=68; 0),
+            UtcField::Al0 => signed!("al0", 69..=76; -30),
+            UtcField::Al1 => signed!("al1", 77..=84; -27),
+            UtcField::Al2 => signed!("al2", 91..=98; -24),
+            UtcField::Al3 => signed!("al3", 99..=106; -24),
+            UtcField::Be0 => signed!("be0", 107..=114; 11),
+            UtcField::Be1 => signed!("be1", 121..=128; 14),
+            UtcField::Be2 => signed!("be2", 129..=136; 16),
+            UtcField::Be3 => signed!("be3", 137..=144; 16),
+            UtcField::A1 => signed!("a1", 151..=174; -50),
+            UtcField::A0 => signed!("a0", 181..=204, 211..=218; -30),
+            UtcField::Tot => unsigned!("tot", 219..=226; 12),
+            UtcField::Wnt => unsigned!("wnt", 227..=234; 0),
+            UtcField::Dtls => signed!("dtls", 241..=248; 0),
+            UtcField::Wnlsf => unsigned!("wnlsf", 249..=256; 0),
+            UtcField::Dn => unsigned!("dn", 257..=264; 0),
+            UtcField::Dtlsf => signed!("dtlsf", 271..=278; 0),
+        }
+    }
+}
