@@ -1,7 +1,10 @@
+pub mod BankLemmas
 pub mod ChanceLemmas
+pub mod CommandLemmas
 pub mod FollowingLemmas
 pub mod HoldingLemmas
 pub mod MoveLemmas
+pub mod PlaceLemmas
 pub mod ReplicaLemmas
 pub mod SizeLemmas
 pub mod SlotLemmas

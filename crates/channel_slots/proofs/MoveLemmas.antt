@@ -1,5 +1,5 @@
 -- What a run of samples does to a follower, from what its parts promise.
-use Rattle.std.proofs.Common.{◌≡◌, ℕ, ◌+◌, ◌*◌, ◌%◌, ◌^◌, List, length, refl, ap, ◌∙◌, map}
+use Rattle.std.proofs.Common.{◌≡◌, ℕ, ◌+◌, ◌*◌, List, length, refl, ap, ◌∙◌, map}
 use Rattle.std.specs.List.{range_with_len}
 use Rattle.definitions.specs.Samples.{Sample, sample_at}
 use Rattle.definitions.specs.Oscillators.{code_phase_after, carrier_phase_after, cosine, sine, early_sign, prompt_sign, late_sign}

@@ -1,11 +1,11 @@
 -- The sums of a correlator rest on its views within the range alone.
-use Rattle.std.proofs.Common.{◌≡◌, ℕ, zero, suc, ◌+◌, ◌-◌, ◌*◌, ◌%◌, ◌^◌, ◌<◌, ◌≤◌, List, length, get_or, refl, sym, ap, ◌∙◌, arith}
-use Rattle.std.specs.Prelude.{ℤ, pos, ◌+ℤ◌, ◌*ℤ◌, ◌-ℤ◌, map}
+use Rattle.std.proofs.Common.{◌≡◌, ℕ, ◌+◌, ◌-◌, ◌<◌, List, get_or, refl, arith}
+use Rattle.std.specs.Prelude.{ℤ, pos, ◌*ℤ◌, map}
 use Rattle.std.specs.List.{range_with_len}
 use Rattle.std.proofs.lemmas.List.FromFn.{get_or-map-range_with_len}
-use Rattle.definitions.specs.Samples.{Sample, sample_at}
+use Rattle.definitions.specs.Samples.{Sample}
 use Rattle.definitions.specs.Oscillators.{code_phase_after, carrier_phase_after, cosine, sine, early_sign, prompt_sign, late_sign}
-use Rattle.definitions.specs.Correlation.{Counts, Replica, Phases, replica_of, six_sums, in_phase_sum, quadrature_sum, wiped_in_phase, wiped_quadrature}
+use Rattle.definitions.specs.Correlation.{Replica, Phases, replica_of, six_sums, in_phase_sum, quadrature_sum, wiped_in_phase, wiped_quadrature}
 use Rattle.definitions.proofs.SumsLemmas.{total-same}
 use Rattle.oscillators.specs.Views.{CarrierViews, CodeViews}
 use Rattle.lane_correlator.specs.Products.{replica_in}

@@ -1,3 +1,5 @@
+pub mod BankStates
+pub mod Banks
 pub mod Commands
 pub mod Following
 pub mod Holdings

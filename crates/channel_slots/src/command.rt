@@ -64,3 +64,19 @@ pub enum Command {
         slot: SlotNo,
     },
 }
+
+impl Command {
+    ghost use Rattle.channel_slots.specs.Commands.{slot_of};
+
+    /// The slot that is asked.
+    pub fn slot(&self) -> SlotNo
+        ensures { result ≡ slot_of self.now }
+    {
+        match self {
+            Command::Hold { slot, .. }
+            | Command::Counts { slot, .. }
+            | Command::State { slot }
+            | Command::Stop { slot } => *slot,
+        }
+    }
+}

@@ -15,8 +15,9 @@ const BUSY: u8 = 9;
 const IDLE: u8 = 10;
 
 /// A slot: idle, or holding a satellite.
-#[derive(Debug, Drop)]
+#[derive(Debug, Default, Drop)]
 pub enum Slot {
+    #[default]
     Idle,
     Holds(Holding),
 }

@@ -61,6 +61,18 @@ fn idle_and_busy_slots_answer(rt: HostRuntime) -> Result<(), Fail> {
     Ok(())
 }
 
+/// Sums in the order of a line of counts.
+fn sums([ie, qe, ip, qp, il, ql]: [i32; 6]) -> Counts {
+    Counts {
+        ie,
+        qe,
+        ip,
+        qp,
+        il,
+        ql,
+    }
+}
+
 /// A slot that began to hold before the first sample, with counts asked for.
 fn held(settings: &Settings, prn: u8, doppler: i32) -> Result<Slot, Fail>
     ensures few { IfOk result (λ slot. dumps_of slot ≡ 0) }
@@ -95,14 +107,7 @@ fn told(slot: &mut Slot, most: usize, len: usize) -> Option<Counts>
 fn early_wraps(rt: HostRuntime) -> Result<(), Fail> {
     let settings = plain_settings()?;
     let mut slot = held(&settings, 1, 0)?;
-    let counts = Counts {
-        ie: -2,
-        qe: 1,
-        ip: 2,
-        qp: -1,
-        il: 2,
-        ql: -1,
-    };
+    let counts = sums([-2, 1, 2, -1, 2, -1]);
     assert_eq!(rt; told(&mut slot, 8, 1), Some(counts));
     Ok(())
 }
@@ -113,14 +118,7 @@ fn early_wraps(rt: HostRuntime) -> Result<(), Fail> {
 #[test]
 fn sums_do_not_depend_on_the_cut(rt: HostRuntime) -> Result<(), Fail> {
     let settings = plain_settings()?;
-    let counts = Counts {
-        ie: -4,
-        qe: 0,
-        ip: 4,
-        qp: 0,
-        il: 4,
-        ql: 0,
-    };
+    let counts = sums([-4, 0, 4, 0, 4, 0]);
     let mut whole = held(&settings, 7, -1_000)?;
     assert_eq!(rt; told(&mut whole, 8, 2), Some(counts));
     let mut cut = held(&settings, 7, -1_000)?;
@@ -133,4 +131,43 @@ fn sums_do_not_depend_on_the_cut(rt: HostRuntime) -> Result<(), Fail> {
 fn slots_are_0_to_3(rt: HostRuntime) {
     assert_eq!(rt; SlotNo::new(3).map(|slot| slot.get()), Some(3));
     assert_eq!(rt; SlotNo::new(4), None);
+}
+
+// Satellite 1 of client 1 and satellite 7 of client 2 as above: their dumps come with samples 1 and 2, in one run of eight samples.
+#[test]
+fn each_client_has_its_slots(rt: HostRuntime) -> Result<(), Fail> {
+    let settings = plain_settings()?;
+    let slot = slot_zero()?;
+    let mut bank = Bank::new(2);
+    assert_eq!(rt; bank.command(&settings, 1, hold(1, 0)?), Event::Accepted);
+    assert_eq!(rt;
+        bank.command(&settings, 2, Command::State { slot }),
+        Event::State(SlotState::Idle)
+    );
+    assert_eq!(rt;
+        bank.command(&settings, 2, hold(7, -1_000)?),
+        Event::Accepted
+    );
+    let counts = Command::Counts { slot, n: 1 };
+    assert_eq!(rt; bank.command(&settings, 1, counts), Event::Accepted);
+    assert_eq!(rt; bank.command(&settings, 2, counts), Event::Accepted);
+    let replies = bank.feed(Format::Real1, &[0], 0, 8);
+    let first = Event::Count(sums([-2, 1, 2, -1, 2, -1]));
+    let second = Event::Count(sums([-4, 0, 4, 0, 4, 0]));
+    let told = [
+        Reply {
+            client: 1,
+            slot: 0,
+            time: 1,
+            event: first,
+        },
+        Reply {
+            client: 2,
+            slot: 0,
+            time: 2,
+            event: second,
+        },
+    ];
+    assert_eq!(rt; replies.as_slice(), told.as_slice());
+    Ok(())
 }

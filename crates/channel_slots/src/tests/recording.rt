@@ -3,7 +3,7 @@
 ghost use Rattle.std.specs.Prelude.{◌+◌, ◌<◌, ◌≤◌, IfOk};
 ghost use Rattle.channel_slots.specs.Slots.{dumps_of};
 
-use super::slot_zero;
+use super::{slot_zero, sums};
 use crate::{Command, Event, Slot};
 use ca_codes::{CodeBook, Prn};
 use lane_correlator::Counts;
@@ -91,16 +91,4 @@ fn first_counts_of_a_recording(rt: HostRuntime) -> Result<(), Fail> {
         (3_392, Some(sums([-623, -73, -1_079, 11, -483, 143])))
     );
     Ok(())
-}
-
-/// Sums in the order of a line of counts.
-fn sums([ie, qe, ip, qp, il, ql]: [i32; 6]) -> Counts {
-    Counts {
-        ie,
-        qe,
-        ip,
-        qp,
-        il,
-        ql,
-    }
 }

@@ -1,4 +1,4 @@
-use Rattle.std.proofs.Common.{◌≡◌, ℕ, ◌+◌, ◌*◌, length, refl, sym, ap, ◌∙◌}
+use Rattle.std.proofs.Common.{◌≡◌, ℕ, ◌+◌, ◌*◌, length, refl, ap}
 use Rattle.oscillators.specs.Views.{Oscillation}
 use Rattle.lane_correlator.specs.Counting.{counts_in}
 use Rattle.channel_slots.specs.Sizes.{GrowWith}

@@ -1,4 +1,4 @@
-use Rattle.std.proofs.Common.{◌≡◌, ◌≤◌, ◌*◌, ◌^◌, ℤ, ℕ, refl, arith, pos, ◌*ℤ◌, ap, ◌∙◌, unsigned_abs, to_z, of_z, w64, w32, FitsSigned}
+use Rattle.std.proofs.Common.{◌≡◌, ◌≤◌, ◌*◌, ℤ, refl, arith, pos, ◌*ℤ◌, ap, ◌∙◌, unsigned_abs, to_z, of_z, w64, w32, FitsSigned}
 use Rattle.std.proofs.lemmas.Int.{to_z-of_z, fits_signed_from_abs, unsigned_abs-mul}
 use Rattle.std.proofs.Math.Nat.{mul-le-mul_right}
 use Rattle.definitions.specs.Oscillators.{code_step, carrier_step}

@@ -1,0 +1,113 @@
+ghost use Rattle.std.specs.Prelude.{◌≡◌, ◌≤◌, ◌<◌, ◌+◌, ◌^◌, ℕ, length};
+ghost use Rattle.arrayvec.specs.ArrayVec.{array_vec_len};
+ghost use Rattle.channel_slots.specs.Banks.{AllMayStep, AllFew, StepsAll, IsCommanded};
+ghost use Rattle.channel_slots.specs.Commands.{request_in};
+
+use crate::command::Command;
+use crate::reply::{Event, Reply};
+use crate::slot::Slot;
+use arrayvec::ArrayVec;
+use ca_codes::CodeBook;
+use oscillators::Settings;
+use sample_planes::Planes;
+
+/// The most replies of a run of samples.
+pub const MOST_REPLIES: usize = 256;
+
+/// A client's slot: clients are numbered from 1, their slots from 0.
+#[derive(Debug, Default, Drop)]
+pub struct Place {
+    pub client: u8,
+    pub number: u8,
+    pub slot: Slot,
+}
+
+impl Place {
+    ghost use Rattle.std.specs.Prelude.{List, [], ◌∷◌, ◌++◌, length, Some};
+    ghost use Rattle.definitions.specs.Samples.{Sample};
+    ghost use Rattle.definitions.specs.Commands.{TimedRequest};
+    ghost use Rattle.definitions.specs.Answers.{answer_at_end};
+    ghost use Rattle.channel_slots.specs.Replies.{answer_in};
+    ghost use Rattle.channel_slots.specs.Slots.{IsRefusal, MayStep, StandsFor, dumps_of};
+    ghost use Rattle.channel_slots.specs.Banks.{PlaceAdds};
+
+    /// Takes samples that don't go past the slot's next event, and adds what they tell with the last of them, at that time.
+    fn step(
+        &mut self,
+        samples: &Planes,
+        book: &mut CodeBook,
+        time: u64,
+        replies: &mut ArrayVec<Reply, MOST_REPLIES>,
+    )
+        requires some { 0 < length samples.now }
+        requires may { MayStep self.old.slot (length samples.now) }
+        requires few { dumps_of self.old.slot < 2 ^ 62 }
+        requires fits { array_vec_len replies.old < 256 }
+        ensures { PlaceAdds samples.now time self.old self.new replies.old.items replies.new.items }
+    {
+        match self.slot.step(samples, book) {
+            Some(counts) => replies.push(Reply {
+                client: self.client,
+                slot: self.number,
+                time,
+                event: Event::Count(counts),
+            }),
+            None => {}
+        }
+    }
+
+    /// Does what its client asks of its slot, and answers it.
+    pub fn command(&mut self, settings: &Settings, command: Command) -> Event
+        ensures client { self.new.client ≡ self.old.client }
+        ensures number { self.new.number ≡ self.old.number }
+        ensures answer { (xs : List Sample) (commands : List TimedRequest) → StandsFor settings.now xs commands self.old.slot
+            → answer_in result ≡ Some (answer_at_end settings.now xs commands (request_in command)) }
+        ensures stands { (xs : List Sample) (commands : List TimedRequest) → StandsFor settings.now xs commands self.old.slot
+            → StandsFor settings.now xs (commands ++ record { time = length xs; request = request_in command } ∷ []) self.new.slot }
+        ensures refused { IsRefusal result → self.new ≡ self.old }
+        ensures dumps { dumps_of self.new.slot ≤ dumps_of self.old.slot }
+    {
+        self.slot.command(settings, command)
+    }
+}
+
+/// How many samples there are to the next event of any of the slots, but `most` if that is fewer.
+pub fn room(places: &[Place], most: usize) -> usize
+    requires { 0 < most }
+    ensures some { 0 < result }
+    ensures within { result ≤ most }
+    ensures may { AllMayStep result places.now }
+{
+    let mut room = most;
+    for place in places {
+        room = place.slot.room(room);
+    }
+    room
+}
+
+/// All slots take samples that don't go past the next event of any, and add what they tell.
+pub fn step_all(
+    places: &mut [Place],
+    samples: &Planes,
+    book: &mut CodeBook,
+    time: u64,
+    replies: &mut ArrayVec<Reply, MOST_REPLIES>,
+)
+    requires some { 0 < length samples.now }
+    requires may { AllMayStep (length samples.now) places.old }
+    requires few { AllFew (2 ^ 61) places.old }
+    requires fits { array_vec_len replies.old + length places.old ≤ 256 }
+    ensures { StepsAll samples.now time places.old places.new replies.old.items replies.new.items }
+{
+    for place in places.iter_mut() {
+        place.step(samples, book, time, replies);
+    }
+}
+
+/// One of the slots does what its client asks, and answers it.
+pub fn command_at(places: &mut [Place], at: usize, settings: &Settings, command: Command) -> Event
+    requires { at < length places.old }
+    ensures { IsCommanded settings.now (request_in command) places.old places.new at result }
+{
+    places[at].command(settings, command)
+}
