@@ -1,22 +1,23 @@
 -- What a bank tells and stands for after a block that all its slots took.
-use Rattle.std.proofs.Common.{◌≡◌, ℕ, suc, ◌+◌, ◌-◌, ◌*◌, ◌<◌, ◌≤◌, List, [], ◌∷◌, ◌++◌, length, take, drop, refl, sym, ap, ◌∙◌, arith, length-append, append-nil, append_assoc}
-use Rattle.std.specs.Prelude.{Option, Some, None, map, Bool, true, false, if◌then◌else◌, nat_le}
+use Rattle.std.proofs.Common.{◌≡◌, ℕ, suc, ◌+◌, ◌-◌, ◌*◌, ◌/◌, ◌%◌, ◌<◌, ◌≤◌, List, [], ◌∷◌, ◌++◌, length, take, drop, refl, sym, ap, ◌∙◌, arith, length-append, append-nil, append_assoc}
+use Rattle.std.specs.Prelude.{Some, map, Bool, true, false, if◌then◌else◌, nat_le}
 use Rattle.std.proofs.Math.Seq.{take-append_seam}
 use Rattle.channel_slots.specs.declared.slot.Slot.{Slot}
 use Rattle.channel_slots.specs.declared.slot.Slot.TheVariants.{Idle, Holds}
-use Rattle.std.specs.List.{AllByRecursion, refill}
+use Rattle.std.specs.List.{AllByRecursion}
 use Rattle.definitions.specs.Oscillators.{Settings}
 use Rattle.definitions.specs.Commands.{TimedRequest}
 use Rattle.channel_slots.specs.declared.reply.Reply.{Reply}
 use Rattle.channel_slots.specs.declared.place.Place.{Place}
-use Rattle.channel_slots.specs.Holdings.{how_many}
 use Rattle.channel_slots.specs.Slots.{StandsFor, chances}
-use Rattle.channel_slots.specs.Banks.{AllFew, StepsAll, replies_of, AreTold, keys_of, BankStands, all_chances, most_dumps}
+use Rattle.channel_slots.specs.Banks.{AllFew, StepsAll, AreTold, keys_of, BankStands, all_chances, most_dumps}
 use Rattle.channel_slots.specs.Replies.{told_in}
 use Rattle.definitions.specs.Samples.{Sample}
 use Rattle.definitions.specs.Oscillators.{code_cycle}
 use Rattle.definitions.specs.Events.{events_at_end}
-use Rattle.definitions.specs.Banks.{SlotEvent, slot_events, told_at_end}
+use Rattle.std.proofs.lemmas.List.{length-map}
+use Rattle.std.proofs.lemmas.List.FromFn.{length-map-range_with_len}
+use Rattle.definitions.specs.Banks.{SlotEvent, slot_events, told_at_end, layout}
 use Rattle.definitions.specs.Receiver.{told_between}
 
 module _ {A : Type 0} (tells : List Sample → List A) where
@@ -48,24 +49,20 @@ map-append f (r ∷ rs) ss = ap (λ l. f r ∷ l) (map-append f rs ss)
 pub keys-same : (ys : List Sample) (time : ℕ) (ps qs : List Place) (before after : List Reply) → StepsAll ys time ps qs before after → keys_of qs ≡ keys_of ps
 keys-same ys time [] qs before after s = rw s.0
 keys-same ys time (p ∷ ps) [] before after s = absurd s
-keys-same ys time (p ∷ ps) (q ∷ qs) before after s = rw (s.1.client, s.1.number, keys-same ys time ps qs (before ++ replies_of s.0) after s.2)
+keys-same ys time (p ∷ ps) (q ∷ qs) before after s = rw (s.1.client, s.1.number, keys-same ys time ps qs (before ++ s.0) after s.2)
 
 pub few-more : (ys : List Sample) (time n : ℕ) (ps qs : List Place) (before after : List Reply) → StepsAll ys time ps qs before after → AllFew n ps → AllFew (n + 1) qs
 few-more ys time n [] qs before after s few = rw s.0 tt
 few-more ys time n (p ∷ ps) [] before after s few = absurd s
-few-more ys time n (p ∷ ps) (q ∷ qs) before after s few = (omega (arith, s.1.dumps, few.0), few-more ys time n ps qs (before ++ replies_of s.0) after s.2 few.1)
-
-length-replies_of : (r : Option Reply) → length (replies_of r) ≡ how_many r
-length-replies_of None = refl
-length-replies_of (Some r) = refl
+few-more ys time n (p ∷ ps) (q ∷ qs) before after s few = (omega (arith, s.1.dumps, few.0), few-more ys time n ps qs (before ++ s.0) after s.2 few.1)
 
 pub chances-less : (ys : List Sample) (time left : ℕ) (ps qs : List Place) (before after : List Reply) → StepsAll ys time ps qs before after → length ys ≤ left → left ≤ 1024
     → length after + all_chances (left - length ys) qs ≤ length before + all_chances left ps
 chances-less ys time left [] qs before after s h few = rw (s.0, s.1) (omega arith)
 chances-less ys time left (p ∷ ps) [] before after s h few = absurd s
 chances-less ys time left (p ∷ ps) (q ∷ qs) before after s h few =
-    let e : length (before ++ replies_of s.0) ≡ length before + how_many s.0 = simp length-append (omega (arith, length-replies_of s.0)) in
-    omega (arith, e, s.1.chances left h few, chances-less ys time left ps qs (before ++ replies_of s.0) after s.2 h few)
+    let e : length (before ++ s.0) ≡ length before + length s.0 = simp length-append (omega arith) in
+    omega (arith, e, s.1.chances left h few, chances-less ys time left ps qs (before ++ s.0) after s.2 h few)
 
 module _ (settings : Settings) (asked : ℕ → ℕ → List TimedRequest) (xs ys : List Sample) (time : ℕ) (now : length (xs ++ ys) ≡ time) where
   Each : List Sample → List Place → Type 0
@@ -76,14 +73,14 @@ module _ (settings : Settings) (asked : ℕ → ℕ → List TimedRequest) (xs y
   stand-on [] qs before after s each = rw s.0 tt
   stand-on (p ∷ ps) [] before after s each = absurd s
   stand-on (p ∷ ps) (q ∷ qs) before after s each =
-      (rw (s.1.client, s.1.number) (s.1.tells settings xs (asked p.client p.number) now each.0).stands, stand-on ps qs (before ++ replies_of s.0) after s.2 each.1)
+      (rw (s.1.client, s.1.number) (s.1.tells settings xs (asked p.client p.number) now each.0).stands, stand-on ps qs (before ++ s.0) after s.2 each.1)
 
   quiet-all : (ps qs : List Place) (before after : List Reply) → StepsAll ys time ps qs before after → Each xs ps → (j : ℕ) → 0 < j → j < length ys → told_at_end settings (keys_of ps) asked (xs ++ take j ys) ≡ []
   unfolding Each told_at_end
   quiet-all [] qs before after s each j f b = refl
   quiet-all (p ∷ ps) [] before after s each j f b = absurd s
   quiet-all (p ∷ ps) (q ∷ qs) before after s each j f b =
-      rw ((s.1.tells settings xs (asked p.client p.number) now each.0).inside j f b) (quiet-all ps qs (before ++ replies_of s.0) after s.2 each.1 j f b)
+      rw ((s.1.tells settings xs (asked p.client p.number) now each.0).inside j f b) (quiet-all ps qs (before ++ s.0) after s.2 each.1 j f b)
 
   told-all : (ps qs : List Place) (before after : List Reply) (events : List SlotEvent) → StepsAll ys time ps qs before after → Each xs ps → AreTold before events → AreTold after (events ++ told_at_end settings (keys_of ps) asked (xs ++ ys))
   unfolding Each told_at_end
@@ -92,9 +89,9 @@ module _ (settings : Settings) (asked : ℕ → ℕ → List TimedRequest) (xs y
   told-all (p ∷ ps) (q ∷ qs) before after events s each told =
       let one = (s.1.tells settings xs (asked p.client p.number) now each.0).told in
       let own : List SlotEvent = slot_events p.client p.number (length (xs ++ ys)) (events_at_end settings (xs ++ ys) (asked p.client p.number)) in
-      let more : AreTold (before ++ replies_of s.0) (events ++ own) =
-      map-append told_in before (replies_of s.0) ∙ ap (λ l. l ++ map told_in (replies_of s.0)) told ∙ ap (λ l. map (λ (e : SlotEvent). Some e) events ++ l) one ∙ sym (map-append (λ (e : SlotEvent). Some e) events own) in
-      rw (append_assoc events own (told_at_end settings (keys_of ps) asked (xs ++ ys))) at (told-all ps qs (before ++ replies_of s.0) after (events ++ own) s.2 each.1 more)
+      let more : AreTold (before ++ s.0) (events ++ own) =
+      map-append told_in before s.0 ∙ ap (λ l. l ++ map told_in s.0) told ∙ ap (λ l. map (λ (e : SlotEvent). Some e) events ++ l) one ∙ sym (map-append (λ (e : SlotEvent). Some e) events own) in
+      rw (append_assoc events own (told_at_end settings (keys_of ps) asked (xs ++ ys))) at (told-all ps qs (before ++ s.0) after (events ++ own) s.2 each.1 more)
 
 pub few-from_most : (n : ℕ) (places : List Place) → most_dumps places ≤ n → AllFew n places
 few-from_most n [] h = tt
@@ -119,8 +116,15 @@ chances-few (p ∷ places) left = omega (arith, one p.slot left, chances-few pla
 pub chances-begin : (places : List Place) (left n : ℕ) → length places ≤ n → all_chances left places ≤ n
 chances-begin places left n h = omega (arith, h, chances-few places left)
 
+-- four slots for each client
+pub slots-four : (clients : ℕ) (places : List Place) → keys_of places ≡ layout 4 (4 * clients) → length places ≡ 4 * clients
+slots-four clients places keys =
+    let key : Place → ℕ × ℕ = λ p. (p.client, p.number) in
+    let at : ℕ → ℕ × ℕ = λ i. (i / 4 + 1, i % 4) in
+    sym (length-map places key) ∙ ap length keys ∙ length-map-range_with_len at 0 (4 * clients)
+
 -- a vector whose elements were written as a slice
-pub refilled : (n : ℕ) (old new : List Place) → length new ≡ n → refill n old new ≡ new
+pub refilled : (n : ℕ) (old new : List Place) → length new ≡ n → take n (new ++ drop (length new) old) ≡ new
 refilled n old new e = rw (sym e) (take-append_seam new (drop (length new) old))
 
 pub more_few : (t n : ℕ) (ps : List Place) → 0 < n → AllFew (t + 1) ps → most_dumps ps ≤ t + n

@@ -1,6 +1,6 @@
 -- What a slot answers and becomes with a command, and what it tells with a block.
 use Rattle.std.proofs.Common.{refl, sym, ◌≡◌, ℕ, ◌+◌, ◌<◌, ◌≤◌, List, [], ◌∷◌, ◌++◌, length, take, ap, ◌∙◌, arith, length-append, append-nil, append_assoc}
-use Rattle.std.specs.Prelude.{Option, Some, None}
+use Rattle.std.specs.Prelude.{Option, Some, None, map}
 use Rattle.std.specs.List.{AllByRecursion}
 use Rattle.std.proofs.lemmas.List.{length-take}
 use Rattle.definitions.specs.Samples.{Sample}
@@ -8,7 +8,7 @@ use Rattle.definitions.specs.Oscillators.{Settings}
 use Rattle.definitions.specs.Commands.{TimedRequest, state}
 use Rattle.definitions.specs.Commands.{Request as Wanted}
 use Rattle.definitions.specs.Lives.{Life, life_of, life_now, life_with, still_on}
-use Rattle.definitions.specs.Events.{events_at_end, life_events, front_of}
+use Rattle.definitions.specs.Events.{Event as Told, events_at_end, life_events, front_of}
 use Rattle.definitions.specs.Answers.{answer_at_end, answer_with, view_of, shown, idle}
 use Rattle.definitions.proofs.BodyLemmas.{life_of-append}
 use Rattle.definitions.proofs.LifeLemmas.{life_of-command, events-behind, life_now-hold}
@@ -18,7 +18,9 @@ use Rattle.channel_slots.specs.declared.slot.Slot.{Slot}
 use Rattle.channel_slots.specs.declared.slot.Slot.TheVariants.{Idle, Holds}
 use Rattle.channel_slots.specs.declared.command.Command.{Command}
 use Rattle.channel_slots.specs.Commands.{request_in}
-use Rattle.channel_slots.specs.Holdings.{HoldsFor, HoldSteps}
+use Rattle.channel_slots.specs.declared.reply.Event.{Event}
+use Rattle.channel_slots.specs.Replies.{event_in}
+use Rattle.channel_slots.specs.Holdings.{HoldsFor, HoldSteps, events_in}
 use Rattle.channel_slots.specs.Slots.{StandsFor, Tells, IsOn}
 
 early_more : (n : ℕ) (commands : List TimedRequest) (w : Wanted) → AllByRecursion (λ (c : TimedRequest). c.time ≤ n) commands → AllByRecursion (λ (c : TimedRequest). c.time ≤ n) (commands ++ record { time = n; request = w } ∷ [])
@@ -99,23 +101,24 @@ module _ (settings : Settings) (xs : List Sample) (commands : List TimedRequest)
     unfolding life_events
     tells_none zs more e = events-behind settings xs zs commands more ∙ ap (life_events settings (xs ++ zs)) (idle_on e (front_of zs))
 
-    pub idle_tells : slot ≡ Idle → Tells settings xs ys commands slot None
+    pub idle_tells : slot ≡ Idle → Tells settings xs ys commands slot []
     idle_tells e = record {
       inside = λ j first b. tells_none (take j ys) (omega (arith, length-take j ys)) e;
-      told = tells_none ys some e;
+      told = ap (map (λ (e : Told). Some e)) (sym (tells_none ys some e));
       stands = record {
         early = early_longer (length xs) (length (xs ++ ys)) commands (omega (arith, both)) s.early;
         on = rw e (λ zs. rw (append_assoc xs ys zs) (idle_on e (ys ++ zs)));
       };
     }
 
-    pub held_tells : (h g : Holding) (r : Option Counts) → slot ≡ Holds h → ((life : Life) → HoldsFor settings xs life h → HoldSteps settings xs ys life g r) → Tells settings xs ys commands (Holds g) r
-    held_tells h g r e steps =
+    pub held_tells : (h g : Holding) (r : Option Counts) (events : List Event) → slot ≡ Holds h → ((life : Life) → HoldsFor settings xs life h → HoldSteps settings xs ys life g r)
+        → map event_in events ≡ map (λ (e : Told). Some e) (events_in r) → Tells settings xs ys commands (Holds g) events
+    held_tells h g r events e steps same =
         let i = held_now h e in
         let st = steps i.life i.holds in
         record {
           inside = λ j first b. told_by i (take j ys) (omega (arith, length-take j ys)) ∙ st.inside j first b;
-          told = told_by i ys some ∙ st.told;
+          told = same ∙ ap (map (λ (e : Told). Some e)) (sym (told_by i ys some ∙ st.told));
           stands = record {
             early = early_longer (length xs) (length (xs ++ ys)) commands (omega (arith, both)) s.early;
             on = (i.life, life_of-append settings xs ys commands s.early ∙ i.of, st.stands);

@@ -1,5 +1,5 @@
 -- What the slots of a bank tell together.
-use Rattle.std.specs.Prelude.{◌≡◌, ◌≤◌, ◌<◌, ◌+◌, ◌-◌, ℕ, List, [], ◌∷◌, ◌++◌, length, take, map, Option, Some, None, max, get_or, slice_set}
+use Rattle.std.specs.Prelude.{◌≡◌, ◌≤◌, ◌<◌, ◌+◌, ◌-◌, ℕ, List, [], ◌∷◌, ◌++◌, length, take, map, Some, max, get_or, slice_set}
 use Rattle.std.specs.List.{AllByRecursion}
 use Rattle.definitions.specs.Samples.{Sample}
 use Rattle.definitions.specs.Oscillators.{Settings}
@@ -9,37 +9,37 @@ use Rattle.definitions.specs.Answers.{answer_at_end}
 use Rattle.definitions.specs.Banks.{SlotEvent, slot_events}
 use Rattle.channel_slots.specs.declared.reply.Reply.{Reply}
 use Rattle.channel_slots.specs.declared.place.Place.{Place}
-use Rattle.channel_slots.specs.Holdings.{how_many}
 use Rattle.channel_slots.specs.Replies.{told_in, answer_in}
 use Rattle.channel_slots.specs.declared.reply.Event.{Event}
 use Rattle.channel_slots.specs.Slots.{chances, StandsFor, MayStep, dumps_of, IsRefusal}
 
-abbrev pub replies_of : Option Reply → List Reply
-replies_of None = []
-replies_of (Some r) = r ∷ []
+-- events of a place at a time, as replies
+abbrev pub replies_of : Place → ℕ → List Event → List Reply
+replies_of p time events = map (λ event. record { client = p.client; slot = p.number; time = time; event = event }) events
 
 -- each reply is one of these events
 abbrev pub AreTold : List Reply → List SlotEvent → Type 0
 AreTold replies events = map told_in replies ≡ map (λ (e : SlotEvent). Some e) events
 
 -- what a place does with a run of samples, whatever it stands for
-pub record PlaceTells (settings : Settings) (xs ys : List Sample) (commands : List TimedRequest) (p q : Place) (r : Option Reply) : Type 0 where
+pub record PlaceTells (settings : Settings) (xs ys : List Sample) (commands : List TimedRequest) (p q : Place) (replies : List Reply) : Type 0 where
   pub inside : (j : ℕ) → 0 < j → j < length ys → events_at_end settings (xs ++ take j ys) commands ≡ []
-  pub told : AreTold (replies_of r) (slot_events p.client p.number (length (xs ++ ys)) (events_at_end settings (xs ++ ys) commands))
+  pub told : AreTold replies (slot_events p.client p.number (length (xs ++ ys)) (events_at_end settings (xs ++ ys) commands))
   pub stands : StandsFor settings (xs ++ ys) commands q.slot
 
-pub record PlaceSteps (ys : List Sample) (time : ℕ) (p q : Place) (r : Option Reply) : Type 0 where
+pub record PlaceSteps (ys : List Sample) (time : ℕ) (p q : Place) (replies : List Reply) : Type 0 where
   pub client : q.client ≡ p.client
   pub number : q.number ≡ p.number
+  pub few : length replies ≤ 4
   pub dumps : dumps_of q.slot ≤ dumps_of p.slot + 1
-  pub chances : (left : ℕ) → length ys ≤ left → left ≤ 1024 → chances q.slot (left - length ys) + how_many r ≤ chances p.slot left
-  pub tells : (settings : Settings) (xs : List Sample) (commands : List TimedRequest) → length (xs ++ ys) ≡ time → StandsFor settings xs commands p.slot → PlaceTells settings xs ys commands p q r
+  pub chances : (left : ℕ) → length ys ≤ left → left ≤ 1024 → chances q.slot (left - length ys) + length replies ≤ chances p.slot left
+  pub tells : (settings : Settings) (xs : List Sample) (commands : List TimedRequest) → length (xs ++ ys) ≡ time → StandsFor settings xs commands p.slot → PlaceTells settings xs ys commands p q replies
 
--- a place does so, and its reply stands behind those before
+-- a place does so, and its replies stand behind those before
 pub record PlaceAdds (ys : List Sample) (time : ℕ) (p q : Place) (before after : List Reply) : Type 0 where
-  pub reply : Option Reply
-  pub steps : PlaceSteps ys time p q reply
-  pub added : after ≡ before ++ replies_of reply
+  pub replies : List Reply
+  pub steps : PlaceSteps ys time p q replies
+  pub added : after ≡ before ++ replies
 
 abbrev pub AllMayStep : ℕ → List Place → Type 0
 AllMayStep n places = AllByRecursion (λ (p : Place). MayStep p.slot n) places
@@ -51,7 +51,7 @@ AllFew n places = AllByRecursion (λ (p : Place). dumps_of p.slot ≤ n) places
 abbrev pub StepsAll : List Sample → ℕ → List Place → List Place → List Reply → List Reply → Type 0
 StepsAll ys time [] qs before after = (qs ≡ []) × (after ≡ before)
 StepsAll ys time (p ∷ ps) [] before after = ⊥
-StepsAll ys time (p ∷ ps) (q ∷ qs) before after = (r : Option Reply) × PlaceSteps ys time p q r × StepsAll ys time ps qs (before ++ replies_of r) after
+StepsAll ys time (p ∷ ps) (q ∷ qs) before after = (replies : List Reply) × PlaceSteps ys time p q replies × StepsAll ys time ps qs (before ++ replies) after
 
 -- whose slots they are, in order: by client, then by slot
 abbrev pub keys_of : List Place → List (ℕ × ℕ)

@@ -1,17 +1,17 @@
 -- What a slot stands for: the samples so far and the commands that it was given.
-use Rattle.std.specs.Prelude.{◌≡◌, ◌≤◌, ◌<◌, ◌+◌, ◌-◌, ◌*◌, ℕ, List, [], ◌++◌, length, take, Option, Some, None}
+use Rattle.std.specs.Prelude.{◌≡◌, ◌≤◌, ◌<◌, ◌+◌, ◌-◌, ◌*◌, ℕ, List, [], ◌++◌, length, take, map, Some, None}
 use Rattle.std.specs.List.{AllByRecursion}
 use Rattle.definitions.specs.Samples.{Sample}
 use Rattle.definitions.specs.Oscillators.{Settings, code_cycle}
 use Rattle.definitions.specs.Commands.{TimedRequest}
 use Rattle.definitions.specs.Lives.{Life, life_of, life_now}
-use Rattle.definitions.specs.Events.{events_at_end}
-use Rattle.lane_correlator.specs.declared.counts.Counts.{Counts}
+use Rattle.definitions.specs.Events.{Event as Told, events_at_end}
 use Rattle.channel_slots.specs.declared.slot.Slot.{Slot}
 use Rattle.channel_slots.specs.declared.slot.Slot.TheVariants.{Idle, Holds}
 use Rattle.channel_slots.specs.declared.reply.Event.{Event}
 use Rattle.channel_slots.specs.declared.reply.Event.TheVariants.{Accepted, Refused, Count, State}
-use Rattle.channel_slots.specs.Holdings.{chance, HoldsFor, events_in}
+use Rattle.channel_slots.specs.Holdings.{chance, HoldsFor}
+use Rattle.channel_slots.specs.Replies.{event_in}
 
 abbrev pub IsRefusal : Event → Type 0
 IsRefusal Accepted = ⊥
@@ -23,6 +23,11 @@ IsRefusal (State state) = ⊥
 abbrev pub MayStep : Slot → ℕ → Type 0
 MayStep Idle n = Unit
 MayStep (Holds h) n = h.follower.code.phase + (n - 1) * h.follower.code.step < code_cycle
+
+-- the slot's next event comes with the last of n samples, or before it
+abbrev pub ComesToEvent : Slot → ℕ → Type 0
+ComesToEvent Idle n = ⊥
+ComesToEvent (Holds h) n = code_cycle ≤ h.follower.code.phase + n * h.follower.code.step
 
 -- how many events the slot may tell within so many samples
 abbrev pub chances : Slot → ℕ → ℕ
@@ -42,8 +47,8 @@ pub record StandsFor (settings : Settings) (xs : List Sample) (commands : List T
   pub early : AllByRecursion (λ (c : TimedRequest). c.time ≤ length xs) commands
   pub on : IsOn settings xs commands slot
 
--- with ys behind xs nothing is told before the last of them, and then what was answered
-pub record Tells (settings : Settings) (xs ys : List Sample) (commands : List TimedRequest) (slot : Slot) (answer : Option Counts) : Type 0 where
+-- with ys behind xs nothing is told before the last of them, and then the events that were answered
+pub record Tells (settings : Settings) (xs ys : List Sample) (commands : List TimedRequest) (slot : Slot) (answer : List Event) : Type 0 where
   pub inside : (j : ℕ) → 0 < j → j < length ys → events_at_end settings (xs ++ take j ys) commands ≡ []
-  pub told : events_at_end settings (xs ++ ys) commands ≡ events_in answer
+  pub told : map event_in answer ≡ map (λ (e : Told). Some e) (events_at_end settings (xs ++ ys) commands)
   pub stands : StandsFor settings (xs ++ ys) commands slot

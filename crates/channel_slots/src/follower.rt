@@ -51,6 +51,7 @@ impl Follower {
     /// How many samples there are to the end of the segment.
     pub(crate) fn to_end(&self) -> u64
         ensures some { 0 < result }
+        ensures through { code_cycle ≤ self.now.code.phase + result * self.now.code.step }
         ensures before { self.now.code.phase + (result - 1) * self.now.code.step < code_cycle }
     {
         self.code.to_wrap()

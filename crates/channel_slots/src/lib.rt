@@ -7,6 +7,7 @@ mod bank;
 mod command;
 mod follower;
 mod holding;
+mod open_fault;
 mod place;
 mod reply;
 mod slot;
@@ -15,5 +16,6 @@ mod tests;
 
 pub use bank::Bank;
 pub use command::{Command, SlotNo};
+pub use open_fault::OpenFault;
 pub use reply::{Event, Reply, SlotState};
 pub use slot::Slot;

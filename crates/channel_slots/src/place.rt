@@ -1,6 +1,10 @@
-ghost use Rattle.std.specs.Prelude.{◌≡◌, ◌≤◌, ◌<◌, ◌+◌, ◌^◌, ℕ, length};
+ghost use Rattle.std.specs.Prelude.{◌≡◌, ◌≤◌, ◌<◌, ◌+◌, ◌*◌, ◌^◌, ℕ, length, [], IfOk};
+ghost use Rattle.std.specs.List.{AllByRecursion};
+ghost use Rattle.definitions.specs.Oscillators.{Settings as Recording};
+ghost use Rattle.definitions.specs.Banks.{layout};
+ghost use Rattle.channel_slots.specs.Slots.{StandsFor};
 ghost use Rattle.arrayvec.specs.ArrayVec.{array_vec_len};
-ghost use Rattle.channel_slots.specs.Banks.{AllMayStep, AllFew, StepsAll, IsCommanded};
+ghost use Rattle.channel_slots.specs.Banks.{keys_of, AllMayStep, AllFew, StepsAll, IsCommanded};
 ghost use Rattle.channel_slots.specs.Commands.{request_in};
 
 use crate::command::Command;
@@ -10,6 +14,7 @@ use arrayvec::ArrayVec;
 use ca_codes::CodeBook;
 use oscillators::Settings;
 use sample_planes::Planes;
+use std::alloc::{AllocError, Global};
 
 /// The most replies of a run of samples.
 pub const MOST_REPLIES: usize = 256;
@@ -42,17 +47,17 @@ impl Place {
         requires some { 0 < length samples.now }
         requires may { MayStep self.old.slot (length samples.now) }
         requires few { dumps_of self.old.slot < 2 ^ 62 }
-        requires fits { array_vec_len replies.old < 256 }
+        requires fits { array_vec_len replies.old ≤ 252 }
         ensures { PlaceAdds samples.now time self.old self.new replies.old.items replies.new.items }
     {
-        match self.slot.step(samples, book) {
-            Some(counts) => replies.push(Reply {
+        let events = self.slot.step(samples, book);
+        for event in events.as_slice() {
+            replies.push(Reply {
                 client: self.client,
                 slot: self.number,
                 time,
-                event: Event::Count(counts),
-            }),
-            None => {}
+                event: *event,
+            });
         }
     }
 
@@ -69,6 +74,24 @@ impl Place {
     {
         self.slot.command(settings, command)
     }
+}
+
+/// Idle slots for each of so many clients, by client and then by slot.
+pub fn idle_places(alloc: Global, clients: u8) -> Result<Vec<Place>, AllocError>
+    requires { clients ≤ 8 }
+    ensures keys { IfOk result (λ places. keys_of places.items ≡ layout 4 (4 * clients)) }
+    ensures few { IfOk result (λ places. AllFew 0 places.items) }
+    ensures stand { IfOk result (λ places. (settings : Recording) → AllByRecursion (λ p. StandsFor settings [] [] p.slot) places.items) }
+{
+    let mut places = Vec::with_capacity(alloc, 4 * clients as usize)?;
+    for place in 0..4 * clients {
+        places.push(Place {
+            client: place / 4 + 1,
+            number: place % 4,
+            slot: Slot::new(),
+        })?;
+    }
+    Ok(places)
 }
 
 /// How many samples there are to the next event of any of the slots, but `most` if that is fewer.
@@ -96,7 +119,7 @@ pub fn step_all(
     requires some { 0 < length samples.now }
     requires may { AllMayStep (length samples.now) places.old }
     requires few { AllFew (2 ^ 61) places.old }
-    requires fits { array_vec_len replies.old + length places.old ≤ 256 }
+    requires fits { array_vec_len replies.old + 4 * length places.old ≤ 256 }
     ensures { StepsAll samples.now time places.old places.new replies.old.items replies.new.items }
 {
     for place in places.iter_mut() {

@@ -11,9 +11,10 @@ pub enum SlotState {
 }
 
 /// What a slot tells, or answers to a command.
-#[derive(Clone, Copy, Debug, PartialEq, Eq)]
+#[derive(Clone, Copy, Debug, Default, PartialEq, Eq)]
 pub enum Event {
     /// A command other than `state` was accepted.
+    #[default]
     Accepted,
     /// A command was refused: 9 where the slot isn't idle, 10 where it is, 1 to 8 by the script's reader.
     Refused(u8),
@@ -24,7 +25,7 @@ pub enum Event {
 }
 
 /// An event with whose slot it is of, and when.
-#[derive(Clone, Copy, Debug, PartialEq, Eq)]
+#[derive(Clone, Copy, Debug, Default, PartialEq, Eq)]
 pub struct Reply {
     /// The client's number, from 1 on.
     pub client: u8,
@@ -33,16 +34,4 @@ pub struct Reply {
     /// The time in samples: it rests on the samples before it.
     pub time: u64,
     pub event: Event,
-}
-
-// The rooms of an array that no reply was put into.
-impl Default for Reply {
-    fn default() -> Reply {
-        Reply {
-            client: 0,
-            slot: 0,
-            time: 0,
-            event: Event::Accepted,
-        }
-    }
 }

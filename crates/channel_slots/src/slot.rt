@@ -1,8 +1,10 @@
-ghost use Rattle.std.specs.Prelude.{◌≡◌, ◌≤◌, ◌<◌, ◌+◌, ◌-◌, ◌*◌, ◌^◌};
+ghost use Rattle.std.specs.Prelude.{◌≡◌, ◌≤◌, ◌<◌, ◌+◌, ◌-◌, ◌*◌, ◌^◌, [], ◌∷◌};
+ghost use Rattle.channel_slots.specs.declared.reply.Event.TheVariants.{Count};
 
 use crate::command::Command;
 use crate::holding::Holding;
 use crate::reply::{Event, SlotState};
+use arrayvec::ArrayVec;
 use ca_codes::CodeBook;
 use lane_correlator::Counts;
 use oscillators::Settings;
@@ -13,6 +15,9 @@ const BUSY: u8 = 9;
 
 /// The refusal of a command that wants a slot that isn't idle.
 const IDLE: u8 = 10;
+
+/// The most events of a slot that come together.
+pub const MOST_EVENTS: usize = 4;
 
 /// A slot: idle, or holding a satellite.
 #[derive(Debug, Default, Drop)]
@@ -30,8 +35,7 @@ impl Slot {
     ghost use Rattle.definitions.specs.Answers.{answer_at_end};
     ghost use Rattle.channel_slots.specs.Commands.{request_in};
     ghost use Rattle.channel_slots.specs.Replies.{answer_in};
-    ghost use Rattle.channel_slots.specs.Holdings.{how_many};
-    ghost use Rattle.channel_slots.specs.Slots.{chances, StandsFor, Tells, MayStep, dumps_of, IsRefusal};
+    ghost use Rattle.channel_slots.specs.Slots.{chances, StandsFor, Tells, MayStep, ComesToEvent, dumps_of, IsRefusal};
 
     /// A slot that was never asked for anything.
     pub fn new() -> Slot
@@ -47,6 +51,7 @@ impl Slot {
         ensures some { 0 < result }
         ensures within { result ≤ most }
         ensures may { MayStep self.now result }
+        ensures no_sooner { result < most → ComesToEvent self.now result }
     {
         match self {
             Slot::Idle => most,
@@ -61,19 +66,22 @@ impl Slot {
         }
     }
 
-    /// Takes samples that don't go past the slot's next event, and answers the counts that are told with the last of them. The book
-    /// is any book of codes.
-    pub fn step(&mut self, samples: &Planes, book: &mut CodeBook) -> Option<Counts>
+    /// Takes samples that don't go past the slot's next event, and answers the events that are told with the last of them, in their
+    /// order. The book is any book of codes.
+    pub fn step(&mut self, samples: &Planes, book: &mut CodeBook) -> ArrayVec<Event, MOST_EVENTS>
         requires some { 0 < length samples.now }
         requires may { MayStep self.old (length samples.now) }
         requires few { dumps_of self.old < 2 ^ 62 }
-        ensures tells { (settings : Recording) (xs : List Sample) (commands : List TimedRequest) → StandsFor settings xs commands self.old → Tells settings xs samples.now commands self.new result }
+        ensures tells { (settings : Recording) (xs : List Sample) (commands : List TimedRequest) → StandsFor settings xs commands self.old → Tells settings xs samples.now commands self.new result.items }
         ensures dumps { dumps_of self.new ≤ dumps_of self.old + 1 }
-        ensures chances { (left : ℕ) → length samples.now ≤ left → left ≤ 1024 → chances self.new (left - length samples.now) + how_many result ≤ chances self.old left }
+        ensures chances { (left : ℕ) → length samples.now ≤ left → left ≤ 1024 → chances self.new (left - length samples.now) + length result.items ≤ chances self.old left }
     {
         match self {
-            Slot::Idle => None,
-            Slot::Holds(holding) => holding.step(samples, book),
+            Slot::Idle => ArrayVec::new(),
+            Slot::Holds(holding) => match holding.step(samples, book) {
+                None => ArrayVec::new(),
+                Some(counts) => counted(counts),
+            },
         }
     }
 
@@ -115,4 +123,14 @@ impl Slot {
             },
         }
     }
+}
+
+/// The event of a dump that was asked for.
+fn counted(counts: Counts) -> ArrayVec<Event, MOST_EVENTS>
+    ensures { result.items ≡ Count counts ∷ [] }
+{
+    let mut events = ArrayVec::new();
+    // There is room for it. (The kit has no proof of a `push` of an enum that holds another.)
+    let _ = events.try_extend_from_slice(&[Event::Count(counts)]);
+    events
 }

@@ -3,7 +3,7 @@
 ghost use Rattle.std.specs.Prelude.{◌+◌, ◌<◌, ◌≤◌, IfOk};
 ghost use Rattle.channel_slots.specs.Slots.{dumps_of};
 
-use super::{slot_zero, sums};
+use super::{counted, slot_zero, sums};
 use crate::{Command, Event, Slot};
 use ca_codes::{CodeBook, Prn};
 use lane_correlator::Counts;
@@ -55,7 +55,7 @@ fn next(slot: &mut Slot, place: usize) -> Result<(usize, Option<Counts>), Fail>
     if samples.len() != room {
         return Err(Fail::new("samples are missing"));
     }
-    let told = slot.step(&samples, &mut CodeBook::new());
+    let told = counted(&slot.step(&samples, &mut CodeBook::new()));
     Ok((place + room, told))
 }
 
@@ -79,16 +79,12 @@ fn first_counts_of_a_recording(rt: HostRuntime) -> Result<(), Fail> {
     let (place, told) = next(&mut slot, 0)?;
     assert_eq!(rt; told, None);
     let (place, told) = next(&mut slot, place)?;
-    assert_eq!(rt;
-        (place, told),
-        (1_346, Some(sums([-354, -50, -704, -12, -432, -42])))
-    );
+    let dump = sums([-354, -50, -704, -12, -432, -42]);
+    assert_eq!(rt; (place, told), (1_346, Some(dump)));
     let (place, told) = next(&mut slot, place)?;
     assert_eq!(rt; told, None);
     let (place, told) = next(&mut slot, place)?;
-    assert_eq!(rt;
-        (place, told),
-        (3_392, Some(sums([-623, -73, -1_079, 11, -483, 143])))
-    );
+    let dump = sums([-623, -73, -1_079, 11, -483, 143]);
+    assert_eq!(rt; (place, told), (3_392, Some(dump)));
     Ok(())
 }

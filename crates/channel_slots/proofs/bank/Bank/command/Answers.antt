@@ -1,45 +1,70 @@
-use Rattle.std.proofs.Common.{◌≡◌, ◌≤◌, ◌<◌, ◌+◌, ◌-◌, ◌*◌, arith, ℕ, List, length, ◌∙◌, slice_set, length-set}
-use Rattle.std.proofs.lemmas.List.{length-map}
+use Rattle.std.proofs.Common.{◌≡◌, ◌≤◌, ◌<◌, ◌+◌, ◌-◌, ◌*◌, arith, ℕ, List, length, refl, sym, ap, subst, ◌∙◌, slice_set, length-set}
+use Rattle.definitions.specs.Oscillators.{Settings}
+use Rattle.definitions.specs.Banks.{layout}
 use Rattle.channel_slots.specs.declared.place.Place.{Place}
+use Rattle.channel_slots.specs.declared.command.Command.{Command}
+use Rattle.channel_slots.specs.declared.reply.Event.{Event}
+use Rattle.channel_slots.specs.Slots.{StandsFor}
 use Rattle.channel_slots.specs.Banks.{IsCommanded, keys_of}
 use Rattle.channel_slots.specs.Commands.{slot_of, request_in}
-use Rattle.channel_slots.proofs.BankLemmas.{refilled}
+use Rattle.channel_slots.proofs.BankLemmas.{refilled, slots-four}
 use Rattle.channel_slots.proofs.CommandLemmas.{stands-at, commanded, keeps}
 use Rattle.channel_slots.proofs.bank.Bank.command.Goals as goal
 
-many : (client : ℕ) (ps : List Place) → 4 * client ≤ length (keys_of ps) → 4 * client ≤ length ps
-many client ps h = let key : Place → ℕ × ℕ = λ p. (p.client, p.number) in rw (length-map ps key) at h
+many : (client clients : ℕ) (ps : List Place) → client ≤ clients → keys_of ps ≡ layout 4 (4 * clients) → 4 * client ≤ length ps
+many client clients ps h keys = omega (arith, h, slots-four clients ps keys)
+
+own_keys : (clients : ℕ) (ps : List Place) → keys_of ps ≡ layout 4 (4 * clients) → keys_of ps ≡ layout 4 (length ps)
+own_keys clients ps keys = keys ∙ ap (layout 4) (sym (slots-four clients ps keys))
 
 within : (client number : ℕ) (ps : List Place) → 1 ≤ client → 4 * client ≤ length ps → number < 4 → (client - 1) * 4 + number < length ps
 within client number ps first last small = omega (arith, first, last, small)
 
+-- what the command does to the places
+done : (own settings : Settings) (command : Command) (taken ps qs : List Place) (at : ℕ) (event : Event) → own ≡ settings → taken ≡ ps
+    → IsCommanded own (request_in command) taken qs at event → IsCommanded settings (request_in command) ps qs at event
+done own settings command taken ps qs at event known same e =
+    subst (λ (l : List Place). IsCommanded settings (request_in command) l qs at event) same (subst (λ (r : Settings). IsCommanded r (request_in command) taken qs at event) known e)
+
+pub command_at-requires : goal.command_at-requires
+command_at-requires c =
+    let ps : List Place = c.args.self.now.places.items in
+    rw c.deref_mut.ensures.value (within c.args.client c.get-slot.result ps c.requires.first (many c.args.client c.args.self.now.clients ps c.requires.last c.args.self.now.keys) c.get-slot.ensures.range)
+
 pub invariant_of-self : goal.invariant_of-self
 invariant_of-self c =
     let ps : List Place = c.args.self.now.places.items in
-    let at : ℕ = (c.args.client - 1) * 4 + c.get-number.result in
-    let e : IsCommanded c.args.settings.now (request_in c.args.command) ps c.command_at.new.places at c.command_at.result = rw c.deref_mut.ensures.value at c.command_at.ensures in
-    let b : at < length ps = within c.args.client c.get-number.result ps c.requires.first (many c.args.client ps c.requires.last) c.get-number.ensures.range in
+    let at : ℕ = (c.args.client - 1) * 4 + c.get-slot.result in
+    let e = done _ c.args.self.now.settings c.args.command _ ps c.command_at.new.places at c.command_at.result refl c.deref_mut.ensures.value c.command_at.ensures in
+    let last = many c.args.client c.args.self.now.clients ps c.requires.last c.args.self.now.keys in
+    let b : at < length ps = within c.args.client c.get-slot.result ps c.requires.first last c.get-slot.ensures.range in
     let k = keeps ps at c.args.self.now.time e.old e.new b e.is e.client e.number e.dumps c.args.self.now.few in
-    let whole = refilled (length ps) ps (slice_set ps at e.new) k.size in
+    let whole = refilled c.args.self.now.places.len ps (slice_set ps at e.new) (k.size ∙ sym (ap length c.deref_mut.ensures.value) ∙ c.deref_mut.ensures.len) in
     record {
       few = rw (e.set, whole) k.few;
-      size = rw (e.set, whole, k.size) c.args.self.now.size;
-      keys = rw (e.set, whole, k.size) (k.keys ∙ c.args.self.now.keys);
+      size = c.args.self.now.size;
+      keys = rw (e.set, whole) (k.keys ∙ c.args.self.now.keys);
     }
 
 pub returns-clause-answer : goal.returns-clause-answer
-returns-clause-answer c xs asked s =
+returns-clause-answer c settings xs asked s =
     let ps : List Place = c.args.self.now.places.items in
-    let at : ℕ = (c.args.client - 1) * 4 + c.get-number.result in
-    let e : IsCommanded c.args.settings.now (request_in c.args.command) ps c.command_at.new.places at c.command_at.result = rw c.deref_mut.ensures.value at c.command_at.ensures in
-    let n : c.get-number.result ≡ slot_of c.args.command = c.get-number.ensures.same ∙ c.slot.ensures in
-    e.answer xs _ (rw n at (stands-at c.args.settings.now xs asked ps c.args.client c.get-number.result c.args.self.now.time e.old e.old c.requires.first (many c.args.client ps c.requires.last) c.get-number.ensures.range c.args.self.now.keys e.is s))
+    let at : ℕ = (c.args.client - 1) * 4 + c.get-slot.result in
+    let e = done _ settings c.args.command _ ps c.command_at.new.places at c.command_at.result s.recorded c.deref_mut.ensures.value c.command_at.ensures in
+    let n : c.get-slot.result ≡ slot_of c.args.command = c.get-slot.ensures.same ∙ c.slot.ensures in
+    let last = many c.args.client c.args.self.now.clients ps c.requires.last c.args.self.now.keys in
+    e.answer xs _ (subst (λ (m : ℕ). StandsFor settings xs (asked c.args.client m) e.old.slot) n (stands-at settings xs asked ps c.args.client c.get-slot.result c.args.self.now.time e.old e.old c.requires.first last c.get-slot.ensures.range (own_keys c.args.self.now.clients ps c.args.self.now.keys) e.is s.slots))
 
 pub returns-clause-stands : goal.returns-clause-stands
-returns-clause-stands c xs asked s =
+returns-clause-stands c settings xs asked s =
     let ps : List Place = c.args.self.now.places.items in
-    let at : ℕ = (c.args.client - 1) * 4 + c.get-number.result in
-    let e : IsCommanded c.args.settings.now (request_in c.args.command) ps c.command_at.new.places at c.command_at.result = rw c.deref_mut.ensures.value at c.command_at.ensures in
-    let n : c.get-number.result ≡ slot_of c.args.command = c.get-number.ensures.same ∙ c.slot.ensures in
-    let whole = refilled (length ps) ps (slice_set ps at e.new) (length-set ps at e.new) in
-    rw (e.set, whole, ← n) (commanded c.args.settings.now xs asked ps c.args.client c.get-number.result c.args.self.now.time e.old e.new c.requires.first (many c.args.client ps c.requires.last) c.get-number.ensures.range c.args.self.now.keys e.is (request_in c.args.command) s e.client e.number (λ commands t. e.stands xs commands t))
+    let at : ℕ = (c.args.client - 1) * 4 + c.get-slot.result in
+    let e = done _ settings c.args.command _ ps c.command_at.new.places at c.command_at.result s.recorded c.deref_mut.ensures.value c.command_at.ensures in
+    let n : c.get-slot.result ≡ slot_of c.args.command = c.get-slot.ensures.same ∙ c.slot.ensures in
+    let last = many c.args.client c.args.self.now.clients ps c.requires.last c.args.self.now.keys in
+    let whole = refilled c.args.self.now.places.len ps (slice_set ps at e.new) (length-set ps at e.new ∙ sym (ap length c.deref_mut.ensures.value) ∙ c.deref_mut.ensures.len) in
+    record {
+      recorded = s.recorded;
+      now = s.now;
+      slots = rw (e.set, whole, ← n) (commanded settings xs asked ps c.args.client c.get-slot.result c.args.self.now.time e.old e.new c.requires.first last c.get-slot.ensures.range (own_keys c.args.self.now.clients ps c.args.self.now.keys) e.is (request_in c.args.command) s.slots e.client e.number (λ commands t. e.stands xs commands t));
+    }

@@ -1,104 +1,32 @@
-use Rattle.std.proofs.Common.{◌≡◌, ◌≤◌, ◌+◌, ◌-◌, ◌*◌, ◌^◌, arith, ℕ, List, [], length, refl, ◌∙◌, append-nil}
-use Rattle.std.proofs.lemmas.List.FromFn.{length-map-range_with_len}
-use Rattle.definitions.specs.Samples.{Sample, Packing, real1, real2, iq1, iq2, sample, samples_from, sample_count}
+use Rattle.std.proofs.Common.{◌≡◌, ◌≤◌, ◌-◌, ◌+◌, ◌*◌, ◌/◌, ◌%◌, ℕ, List, ◌++◌, take, drop, length, refl, ap, subst, ◌∙◌}
+use Rattle.definitions.specs.Samples.{Sample, Packing, samples_from, sample_count, samples_per_byte}
+use Rattle.definitions.specs.Oscillators.{Settings}
 use Rattle.definitions.specs.Receiver.{told_between}
-use Rattle.definitions.proofs.SampleLemmas.{samples_from-split}
-use Rattle.sample_planes.specs.Packings.{packing_of}
-use Rattle.channel_slots.specs.declared.place.Place.{Place}
-use Rattle.channel_slots.specs.Banks.{StepsAll}
-use Rattle.channel_slots.proofs.BankLemmas.{refilled, few-from_most, more_few, few-more, keys-same, chances-less, chances-begin, told-more, stands-more}
+use Rattle.definitions.specs.Banks.{told_at_end, layout}
+use Rattle.sample_planes.proofs.PlaneLemmas.{samples_from-drop, place_of}
+use Rattle.channel_slots.specs.Banks.{AreTold}
+use Rattle.channel_slots.specs.BankStates.{StandsFor}
 use Rattle.channel_slots.proofs.bank.Bank.feed.Goals as goal
 
-as_many : (packing : Packing) (bytes : List ℕ) (first n : ℕ) → length (samples_from packing bytes first n) ≡ n
-unfolding samples_from
-as_many packing bytes first n = length-map-range_with_len (sample packing bytes) first n
-
-none : (packing : Packing) (bytes : List ℕ) (first : ℕ) → samples_from packing bytes first 0 ≡ []
-unfolding samples_from
-none packing bytes first = refl
-
-pub loop-done-init : goal.loop-done-init
-unfolding told_between
-loop-done-init c = record {
-  done = omega arith;
-  time = omega arith;
-  keys = refl;
-  chances = rw c.new-replies.ensures (omega (arith, chances-begin c.args.self.now.places.items (c.args.len - 0) 32 c.args.self.now.size));
-  told = λ settings xs asked s. rw (c.new-replies.ensures, none (packing_of c.args.format) c.args.bytes.now c.args.first) refl;
-  stands = λ settings xs asked s. rw (none (packing_of c.args.format) c.args.bytes.now c.args.first, append-nil xs) s;
-}
-
-few_samples : (packing : Packing) (bytes : List ℕ) → sample_count packing bytes ≤ 8 * length bytes
-few_samples real1 bytes = omega arith
-few_samples real2 bytes = omega arith
-few_samples iq1 bytes = omega arith
-few_samples iq2 bytes = omega arith
-
-pub overflow_add-first : goal.overflow_add-first
-overflow_add-first c = omega (arith, few_samples (packing_of c.args.format) c.args.bytes.now, c.requires.piece, c.requires.within, c.loop-done-test.true)
-
-pub overflow_add-time : goal.overflow_add-time
-overflow_add-time c = omega (arith, c.loop-done.invariant.time, c.loop-done.invariant.done, c.room-count.ensures.within, c.requires.room)
-
-count_is : (packing : Packing) (bytes : List ℕ) (first n : ℕ) (ys : List Sample) → ys ≡ samples_from packing bytes first n → length ys ≡ n
-count_is packing bytes first n ys e = rw e (as_many packing bytes first n)
-
-pub step_all-requires-clause-some : goal.step_all-requires-clause-some
-step_all-requires-clause-some c = rw (count_is _ _ _ _ c.unpack-samples.result c.unpack-samples.ensures) c.room-count.ensures.some
-
-pub step_all-requires-clause-may : goal.step_all-requires-clause-may
-step_all-requires-clause-may c = rw (count_is _ _ _ _ c.unpack-samples.result c.unpack-samples.ensures, c.deref_mut.ensures.value, ← c.deref.ensures.0) c.room-count.ensures.may
-
-pub step_all-requires-clause-few : goal.step_all-requires-clause-few
-step_all-requires-clause-few c = rw c.deref_mut.ensures.value (few-from_most (2 ^ 61) c.loop-done.self.places.items (omega (arith, c.loop-done.self.few, c.loop-done.invariant.time, c.loop-done.invariant.done, c.requires.room)))
-
-pub step_all-requires-clause-fits : goal.step_all-requires-clause-fits
-step_all-requires-clause-fits c = rw c.deref_mut.ensures.value (omega (arith, c.loop-done.self.size, c.loop-done.invariant.chances))
-
-pub invariant_of-self : goal.invariant_of-self
-invariant_of-self c =
-    let places : List Place = c.loop-done.self.places.items in
-    let new : List Place = c.step_all.new.places in
-    let time : ℕ = c.loop-done.self.time + c.room-count.result in
-    let steps : StepsAll c.unpack-samples.result time places new c.loop-done.replies.items c.step_all.new.replies.items = rw c.deref_mut.ensures.value at c.step_all.ensures in
-    let same : length new ≡ length places = rw c.deref_mut.ensures.value at c.step_all.auto.places in
-    let whole = refilled (length places) places new same in
-    record {
-      few = rw whole (more_few c.loop-done.self.time c.room-count.result new c.room-count.ensures.some (few-more _ time c.loop-done.self.time places new c.loop-done.replies.items c.step_all.new.replies.items steps (few-from_most c.loop-done.self.time places c.loop-done.self.few)));
-      size = rw (whole, same) c.loop-done.self.size;
-      keys = rw (whole, same) (keys-same _ time places new c.loop-done.replies.items c.step_all.new.replies.items steps ∙ c.loop-done.self.keys);
-    }
-
-pub loop-done-preserved : goal.loop-done-preserved
-loop-done-preserved c =
-    let places : List Place = c.loop-done.self.places.items in
-    let new : List Place = c.step_all.new.places in
-    let count : ℕ = c.room-count.result in
-    let time : ℕ = c.loop-done.self.time + count in
-    let packing : Packing = packing_of c.args.format in
-    let ys : List Sample = samples_from packing c.args.bytes.now (c.args.first + c.loop-done.done) count in
-    let steps : StepsAll ys time places new c.loop-done.replies.items c.step_all.new.replies.items = rw (c.deref_mut.ensures.value, c.unpack-samples.ensures) at c.step_all.ensures in
-    let same : length new ≡ length places = rw c.deref_mut.ensures.value at c.step_all.auto.places in
-    let whole = refilled (length places) places new same in
-    let is : length ys ≡ count = as_many packing c.args.bytes.now (c.args.first + c.loop-done.done) count in
-    let left : c.args.len - (c.loop-done.done + count) ≡ c.args.len - c.loop-done.done - length ys = omega (arith, is) in
-    rw (whole, samples_from-split packing c.args.bytes.now c.args.first c.loop-done.done count) (record {
-      done = omega (arith, c.room-count.ensures.within, c.loop-done-test.true);
-      time = omega (arith, c.loop-done.invariant.time);
-      keys = keys-same ys time places new c.loop-done.replies.items c.step_all.new.replies.items steps ∙ c.loop-done.invariant.keys;
-      chances = rw left (omega (arith, c.loop-done.invariant.chances, chances-less ys time (c.args.len - c.loop-done.done) places new c.loop-done.replies.items c.step_all.new.replies.items steps (omega (arith, is, c.room-count.ensures.within)) (omega (arith, c.requires.short))));
-      told = λ settings xs asked s. told-more settings asked xs (samples_from packing c.args.bytes.now c.args.first c.loop-done.done) ys c.loop-done.self.time count places new c.loop-done.replies.items c.step_all.new.replies.items (c.loop-done.invariant.stands settings xs asked s) is c.room-count.ensures.some steps _ c.loop-done.invariant.keys (c.loop-done.invariant.told settings xs asked s);
-      stands = λ settings xs asked s. stands-more settings asked xs (samples_from packing c.args.bytes.now c.args.first c.loop-done.done) ys c.loop-done.self.time count places new c.loop-done.replies.items c.step_all.new.replies.items (c.loop-done.invariant.stands settings xs asked s) is c.room-count.ensures.some steps;
-    })
+-- the samples are counted from the byte of the first
+counted_on : (packing : Packing) (bytes : List ℕ) (per first len : ℕ) → per ≡ samples_per_byte packing → first + len ≤ sample_count packing bytes
+    → samples_from packing (take (length bytes - first / per) (drop (first / per) bytes)) (first % per) len ≡ samples_from packing bytes first len
+counted_on packing bytes per first len is within =
+    let place = place_of packing bytes per first len is within in
+    samples_from-drop packing bytes _ per (first / per) (first % per) first len is place.within refl place.whole
 
 pub returns-clause-told : goal.returns-clause-told
-returns-clause-told c settings xs asked s = let all : c.args.len ≡ c.loop-done.done = omega (arith, c.loop-done.invariant.done, c.loop-done-test.false) in rw all (c.loop-done.invariant.told settings xs asked s)
+returns-clause-told c settings xs asked s =
+    let packing : Packing = settings.packing in
+    let per = c.per_byte-per_byte.ensures ∙ ap samples_per_byte (c.format.ensures ∙ ap (λ (s : Settings). s.packing) s.recorded) in
+    let within = subst (λ (s : Settings). c.args.first + c.args.len ≤ sample_count s.packing c.args.bytes.now) s.recorded c.requires.within in
+    subst (λ (ys : List Sample). AreTold c.feed_start.result.items (told_between (told_at_end settings (layout 4 (4 * c.args.self.now.clients)) asked) xs ys))
+    (counted_on packing c.args.bytes.now c.per_byte-per_byte.result c.args.first c.args.len per within) (c.feed_start.ensures.told settings xs asked s)
 
 pub returns-clause-stands : goal.returns-clause-stands
-returns-clause-stands c settings xs asked s = let all : c.args.len ≡ c.loop-done.done = omega (arith, c.loop-done.invariant.done, c.loop-done-test.false) in rw all (c.loop-done.invariant.stands settings xs asked s)
-
-pub returns-clause-slots : goal.returns-clause-slots
-returns-clause-slots c = c.loop-done.invariant.keys
-
-pub returns-clause-time : goal.returns-clause-time
-returns-clause-time c = omega (arith, c.loop-done.invariant.time, c.loop-done.invariant.done, c.loop-done-test.false)
+returns-clause-stands c settings xs asked s =
+    let packing : Packing = settings.packing in
+    let per = c.per_byte-per_byte.ensures ∙ ap samples_per_byte (c.format.ensures ∙ ap (λ (s : Settings). s.packing) s.recorded) in
+    let within = subst (λ (s : Settings). c.args.first + c.args.len ≤ sample_count s.packing c.args.bytes.now) s.recorded c.requires.within in
+    subst (λ (ys : List Sample). StandsFor settings (xs ++ ys) asked c.feed_start.new.self)
+    (counted_on packing c.args.bytes.now c.per_byte-per_byte.result c.args.first c.args.len per within) (c.feed_start.ensures.stands settings xs asked s)

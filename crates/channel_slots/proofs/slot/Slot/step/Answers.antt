@@ -1,9 +1,16 @@
+use Rattle.std.proofs.Common.{refl, []}
+use Rattle.std.specs.Prelude.{None, Some}
 use Rattle.channel_slots.proofs.SlotLemmas.{idle_tells, held_tells}
 use Rattle.channel_slots.proofs.slot.Slot.step.Goals as goal
 
 pub returns-in-Idle-clause-tells : goal.returns-in-Idle-clause-tells
-returns-in-Idle-clause-tells c settings xs commands s = idle_tells settings xs commands c.args.self.now s c.args.samples.now c.requires.some c.in-Idle.is
+returns-in-Idle-clause-tells c settings xs commands s =
+    rw c.new.ensures (idle_tells settings xs commands c.args.self.now s c.args.samples.now c.requires.some c.in-Idle.is)
 
-pub returns-in-Holds-clause-tells : goal.returns-in-Holds-clause-tells
-returns-in-Holds-clause-tells c settings xs commands s =
-    held_tells settings xs commands c.args.self.now s c.args.samples.now c.requires.some c.in-Holds.holding c.step.new.self c.step.result c.in-Holds.is (λ life h. c.step.ensures.stands settings xs life h)
+pub returns-in-None-clause-tells : goal.returns-in-None-clause-tells
+returns-in-None-clause-tells c settings xs commands s =
+    rw c.new-in-None.ensures (held_tells settings xs commands c.args.self.now s c.args.samples.now c.requires.some c.in-Holds.holding c.step.new.self None [] c.in-Holds.is (λ life h. c.in-None.ensures.stands settings xs life h) refl)
+
+pub returns-in-Some-clause-tells : goal.returns-in-Some-clause-tells
+returns-in-Some-clause-tells c settings xs commands s =
+    rw c.counted.ensures (held_tells settings xs commands c.args.self.now s c.args.samples.now c.requires.some c.in-Holds.holding c.step.new.self (Some c.in-Some.counts) _ c.in-Holds.is (λ life h. c.in-Some.ensures.stands settings xs life h) refl)

@@ -1,0 +1,7 @@
+pub mod PlanLemmas
+pub mod PackedLemmas
+pub mod ReplicaLemmas
+pub mod TallyLemmas
+pub mod SearchLemmas
+pub mod StandingLemmas
+pub mod SizeLemmas

@@ -1,0 +1,7 @@
+pub mod Plans
+pub mod Sources
+pub mod Replicas
+pub mod Steps
+pub mod Tallies
+pub mod Cells
+pub mod Searches

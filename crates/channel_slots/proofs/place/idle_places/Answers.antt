@@ -1,0 +1,33 @@
+use Rattle.std.proofs.Common.{◌≡◌, ◌≤◌, ◌+◌, ◌/◌, ◌%◌, arith, ℕ, List, [], ◌∷◌, ◌++◌, refl, sym, ap, ◌∙◌, map}
+use Rattle.std.specs.List.{range_with_len}
+use Rattle.std.proofs.lemmas.List.{map-append}
+use Rattle.definitions.specs.Banks.{layout}
+use Rattle.definitions.proofs.SampleLemmas.{range-split}
+use Rattle.channel_slots.specs.declared.place.Place.{Place}
+use Rattle.channel_slots.specs.Banks.{keys_of}
+use Rattle.channel_slots.specs.Slots.{StandsFor, dumps_of}
+use Rattle.channel_slots.proofs.PlaceLemmas.{all_push}
+use Rattle.channel_slots.proofs.place.idle_places.Goals as goal
+
+key : Place → ℕ × ℕ
+key p = (p.client, p.number)
+
+at : ℕ → ℕ × ℕ
+at i = (i / 4 + 1, i % 4)
+
+keys-more : (ps : List Place) (p : Place) (n : ℕ) → keys_of ps ≡ layout 4 n → p.client ≡ n / 4 + 1 → p.number ≡ n % 4 → keys_of (ps ++ p ∷ []) ≡ layout 4 (n + 1)
+unfolding key at
+keys-more ps p n keys client number =
+    let z : 0 + n ≡ n = omega arith in
+    let last : key p ∷ [] ≡ at n ∷ [] = rw (client, number) refl in
+    map-append key ps (p ∷ []) ∙ ap (λ l. l ++ key p ∷ []) keys ∙ ap (λ l. layout 4 n ++ l) last
+    ∙ sym (ap (map at) (range-split 0 n 1) ∙ map-append at (range_with_len 0 n) (range_with_len (0 + n) 1) ∙ ap (λ k. layout 4 n ++ at k ∷ []) z)
+
+pub loop-place-preserved : goal.loop-place-preserved
+loop-place-preserved c =
+    let all = c.in_ok-push.ensures.items in
+    rw all (record {
+      few = all_push (λ (p : Place). dumps_of p.slot ≤ 0) c.loop-place.places.items _ c.loop-place.invariant.few (omega (arith, c.new.ensures.dumps));
+      keys = keys-more c.loop-place.places.items _ c.loop-place.place c.loop-place.invariant.keys refl refl;
+      each = λ settings. all_push (λ (p : Place). StandsFor settings [] [] p.slot) c.loop-place.places.items _ (c.loop-place.invariant.each settings) (c.new.ensures.stands settings);
+    })

@@ -1,0 +1,12 @@
+use thiserror::Error;
+
+/// Why no bank was opened. The number of clients is looked at first.
+#[derive(Clone, Copy, Debug, PartialEq, Eq, Error)]
+pub enum OpenFault {
+    /// There was no memory for the slots.
+    #[error("no memory")]
+    NoMemory,
+    /// The number of clients is outside 1 to 8.
+    #[error("clients")]
+    Clients,
+}

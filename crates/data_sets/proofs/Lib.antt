@@ -1,0 +1,3 @@
+pub mod LastOfKind
+pub mod PageReports
+pub mod Parts

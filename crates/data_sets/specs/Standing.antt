@@ -1,0 +1,40 @@
+-- What is kept stands for the pages so far.
+use Rattle.std.specs.Prelude.{◌≡◌, Bool, ℤ, List, Option, option_map}
+use Rattle.definitions.specs.Pages.{Kind, clock, eph2, eph3, Page}
+use Rattle.definitions.specs.DataSets.{is_of, last_page, belong_together, joined, ephemerides, reported_so_far}
+use Rattle.data_sets.specs.declared.last_pages.LastPages.{LastPages}
+use Rattle.data_sets.specs.declared.ephemerides.Ephemerides.{Ephemerides}
+use Rattle.data_sets.specs.declared.data_sets.DataSets.{DataSets}
+
+-- the values of the last page of a kind
+unfoldable pub last_values : Kind → List Page → Option (List ℤ)
+last_values kind pages = option_map (λ (page : Page). page.values) (last_page (is_of kind) pages)
+
+-- the last page of each of the three kinds, if there is one
+pub record AreLast (pages : List Page) (last : LastPages) : Type 0 where
+  pub clock : last.clock ≡ last_values clock pages
+  pub eph2 : last.eph2 ≡ last_values eph2 pages
+  pub eph3 : last.eph3 ≡ last_values eph3 pages
+
+-- and the set that was reported last, if one was
+pub record Follows (pages : List Page) (sets : Ephemerides) : Type 0 where
+  pub last : AreLast pages sets.last
+  pub reported : sets.reported ≡ reported_so_far ephemerides pages
+
+-- what is kept is what these pages leave, taken in this order
+unfoldable pub StandsFor : List Page → DataSets → Type 0
+StandsFor pages sets = Follows pages sets.ephemerides
+
+-- ---- the set of the last pages
+
+-- a page with these values
+abbrev pub page_with : Kind → List ℤ → Page
+page_with kind values = record { kind = kind; values = values }
+
+-- the values of a clock page and of both ephemeris pages belong together
+abbrev pub are_of_one_issue : List ℤ → List ℤ → List ℤ → Bool
+are_of_one_issue c e2 e3 = belong_together (page_with clock c) (page_with eph2 e2) (page_with eph3 e3)
+
+-- the values of all three, where these are there and belong together
+abbrev pub set_in : LastPages → Option (List ℤ)
+set_in last = joined (option_map (page_with clock) last.clock) (option_map (page_with eph2) last.eph2) (option_map (page_with eph3) last.eph3)

@@ -1,0 +1,60 @@
+//! The sets of clock and ephemeris.
+
+ghost use Rattle.std.specs.Prelude.{◌≡◌, List, [], ◌∷◌, ◌++◌};
+ghost use Rattle.definitions.specs.Pages.{Page as DefinedPage};
+ghost use Rattle.definitions.specs.DataSets.{ephemerides, new_set, differing, later};
+ghost use Rattle.subframes.specs.PageViews.{page_in};
+
+use crate::last_pages::LastPages;
+use subframes::Page;
+
+/// The last pages of which a set is made, and the set that was reported last.
+#[derive(Debug, Drop)]
+pub struct Ephemerides {
+    last: LastPages,
+    reported: Option<[i64; 31]>,
+}
+
+impl Ephemerides {
+    ghost use Rattle.data_sets.specs.Standing.{Follows};
+
+    /// Stands for no pages.
+    pub fn new() -> Self
+        ensures { Follows [] result }
+    {
+        Ephemerides {
+            last: LastPages::new(),
+            reported: None,
+        }
+    }
+
+    /// Takes the next page, of whatever kind, and gives the set that is reported with it.
+    pub fn take(&mut self, page: &Page) -> Option<[i64; 31]>
+        ensures follows { (pages : List DefinedPage) → Follows pages self.old
+            → Follows (pages ++ page_in page.now ∷ []) self.new }
+        ensures set { (pages : List DefinedPage) → Follows pages self.old
+            → result ≡ new_set ephemerides (pages ++ page_in page.now ∷ []) }
+    {
+        if self.last.take(page) {
+            let set = self.last.set();
+            self.report(set)
+        } else {
+            None
+        }
+    }
+
+    /// Gives the set that is there now, if one is, where it differs from the one reported last, which
+    /// it is from then on.
+    fn report(&mut self, set: Option<[i64; 31]>) -> Option<[i64; 31]>
+        ensures set { result ≡ differing self.old.reported set }
+        ensures reported { self.new.reported ≡ later self.old.reported result }
+        ensures last { self.new.last ≡ self.old.last }
+    {
+        let set = set?;
+        if self.reported == Some(set) {
+            return None;
+        }
+        self.reported = Some(set);
+        Some(set)
+    }
+}

@@ -1,0 +1,43 @@
+//! The issue of data, by which clock and ephemeris pages belong together (IS-GPS-200, section
+//! 20.3.3.4.1).
+
+ghost use Rattle.std.specs.Prelude.{◌≡◌, ◌++◌};
+ghost use Rattle.definitions.specs.Sums.{natural};
+ghost use Rattle.data_sets.specs.Standing.{are_of_one_issue};
+
+/// Where the issue of data stands among the numbers of a clock page (ten bits).
+const IODC: usize = 4;
+
+/// Where it stands among those of a subframe 2 (eight bits).
+const IODE: usize = 0;
+
+/// Where it stands among those of a subframe 3 (eight bits).
+const IODE3: usize = 7;
+
+/// Says whether the low eight bits of the clock's issue of data are that of both ephemeris pages.
+pub fn are_of_one_issue(clock: &[i64; 11], eph2: &[i64; 11], eph3: &[i64; 9]) -> bool
+    ensures { result ≡ are_of_one_issue clock.now eph2.now eph3.now }
+{
+    let issue = natural(eph2[IODE]);
+    natural(clock[IODC]) % 256 == issue && issue == natural(eph3[IODE3])
+}
+
+/// An issue of data as a number from 0 up, which each is that a subframe holds. One below 0 counts
+/// as 0.
+fn natural(number: i64) -> u64
+    ensures { result ≡ natural number }
+{
+    u64::try_from(number).unwrap_or(0)
+}
+
+/// The numbers of the three pages, one page behind the other.
+#[tactic(auto, using(crate::proofs::Parts::two_written, crate::proofs::Parts::three_written))]
+pub fn joined(clock: &[i64; 11], eph2: &[i64; 11], eph3: &[i64; 9]) -> [i64; 31]
+    ensures { result ≡ clock.now ++ eph2.now ++ eph3.now }
+{
+    let mut numbers = [0; 31];
+    numbers[..11].copy_from_slice(clock);
+    numbers[11..22].copy_from_slice(eph2);
+    numbers[22..].copy_from_slice(eph3);
+    numbers
+}

@@ -1,0 +1,61 @@
+//! The last clock and ephemeris pages.
+
+ghost use Rattle.std.specs.Prelude.{◌≡◌, List, [], ◌∷◌, ◌++◌};
+ghost use Rattle.definitions.specs.Pages.{Page as DefinedPage};
+ghost use Rattle.definitions.specs.DataSets.{is_ephemeris};
+ghost use Rattle.subframes.specs.PageViews.{page_in};
+
+use crate::issue::{are_of_one_issue, joined};
+use subframes::Page;
+
+/// The numbers of the last clock page and of the last of both ephemeris pages.
+#[derive(Debug, Drop)]
+pub struct LastPages {
+    clock: Option<[i64; 11]>,
+    eph2: Option<[i64; 11]>,
+    eph3: Option<[i64; 9]>,
+}
+
+impl LastPages {
+    ghost use Rattle.data_sets.specs.Standing.{AreLast, set_in};
+
+    /// Stands for no pages.
+    pub fn new() -> Self
+        ensures { AreLast [] result }
+    {
+        LastPages {
+            clock: None,
+            eph2: None,
+            eph3: None,
+        }
+    }
+
+    /// Takes the next page, and says whether it is a clock or an ephemeris page.
+    pub fn take(&mut self, page: &Page) -> bool
+        ensures kept { (pages : List DefinedPage) → AreLast pages self.old
+            → AreLast (pages ++ page_in page.now ∷ []) self.new }
+        ensures told { result ≡ is_ephemeris (page_in page.now) }
+    {
+        match page {
+            Page::Clock(numbers) => self.clock = Some(*numbers),
+            Page::Eph2(numbers) => self.eph2 = Some(*numbers),
+            Page::Eph3(numbers) => self.eph3 = Some(*numbers),
+            _ => return false,
+        }
+        true
+    }
+
+    /// The numbers of all three, where they are there and are of one issue of data.
+    pub fn set(&self) -> Option<[i64; 31]>
+        ensures { result ≡ set_in self.now }
+    {
+        let clock = &self.clock?;
+        let eph2 = &self.eph2?;
+        let eph3 = &self.eph3?;
+        if are_of_one_issue(clock, eph2, eph3) {
+            Some(joined(clock, eph2, eph3))
+        } else {
+            None
+        }
+    }
+}

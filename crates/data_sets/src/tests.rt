@@ -1,0 +1,205 @@
+//! Reports of pages whose numbers are known. What is expected was worked out by hand from the rules.
+
+use crate::{DataSets, Report};
+use frame_sync::Subframe;
+use std::process::Abort;
+use subframes::Page;
+
+// Where the issues of data stand among the 31 numbers of a set: value 4 of the 11 of subframe 1,
+// value 0 of the 11 of subframe 2, and value 7 of the 9 of subframe 3.
+const IODC: usize = 4;
+
+const IODE: usize = 11;
+
+const IODE3: usize = 11 + 11 + 7;
+
+#[test]
+fn matching_issues(rt: HostRuntime) {
+    let mut sets = DataSets::new();
+    assert_eq!(rt; sets.take(&clock(7)), None);
+    assert_eq!(rt; sets.take(&eph2(7)), None);
+    assert_eq!(rt; sets.take(&eph3(8)), None);
+    assert_eq!(rt; sets.take(&eph2(8)), None);
+    assert_eq!(rt; sets.take(&clock(8)), Some(set(8, 8)));
+    assert_eq!(rt; sets.take(&clock(8)), None);
+}
+
+// The subframe 3 whose word 5 is missing makes no page, so that there is nothing to take.
+#[test]
+fn incomplete_page(rt: HostRuntime) {
+    let mut sets = DataSets::new();
+    assert_eq!(rt; sets.take(&clock(7)), None);
+    assert_eq!(rt; sets.take(&eph2(7)), None);
+    let zero = Some(0);
+    let incomplete = subframe(&rt, 0x8c, [zero, zero, None, zero, zero, zero, zero, zero]);
+    assert_eq!(rt; Page::read(&incomplete), None);
+    // Word 10 begins with the issue of data: bits 271 to 278.
+    let last = Some(0x07_0000);
+    let complete = subframe(&rt, 0x8c, [zero, zero, zero, zero, zero, zero, zero, last]);
+    let page = Page::read(&complete).expect(&rt, "a page");
+    assert_eq!(rt; sets.take(&page), Some(set(7, 7)));
+    assert_eq!(rt; sets.take(&page), None);
+}
+
+// Three subframes of zeros are of one issue, 0: the set has 31 zeros.
+#[test]
+fn zero_subframes(rt: HostRuntime) {
+    let mut sets = DataSets::new();
+    let expected = [None, None, Some(Report::Eph([0; 31]))];
+    for (handover, report) in [0x84, 0x88, 0x8c].iter().zip(expected) {
+        let page = Page::read(&subframe(&rt, *handover, [Some(0); 8])).expect(&rt, "a page");
+        assert_eq!(rt; sets.take(&page), report, "at {handover}");
+    }
+}
+
+// A set is compared with the one reported last, and not with those before: one issue, another and
+// the first again are three reports.
+#[test]
+fn returning_issue(rt: HostRuntime) {
+    let mut sets = DataSets::new();
+    for issue in [7, 8, 7] {
+        assert_eq!(rt; sets.take(&clock(issue)), None);
+        assert_eq!(rt; sets.take(&eph2(issue)), None);
+        assert_eq!(rt; sets.take(&eph3(issue)), Some(set(issue, issue)));
+        assert_eq!(rt; sets.take(&eph2(issue)), None);
+    }
+}
+
+// The numbers of an issue that change, its own number apart, make a new set with the one page that
+// brings them.
+#[test]
+fn changed_values(rt: HostRuntime) {
+    let mut sets = DataSets::new();
+    let _ = sets.take(&clock(7));
+    let _ = sets.take(&eph2(7));
+    assert_eq!(rt; sets.take(&eph3(7)), Some(set(7, 7)));
+    for crs in [1, -1, 0] {
+        let changed = Page::Eph2([7, crs, 0, 0, 0, 0, 0, 0, 0, 0, 0]);
+        let mut numbers = set_numbers(7, 7);
+        numbers[IODE + 1] = crs;
+        assert_eq!(rt; sets.take(&changed), Some(Report::Eph(numbers)));
+        assert_eq!(rt; sets.take(&changed), None);
+    }
+}
+
+// The clock's issue has ten bits, of which the low eight decide: 263 is 256 + 7. The high two are
+// numbers of the set like others.
+#[test]
+fn low_bits_of_the_issue(rt: HostRuntime) {
+    let mut sets = DataSets::new();
+    let _ = sets.take(&eph3(7));
+    let _ = sets.take(&eph2(7));
+    assert_eq!(rt; sets.take(&clock(263)), Some(set(263, 7)));
+    assert_eq!(rt; sets.take(&clock(7)), Some(set(7, 7)));
+    assert_eq!(rt; sets.take(&clock(775)), Some(set(775, 7)));
+    assert_eq!(rt; sets.take(&clock(776)), None);
+    assert_eq!(rt; sets.take(&clock(775)), None);
+}
+
+// Neither of two issues decides alone: the third page has to be of the same.
+#[test]
+fn two_of_three(rt: HostRuntime) {
+    for (issues, is_set) in [
+        ([7, 7, 7], true),
+        ([8, 7, 7], false),
+        ([7, 8, 7], false),
+        ([7, 7, 8], false),
+    ] {
+        let [first, second, third] = issues;
+        let mut sets = DataSets::new();
+        assert_eq!(rt; sets.take(&eph3(third)), None);
+        assert_eq!(rt; sets.take(&clock(first)), None);
+        assert_eq!(rt; sets.take(&eph2(second)).is_some(), is_set);
+    }
+}
+
+// All numbers of a set, in the order of the tables. 268 is 256 + 12, and the issue is 12 in all
+// three.
+#[test]
+fn numbers_in_table_order(rt: HostRuntime) {
+    let mut sets = DataSets::new();
+    let _ = sets.take(&Page::Eph2([12, 13, 14, 15, 16, 17, 18, 19, 20, 21, 22]));
+    let _ = sets.take(&Page::Eph3([23, 24, 25, 26, 27, 28, 29, 12, 31]));
+    let report = sets.take(&Page::Clock([1, 2, 3, 4, 268, 6, 7, 8, 9, 10, 11]));
+    let expected = [
+        1, 2, 3, 4, 268, 6, 7, 8, 9, 10, 11, 12, 13, 14, 15, 16, 17, 18, 19, 20, 21, 22, 23, 24,
+        25, 26, 27, 28, 29, 12, 31,
+    ];
+    assert_eq!(rt; report, Some(Report::Eph(expected)));
+}
+
+// The other pages are reported each time as they are, and a set that is coming together doesn't
+// mind them.
+#[test]
+fn other_pages_each_time(rt: HostRuntime) {
+    let mut sets = DataSets::new();
+    let almanac = [1, 5, 0, 7, -1, 0, 63, 0, 0, 0, -8_388_608, 0, 1];
+    let utc = [1, 56, -1, 2, 3, 4, 5, 6, 7, 8, 9, 10, 11, 12, 18, 13, 7, 18];
+    let health = [
+        1, 51, 7, 8, 0, 0, 0, 63, 0, 0, 0, 0, 0, 0, 0, 0, 0, 0, 0, 0, 0, 0, 0, 0, 0, 0, 0, 1,
+    ];
+    let text = *b"GPS L1 C/A TEST, 22 CH";
+    let _ = sets.take(&clock(7));
+    let _ = sets.take(&eph2(7));
+    for _ in 0..2 {
+        assert_eq!(rt;
+            sets.take(&Page::Almanac(almanac)),
+            Some(Report::Alm(almanac))
+        );
+        assert_eq!(rt; sets.take(&Page::Utc(utc)), Some(Report::Utc(utc)));
+        assert_eq!(rt; sets.take(&Page::Health(health)), Some(Report::Hlt(health)));
+        assert_eq!(rt; sets.take(&Page::Message(text)), Some(Report::Msg(text)));
+    }
+    assert_eq!(rt; sets.take(&eph3(7)), Some(set(7, 7)));
+    assert_eq!(rt;
+        sets.take(&Page::Almanac(almanac)),
+        Some(Report::Alm(almanac))
+    );
+    assert_eq!(rt; sets.take(&eph3(7)), None);
+}
+
+/// The clock page of an issue whose other numbers are 0.
+fn clock(issue: i64) -> Page {
+    Page::Clock([0, 0, 0, 0, issue, 0, 0, 0, 0, 0, 0])
+}
+
+/// The subframe 2 of an issue whose other numbers are 0.
+fn eph2(issue: i64) -> Page {
+    Page::Eph2([issue, 0, 0, 0, 0, 0, 0, 0, 0, 0, 0])
+}
+
+/// The subframe 3 of an issue whose other numbers are 0.
+fn eph3(issue: i64) -> Page {
+    Page::Eph3([0, 0, 0, 0, 0, 0, 0, issue, 0])
+}
+
+/// The report of such a clock page with such a subframe 2 and subframe 3.
+fn set(clock: i64, issue: i64) -> Report {
+    Report::Eph(set_numbers(clock, issue))
+}
+
+fn set_numbers(clock: i64, issue: i64) -> [i64; 31] {
+    let mut numbers = [0; 31];
+    numbers[IODC] = clock;
+    numbers[IODE] = issue;
+    numbers[IODE3] = issue;
+    numbers
+}
+
+/// The subframe with this word 2 and these words from word 3 on.
+fn subframe(rt: &impl Abort, handover: u32, words: [Option<u32>; 8]) -> Subframe {
+    let [third, fourth, fifth, sixth, seventh, eighth, ninth, tenth] = words;
+    let all = [
+        Some(0x8b_0000),
+        Some(handover),
+        third,
+        fourth,
+        fifth,
+        sixth,
+        seventh,
+        eighth,
+        ninth,
+        tenth,
+    ];
+    Subframe::from_words(all).expect(rt, "a subframe")
+}
