@@ -1,0 +1,41 @@
+use crate::faults::RunFault;
+use oscillators::SettingsFault;
+use std::alloc::{AllocError, AllocFailed};
+use thiserror::Error;
+
+/// Why the program ends early, but for a command line that isn't understood.
+#[derive(Clone, Copy, Debug, PartialEq, Eq, Error)]
+pub enum Failure {
+    /// There was no memory for the command line or a script.
+    #[error("no memory")]
+    NoMemory,
+    /// A script couldn't be read, or is longer than 16 MiB.
+    #[error("script")]
+    Script,
+    #[error("{0}")]
+    Settings(SettingsFault),
+    #[error("{0}")]
+    Run(RunFault),
+}
+
+impl Failure {
+    /// The status of the program: 2 where what was asked is at fault, and 1 where the run is.
+    pub fn status(&self) -> u8 {
+        match self {
+            Failure::NoMemory | Failure::Run(_) => 1,
+            Failure::Script | Failure::Settings(_) => 2,
+        }
+    }
+}
+
+impl From<AllocError> for Failure {
+    fn from(_: AllocError) -> Failure {
+        Failure::NoMemory
+    }
+}
+
+impl<T: Drop> From<AllocFailed<T>> for Failure {
+    fn from(_: AllocFailed<T>) -> Failure {
+        Failure::NoMemory
+    }
+}
