@@ -1,10 +1,11 @@
 -- All places of a bank take a block.
-use Rattle.std.proofs.Common.{◌≡◌, ℕ, zero, suc, ◌+◌, ◌-◌, ◌<◌, ◌≤◌, List, [], ◌∷◌, ◌++◌, length, take, drop, refl, sym, ap, ◌∙◌, arith, get_or, slice_set}
+use Rattle.std.proofs.Common.{◌≡◌, ℕ, zero, suc, ◌+◌, ◌-◌, ◌<◌, ◌≤◌, List, [], ◌∷◌, ◌++◌, length, take, drop, refl, sym, ap, subst, ◌∙◌, arith, inl, inr, get_or, slice_set}
 use Rattle.std.specs.Prelude.{Option, Some, None, map}
 use Rattle.definitions.specs.Samples.{Sample}
 use Rattle.definitions.specs.Banks.{SlotEvent, slot_events}
 use Rattle.std.specs.List.{AllByRecursion}
 use Rattle.std.proofs.Math.Nat.{mul-le-mul_right}
+use Rattle.std.proofs.lemmas.Bool.{cases_lt}
 use Rattle.std.proofs.lemmas.List.{take_more, take_more_set, drop-set-lt, get_or-drop, length-map, map-append}
 use Rattle.definitions.specs.Oscillators.{Settings}
 use Rattle.definitions.specs.Commands.{TimedRequest}
@@ -15,8 +16,8 @@ use Rattle.channel_slots.specs.declared.slot.Slot.TheVariants.{Idle, Holds}
 use Rattle.channel_slots.specs.declared.reply.Reply.{Reply}
 use Rattle.channel_slots.specs.declared.place.Place.{Place}
 use Rattle.channel_slots.specs.Replies.{event_in, told_in, told_with}
-use Rattle.channel_slots.specs.Slots.{StandsFor, Tells, MayStep, dumps_of, chances}
-use Rattle.channel_slots.specs.Banks.{PlaceSteps, AllMayStep, StepsAll, replies_of, AreTold}
+use Rattle.channel_slots.specs.Slots.{StandsFor, Tells, MayStep, ComesToEvent, dumps_of, chances}
+use Rattle.channel_slots.specs.Banks.{PlaceSteps, AllMayStep, OneComesToEvent, StepsAll, replies_of, AreTold}
 
 -- ---- shorter blocks
 may_fewer : (slot : Slot) (n m : ℕ) → m ≤ n → MayStep slot n → MayStep slot m
@@ -36,6 +37,23 @@ all_push P (y ∷ ys) x all h = (all.0, all_push P ys x all.1 h)
 
 pub room-more : (places : List Place) (i : ℕ) (p : Place) (n m : ℕ) → i < length places → p ≡ get_or places i p → m ≤ n → AllMayStep n (take i places) → MayStep p.slot m → AllMayStep m (take (i + 1) places)
 room-more places i p n m b is h all may = rw (take_more places i p b, ← is) (all_push (λ (p : Place). MayStep p.slot m) (take i places) p (all_fewer (take i places) n m h all) may)
+
+-- ---- a block no shorter than need be
+one-in-front : (n : ℕ) (ps qs : List Place) → OneComesToEvent n ps → OneComesToEvent n (ps ++ qs)
+one-in-front n [] qs comes = absurd comes
+one-in-front n (p ∷ ps) qs (inl comes) = inl comes
+one-in-front n (p ∷ ps) qs (inr comes) = inr (one-in-front n ps qs comes)
+
+one-at-last : (n : ℕ) (ps : List Place) (p : Place) → ComesToEvent p.slot n → OneComesToEvent n (ps ++ p ∷ [])
+one-at-last n [] p comes = inl comes
+one-at-last n (q ∷ ps) p comes = inr (one-at-last n ps p comes)
+
+pub room-no-sooner : (places : List Place) (i : ℕ) (p : Place) (n m most : ℕ) → i < length places → p ≡ get_or places i p → m ≤ n
+    → (n < most → OneComesToEvent n (take i places)) → (m < n → ComesToEvent p.slot m) → m < most → OneComesToEvent m (take (i + 1) places)
+room-no-sooner places i p n m most b is h before here short = rw (take_more places i p b, ← is) (elim (cases_lt m n) [
+  | inl fewer ↦ one-at-last m (take i places) p (here fewer)
+  | inr same ↦ one-in-front m (take i places) (p ∷ []) (let e : n ≡ m = omega (arith, h, same) in subst (λ k. OneComesToEvent k (take i places)) e (before (omega (arith, e, short))))
+])
 
 -- ---- one place more
 steps_push : (ys : List Sample) (time : ℕ) (ps qs : List Place) (before mid : List Reply) (p q : Place) (r : List Reply) → StepsAll ys time ps qs before mid → PlaceSteps ys time p q r

@@ -1,5 +1,5 @@
 -- What the slots of a bank tell together.
-use Rattle.std.specs.Prelude.{◌≡◌, ◌≤◌, ◌<◌, ◌+◌, ◌-◌, ℕ, List, [], ◌∷◌, ◌++◌, length, take, map, Some, max, get_or, slice_set}
+use Rattle.std.specs.Prelude.{◌≡◌, ◌≤◌, ◌<◌, ◌+◌, ◌-◌, ℕ, List, [], ◌∷◌, ◌++◌, length, take, map, Some, max, ◌⊎◌, get_or, slice_set}
 use Rattle.std.specs.List.{AllByRecursion}
 use Rattle.definitions.specs.Samples.{Sample}
 use Rattle.definitions.specs.Oscillators.{Settings}
@@ -11,7 +11,7 @@ use Rattle.channel_slots.specs.declared.reply.Reply.{Reply}
 use Rattle.channel_slots.specs.declared.place.Place.{Place}
 use Rattle.channel_slots.specs.Replies.{told_in, answer_in}
 use Rattle.channel_slots.specs.declared.reply.Event.{Event}
-use Rattle.channel_slots.specs.Slots.{chances, StandsFor, MayStep, dumps_of, IsRefusal}
+use Rattle.channel_slots.specs.Slots.{chances, StandsFor, MayStep, ComesToEvent, dumps_of, IsRefusal}
 
 -- events of a place at a time, as replies
 abbrev pub replies_of : Place → ℕ → List Event → List Reply
@@ -43,6 +43,11 @@ pub record PlaceAdds (ys : List Sample) (time : ℕ) (p q : Place) (before after
 
 abbrev pub AllMayStep : ℕ → List Place → Type 0
 AllMayStep n places = AllByRecursion (λ (p : Place). MayStep p.slot n) places
+
+-- the n-th sample from here is the last before an event of one of the places
+abbrev pub OneComesToEvent : ℕ → List Place → Type 0
+OneComesToEvent n [] = ⊥
+OneComesToEvent n (p ∷ places) = ComesToEvent p.slot n ⊎ OneComesToEvent n places
 
 abbrev pub AllFew : ℕ → List Place → Type 0
 AllFew n places = AllByRecursion (λ (p : Place). dumps_of p.slot ≤ n) places

@@ -4,7 +4,7 @@ ghost use Rattle.definitions.specs.Oscillators.{Settings as Recording};
 ghost use Rattle.definitions.specs.Banks.{layout};
 ghost use Rattle.channel_slots.specs.Slots.{StandsFor};
 ghost use Rattle.arrayvec.specs.ArrayVec.{array_vec_len};
-ghost use Rattle.channel_slots.specs.Banks.{keys_of, AllMayStep, AllFew, StepsAll, IsCommanded};
+ghost use Rattle.channel_slots.specs.Banks.{keys_of, AllMayStep, OneComesToEvent, AllFew, StepsAll, IsCommanded};
 ghost use Rattle.channel_slots.specs.Commands.{request_in};
 
 use crate::command::Command;
@@ -100,6 +100,7 @@ pub fn room(places: &[Place], most: usize) -> usize
     ensures some { 0 < result }
     ensures within { result ≤ most }
     ensures may { AllMayStep result places.now }
+    ensures no_sooner { result < most → OneComesToEvent result places.now }
 {
     let mut room = most;
     for place in places {

@@ -1,8 +1,8 @@
 -- The entries of a script come by time, and are answered one by one.
-use Rattle.std.proofs.Common.{◌≡◌, ℕ, zero, suc, ◌+◌, ◌<◌, ◌≤◌, List, [], ◌∷◌, ◌++◌, length, take, refl, sym, ap, ◌∙◌, append_assoc, append-nil, arith, length-append}
-use Rattle.std.specs.Prelude.{Bool, true, false, ◌==◌, nat_lt, nat_eq, not, cond, flat_map, Option, Some, None, Result, Err}
+use Rattle.std.proofs.Common.{◌≡◌, ℕ, ◌+◌, ◌≤◌, List, [], ◌∷◌, ◌++◌, length, take, refl, sym, ap, ◌∙◌, append_assoc, append-nil, arith, length-append}
+use Rattle.std.specs.Prelude.{Bool, true, false, nat_lt, nat_eq, not, cond, flat_map, Option, Some, None, Result, Err}
 use Rattle.std.specs.List.{AllByRecursion, enumerate_from, list_all}
-use Rattle.std.proofs.lemmas.Bool.{ltb-false, eqb-true}
+use Rattle.std.proofs.lemmas.Bool.{ltb-false}
 use Rattle.std.proofs.Math.Seq.{take-append_seam}
 use Rattle.definitions.specs.Samples.{Sample}
 use Rattle.definitions.specs.Oscillators.{Settings}
@@ -22,7 +22,7 @@ abbrev pub AreByTime : List Entry → Type 0
 AreByTime [] = Unit {0}
 AreByTime (e ∷ es) = NoneBefore e.time es × AreByTime es
 
-none_before-less : (s t : ℕ) (es : List Entry) → s ≤ t → NoneBefore t es → NoneBefore s es
+pub none_before-less : (s t : ℕ) (es : List Entry) → s ≤ t → NoneBefore t es → NoneBefore s es
 none_before-less s t [] h all = tt
 none_before-less s t (e ∷ es) h all = (omega (arith, all.0, h), none_before-less s t es h all.1)
 

@@ -1,10 +1,10 @@
 -- The cell that an acquisition names: no cell exceeds its power, and no earlier one has the same.
-use Rattle.std.proofs.Common.{inl, inr, ◌≡◌, ℕ, zero, suc, ◌+◌, ◌*◌, ◌<◌, ◌≤◌, refl, sym, arith}
-use Rattle.std.specs.Prelude.{◌⊎◌, ◌&&◌, Bool, true, false, nat_le, Option, Some, None, unwrap_or}
+use Rattle.std.proofs.Common.{inl, inr, ◌≡◌, ℕ, zero, suc, ◌+◌, ◌<◌, ◌≤◌, refl, sym, arith}
+use Rattle.std.specs.Prelude.{◌⊎◌, Bool, true, false, nat_le, Option, Some, None, unwrap_or}
 use Rattle.std.specs.List.{list_all, range_with_len}
 use Rattle.std.proofs.lemmas.Bool.{and_parts, and_from, leb-true, le-leb}
 use Rattle.definitions.specs.Sums.{least_below}
-use Rattle.definitions.specs.Acquisition.{Plan, cell_count, bin_of, half_chip_of, is_greatest, greatest_of, named_cell}
+use Rattle.definitions.specs.Acquisition.{cell_count, is_greatest, greatest_of, named_cell}
 use Rattle.definitions.specs.Laws.{IsFirstGreatest, NamedCellIsGreatest}
 use Rattle.definitions.proofs.SumsLemmas.{IsLeast, least_below-some, least_below-none}
 

@@ -4,7 +4,7 @@ use Rattle.std.specs.Prelude.{map, flat_map}
 use Rattle.std.specs.List.{AllByRecursion, enumerate_from}
 use Rattle.definitions.specs.Samples.{Sample}
 use Rattle.definitions.specs.Oscillators.{Settings}
-use Rattle.definitions.specs.Texts.{for_client, at_time}
+use Rattle.definitions.specs.Texts.{for_client}
 use Rattle.definitions.specs.Receiver.{Profile, Client, timed, told, answered, told_at, answers_at, lines_at, for_each_client, body_lines}
 use Rattle.definitions.specs.Laws.{IsLaterThan, MoreSamplesTellLater}
 use Rattle.definitions.proofs.BodyLemmas.{body_lines-more}

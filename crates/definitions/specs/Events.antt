@@ -10,7 +10,7 @@ use Rattle.definitions.specs.BitEdge.{has_edge, bits_of}
 use Rattle.definitions.specs.Frames.{Subframe, Found, found_by, starts_of, subframe_at}
 use Rattle.definitions.specs.Pages.{Page, page_of}
 use Rattle.definitions.specs.DataSets.{Report, AlmanacSet, Reports, reports_of}
-use Rattle.definitions.specs.Commands.{Start, TimedRequest, hold, track, acquire, counts}
+use Rattle.definitions.specs.Commands.{Start, TimedRequest, hold, track, acquire}
 use Rattle.definitions.specs.Lives.{Life, is_steered, dumps_of_life, life_now}
 
 -- what a slot tells

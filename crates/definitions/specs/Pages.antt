@@ -1,5 +1,5 @@
 -- The kinds of pages, by subframe ID and SV ID, and the page that a complete subframe holds (IS-GPS-200, sections 20.3.3.3 to 20.3.3.5).
-use Rattle.std.specs.Prelude.{ℕ, ◌-◌, ◌==◌, ◌&&◌, nat_le, if◌then◌else◌, ℤ, List, map, Option, Some, None, option_map}
+use Rattle.std.specs.Prelude.{ℕ, ◌==◌, ◌&&◌, nat_le, if◌then◌else◌, ℤ, List, map, Option, Some, None, option_map}
 use Rattle.std.specs.Int.Digits.{number_from_digits}
 use Rattle.std.specs.List.{range_with_len}
 use Rattle.definitions.specs.Frames.{Subframe, id_of, is_complete}

@@ -7,7 +7,7 @@ use Rattle.definitions.specs.Samples.{Sample}
 use Rattle.definitions.specs.Oscillators.{Settings}
 use Rattle.definitions.specs.Scripts.{Entry}
 use Rattle.definitions.specs.Receiver.{Client, entries_of, entries_before, answered}
-use Rattle.definitions.proofs.EntryLemmas.{NoneBefore, AreByTime, entries_of-by_time, answers_left, answered-left, answers_left-none, answers_left-past}
+use Rattle.definitions.proofs.EntryLemmas.{NoneBefore, AreByTime, none_before-less, entries_of-by_time, answers_left, answered-left, answers_left-none, answers_left-past}
 use Rattle.receiver_cli.specs.Offered.{offered}
 use Rattle.receiver_cli.specs.Queues.{NoneDue, gap}
 use Rattle.receiver_cli.specs.Sessions.{IsQueue}
@@ -23,10 +23,6 @@ later-by_time (e ∷ done) left all = later-by_time done left all.1
 none-after : (now t : ℕ) (es : List Entry) → now < t → NoneBefore t es → NoneAt now es
 none-after now t [] h all = tt
 none-after now t (e ∷ es) h all = (ne_eqb e.time now (λ same. omega (arith, same, h, all.0)), none-after now t es h all.1)
-
-pub none_before-less : (s t : ℕ) (es : List Entry) → s ≤ t → NoneBefore t es → NoneBefore s es
-none_before-less s t [] h all = tt
-none_before-less s t (e ∷ es) h all = (omega (arith, all.0, h), none_before-less s t es h all.1)
 
 none-due : (now : ℕ) (left : List Entry) → NoneDue now left → AreByTime left → NoneAt now left
 none-due now [] due by_time = tt

@@ -23,6 +23,9 @@ pub record Devices : Type 0 where
   pub contents : Option (List ℕ)
   pub write_failed : Bool
 
+abbrev pub seen : Option (List ℕ) → Bool → Option (List ℕ) → Bool → Devices
+seen remaining read_failed contents write_failed = record { remaining = remaining; read_failed = read_failed; contents = contents; write_failed = write_failed }
+
 -- the samples of what was read, up to a limit
 abbrev pub samples_read : Settings → ℕ → List ℕ → List Sample
 samples_read settings limit read = take limit (samples settings.packing read)

@@ -1,3 +1,7 @@
+ghost use Rattle.std.specs.Prelude.{◌≡◌};
+ghost use Rattle.receiver_cli.specs.declared.failure.Failure.TheVariants.{NoMemory};
+ghost use Rattle.receiver_cli.specs.Programs.{status_of};
+
 use crate::faults::RunFault;
 use oscillators::SettingsFault;
 use std::alloc::{AllocError, AllocFailed};
@@ -20,7 +24,9 @@ pub enum Failure {
 
 impl Failure {
     /// The status of the program: 2 where what was asked is at fault, and 1 where the run is.
-    pub fn status(&self) -> u8 {
+    pub fn status(&self) -> u8
+        ensures { result ≡ status_of self.now }
+    {
         match self {
             Failure::NoMemory | Failure::Run(_) => 1,
             Failure::Script | Failure::Settings(_) => 2,
@@ -29,12 +35,16 @@ impl Failure {
 }
 
 impl From<AllocError> for Failure {
+    ghost from_gives = { λ _ failure. failure ≡ NoMemory };
+
     fn from(_: AllocError) -> Failure {
         Failure::NoMemory
     }
 }
 
 impl<T: Drop> From<AllocFailed<T>> for Failure {
+    ghost from_gives = { λ _ failure. failure ≡ NoMemory };
+
     fn from(_: AllocFailed<T>) -> Failure {
         Failure::NoMemory
     }

@@ -1,5 +1,5 @@
 //! A receiver bank for recorded GPS L1 C/A samples: scripts of timed commands in, lines of what the channels tell out. `run` is proved to
-//! write what is defined, for every client alone; this file and the three that it names below read the command line and the scripts.
+//! write what is defined, for every client alone; this file and the files that it names below read the command line and the scripts.
 #![tactic(auto)]
 
 mod devices;
@@ -10,18 +10,19 @@ mod lines;
 mod options;
 mod queue;
 mod queues;
+mod reading;
+mod receiving;
 mod run;
 mod script_file;
 mod session;
 #[cfg(test)]
 mod tests;
 mod texts;
+mod writing;
 
-use clap::ArgMatches;
 use devices::Plain;
 use failure::Failure;
-use run::run;
-use script_file::read_script;
+use receiving::receive;
 use std::process::ExitCode;
 use std::{env, io};
 
@@ -43,31 +44,16 @@ fn program(rt: &HostRuntime) -> Result<ExitCode, Failure> {
     };
     let words: Vec<String> = args.collect(rt.alloc())?;
     match options::matches(rt.alloc(), &words) {
-        Ok(matches) => receive(rt, &matches),
+        Ok(matches) => {
+            let mut reader = Plain::new(rt.reader());
+            let mut writer = Plain::new(io::writer(rt));
+            receive(rt.alloc(), rt, &matches, &mut reader, &mut writer)?;
+            Ok(ExitCode::SUCCESS)
+        }
         Err(error) => {
             // Where printing fails too, the status alone tells.
             let _ = error.print(rt);
             Ok(ExitCode::from(error.exit_code() as u8))
         }
     }
-}
-
-/// Runs the scripts over standard input.
-fn receive(rt: &HostRuntime, matches: &ArgMatches) -> Result<ExitCode, Failure> {
-    let settings = options::settings(matches).map_err(Failure::Settings)?;
-    let mut texts = Vec::new(rt.alloc());
-    for path in matches.get_strs("script").unwrap_or(&[]) {
-        texts.push(read_script(rt.alloc(), rt, path)?)?;
-    }
-    let mut scripts: Vec<&[u8]> = Vec::new(rt.alloc());
-    for text in &texts {
-        scripts.push(text.as_slice())?;
-    }
-    if scripts.is_empty() {
-        scripts.push(&[])?;
-    }
-    let mut reader = Plain::new(rt.reader());
-    let mut writer = Plain::new(io::writer(rt));
-    run(rt.alloc(), settings, &scripts, &mut reader, &mut writer).map_err(Failure::Run)?;
-    Ok(ExitCode::SUCCESS)
 }

@@ -1,5 +1,7 @@
 //! Script files, read whole.
 
+ghost use Rattle.std.specs.Prelude.{◌≡◌, ◌≤◌, ◌⊎◌, length, IfOk, IfErr};
+
 use crate::failure::Failure;
 use std::alloc::Global;
 use std::fs::{File, Files};
@@ -9,7 +11,10 @@ use std::io::{ErrorKind, Read};
 const MOST_BYTES: usize = 16 << 20;
 
 /// Reads a script file.
-pub fn read_script<R: Files>(alloc: Global, files: &R, path: &str) -> Result<Vec<u8>, Failure> {
+pub fn read_script<R: Files>(alloc: Global, files: &R, path: &str) -> Result<Vec<u8>, Failure>
+    ensures short { IfOk result (λ bytes. length bytes.items ≤ 16777216) }
+    ensures fault { IfErr result (λ failure. (failure ≡ Failure.Script) ⊎ (failure ≡ Failure.NoMemory)) }
+{
     let Ok(file) = File::open(files, path) else {
         return Err(Failure::Script);
     };

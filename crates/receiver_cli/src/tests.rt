@@ -6,6 +6,7 @@ mod clients;
 mod devices;
 mod fakes;
 mod limits;
+mod program;
 mod recording;
 mod runs;
 mod scripts;

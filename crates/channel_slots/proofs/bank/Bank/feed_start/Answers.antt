@@ -1,19 +1,14 @@
 use Rattle.std.proofs.Common.{◌≡◌, ◌≤◌, ◌+◌, ◌-◌, ◌*◌, ◌^◌, arith, ℕ, List, [], ◌++◌, length, refl, ap, subst, ◌∙◌, append-nil}
-use Rattle.std.proofs.lemmas.List.FromFn.{length-map-range_with_len}
-use Rattle.definitions.specs.Samples.{Sample, Packing, sample, samples_from}
+use Rattle.definitions.specs.Samples.{Sample, Packing, samples_from}
 use Rattle.definitions.specs.Receiver.{told_between}
 use Rattle.definitions.specs.Banks.{layout, told_at_end}
 use Rattle.definitions.specs.Oscillators.{Settings}
-use Rattle.definitions.proofs.SampleLemmas.{samples_from-split}
+use Rattle.definitions.proofs.SampleLemmas.{samples_from-length, samples_from-split}
 use Rattle.sample_planes.specs.Packings.{packing_of}
 use Rattle.channel_slots.specs.declared.place.Place.{Place}
 use Rattle.channel_slots.specs.Banks.{StepsAll, keys_of, AreTold, BankStands}
 use Rattle.channel_slots.proofs.BankLemmas.{refilled, few-from_most, more_few, few-more, keys-same, chances-less, chances-begin, slots-four, told-more, stands-more}
 use Rattle.channel_slots.proofs.bank.Bank.feed_start.Goals as goal
-
-as_many : (packing : Packing) (bytes : List ℕ) (first n : ℕ) → length (samples_from packing bytes first n) ≡ n
-unfolding samples_from
-as_many packing bytes first n = length-map-range_with_len (sample packing bytes) first n
 
 none : (packing : Packing) (bytes : List ℕ) (first : ℕ) → samples_from packing bytes first 0 ≡ []
 unfolding samples_from
@@ -38,7 +33,7 @@ pub overflow_add-time : goal.overflow_add-time
 overflow_add-time c = omega (arith, c.loop-done.invariant.time, c.loop-done.invariant.done, c.room-count.ensures.within, c.requires.room)
 
 count_is : (packing : Packing) (bytes : List ℕ) (first n : ℕ) (ys : List Sample) → ys ≡ samples_from packing bytes first n → length ys ≡ n
-count_is packing bytes first n ys e = rw e (as_many packing bytes first n)
+count_is packing bytes first n ys e = rw e (samples_from-length packing bytes first n)
 
 pub step_all-requires-clause-some : goal.step_all-requires-clause-some
 step_all-requires-clause-some c = rw (count_is _ _ _ _ c.unpack-samples.result c.unpack-samples.ensures) c.room-count.ensures.some
@@ -77,7 +72,7 @@ loop-done-preserved c =
     let steps : StepsAll ys time places new c.loop-done.replies.items c.step_all.new.replies.items = rw (c.deref_mut.ensures.value, c.unpack-samples.ensures) at c.step_all.ensures in
     let same : length new ≡ length places = rw c.deref_mut.ensures.value at c.step_all.auto.places in
     let whole = refilled c.loop-done.self.places.len places new (omega (arith, c.step_all.auto.places, c.deref_mut.ensures.len)) in
-    let is : length ys ≡ count = as_many packing c.args.bytes.now (c.args.first + c.loop-done.done) count in
+    let is : length ys ≡ count = samples_from-length packing c.args.bytes.now (c.args.first + c.loop-done.done) count in
     let left : c.args.len - (c.loop-done.done + count) ≡ c.args.len - c.loop-done.done - length ys = omega (arith, is) in
     rw (whole, samples_from-split packing c.args.bytes.now c.args.first c.loop-done.done count) (record {
       done = omega (arith, c.room-count.ensures.within, c.loop-done-test.true);

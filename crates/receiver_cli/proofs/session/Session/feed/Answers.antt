@@ -1,8 +1,8 @@
 use Rattle.std.proofs.Common.{◌≡◌, ◌≤◌, ◌<◌, ◌*◌, ℕ, List, length, subst, arith}
-use Rattle.std.proofs.lemmas.List.FromFn.{length-map-range_with_len}
-use Rattle.definitions.specs.Samples.{Sample, Packing, sample, samples_from}
+use Rattle.definitions.specs.Samples.{Sample, samples_from}
 use Rattle.definitions.specs.Banks.{told_at_end, layout}
 use Rattle.definitions.specs.Receiver.{told_between}
+use Rattle.definitions.proofs.SampleLemmas.{samples_from-length}
 use Rattle.channel_slots.specs.Banks.{AreTold}
 use Rattle.receiver_cli.specs.declared.queue.Queue.{Queue}
 use Rattle.receiver_cli.specs.Queues.{least_gap_of}
@@ -10,10 +10,6 @@ use Rattle.receiver_cli.specs.Sessions.{until_next, asked_of}
 use Rattle.receiver_cli.proofs.SessionLemmas.{queues-later, waiting-later, same-number}
 use Rattle.receiver_cli.proofs.TellingLemmas.{told-stretch}
 use Rattle.receiver_cli.proofs.session.Session.feed.Goals as goal
-
-as-many : (packing : Packing) (bytes : List ℕ) (first n : ℕ) → length (samples_from packing bytes first n) ≡ n
-unfolding samples_from
-as-many packing bytes first n = length-map-range_with_len (sample packing bytes) first n
 
 -- the samples come before the entry that is next
 before-next : (queues : List Queue) (time len n m : ℕ) → len ≤ least_gap_of time queues → time ≡ n → m ≡ len → m ≤ least_gap_of n queues
@@ -23,7 +19,7 @@ pub returns-clause-stands : goal.returns-clause-stands
 unfolding until_next
 returns-clause-stands c settings clients xs s =
     let ys : List Sample = samples_from settings.packing c.args.bytes.now c.args.first c.args.len in
-    let many : length ys ≡ c.args.len = as-many settings.packing c.args.bytes.now c.args.first c.args.len in
+    let many : length ys ≡ c.args.len = samples_from-length settings.packing c.args.bytes.now c.args.first c.args.len in
     let queues : List Queue = c.args.self.now.queues.items in
     let free = before-next queues c.args.self.now.bank.time c.args.len (length xs) (length ys) c.requires.quiet s.bank.now many in
     let some : 0 < length ys = omega (arith, many, c.requires.some) in
@@ -38,7 +34,7 @@ pub returns-clause-told : goal.returns-clause-told
 unfolding until_next
 returns-clause-told c settings clients xs s =
     let ys : List Sample = samples_from settings.packing c.args.bytes.now c.args.first c.args.len in
-    let many : length ys ≡ c.args.len = as-many settings.packing c.args.bytes.now c.args.first c.args.len in
+    let many : length ys ≡ c.args.len = samples_from-length settings.packing c.args.bytes.now c.args.first c.args.len in
     let queues : List Queue = c.args.self.now.queues.items in
     let free = before-next queues c.args.self.now.bank.time c.args.len (length xs) (length ys) c.requires.quiet s.bank.now many in
     let some : 0 < length ys = omega (arith, many, c.requires.some) in

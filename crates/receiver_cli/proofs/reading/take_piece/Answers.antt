@@ -6,7 +6,7 @@ use Rattle.receiver_cli.specs.Runs.{IsWrittenTo}
 use Rattle.receiver_cli.proofs.TextLemmas.{on_err}
 use Rattle.definitions.proofs.SampleLemmas.{samples-next}
 use Rattle.receiver_cli.proofs.PartLemmas.{body-part-longer}
-use Rattle.receiver_cli.proofs.run.take_piece.Goals as goal
+use Rattle.receiver_cli.proofs.reading.take_piece.Goals as goal
 
 pub returns-in_err-take_samples-clause-err : goal.returns-in_err-take_samples-clause-err
 returns-in_err-take_samples-clause-err g c = let s = g.W.Sink in on_err c.from_residual.result _ (λ settings clients start xs at.

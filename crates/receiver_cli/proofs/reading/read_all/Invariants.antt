@@ -7,7 +7,7 @@ use Rattle.definitions.specs.Receiver.{Client}
 use Rattle.receiver_cli.specs.Sessions.{packing_in, time_of}
 use Rattle.receiver_cli.specs.Sessions.{until_next}
 use Rattle.receiver_cli.specs.Runs.{IsWrittenTo}
-use Rattle.receiver_cli.proofs.run.read_all.Given as goal
+use Rattle.receiver_cli.proofs.reading.read_all.Given as goal
 
 abbrev pub invariant-loop-count : goal.invariant-loop-count
 invariant-loop-count g l = let source = g.R.Source in let sink = g.W.Sink in record {

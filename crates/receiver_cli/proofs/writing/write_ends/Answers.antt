@@ -15,7 +15,7 @@ use Rattle.receiver_cli.proofs.TextLemmas.{wrote-none, wrote-front, wrote-text, 
 use Rattle.receiver_cli.proofs.AnswerLemmas.{full-is}
 use Rattle.receiver_cli.proofs.SessionLemmas.{same-number}
 use Rattle.receiver_cli.proofs.OpeningLemmas.{ends-are, ends-next, ends-done}
-use Rattle.receiver_cli.proofs.run.write_ends.Goals as goal
+use Rattle.receiver_cli.proofs.writing.write_ends.Goals as goal
 
 -- the ends of all clients
 all-ends : (settings : Settings) (clients : List Client) (session : Session) (xs : List Sample) (n : ℕ) → StandsFor settings clients session xs [] → n ≡ session.bank.clients → full offered settings xs clients ≡ body offered settings xs clients ++ as_bytes (ends (time_of session) 1 n)

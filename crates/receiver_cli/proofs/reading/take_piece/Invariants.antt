@@ -6,7 +6,7 @@ use Rattle.definitions.specs.Receiver.{Client}
 use Rattle.receiver_cli.specs.Sessions.{packing_in, time_of}
 use Rattle.receiver_cli.specs.Sessions.{until_next}
 use Rattle.receiver_cli.specs.Runs.{IsWrittenTo}
-use Rattle.receiver_cli.proofs.run.take_piece.Given as goal
+use Rattle.receiver_cli.proofs.reading.take_piece.Given as goal
 
 abbrev pub invariant-loop-first : goal.invariant-loop-first
 invariant-loop-first g l = let sink = g.W.Sink in record {

@@ -2,7 +2,7 @@ use Rattle.std.proofs.Common.{◌∙◌, ap, refl}
 use Rattle.definitions.specs.Lines.{as_bytes}
 use Rattle.receiver_cli.proofs.AnswerLemmas.{answered-more, answered-part}
 use Rattle.receiver_cli.proofs.TextLemmas.{wrote-all, on_err}
-use Rattle.receiver_cli.proofs.run.write_answers.Goals as goal
+use Rattle.receiver_cli.proofs.writing.write_answers.Goals as goal
 
 pub loop-reply-preserved : goal.loop-reply-preserved
 loop-reply-preserved g c = let s = g.W.Sink in let i = c.loop-reply.invariant in record {

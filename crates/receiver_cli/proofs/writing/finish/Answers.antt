@@ -5,8 +5,8 @@ use Rattle.receiver_cli.specs.declared.faults.Stop.{Stop}
 use Rattle.receiver_cli.specs.Runs.{text_for}
 use Rattle.receiver_cli.proofs.TextLemmas.{on_err}
 use Rattle.receiver_cli.proofs.RunLemmas.{flushed-part, no-end}
-use Rattle.receiver_cli.proofs.run.finish.Goals.{in-AtEnd+in_ok-write_ends-in-AtEnd, in-ReadFailed}
-use Rattle.receiver_cli.proofs.run.finish.Goals as goal
+use Rattle.receiver_cli.proofs.writing.finish.Goals.{in-AtEnd+in_ok-write_ends-in-AtEnd, in-ReadFailed}
+use Rattle.receiver_cli.proofs.writing.finish.Goals as goal
 
 pub returns-clause-err : goal.returns-clause-err
 returns-clause-err g c = let s = g.W.Sink in on_err c.flush.result _ (λ settings clients start xs at.

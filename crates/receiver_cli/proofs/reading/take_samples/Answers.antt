@@ -8,7 +8,7 @@ use Rattle.receiver_cli.specs.Offered.{offered}
 use Rattle.channel_slots.specs.Replies.{line_of}
 use Rattle.receiver_cli.proofs.TextLemmas.{on_err}
 use Rattle.receiver_cli.proofs.AnswerLemmas.{stretch-all, stretch-part-told, stretch-part-answers}
-use Rattle.receiver_cli.proofs.run.take_samples.Goals as goal
+use Rattle.receiver_cli.proofs.reading.take_samples.Goals as goal
 
 pub returns-in_err-write_replies-clause-err : goal.returns-in_err-write_replies-clause-err
 unfolding body

@@ -3,7 +3,7 @@ use Rattle.definitions.specs.Lines.{as_bytes}
 use Rattle.receiver_cli.specs.LineTexts.{ends}
 use Rattle.receiver_cli.specs.Sessions.{time_of}
 use Rattle.receiver_cli.specs.Texts.{WroteUpTo}
-use Rattle.receiver_cli.proofs.run.write_ends.Given as goal
+use Rattle.receiver_cli.proofs.writing.write_ends.Given as goal
 
 abbrev pub invariant-loop-client : goal.invariant-loop-client
 invariant-loop-client g l = let sink = g.W.Sink in record {

@@ -3,7 +3,7 @@ use Rattle.std.specs.Prelude.{map}
 use Rattle.definitions.specs.Lines.{as_bytes}
 use Rattle.receiver_cli.specs.Texts.{WroteUpTo}
 use Rattle.channel_slots.specs.Replies.{line_of}
-use Rattle.receiver_cli.proofs.run.write_replies.Given as goal
+use Rattle.receiver_cli.proofs.writing.write_replies.Given as goal
 
 abbrev pub invariant-loop-reply : goal.invariant-loop-reply
 invariant-loop-reply g l = let sink = g.W.Sink in record {

@@ -7,7 +7,7 @@ use Rattle.channel_slots.specs.Replies.{line_of}
 use Rattle.receiver_cli.specs.Texts.{AppendsPart}
 use Rattle.receiver_cli.proofs.TextLemmas.{wrote-text, wrote-part, wrote-all, on_err}
 use Rattle.receiver_cli.proofs.AnswerLemmas.{replies-next, replies-done}
-use Rattle.receiver_cli.proofs.run.write_replies.Goals as goal
+use Rattle.receiver_cli.proofs.writing.write_replies.Goals as goal
 
 pub loop-reply-preserved : goal.loop-reply-preserved
 loop-reply-preserved g c =

@@ -4,7 +4,7 @@ use Rattle.definitions.specs.Oscillators.{Settings}
 use Rattle.definitions.specs.Receiver.{Client}
 use Rattle.receiver_cli.specs.Sessions.{StandsFor, packing_in, time_of, lines_left}
 use Rattle.receiver_cli.specs.Runs.{HasAnswered}
-use Rattle.receiver_cli.proofs.run.write_answers.Given as goal
+use Rattle.receiver_cli.proofs.writing.write_answers.Given as goal
 
 abbrev pub invariant-loop-reply : goal.invariant-loop-reply
 invariant-loop-reply g l = let sink = g.W.Sink in record {

@@ -12,7 +12,7 @@ use Rattle.receiver_cli.proofs.TextLemmas.{on_err}
 use Rattle.definitions.proofs.SampleLemmas.{samples-append, sample_count-append, count_of}
 use Rattle.receiver_cli.proofs.RunLemmas.{samples-nil}
 use Rattle.receiver_cli.proofs.ReadLemmas.{none_counted, Uses, uses, up_to-used, beyond-limit}
-use Rattle.receiver_cli.proofs.run.read_all.Goals as goal
+use Rattle.receiver_cli.proofs.reading.read_all.Goals as goal
 
 pub returns-in_err-take_piece-clause-broken : goal.returns-in_err-take_piece-clause-broken
 returns-in_err-take_piece-clause-broken g c = let s = g.W.Sink in let r = g.R.Source in on_err c.from_residual.result _ (λ settings clients start at.

@@ -1,0 +1,29 @@
+-- How the program ends, and what it has done with its devices then.
+use Rattle.std.specs.Prelude.{◌≡◌, ◌^◌, ℕ, List, Result, Ok, Err}
+use Rattle.definitions.specs.Oscillators.{Settings as Recording}
+use Rattle.definitions.specs.Receiver.{Client}
+use Rattle.receiver_cli.specs.declared.failure.Failure.{Failure}
+use Rattle.receiver_cli.specs.declared.failure.Failure.TheVariants.{NoMemory, Script, Settings, Run}
+use Rattle.receiver_cli.specs.declared.faults.RunFault.{RunFault}
+use Rattle.receiver_cli.specs.Runs.{Devices, IsRun}
+
+-- the exit status of a program that fails
+abbrev pub status_of : Failure → ℕ
+status_of NoMemory = 1
+status_of Script = 2
+status_of (Settings fault) = 2
+status_of (Run fault) = 1
+
+-- some scripts were run over samples of some recording
+pub record HasRun (old new : Devices) (answer : Result ℕ RunFault) : Type 0 where
+  pub settings : Recording
+  pub clients : List Client
+  pub is_run : IsRun settings clients (2 ^ 40) old new answer
+
+-- by its answer: a run that came to its end, or to a fault; or a failure before it, with nothing read or written
+abbrev pub Receives : Devices → Devices → Result (Unit {0}) Failure → Type 0
+Receives old new (Ok _) = (n : ℕ) × HasRun old new (Ok n)
+Receives old new (Err (Run fault)) = HasRun old new (Err fault)
+Receives old new (Err NoMemory) = new ≡ old
+Receives old new (Err Script) = new ≡ old
+Receives old new (Err (Settings fault)) = new ≡ old

@@ -1,0 +1,193 @@
+//! The program behind its command line: options, scripts in files, statuses and texts.
+
+use crate::failure::Failure;
+use crate::faults::RunFault;
+use crate::options;
+use crate::receiving::receive;
+use crate::tests::fakes::{Giving, Holding};
+use std::alloc::{Alloc, Global};
+use std::fs::{self, Files};
+use std::process::Abort;
+use std::test::Fail;
+
+/// The two-bit samples +3, -3, +1 and -1.
+const TWO_BIT_SAMPLES: &[u8] = &[0x72];
+
+/// Holds satellite 1 in its last chip, and asks for one dump.
+const LAST_CHIP: &[u8] = b"0 hold 0 1 0 2044\n0 counts 0 1\n";
+
+/// What the program ends with: its status, and its own text on standard error, with `receiver: ` in front there.
+fn ending(
+    rt: &(impl Files + Alloc<A = Global>),
+    words: &[&str],
+    reader: &mut Giving,
+    writer: &mut Holding,
+) -> Result<(i32, String), Fail> {
+    let mut line = vec![in rt.alloc(); String::from_str(rt.alloc(), "receiver")?]?;
+    for word in words {
+        line.push(String::from_str(rt.alloc(), word)?)?;
+    }
+    let matches = match options::matches(rt.alloc(), &line) {
+        Ok(matches) => matches,
+        Err(error) => return Ok((error.exit_code(), String::new(rt.alloc()))),
+    };
+    match receive(rt.alloc(), rt, &matches, reader, writer) {
+        Ok(()) => Ok((0, String::new(rt.alloc()))),
+        Err(failure) => Ok((failure.status().into(), failure.to_string(rt.alloc())?)),
+    }
+}
+
+/// Sees that the program ends so, with no device touched.
+fn refuses(
+    rt: &(impl Abort + Files + Alloc<A = Global>),
+    words: &[&str],
+    status: i32,
+    text: &str,
+) -> Result<(), Fail> {
+    let mut reader = Giving::whole(&[0]);
+    let mut writer = Holding::whole();
+    let (ended, said) = ending(rt, words, &mut reader, &mut writer)?;
+    assert_eq!(rt; (ended, said.as_str()), (status, text));
+    assert_eq!(rt; (reader.reads, writer.writes, writer.flushes), (0, 0, 0));
+    Ok(())
+}
+
+/// Sees that the program runs over these samples, and writes this.
+fn prints(
+    rt: &(impl Abort + Files + Alloc<A = Global>),
+    words: &[&str],
+    bytes: &[u8],
+    lines: &str,
+) -> Result<(), Fail> {
+    let mut reader = Giving::whole(bytes);
+    let mut writer = Holding::whole();
+    let (ended, said) = ending(rt, words, &mut reader, &mut writer)?;
+    assert_eq!(rt; (ended, said.as_str()), (0, ""));
+    assert_eq!(rt; writer.text()?, lines);
+    Ok(())
+}
+
+#[test]
+fn one_empty_script_without_a_file(rt: HostRuntime) -> Result<(), Fail> {
+    prints(&rt, &[], &[], "1 0 end\n")?;
+    prints(&rt, &[], &[0], "1 8 end\n")?;
+    prints(&rt, &["--format", "real2"], &[0], "1 4 end\n")
+}
+
+// The carrier turns a quarter a sample, forwards or backwards: its cosines are 2, -1, -2, 1 or 2, 1, -2, -1, its sines 1, 2, -1, -2 or
+// 1, -2, -1, 2. The chip before the last and the last are +1, the first is -1, and the early code comes to it with the third sample.
+#[test]
+fn options_set_the_recording(rt: HostRuntime) -> Result<(), Fail> {
+    fs::write(&rt, "last_chip", LAST_CHIP)?;
+    let quarter = [
+        "--rate",
+        "4092000",
+        "--offset",
+        "1023000",
+        "--format",
+        "real2",
+        "last_chip",
+        "--minus",
+    ];
+    prints(
+        &rt,
+        &quarter[..7],
+        TWO_BIT_SAMPLES,
+        "1 0 ok\n1 0 ok\n1 4 count 0 12 4 6 2 6 2\n1 4 end\n",
+    )?;
+    prints(
+        &rt,
+        &quarter,
+        TWO_BIT_SAMPLES,
+        "1 0 ok\n1 0 ok\n1 4 count 0 4 -12 2 -6 2 -6\n1 4 end\n",
+    )?;
+    fs::remove_file(&rt, "last_chip")?;
+    Ok(())
+}
+
+#[test]
+fn settings_out_of_range(rt: HostRuntime) -> Result<(), Fail> {
+    refuses(&rt, &["--rate", "2045999"], 2, "rate")?;
+    refuses(&rt, &["--rate", "20000001"], 2, "rate")?;
+    refuses(&rt, &["--offset", "1023001"], 2, "offset")?;
+    refuses(&rt, &["--offset", "1023001", "--minus"], 2, "offset")?;
+    refuses(&rt, &["--rate", "0", "--offset", "4294967295"], 2, "rate")?;
+    prints(&rt, &["--offset", "1023000", "--minus"], &[], "1 0 end\n")
+}
+
+#[test]
+fn options_not_understood(rt: HostRuntime) -> Result<(), Fail> {
+    refuses(&rt, &["--speed", "1"], 2, "")?;
+    refuses(&rt, &["--rate", "fast"], 2, "")?;
+    refuses(&rt, &["--rate", "4294967296"], 2, "")?;
+    refuses(&rt, &["--offset=-1"], 2, "")?;
+    refuses(&rt, &["--format", "real3"], 2, "")?;
+    refuses(&rt, &["--help"], 0, "")
+}
+
+#[test]
+fn scripts_that_cannot_be_read(rt: HostRuntime) -> Result<(), Fail> {
+    refuses(&rt, &["there_is_none"], 2, "script")?;
+    refuses(&rt, &["."], 2, "script")?;
+    // Faults of settings come first, and faults of scripts before those of the run.
+    refuses(&rt, &["--offset", "1023001", "there_is_none"], 2, "offset")?;
+    refuses(&rt, &["there_is_none"; 9], 2, "script")
+}
+
+#[test]
+fn script_of_16_mib(rt: HostRuntime) -> Result<(), Fail> {
+    let mut text = vec![in rt.alloc(); b'\n'; 16 << 20]?;
+    fs::write(&rt, "longest", text.as_slice())?;
+    prints(&rt, &["longest"], &[], "1 0 end\n")?;
+    text.push(b'\n')?;
+    fs::write(&rt, "longest", text.as_slice())?;
+    refuses(&rt, &["longest"], 2, "script")?;
+    fs::remove_file(&rt, "longest")?;
+    Ok(())
+}
+
+#[test]
+fn one_to_eight_scripts(rt: HostRuntime) -> Result<(), Fail> {
+    fs::write(&rt, "state", b"0 state 3\n")?;
+    prints(&rt, &["state"], &[], "1 0 state 3 idle\n1 0 end\n")?;
+    prints(
+        &rt,
+        &["state", "state"],
+        &[],
+        "1 0 state 3 idle\n2 0 state 3 idle\n1 0 end\n2 0 end\n",
+    )?;
+    refuses(&rt, &["state"; 9], 1, "clients")?;
+    fs::remove_file(&rt, "state")?;
+    Ok(())
+}
+
+#[test]
+fn devices_that_fail(rt: HostRuntime) -> Result<(), Fail> {
+    let mut reader = Giving::faulty(&[0], usize::MAX, 0);
+    let mut writer = Holding::whole();
+    let (ended, said) = ending(&rt, &[], &mut reader, &mut writer)?;
+    assert_eq!(rt; (ended, said.as_str()), (1, "read"));
+    let mut reader = Giving::whole(&[0]);
+    let mut writer = Holding::faulty(usize::MAX, 3);
+    let (ended, said) = ending(&rt, &[], &mut reader, &mut writer)?;
+    assert_eq!(rt; (ended, said.as_str()), (1, "write"));
+    assert_eq!(rt; writer.text()?, "1 8");
+    Ok(())
+}
+
+// Neither can be made to come here: a run over 2^40 samples, and memory that is refused.
+#[test]
+fn other_statuses(rt: HostRuntime) -> Result<(), Fail> {
+    let too_long = Failure::Run(RunFault::TooLong);
+    assert_eq!(rt;
+        (too_long.status(), too_long.to_string(rt.alloc())?.as_str()),
+        (1, "too long")
+    );
+    for refused in [Failure::NoMemory, Failure::Run(RunFault::NoMemory)] {
+        assert_eq!(rt;
+            (refused.status(), refused.to_string(rt.alloc())?.as_str()),
+            (1, "no memory")
+        );
+    }
+    Ok(())
+}
