@@ -1,4 +1,4 @@
-//! Slots by hand: what they answer, and sums of samples of which each product is plain.
+//! Slots by hand: what they answer, and sums of samples of which each product is plain. `banks` has those of all clients together.
 
 ghost use Rattle.std.specs.Prelude.{◌≡◌, ◌+◌, ◌<◌, ◌≤◌, IfOk};
 ghost use Rattle.definitions.specs.Samples.{real1};
@@ -11,6 +11,7 @@ use oscillators::{Doppler, HalfChip, Settings};
 use sample_planes::{Format, unpack};
 use std::test::Fail;
 
+mod banks;
 mod recording;
 
 /// A recording of one-bit samples at two samples a chip, with the carrier at 0 Hz.
@@ -142,84 +143,4 @@ fn sums_do_not_depend_on_the_cut(rt: HostRuntime) -> Result<(), Fail> {
 fn slots_are_0_to_3(rt: HostRuntime) {
     assert_eq!(rt; SlotNo::new(3).map(|slot| slot.get()), Some(3));
     assert_eq!(rt; SlotNo::new(4), None);
-}
-
-// Satellite 1 of client 1 and satellite 7 of client 2 as above: their dumps come with samples 1 and 2, in one run of eight samples.
-#[test]
-fn each_client_has_its_slots(rt: HostRuntime) -> Result<(), Fail> {
-    let slot = slot_zero()?;
-    let state = Command::State { slot };
-    let counts = Command::Counts { slot, n: 1 };
-    let mut bank = Bank::open(rt.alloc(), plain_settings()?, 2)?;
-    let busy = bank.command(1, hold(1, 0)?);
-    assert_eq!(rt; (busy.client, busy.slot, busy.time), (1, 0, 0));
-    assert_eq!(rt; busy.event, Event::Accepted);
-    let idle = bank.command(2, state);
-    assert_eq!(rt; (idle.client, idle.slot, idle.time), (2, 0, 0));
-    assert_eq!(rt; idle.event, Event::State(SlotState::Idle));
-    bank.command(2, hold(7, -1_000)?);
-    bank.command(1, counts);
-    bank.command(2, counts);
-    let replies = bank.feed(&[0], 0, 8);
-    let first = Event::Count(sums([-2, 1, 2, -1, 2, -1]));
-    let second = Event::Count(sums([-4, 0, 4, 0, 4, 0]));
-    let told = [
-        Reply {
-            client: 1,
-            slot: 0,
-            time: 1,
-            event: first,
-        },
-        Reply {
-            client: 2,
-            slot: 0,
-            time: 2,
-            event: second,
-        },
-    ];
-    assert_eq!(rt; replies.as_slice(), told.as_slice());
-    assert_eq!(rt; bank.time(), 8);
-    Ok(())
-}
-
-// Samples from the ninth of two bytes on are those of the second byte.
-#[test]
-fn a_feed_begins_anywhere(rt: HostRuntime) -> Result<(), Fail> {
-    let mut bank = Bank::open(rt.alloc(), plain_settings()?, 1)?;
-    let counts = Command::Counts {
-        slot: slot_zero()?,
-        n: 1,
-    };
-    bank.command(1, hold(1, 0)?);
-    bank.command(1, counts);
-    let replies = bank.feed(&[255, 127], 8, 1);
-    let told = [Reply {
-        client: 1,
-        slot: 0,
-        time: 1,
-        event: Event::Count(sums([-2, 1, 2, -1, 2, -1])),
-    }];
-    assert_eq!(rt; replies.as_slice(), told.as_slice());
-    Ok(())
-}
-
-#[test]
-fn one_to_eight_clients(rt: HostRuntime) -> Result<(), Fail> {
-    for clients in [0, 9, 255] {
-        let bank = Bank::open(rt.alloc(), plain_settings()?, clients);
-        assert_eq!(rt; bank.err(), Some(OpenFault::Clients));
-    }
-    for clients in [1, 8] {
-        let bank = Bank::open(rt.alloc(), plain_settings()?, clients)?;
-        assert_eq!(rt; bank.time(), 0);
-    }
-    Ok(())
-}
-
-#[test]
-fn faults_have_texts(rt: HostRuntime) -> Result<(), Fail> {
-    let alloc = rt.alloc();
-    assert_eq!(rt; OpenFault::NoMemory.to_string(alloc)?.as_str(), "no memory");
-    assert_eq!(rt; OpenFault::Clients.to_string(alloc)?.as_str(), "clients");
-    Ok(())
 }

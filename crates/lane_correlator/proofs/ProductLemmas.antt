@@ -1,5 +1,5 @@
 -- Products of a sample, the carrier and a chip, as the code computes them.
-use Rattle.std.proofs.Common.{◌≡◌, ℕ, ◌+◌, ◌-◌, ◌*◌, ◌^◌, ◌<◌, ◌≤◌, ℤ, pos, ◌+ℤ◌, ◌-ℤ◌, ◌*ℤ◌, unsigned_abs, w8, w32, FitsSigned, to_z, of_z, refl, sym, ap, ◌∙◌, arith, mul-le-mul, inl, inr, ◌⊎◌}
+use Rattle.std.proofs.Common.{◌≡◌, ℕ, ◌+◌, ◌-◌, ◌*◌, ◌^◌, ◌<◌, ◌≤◌, ℤ, pos, ◌+ℤ◌, ◌-ℤ◌, ◌*ℤ◌, unsigned_abs, w8, w32, to_z, of_z, ◌∙◌, arith, mul-le-mul, inl, inr, ◌⊎◌}
 use Rattle.std.proofs.lemmas.Int.{ints, to_z-of_z, fits_signed_from_abs, unsigned_abs-mul}
 use Rattle.definitions.specs.Samples.{Sample}
 use Rattle.definitions.specs.Correlation.{wiped_in_phase, wiped_quadrature}

@@ -20,6 +20,13 @@ pub record HasRun (old new : Devices) (answer : Result ℕ RunFault) : Type 0 wh
   pub clients : List Client
   pub is_run : IsRun settings clients (2 ^ 40) old new answer
 
+-- the program didn't come to its run
+abbrev pub IsBeforeRun : Failure → Type 0
+IsBeforeRun NoMemory = Unit {0}
+IsBeforeRun Script = Unit {0}
+IsBeforeRun (Settings fault) = Unit {0}
+IsBeforeRun (Run fault) = ⊥
+
 -- by its answer: a run that came to its end, or to a fault; or a failure before it, with nothing read or written
 abbrev pub Receives : Devices → Devices → Result (Unit {0}) Failure → Type 0
 Receives old new (Ok _) = (n : ℕ) × HasRun old new (Ok n)

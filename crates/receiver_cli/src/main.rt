@@ -1,5 +1,6 @@
 //! A receiver bank for recorded GPS L1 C/A samples: scripts of timed commands in, lines of what the channels tell out. `run` is proved to
-//! write what is defined, for every client alone; this file and the files that it names below read the command line and the scripts.
+//! write what is defined, for every client alone; `receive` gives it the options and scripts that a command line names; this file has the
+//! standard devices, and tells what went wrong.
 #![tactic(auto)]
 
 mod devices;

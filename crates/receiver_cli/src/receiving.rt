@@ -1,6 +1,7 @@
 //! The program, from its options to the end of its run.
 
-ghost use Rattle.receiver_cli.specs.Programs.{Receives};
+ghost use Rattle.std.specs.Prelude.{◌≡◌, IfErr};
+ghost use Rattle.receiver_cli.specs.Programs.{Receives, IsBeforeRun};
 ghost use Rattle.receiver_cli.specs.Runs.{seen};
 
 use crate::devices::{Sink, Source};
@@ -20,7 +21,8 @@ pub fn receive<F: Files, R: Source, W: Sink>(
     reader: &mut R,
     writer: &mut W,
 ) -> Result<(), Failure>
-    ensures { Receives
+    ensures untouched { IfErr result (λ failure. IsBeforeRun failure → (reader.new ≡ reader.old) × (writer.new ≡ writer.old)) }
+    ensures receives { Receives
         (seen (R.remaining reader.old) (R.has_failed reader.old) (W.contents writer.old) (W.has_failed writer.old))
         (seen (R.remaining reader.new) (R.has_failed reader.new) (W.contents writer.new) (W.has_failed writer.new)) result }
 {

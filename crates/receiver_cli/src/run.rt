@@ -57,7 +57,7 @@ pub fn run<R: Source, W: Sink>(
     writer: &mut W,
 ) -> Result<u64, RunFault>
     ensures clients { (result ≡ Err RunFault.Clients) ↔ ((length scripts.now ≡ 0) ⊎ (8 < length scripts.now)) }
-    ensures untouched { IsErrOf result RunFault.Clients → (reader.new ≡ reader.old) × (writer.new ≡ writer.old) }
+    ensures untouched { IsErrOf result RunFault.Clients ⊎ IsErrOf result RunFault.NoMemory → (reader.new ≡ reader.old) × (writer.new ≡ writer.old) }
     ensures run { IsRun settings (map (λ script. client_with script.now) scripts.now) (2 ^ 40)
         (seen (R.remaining reader.old) (R.has_failed reader.old) (W.contents writer.old) (W.has_failed writer.old))
         (seen (R.remaining reader.new) (R.has_failed reader.new) (W.contents writer.new) (W.has_failed writer.new)) result }
@@ -80,7 +80,7 @@ pub fn run_to<R: Source, W: Sink>(
     requires limit { limit ≤ 2 ^ 40 }
     requires whole { limit % 8 ≡ 0 }
     ensures clients { (result ≡ Err RunFault.Clients) ↔ ((length scripts.now ≡ 0) ⊎ (8 < length scripts.now)) }
-    ensures untouched { IsErrOf result RunFault.Clients → (reader.new ≡ reader.old) × (writer.new ≡ writer.old) }
+    ensures untouched { IsErrOf result RunFault.Clients ⊎ IsErrOf result RunFault.NoMemory → (reader.new ≡ reader.old) × (writer.new ≡ writer.old) }
     ensures run { IsRun settings (map (λ script. client_with script.now) scripts.now) limit
         (seen (R.remaining reader.old) (R.has_failed reader.old) (W.contents writer.old) (W.has_failed writer.old))
         (seen (R.remaining reader.new) (R.has_failed reader.new) (W.contents writer.new) (W.has_failed writer.new)) result }

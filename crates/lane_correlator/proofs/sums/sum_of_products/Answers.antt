@@ -1,9 +1,9 @@
 use Rattle.std.proofs.Common.{◌≡◌, ◌∙◌, ◌+◌, ◌*◌, ◌-◌, ◌≤◌, ◌<◌, ◌^◌, sym, arith, to_z, of_z, w32, unsigned_abs}
-use Rattle.std.specs.Prelude.{ℤ, ◌+ℤ◌, ◌*ℤ◌, pos}
+use Rattle.std.specs.Prelude.{ℤ, ◌+ℤ◌, ◌*ℤ◌}
 use Rattle.std.proofs.Math.Path.{ap₂}
 use Rattle.std.proofs.lemmas.Int.{fits_signed_from_abs}
 use Rattle.definitions.specs.Samples.{sample_at}
-use Rattle.lane_correlator.specs.Products.{view_at, chips_of, wiped}
+use Rattle.lane_correlator.specs.Products.{view_at, chips_of}
 use Rattle.lane_correlator.proofs.ProductLemmas.{widened, product, product-small, stored, sum_of-none, sum_of-more, sum-small, in_1024}
 use Rattle.lane_correlator.proofs.sums.sum_of_products.Goals as goal
 
