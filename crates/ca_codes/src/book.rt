@@ -1,10 +1,13 @@
-ghost use Rattle.std.specs.Prelude.{◌≡◌, ◌==◌, ℕ, length};
+ghost use Rattle.std.specs.Prelude.{◌≡◌, ◌==◌, ◌%◌, ℕ, length};
 ghost use Rattle.definitions.specs.Codes.{chip};
 ghost use Rattle.ca_codes.specs.Filled.{AreCodes, IsCode};
 
 use crate::prn::Prn;
 use crate::registers::Registers;
 use std::marker::Model;
+
+/// The chips of a code (IS-GPS-200, section 3.3.2.3).
+const CODE_CHIPS: u32 = 1023;
 
 /// The words of 64 chips that hold a code of 1,023.
 const WORDS: usize = 16;
@@ -44,9 +47,17 @@ impl CodeBook {
             self.entries[k] = code_of(prn);
             self.is_filled[k] = true;
         }
-        let place = (n % 1023) as usize;
+        let place = place_of(n);
         (self.entries[k][place / 64] >> (63 - place % 64)) & 1 == 1
     }
+}
+
+/// The number of a chip within one period. Most numbers are, and a division would cost more than the chip.
+fn place_of(n: u32) -> usize
+    ensures { result ≡ n % 1023 }
+{
+    let place = if n < CODE_CHIPS { n } else { n % CODE_CHIPS };
+    place as usize
 }
 
 /// The 1,023 chips of a satellite's code, and the first one again behind them.

@@ -25,9 +25,22 @@ pub(crate) fn signs_of(
     let mut here = phase;
     for j in 0..n {
         signs[j] = sign_at(here, book, prn);
-        here = (here + step as u64) % CODE_CYCLE;
+        here = stepped(here, step);
     }
     signs
+}
+
+/// The phase one sample on. A step is less than a cycle, so no division is needed.
+fn stepped(phase: u64, step: u32) -> u64
+    requires { phase < code_cycle }
+    ensures { result ≡ (phase + step) % code_cycle }
+{
+    let ahead = phase + step as u64;
+    if ahead < CODE_CYCLE {
+        ahead
+    } else {
+        ahead - CODE_CYCLE
+    }
 }
 
 /// The sign of a satellite's chip at a phase.

@@ -15,4 +15,4 @@ pub invariant_of-self : goal.invariant_of-self
 invariant_of-self c = (entry_is_ready c).codes
 
 pub returns : goal.returns
-returns c = chip-read c.args.prn c.args.n _ (entry_is_ready c).ready
+returns c = rw c.place_of-place.ensures (chip-read c.args.prn c.args.n _ (entry_is_ready c).ready)
