@@ -1,7 +1,7 @@
 -- How the program ends, and what it has done with its devices then.
-use Rattle.std.specs.Prelude.{◌≡◌, ◌^◌, ℕ, List, Result, Ok, Err}
+use Rattle.std.specs.Prelude.{◌≡◌, ◌^◌, ℕ, List, map, Result, Ok, Err}
 use Rattle.definitions.specs.Oscillators.{Settings as Recording}
-use Rattle.definitions.specs.Receiver.{Client}
+use Rattle.receiver_cli.specs.Offered.{client_with}
 use Rattle.receiver_cli.specs.declared.failure.Failure.{Failure}
 use Rattle.receiver_cli.specs.declared.failure.Failure.TheVariants.{NoMemory, Script, Settings, Run}
 use Rattle.receiver_cli.specs.declared.faults.RunFault.{RunFault}
@@ -14,11 +14,11 @@ status_of Script = 2
 status_of (Settings fault) = 2
 status_of (Run fault) = 1
 
--- some scripts were run over samples of some recording
+-- scripts, one for each client, were run over the samples of a recording
 pub record HasRun (old new : Devices) (answer : Result ℕ RunFault) : Type 0 where
   pub settings : Recording
-  pub clients : List Client
-  pub is_run : IsRun settings clients (2 ^ 40) old new answer
+  pub scripts : List (List ℕ)
+  pub is_run : IsRun settings (map client_with scripts) (2 ^ 40) old new answer
 
 -- the program didn't come to its run
 abbrev pub IsBeforeRun : Failure → Type 0
