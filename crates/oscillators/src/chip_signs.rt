@@ -25,21 +25,20 @@ pub(crate) fn signs_of(
     let mut here = phase;
     for j in 0..n {
         signs[j] = sign_at(here, book, prn);
-        here = stepped(here, step);
+        here = in_cycle(here + step as u64);
     }
     signs
 }
 
-/// The phase one sample on. A step is less than a cycle, so no division is needed.
-fn stepped(phase: u64, step: u32) -> u64
-    requires { phase < code_cycle }
-    ensures { result ≡ (phase + step) % code_cycle }
+/// The phase that is left of one less than a cycle ahead, without a division.
+pub(crate) fn in_cycle(phase: u64) -> u64
+    requires { phase < code_cycle + code_cycle }
+    ensures { result ≡ phase % code_cycle }
 {
-    let ahead = phase + step as u64;
-    if ahead < CODE_CYCLE {
-        ahead
+    if phase < CODE_CYCLE {
+        phase
     } else {
-        ahead - CODE_CYCLE
+        phase - CODE_CYCLE
     }
 }
 

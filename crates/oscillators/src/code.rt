@@ -3,7 +3,7 @@ ghost use Rattle.std.specs.List.{range_with_len};
 ghost use Rattle.definitions.specs.Oscillators.{code_cycle, code_phase_after, early_sign, prompt_sign, late_sign};
 ghost use Rattle.oscillators.specs.Views.{Oscillation, CodeViews};
 
-use crate::chip_signs::{CODE_CYCLE, signs_of};
+use crate::chip_signs::{CODE_CYCLE, in_cycle, signs_of};
 use crate::half_chip::HalfChip;
 use ca_codes::{CodeBook, Prn};
 use sample_planes::MAX_SAMPLES;
@@ -74,12 +74,7 @@ impl CodeOsc {
         requires within { self.old.phase + (n - 1) * self.old.step < code_cycle }
         ensures { self.new ≡ record self.old { phase = code_phase_after self.old.phase self.old.step n } }
     {
-        let phase = self.phase + n * self.step as u64;
-        self.phase = if phase < CODE_CYCLE {
-            phase
-        } else {
-            phase - CODE_CYCLE
-        };
+        self.phase = in_cycle(self.phase + n * self.step as u64);
     }
 
     /// Goes on by any number of samples, through as many cycles as they take.

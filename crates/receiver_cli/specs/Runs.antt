@@ -23,6 +23,7 @@ pub record Devices : Type 0 where
   pub contents : Option (List ℕ)
   pub write_failed : Bool
 
+-- so seen at one moment
 abbrev pub seen : Option (List ℕ) → Bool → Option (List ℕ) → Bool → Devices
 seen remaining read_failed contents write_failed = record { remaining = remaining; read_failed = read_failed; contents = contents; write_failed = write_failed }
 

@@ -4,7 +4,8 @@ use super::{hold, plain_settings, slot_zero, sums};
 use crate::{Bank, Command, Event, OpenFault, Reply, SlotState};
 use std::test::Fail;
 
-// Satellite 1 of client 1 and satellite 7 of client 2 as in the tests of one slot: their dumps come with samples 1 and 2, in one run of eight samples.
+// Satellite 1 of client 1 and satellite 7 of client 2 as in the tests of one slot: their dumps come with samples 1 and 2, in one run of
+// eight samples.
 #[test]
 fn each_client_has_its_slots(rt: HostRuntime) -> Result<(), Fail> {
     let slot = slot_zero()?;

@@ -16,20 +16,36 @@ const TWO_BIT_SAMPLES: &[u8] = &[0x72];
 /// Holds satellite 1 in its last chip, and asks for one dump.
 const LAST_CHIP: &[u8] = b"0 hold 0 1 0 2044\n0 counts 0 1\n";
 
-/// What the program ends with: its status, and its own text on standard error, with `receiver: ` in front there.
+/// The words of a command line, with the program's name.
+fn command_line(alloc: Global, words: &[&str]) -> Result<Vec<String>, Fail> {
+    let mut line = vec![in alloc; String::from_str(alloc, "receiver")?]?;
+    for word in words {
+        line.push(String::from_str(alloc, word)?)?;
+    }
+    Ok(line)
+}
+
+/// The status where the option parser doesn't take these words, or only shows its help.
+fn parser_status(alloc: Global, words: &[&str]) -> Result<Option<i32>, Fail> {
+    let line = command_line(alloc, words)?;
+    Ok(
+        options::matches(alloc, &line)
+            .err()
+            .map(|error| error.exit_code()),
+    )
+}
+
+/// What the program ends with for options that are understood: its status, and its own text on standard error, with `receiver: ` in
+/// front there.
 fn ending(
     rt: &(impl Files + Alloc<A = Global>),
     words: &[&str],
     reader: &mut Giving,
     writer: &mut Holding,
 ) -> Result<(i32, String), Fail> {
-    let mut line = vec![in rt.alloc(); String::from_str(rt.alloc(), "receiver")?]?;
-    for word in words {
-        line.push(String::from_str(rt.alloc(), word)?)?;
-    }
-    let matches = match options::matches(rt.alloc(), &line) {
-        Ok(matches) => matches,
-        Err(error) => return Ok((error.exit_code(), String::new(rt.alloc()))),
+    let line = command_line(rt.alloc(), words)?;
+    let Ok(matches) = options::matches(rt.alloc(), &line) else {
+        return Err("options that are understood".into());
     };
     match receive(rt.alloc(), rt, &matches, reader, writer) {
         Ok(()) => Ok((0, String::new(rt.alloc()))),
@@ -117,12 +133,15 @@ fn settings_out_of_range(rt: HostRuntime) -> Result<(), Fail> {
 
 #[test]
 fn options_not_understood(rt: HostRuntime) -> Result<(), Fail> {
-    refuses(&rt, &["--speed", "1"], 2, "")?;
-    refuses(&rt, &["--rate", "fast"], 2, "")?;
-    refuses(&rt, &["--rate", "4294967296"], 2, "")?;
-    refuses(&rt, &["--offset=-1"], 2, "")?;
-    refuses(&rt, &["--format", "real3"], 2, "")?;
-    refuses(&rt, &["--help"], 0, "")
+    let alloc = rt.alloc();
+    assert_eq!(rt; parser_status(alloc, &["--speed", "1"])?, Some(2));
+    assert_eq!(rt; parser_status(alloc, &["--rate", "fast"])?, Some(2));
+    assert_eq!(rt; parser_status(alloc, &["--rate", "4294967296"])?, Some(2));
+    assert_eq!(rt; parser_status(alloc, &["--offset=-1"])?, Some(2));
+    assert_eq!(rt; parser_status(alloc, &["--format", "real3"])?, Some(2));
+    assert_eq!(rt; parser_status(alloc, &["--help"])?, Some(0));
+    assert_eq!(rt; parser_status(alloc, &["--minus", "a_script"])?, None);
+    Ok(())
 }
 
 #[test]

@@ -13,5 +13,5 @@ loop-j-preserved c =
     record {
       signs = rw (byte_back c.sign_at.result 1 (omega arith) sign.small)
           (filled_more _ 1 c.loop-j.signs c.loop-j.j c.sign_at.result i.signs (omega arith) (sign.value ∙ ap (prompt_sign c.args.prn) i.here) sign.small);
-      here = c.stepped-here.ensures ∙ code_stepped c.args.phase c.args.step c.loop-j.j c.loop-j.here i.here;
+      here = c.in_cycle-here.ensures ∙ code_stepped c.args.phase c.args.step c.loop-j.j c.loop-j.here i.here;
     }
