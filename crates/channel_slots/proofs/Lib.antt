@@ -4,8 +4,10 @@ pub mod CommandLemmas
 pub mod FollowingLemmas
 pub mod HoldingLemmas
 pub mod MoveLemmas
+mod PartLemmas
+pub mod OrderLemmas
 pub mod PlaceLemmas
-pub mod ReplicaLemmas
 pub mod SizeLemmas
 pub mod SlotLemmas
+pub mod TellingLemmas
 pub mod WrapLemmas

@@ -3,6 +3,8 @@ pub mod Banks
 pub mod Commands
 pub mod Following
 pub mod Holdings
+pub mod Orders
+pub mod Parts
 pub mod Replies
 pub mod Sizes
 pub mod Slots

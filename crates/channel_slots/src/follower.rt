@@ -3,7 +3,7 @@ ghost use Rattle.definitions.specs.Oscillators.{code_cycle};
 ghost use Rattle.channel_slots.specs.Sizes.{GrowWith};
 
 use ca_codes::{CodeBook, Prn};
-use lane_correlator::{Counts, six_sums};
+use lane_correlator::{Counts, replica_sums};
 use oscillators::{CarrierOsc, CodeOsc, Doppler, HalfChip, Settings};
 use sample_planes::Planes;
 
@@ -28,6 +28,7 @@ impl Follower {
     ghost use Rattle.definitions.specs.Lives.{held};
     ghost use Rattle.lane_correlator.specs.Counting.{counts_in};
     ghost use Rattle.channel_slots.specs.Following.{Follows, Stays, Closes};
+    ghost use Rattle.channel_slots.specs.Parts.{part};
 
     /// Begins at the next sample, with the code at a half chip.
     pub(crate) fn start(settings: &Settings, prn: Prn, doppler: Doppler, half: HalfChip) -> Follower
@@ -57,24 +58,35 @@ impl Follower {
         self.code.to_wrap()
     }
 
-    /// Takes samples that don't go past the segment's end, and answers the segment's sums if it ends with the last of them.
-    pub(crate) fn advance(&mut self, samples: &Planes, book: &mut CodeBook) -> Option<Counts>
-        requires some { 0 < length samples.now }
-        requires before { self.old.code.phase + (length samples.now - 1) * self.old.code.step < code_cycle }
-        ensures stays { IsNone result → (settings : Recording) (channel : Channel) (xs : List Sample) → Follows settings channel xs self.old → Stays settings channel xs samples.now self.new }
-        ensures closes { IfSome result (λ c. (settings : Recording) (channel : Channel) (xs : List Sample) → Follows settings channel xs self.old → Closes settings channel xs samples.now (counts_in c) self.new) }
+    /// Takes `count` samples of a run, from sample `from` on, that don't go past the segment's end. It answers the segment's sums if it
+    /// ends with the last of them.
+    pub(crate) fn advance(
+        &mut self,
+        run: &Planes,
+        from: usize,
+        count: usize,
+        book: &mut CodeBook,
+    ) -> Option<Counts>
+        requires some { 0 < count }
+        requires within { from + count ≤ length run.now }
+        requires before { self.old.code.phase + (count - 1) * self.old.code.step < code_cycle }
+        ensures stays { IsNone result → (settings : Recording) (channel : Channel) (xs : List Sample)
+            → Follows settings channel xs self.old
+            → Stays settings channel xs (part run.now from count) self.new }
+        ensures closes { IfSome result (λ c. (settings : Recording) (channel : Channel) (xs : List Sample)
+            → Follows settings channel xs self.old
+            → Closes settings channel xs (part run.now from count) (counts_in c) self.new) }
         ensures step { self.new.code.step ≡ self.old.code.step }
         ensures slow { self.old.code.step ≤ 3000000000 }
-        ensures moved { IsNone result → self.new.code.phase ≡ self.old.code.phase + length samples.now * self.old.code.step }
-        ensures wrapped { IsSome result → (self.new.code.phase < self.old.code.step) × (code_cycle ≤ self.old.code.phase + length samples.now * self.old.code.step) }
+        ensures moved { IsNone result → self.new.code.phase ≡ self.old.code.phase + count * self.old.code.step }
+        ensures wrapped { IsSome result → (self.new.code.phase < self.old.code.step)
+            × (code_cycle ≤ self.old.code.phase + count * self.old.code.step) }
     {
-        let len = samples.len();
-        let carrier = self.carrier.planes(len);
-        let code = self.code.planes(len, book, self.prn);
-        let sums = self.sums.add(&six_sums(samples, &carrier, &code, 0, len));
-        let ends = self.code.to_wrap() == len as u64;
-        self.code.advance(len as u64);
-        self.carrier.advance(len as u64);
+        let more = replica_sums(run, from, count, &self.carrier, &self.code, book, self.prn);
+        let sums = self.sums.add(&more);
+        let ends = self.code.to_wrap() == count as u64;
+        self.code.advance(count as u64);
+        self.carrier.advance(count as u64);
         if ends {
             self.sums = Counts::NONE;
             Some(sums)

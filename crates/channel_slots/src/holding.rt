@@ -25,6 +25,7 @@ impl Holding {
     ghost use Rattle.definitions.specs.Answers.{shown, answer_with};
     ghost use Rattle.channel_slots.specs.Replies.{view_in};
     ghost use Rattle.channel_slots.specs.Holdings.{chance, how_many, HoldsFor, HoldSteps};
+    ghost use Rattle.channel_slots.specs.Parts.{part};
 
     /// Begins at the next sample.
     pub fn start(settings: &Settings, prn: Prn, doppler: Doppler, half: HalfChip) -> Holding
@@ -66,16 +67,27 @@ impl Holding {
         }
     }
 
-    /// Takes samples that don't go past the next dump, and answers that dump if it comes and is wanted.
-    pub fn step(&mut self, samples: &Planes, book: &mut CodeBook) -> Option<Counts>
-        requires some { 0 < length samples.now }
-        requires before { self.old.follower.code.phase + (length samples.now - 1) * self.old.follower.code.step < code_cycle }
+    /// Takes `count` samples of a run, from sample `from` on, that don't go past the next dump. It answers that dump if it comes and is
+    /// wanted.
+    pub fn step(
+        &mut self,
+        run: &Planes,
+        from: usize,
+        count: usize,
+        book: &mut CodeBook,
+    ) -> Option<Counts>
+        requires some { 0 < count }
+        requires within { from + count ≤ length run.now }
+        requires before { self.old.follower.code.phase + (count - 1) * self.old.follower.code.step < code_cycle }
         requires few { self.old.dumps < 2 ^ 62 }
-        ensures stands { (settings : Recording) (xs : List Sample) (life : Life) → HoldsFor settings xs life self.old → HoldSteps settings xs samples.now life self.new result }
+        ensures stands { (settings : Recording) (xs : List Sample) (life : Life)
+            → HoldsFor settings xs life self.old
+            → HoldSteps settings xs (part run.now from count) life self.new result }
         ensures dumps { self.new.dumps ≤ self.old.dumps + 1 }
-        ensures chance { (left : ℕ) → length samples.now ≤ left → left ≤ 1024 → chance self.new (left - length samples.now) + how_many result ≤ chance self.old left }
+        ensures chance { (left : ℕ) → count ≤ left → left ≤ 1024
+            → chance self.new (left - count) + how_many result ≤ chance self.old left }
     {
-        let counts = self.follower.advance(samples, book)?;
+        let counts = self.follower.advance(run, from, count, book)?;
         self.dumps += 1;
         if self.left == 0 {
             return None;

@@ -4,12 +4,13 @@ ghost use Rattle.definitions.specs.Oscillators.{Settings as Recording};
 ghost use Rattle.definitions.specs.Banks.{layout};
 ghost use Rattle.channel_slots.specs.Slots.{StandsFor};
 ghost use Rattle.arrayvec.specs.ArrayVec.{array_vec_len};
-ghost use Rattle.channel_slots.specs.Banks.{keys_of, AllMayStep, OneComesToEvent, AllFew, StepsAll, IsCommanded};
+ghost use Rattle.channel_slots.specs.Banks.{keys_of, AllFew, RunsAll, IsCommanded};
 ghost use Rattle.channel_slots.specs.Commands.{request_in};
 
 use crate::command::Command;
 use crate::reply::{Event, Reply};
 use crate::slot::Slot;
+use crate::timeline::put_in_time;
 use arrayvec::ArrayVec;
 use ca_codes::CodeBook;
 use oscillators::Settings;
@@ -32,32 +33,62 @@ impl Place {
     ghost use Rattle.definitions.specs.Samples.{Sample};
     ghost use Rattle.definitions.specs.Commands.{TimedRequest};
     ghost use Rattle.definitions.specs.Answers.{answer_at_end};
+    ghost use Rattle.channel_slots.specs.Parts.{part};
     ghost use Rattle.channel_slots.specs.Replies.{answer_in};
     ghost use Rattle.channel_slots.specs.Slots.{IsRefusal, MayStep, StandsFor, dumps_of};
-    ghost use Rattle.channel_slots.specs.Banks.{PlaceAdds};
+    ghost use Rattle.channel_slots.specs.Banks.{PlaceAdds, PlaceGoes};
 
-    /// Takes samples that don't go past the slot's next event, and adds what they tell with the last of them, at that time.
+    /// Takes `count` samples of a run, from sample `from` on, that don't go past the slot's next event. It adds what they tell with the
+    /// last of them, at that time.
     fn step(
         &mut self,
-        samples: &Planes,
+        run: &Planes,
+        from: usize,
+        count: usize,
         book: &mut CodeBook,
         time: u64,
         replies: &mut ArrayVec<Reply, MOST_REPLIES>,
     )
-        requires some { 0 < length samples.now }
-        requires may { MayStep self.old.slot (length samples.now) }
+        requires some { 0 < count }
+        requires within { from + count ≤ length run.now }
+        requires may { MayStep self.old.slot count }
         requires few { dumps_of self.old.slot < 2 ^ 62 }
         requires fits { array_vec_len replies.old ≤ 252 }
-        ensures { PlaceAdds samples.now time self.old self.new replies.old.items replies.new.items }
+        ensures { PlaceAdds (part run.now from count) time self.old self.new replies.old.items replies.new.items }
     {
-        let events = self.slot.step(samples, book);
+        let events = self.slot.step(run, from, count, book);
         for event in events.as_slice() {
-            replies.push(Reply {
+            let reply = Reply {
                 client: self.client,
                 slot: self.number,
                 time,
                 event: *event,
-            });
+            };
+            put_in_time(replies, reply);
+        }
+    }
+
+    /// Takes a run of samples, and puts in by time what they tell.
+    fn run(
+        &mut self,
+        run: &Planes,
+        book: &mut CodeBook,
+        time: u64,
+        replies: &mut ArrayVec<Reply, MOST_REPLIES>,
+    )
+        requires short { length run.now ≤ 1024 }
+        requires room { time + length run.now ≤ 2 ^ 40 }
+        requires few { dumps_of self.old.slot ≤ 2 ^ 61 }
+        requires fits { array_vec_len replies.old ≤ 251 }
+        ensures { PlaceGoes 0 run.now time self.old self.new replies.old.items replies.new.items }
+    {
+        let len = run.len();
+        let mut done = 0;
+        while done < len {
+            let count = self.slot.room(len - done);
+            let end = done + count;
+            self.step(run, done, count, book, time + end as u64, replies);
+            done = end;
         }
     }
 
@@ -94,37 +125,22 @@ pub fn idle_places(alloc: Global, clients: u8) -> Result<Vec<Place>, AllocError>
     Ok(places)
 }
 
-/// How many samples there are to the next event of any of the slots, but `most` if that is fewer.
-pub fn room(places: &[Place], most: usize) -> usize
-    requires { 0 < most }
-    ensures some { 0 < result }
-    ensures within { result ≤ most }
-    ensures may { AllMayStep result places.now }
-    ensures no_sooner { result < most → OneComesToEvent result places.now }
-{
-    let mut room = most;
-    for place in places {
-        room = place.slot.room(room);
-    }
-    room
-}
-
-/// All slots take samples that don't go past the next event of any, and add what they tell.
-pub fn step_all(
+/// All slots take a run, one behind the other, and put in by time what they tell.
+pub fn run_all(
     places: &mut [Place],
-    samples: &Planes,
+    run: &Planes,
     book: &mut CodeBook,
     time: u64,
     replies: &mut ArrayVec<Reply, MOST_REPLIES>,
 )
-    requires some { 0 < length samples.now }
-    requires may { AllMayStep (length samples.now) places.old }
+    requires short { length run.now ≤ 1024 }
+    requires room { time + length run.now ≤ 2 ^ 40 }
     requires few { AllFew (2 ^ 61) places.old }
-    requires fits { array_vec_len replies.old + 4 * length places.old ≤ 256 }
-    ensures { StepsAll samples.now time places.old places.new replies.old.items replies.new.items }
+    requires fits { array_vec_len replies.old + length places.old ≤ 251 }
+    ensures { RunsAll run.now time places.old places.new replies.old.items replies.new.items }
 {
     for place in places.iter_mut() {
-        place.step(samples, book, time, replies);
+        place.run(run, book, time, replies);
     }
 }
 

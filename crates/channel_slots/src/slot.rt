@@ -34,6 +34,7 @@ impl Slot {
     ghost use Rattle.definitions.specs.Commands.{TimedRequest};
     ghost use Rattle.definitions.specs.Answers.{answer_at_end};
     ghost use Rattle.channel_slots.specs.Commands.{request_in};
+    ghost use Rattle.channel_slots.specs.Parts.{part};
     ghost use Rattle.channel_slots.specs.Replies.{answer_in};
     ghost use Rattle.channel_slots.specs.Slots.{chances, StandsFor, Tells, MayStep, ComesToEvent, dumps_of, IsRefusal};
 
@@ -66,19 +67,29 @@ impl Slot {
         }
     }
 
-    /// Takes samples that don't go past the slot's next event, and answers the events that are told with the last of them, in their
-    /// order. The book is any book of codes.
-    pub fn step(&mut self, samples: &Planes, book: &mut CodeBook) -> ArrayVec<Event, MOST_EVENTS>
-        requires some { 0 < length samples.now }
-        requires may { MayStep self.old (length samples.now) }
+    /// Takes `count` samples of a run, from sample `from` on, that don't go past the slot's next event. It answers the events that are
+    /// told with the last of them, in their order. The book is any book of codes.
+    pub fn step(
+        &mut self,
+        run: &Planes,
+        from: usize,
+        count: usize,
+        book: &mut CodeBook,
+    ) -> ArrayVec<Event, MOST_EVENTS>
+        requires some { 0 < count }
+        requires within { from + count ≤ length run.now }
+        requires may { MayStep self.old count }
         requires few { dumps_of self.old < 2 ^ 62 }
-        ensures tells { (settings : Recording) (xs : List Sample) (commands : List TimedRequest) → StandsFor settings xs commands self.old → Tells settings xs samples.now commands self.new result.items }
+        ensures tells { (settings : Recording) (xs : List Sample) (commands : List TimedRequest)
+            → StandsFor settings xs commands self.old
+            → Tells settings xs (part run.now from count) commands self.new result.items }
         ensures dumps { dumps_of self.new ≤ dumps_of self.old + 1 }
-        ensures chances { (left : ℕ) → length samples.now ≤ left → left ≤ 1024 → chances self.new (left - length samples.now) + length result.items ≤ chances self.old left }
+        ensures chances { (left : ℕ) → count ≤ left → left ≤ 1024
+            → chances self.new (left - count) + length result.items ≤ chances self.old left }
     {
         match self {
             Slot::Idle => ArrayVec::new(),
-            Slot::Holds(holding) => match holding.step(samples, book) {
+            Slot::Holds(holding) => match holding.step(run, from, count, book) {
                 None => ArrayVec::new(),
                 Some(counts) => counted(counts),
             },

@@ -1,1 +1,4 @@
-pub mod ProductLemmas
+pub mod WordLemmas
+pub mod PlaceLemmas
+pub mod SumLemmas
+mod ReplicaLemmas

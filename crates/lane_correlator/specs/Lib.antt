@@ -1,2 +1,4 @@
 pub mod Counting
 pub mod Products
+pub mod Words
+pub mod ReplicaWords

@@ -6,9 +6,13 @@
 #![tactic(auto)]
 
 mod counts;
+
 mod sums;
 #[cfg(test)]
 mod tests;
+mod with_replica;
+mod word;
 
 pub use counts::Counts;
+pub use with_replica::replica_sums;
 pub use sums::{pair_sum, six_sums};

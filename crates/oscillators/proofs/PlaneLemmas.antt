@@ -1,69 +1,155 @@
--- Planes that are filled sample by sample.
-use Rattle.std.proofs.Common.{◌≡◌, ℕ, ◌+◌, ◌*◌, ◌/◌, ◌%◌, ◌^◌, ◌<◌, ◌≤◌, List, length, take, map, get_or, refl, sym, ap, ◌∙◌, arith, ℤ, pos, unsigned_abs, All, slice_set, replicate, to_z, of_z, w8}
-use Rattle.std.proofs.Math.ListN.{set}
+-- Planes that are filled sixteen samples at a time.
+use Rattle.std.proofs.Common.{◌≡◌, ℕ, zero, suc, ◌+◌, ◌-◌, ◌*◌, ◌/◌, ◌%◌, ◌^◌, ◌<◌, ◌≤◌, List, ◌∷◌, ◌++◌, length, map, get_or, refl, sym, ap, ◌∙◌, arith, ℤ, pos, mul-le-mul}
+use Rattle.std.specs.Int.{bit_at}
+use Rattle.std.proofs.Math.Path.{ap₂}
 use Rattle.std.proofs.Math.Nat.{add-mod-mod, mod-add-mod, mod-eq_of_lt}
 use Rattle.std.proofs.lemmas.Nat.{mul-mod_first}
-use Rattle.std.proofs.lemmas.List.{take_more_set, length-set, get_or-replicate}
-use Rattle.std.proofs.lemmas.List.FromFn.{map-range_with_len_more}
-use Rattle.std.proofs.lemmas.List.Elements.{All-set}
-use Rattle.std.proofs.lemmas.Int.{to_z-of_z, fits_signed_from_abs}
+use Rattle.std.proofs.lemmas.List.{get_or-map}
+use Rattle.std.proofs.lemmas.List.FromFn.{get_or-map-range_with_len, length-map-range_with_len}
 use Rattle.std.specs.List.{range_with_len}
-use Rattle.definitions.specs.Oscillators.{carrier_phase_after, code_phase_after, code_cycle}
+use Rattle.definitions.specs.Samples.{sign_of}
+use Rattle.definitions.specs.Codes.{chip, chip_after}
+use Rattle.definitions.specs.Oscillators.{carrier_phase_after, code_phase_after, code_cycle, cosine, sine, early_sign, late_sign}
+use Rattle.oscillators.specs.Eighths.{eighths, eighth_at}
+use Rattle.oscillators.specs.Signs.{signed}
 
--- a plane of 1,024 places whose first n hold f 0 to f (n - 1), and no place a number above the bound in size
-pub record IsFilled (f : ℕ → ℤ) (bound : ℕ) (values : List ℤ) (n : ℕ) : Type 0 where
-  pub filled : take n values ≡ map f (range_with_len 0 n)
-  pub room : length values ≡ 1024
-  pub small : All (λ v. unsigned_abs v ≤ bound) values
+-- ---- runs of numbers
 
--- one more value is in its place
-pub filled_more : (f : ℕ → ℤ) (bound : ℕ) (values : List ℤ) (n : ℕ) (y : ℤ) → IsFilled f bound values n → n < 1024 → y ≡ f n → unsigned_abs y ≤ bound → IsFilled f bound (slice_set values n y) (n + 1)
-filled_more f bound values n y before below same small =
-    let zeroth : 0 + n ≡ n = omega arith in
-    let inside : n < length values = omega (arith, before.room) in
-    record {
-      filled = take_more_set values n y inside ∙ rw (before.filled, same) (sym (map-range_with_len_more f 0 n n zeroth));
-      room = length-set values n y ∙ before.room;
-      small = All-set (λ v. unsigned_abs v ≤ bound) values n y small before.small;
-    }
+pub run_length : (f : ℕ → ℤ) (n : ℕ) → length (map f (range_with_len 0 n)) ≡ n
+run_length f n = length-map-range_with_len f 0 n
 
-pub filled_none : (f : ℕ → ℤ) (bound : ℕ) → IsFilled f bound (replicate 1024 (pos 0)) 0
-filled_none f bound = record { filled = refl; room = refl; small = λ k d h. rw (get_or-replicate 1024 k (pos 0) d h) (omega arith) }
+pub run_at : (f : ℕ → ℤ) (n i : ℕ) → i < n → get_or (map f (range_with_len 0 n)) i (pos 0) ≡ f i
+run_at f n i h = get_or-map-range_with_len f 0 n i i (pos 0) h (omega arith)
+
+pub in_run : (f : ℕ → ℤ) (n i : ℕ) (xs : List ℤ) → map f (range_with_len 0 n) ≡ xs → i < length xs → i < n
+in_run f n i xs is h = rw (← is, run_length f n) at h
+
+pub read_run : (f : ℕ → ℤ) (n i : ℕ) (xs : List ℤ) → map f (range_with_len 0 n) ≡ xs → i < length xs → get_or xs i (pos 0) ≡ f i
+read_run f n i xs is h = rw (← is) (run_at f n i (in_run f n i xs is h))
+
+-- runs that are the same place by place
+pub runs_agree : (f g : ℕ → ℤ) (a n : ℕ) → ((i : ℕ) → i < n → f (a + i) ≡ g (a + i)) → map f (range_with_len a n) ≡ map g (range_with_len a n)
+runs_agree f g a zero h = refl
+runs_agree f g a (suc n) h =
+    let first : a + 0 ≡ a = omega arith in
+    let here : f a ≡ g a = rw first at (h 0 (omega arith)) in
+    ap₂ (λ (x : ℤ) (xs : List ℤ). x ∷ xs) here (runs_agree f g (a + 1) n (λ i l. behind i l))
+  where
+    behind : (i : ℕ) → i < n → f (a + 1 + i) ≡ g (a + 1 + i)
+    behind i l = let one : a + 1 + i ≡ a + suc i = omega arith in rw one (h (suc i) (omega arith))
+
+-- ---- the carrier
 
 -- the carrier after n samples, where the whole cycles of n are left out
 pub carrier_advanced : (phase n step : ℕ) → (phase + n % 2 ^ 32 * step % 2 ^ 32) % 2 ^ 32 ≡ carrier_phase_after phase step n
 carrier_advanced phase n step = rw (mul-mod_first n step (2 ^ 32)) (add-mod-mod phase (n * step) (2 ^ 32))
 
--- one step more
-pub carrier_stepped : (phase step j here : ℕ) → here ≡ carrier_phase_after phase step j → (here + step) % 2 ^ 32 ≡ carrier_phase_after phase step (j + 1)
-carrier_stepped phase step j here e =
-    let more : phase + j * step + step ≡ phase + (j + 1) * step = omega arith in
-    rw e (mod-add-mod (phase + j * step) (2 ^ 32) step ∙ ap (λ n. n % 2 ^ 32) more)
+-- the phase r samples behind another
+pub carrier_behind : (phase step j r here : ℕ) → here ≡ carrier_phase_after phase step j → (here + r * step) % 2 ^ 32 ≡ carrier_phase_after phase step (j + r)
+carrier_behind phase step j r here e =
+    let more : phase + j * step + r * step ≡ phase + (j + r) * step = omega arith in
+    rw e (mod-add-mod (phase + j * step) (2 ^ 32) (r * step) ∙ ap (λ n. n % 2 ^ 32) more)
 
--- a small number comes back from its 8 bits
-pub byte_back : (y : ℤ) (bound : ℕ) → bound < 128 → unsigned_abs y ≤ bound → to_z w8 (of_z w8 y) ≡ y
-byte_back y bound low small = to_z-of_z w8 y (fits_signed_from_abs w8 y (omega arith))
+-- sixteen samples on, as they are computed
+pub carrier_turned : (phase step g here : ℕ) → here ≡ carrier_phase_after phase step (16 * g) → (here + step * 16 % 2 ^ 32) % 2 ^ 32 ≡ carrier_phase_after phase step (16 * (g + 1))
+carrier_turned phase step g here e =
+    let way : step * 16 ≡ 16 * step = omega arith in
+    let next : 16 * g + 16 ≡ 16 * (g + 1) = omega arith in
+    add-mod-mod here (step * 16) (2 ^ 32) ∙ ap (λ (n : ℕ). (here + n) % 2 ^ 32) way ∙ carrier_behind phase step (16 * g) 16 here e ∙ ap (carrier_phase_after phase step) next
 
--- what is read from a table of eighths
-pub record IsRead (table : List ℤ) (phase step n : ℕ) (y : ℤ) : Type 0 where
-  pub same : y ≡ get_or table (carrier_phase_after phase step n / 2 ^ 29) (pos 0)
-  pub small : unsigned_abs y ≤ 2
+-- the table is four cycles long
+table_around : (e : ℕ) → e < 32 → get_or (eighths ++ eighths ++ eighths ++ eighths) e 0 ≡ get_or eighths (e % 8) 0
+table_around e h = get_or-map-range_with_len (λ (n : ℕ). get_or eighths (n % 8) 0) 0 32 e e 0 h (omega arith)
 
-pub table_read : (table : List ℤ) (phase step n here : ℕ) → length table ≡ 8 → All (λ v. unsigned_abs v ≤ 2) table → here ≡ carrier_phase_after phase step n
-    → IsRead table phase step n (to_z w8 (of_z w8 (get_or table (here / 536870912) (pos 0))))
-table_read table phase step n here eight small e =
-    let below : here / 536870912 < length table = omega arith in
-    let size : unsigned_abs (get_or table (here / 536870912) (pos 0)) ≤ 2 = small (here / 536870912) (pos 0) below in
-    let whole : to_z w8 (of_z w8 (get_or table (here / 536870912) (pos 0))) ≡ get_or table (here / 536870912) (pos 0) = byte_back _ 2 (omega arith) size in
-    record { same = whole ∙ ap (λ p. get_or table (p / 536870912) (pos 0)) e; small = rw whole size }
+eighth_number : (here w : ℕ) → here < 2 ^ 32 → (here / 536870912 + (here % 536870912 + w) / 536870912 % 16) % 8 ≡ (here + w) % 4294967296 / 536870912
+eighth_number here w h = omega arith
 
--- no step of the code, and one more
+-- what sixteen lanes find in it
+pub eighth_found : (phase step g r here cell : ℕ) → here ≡ carrier_phase_after phase step (16 * g) → cell ≡ (here % 536870912 + r * step) / 536870912 % 16
+    → get_or (eighths ++ eighths ++ eighths ++ eighths) (here / 536870912 + cell) 0 ≡ eighth_at (carrier_phase_after phase step (16 * g + r))
+eighth_found phase step g r here cell is cell_is =
+    let below : here < 2 ^ 32 = omega (arith, is) in
+    rw cell_is (table_around (here / 536870912 + (here % 536870912 + r * step) / 536870912 % 16) (omega arith)
+    ∙ ap (λ (e : ℕ). get_or eighths e 0) (eighth_number here (r * step) below ∙ ap (λ (p : ℕ). p / 536870912) (carrier_behind phase step (16 * g) r here is)))
+
+-- cosine and sine by the bits of an eighth
+pub cosine_by_bits : (p : ℕ) → p < 2 ^ 32 → signed (bit_at (eighth_at p) 7) (1 - bit_at (eighth_at p) 5) ≡ cosine p
+cosine_by_bits p h = sym (get_or-map (λ (b : ℕ). signed (bit_at b 7) (1 - bit_at b 5)) eighths (p / 2 ^ 29) 0 (pos 0) (omega arith))
+
+pub sine_by_bits : (p : ℕ) → p < 2 ^ 32 → signed (bit_at (eighth_at p) 6) (bit_at (eighth_at p) 5) ≡ sine p
+sine_by_bits p h = sym (get_or-map (λ (b : ℕ). signed (bit_at b 6) (bit_at b 5)) eighths (p / 2 ^ 29) 0 (pos 0) (omega arith))
+
+-- ---- the code
+
+-- the phase r samples behind another
+pub code_behind : (phase step j r here : ℕ) → here ≡ code_phase_after phase step j → (here + r * step) % (1023 * 2 ^ 32) ≡ code_phase_after phase step (j + r)
+code_behind phase step j r here e =
+    let more : phase + j * step + r * step ≡ phase + (j + r) * step = omega arith in
+    rw e (mod-add-mod (phase + j * step) (1023 * 2 ^ 32) (r * step) ∙ ap (λ n. n % (1023 * 2 ^ 32)) more)
+
+-- the same half a chip ahead
+pub code_behind_ahead : (phase step j r here : ℕ) → here ≡ code_phase_after phase step j
+    → code_phase_after (here + 2 ^ 31) step r ≡ code_phase_after (phase + 2 ^ 31) step (j + r)
+code_behind_ahead phase step j r here e =
+    let way : here + 2 ^ 31 + r * step ≡ here + (2 ^ 31 + r * step) = omega arith in
+    let more : phase + j * step + (2 ^ 31 + r * step) ≡ phase + 2 ^ 31 + (j + r) * step = omega arith in
+    ap (λ (n : ℕ). n % (1023 * 2 ^ 32)) way
+    ∙ rw e (mod-add-mod (phase + j * step) (1023 * 2 ^ 32) (2 ^ 31 + r * step) ∙ ap (λ (n : ℕ). n % (1023 * 2 ^ 32)) more)
+
+-- n samples behind where it was n samples ago
+pub code_back : (phase way : ℕ) → phase < 4393751543808 → way ≤ 4393751543808 → ((phase + (4393751543808 - way)) % 4393751543808 + way) % 4393751543808 ≡ phase
+code_back phase way below short = omega arith
+
+-- no step of the code, and sixteen more
 pub code_here : (phase step : ℕ) → phase < code_cycle → phase ≡ code_phase_after phase step 0
 code_here phase step below =
     let none : phase + 0 * step ≡ phase = omega arith in
     sym (ap (λ n. n % (1023 * 2 ^ 32)) none ∙ mod-eq_of_lt below)
 
-pub code_stepped : (phase step n here : ℕ) → here ≡ code_phase_after phase step n → (here + step) % (1023 * 2 ^ 32) ≡ code_phase_after phase step (n + 1)
-code_stepped phase step n here e =
-    let more : phase + n * step + step ≡ phase + (n + 1) * step = omega arith in
-    rw e (mod-add-mod (phase + n * step) (1023 * 2 ^ 32) step ∙ ap (λ n. n % (1023 * 2 ^ 32)) more)
+pub code_turned : (phase step g here : ℕ) → here ≡ code_phase_after phase step (16 * g) → (here + 16 * step) % (1023 * 2 ^ 32) ≡ code_phase_after phase step (16 * (g + 1))
+code_turned phase step g here e =
+    let next : 16 * g + 16 ≡ 16 * (g + 1) = omega arith in
+    code_behind phase step (16 * g) 16 here e ∙ ap (code_phase_after phase step) next
+
+-- chips are told apart by their numbers within a period
+pub same_chip : (prn m n : ℕ) → m % 1023 ≡ n % 1023 → chip prn m ≡ chip prn n
+unfolding chip
+same_chip prn m n e = ap (chip_after prn) e
+
+chip_number : (here w : ℕ) → here < 1023 * 2 ^ 32 → w ≤ 15 * 4294967295 → (here / 4294967296 + (here % 4294967296 + w) / 4294967296 % 16) % 1023 ≡ (here + w) % 4393751543808 / 4294967296 % 1023
+chip_number here w h small = omega arith
+
+chip_number_before : (here w : ℕ) → here < 1023 * 2 ^ 32 → w ≤ 15 * 4294967295 → (here / 4294967296 + (here % 4294967296 + w) / 4294967296 % 16 + 1022) % 1023 ≡ ((here + w) % 4393751543808 / 4294967296 + 1022) % 1023
+chip_number_before here w h small = omega arith
+
+few_steps : (r step : ℕ) → r < 16 → step < 2 ^ 32 → r * step ≤ 15 * 4294967295
+few_steps r step h l = mul-le-mul {n₁ = r} {m₁ = step} {n₂ = 15} {m₂ = 4294967295} (omega arith) (omega arith)
+
+pub chip_found : (prn phase step g r here cell : ℕ) → r < 16 → step < 2 ^ 32 → here ≡ code_phase_after phase step (16 * g) → cell ≡ (here % 4294967296 + r * step) / 4294967296 % 16
+    → chip prn (here / 4294967296 + cell) ≡ chip prn (code_phase_after phase step (16 * g + r) / 2 ^ 32)
+chip_found prn phase step g r here cell h l is cell_is =
+    let below : here < 1023 * 2 ^ 32 = omega (arith, is) in
+    rw cell_is (same_chip prn _ _ (chip_number here (r * step) below (few_steps r step h l) ∙ ap (λ (p : ℕ). p / 2 ^ 32 % 1023) (code_behind phase step (16 * g) r here is)))
+
+pub chip_before_found : (prn phase step g r here cell : ℕ) → r < 16 → step < 2 ^ 32 → here ≡ code_phase_after phase step (16 * g) → cell ≡ (here % 4294967296 + r * step) / 4294967296 % 16
+    → chip prn (here / 4294967296 + cell + 1022) ≡ chip prn (code_phase_after phase step (16 * g + r) / 2 ^ 32 + 1022)
+chip_before_found prn phase step g r here cell h l is cell_is =
+    let below : here < 1023 * 2 ^ 32 = omega (arith, is) in
+    rw cell_is (same_chip prn _ _ (chip_number_before here (r * step) below (few_steps r step h l) ∙ ap (λ (p : ℕ). (p / 2 ^ 32 + 1022) % 1023) (code_behind phase step (16 * g) r here is)))
+
+-- half a chip ahead
+ahead_is : (phase step j : ℕ) → code_phase_after (phase + 2 ^ 31) step j ≡ (code_phase_after phase step j + 2 ^ 31) % (1023 * 2 ^ 32)
+ahead_is phase step j =
+    let moved : phase + 2 ^ 31 + j * step ≡ phase + j * step + 2 ^ 31 = omega arith in
+    ap (λ n. n % (1023 * 2 ^ 32)) moved ∙ sym (mod-add-mod (phase + j * step) (1023 * 2 ^ 32) (2 ^ 31))
+
+pub early_is : (prn phase step j : ℕ) → sign_of (chip prn (code_phase_after (phase + 2 ^ 31) step j / 2 ^ 32)) ≡ early_sign prn (code_phase_after phase step j)
+early_is prn phase step j = ap (λ (p : ℕ). sign_of (chip prn (p / 2 ^ 32))) (ahead_is phase step j)
+
+behind_number : (p : ℕ) → p < 4393751543808 → ((p + 2147483648) % 4393751543808 / 4294967296 + 1022) % 1023 ≡ (p + 4393751543808 - 2147483648) % 4393751543808 / 4294967296 % 1023
+behind_number p h = omega arith
+
+pub late_is : (prn phase step j : ℕ) → sign_of (chip prn (code_phase_after (phase + 2 ^ 31) step j / 2 ^ 32 + 1022)) ≡ late_sign prn (code_phase_after phase step j)
+late_is prn phase step j =
+    let p : ℕ = code_phase_after phase step j in
+    ap sign_of (ap (λ (q : ℕ). chip prn (q / 2 ^ 32 + 1022)) (ahead_is phase step j) ∙ same_chip prn _ _ (behind_number p (omega arith)))

@@ -1,2 +1,7 @@
 pub mod Views
 pub mod Limits
+pub mod Strides
+pub mod Signs
+pub mod Eighths
+pub mod CarrierWords
+pub mod ChipWords

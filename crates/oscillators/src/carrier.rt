@@ -1,31 +1,44 @@
 ghost use Rattle.std.specs.Prelude.{◌≡◌, ◌*◌, ◌+◌, ◌<◌, ◌≤◌, ◌^◌, ◌/◌, ℤ, List, pos, map, take, length, get_or, unsigned_abs, All};
 ghost use Rattle.std.specs.List.{range_with_len};
 ghost use Rattle.definitions.specs.Oscillators.{carrier_phase_after, cosine, sine};
+ghost use Rattle.bit_planes.specs.Bits.{bit};
 ghost use Rattle.oscillators.specs.Views.{Oscillation, CarrierViews};
+ghost use Rattle.oscillators.specs.Signs.{signed, cos_in, sin_in, IsCosWord, IsSinWord};
+ghost use Rattle.oscillators.specs.CarrierWords.{AreEighths, IsCarrier};
 
-use sample_planes::MAX_SAMPLES;
+use crate::strides::Strides;
+use bit_planes::{Plane, pick_bytes, second_bits, third_bits, top_bits, with_sixteen};
 use std::marker::Model;
 
-/// The cosine in each eighth of a cycle, rounded to the sizes 1 and 2.
-const COSINES: [i8; 8] = [2, 1, -1, -2, -2, -1, 1, 2];
+/// For each eighth of a cycle, four cycles long: 1 in the top bit where the cosine is below 0, in the next where the sine is below 0,
+/// and in the one below where the sine is 2 in size, and so the cosine 1.
+const EIGHTHS: [u8; 32] = [
+    0x00, 0x20, 0xa0, 0x80, 0xc0, 0xe0, 0x60, 0x40, 0x00, 0x20, 0xa0, 0x80, 0xc0, 0xe0, 0x60, 0x40,
+    0x00, 0x20, 0xa0, 0x80, 0xc0, 0xe0, 0x60, 0x40, 0x00, 0x20, 0xa0, 0x80, 0xc0, 0xe0, 0x60, 0x40,
+];
 
-/// The sine in each eighth of a cycle, rounded to the sizes 1 and 2.
-const SINES: [i8; 8] = [1, 2, 2, 1, -1, -2, -2, -1];
+/// An eighth of a cycle, in 2^-32 cycle.
+const EIGHTH: u64 = 1 << 29;
 
 /// An oscillator at the carrier's frequency. Its phase is in 2^-32 cycle, from 0 to below 2^32, and its step is what a sample adds to
 /// it. The fixed-point form and the values of `planes` are this project's own.
-#[derive(Clone, Copy, Debug, PartialEq, Eq)]
+#[derive(Debug, Drop)]
 pub struct CarrierOsc {
     phase: u32,
     step: u32,
+    strides: Strides,
 }
 
 impl Model for CarrierOsc {
+    ghost use Rattle.std.specs.Prelude.{◌^◌};
+    ghost use Rattle.oscillators.specs.Views.{Oscillation};
+    ghost use Rattle.oscillators.specs.Strides.{IsStrides};
+
     ghost Value = { Oscillation };
 
     ghost view = { λ o. record { phase = o.phase; step = o.step } };
 
-    ghost inverse = { λ o. record { phase = o.phase; step = o.step } };
+    ghost invariant = { λ o. IsStrides o.step (2 ^ 29) o.strides };
 }
 
 impl CarrierOsc {
@@ -33,7 +46,11 @@ impl CarrierOsc {
     pub fn new(step: u32) -> CarrierOsc
         ensures { result ≡ record { phase = 0; step = step } }
     {
-        CarrierOsc { phase: 0, step }
+        CarrierOsc {
+            phase: 0,
+            step,
+            strides: Strides::new(step, EIGHTH),
+        }
     }
 
     /// Goes on by `n` samples.
@@ -45,11 +62,58 @@ impl CarrierOsc {
         self.phase = self.phase.wrapping_add(turns.wrapping_mul(self.step));
     }
 
+    /// Where it was `n` samples ago, if it has had this step since.
+    pub fn earlier(&self, n: u32) -> CarrierOsc
+        ensures now { carrier_phase_after result.phase result.step n ≡ self.now.phase }
+        ensures step { result.step ≡ self.now.step }
+    {
+        CarrierOsc {
+            phase: self.phase.wrapping_sub(n.wrapping_mul(self.step)),
+            step: self.step,
+            strides: self.strides,
+        }
+    }
+
     /// Takes another step from here on.
     pub fn set_step(&mut self, step: u32)
         ensures { self.new ≡ record self.old { step = step } }
     {
         self.step = step;
+        self.strides = Strides::new(step, EIGHTH);
+    }
+
+    /// Cosine and sine at this sample and the 63 that follow. The oscillator goes on by 64 samples.
+    pub fn next_word(&mut self) -> CarrierWord
+        ensures word { IsCarrier self.old.phase self.old.step result }
+        ensures moved { self.new ≡ record self.old { phase = carrier_phase_after self.old.phase self.old.step 64 } }
+    {
+        self.next_eighths()
+    }
+
+    /// The bits of the eighths of a cycle in which this sample and the 63 that follow lie. The oscillator goes on by 64 samples.
+    fn next_eighths(&mut self) -> CarrierWord
+        ensures word { AreEighths self.old.phase self.old.step result }
+        ensures moved { self.new ≡ record self.old { phase = carrier_phase_after self.old.phase self.old.step 64 } }
+    {
+        let turn = self.step.wrapping_mul(16);
+        let mut word = CarrierWord {
+            cos_sign: 0,
+            sin_sign: 0,
+            sin_size: 0,
+        };
+        let mut here = self.phase;
+        for group in 0..4u32 {
+            let eighths = self.strides.cells(here as u64 % EIGHTH, EIGHTH);
+            let found = pick_bytes(&EIGHTHS, (here >> 29) as usize, eighths);
+            word = CarrierWord {
+                cos_sign: with_sixteen(word.cos_sign, top_bits(found)),
+                sin_sign: with_sixteen(word.sin_sign, second_bits(found)),
+                sin_size: with_sixteen(word.sin_size, third_bits(found)),
+            };
+            here = here.wrapping_add(turn);
+        }
+        self.phase = here;
+        word
     }
 
     /// Cosine and sine at this sample and the `n` - 1 that follow; `n` is at most 1,024. The oscillator stays where it is.
@@ -60,45 +124,53 @@ impl CarrierOsc {
         ensures cos { result.cos ≡ map (λ j. cosine (carrier_phase_after self.now.phase self.now.step j)) (range_with_len 0 n) }
         ensures sin { result.sin ≡ map (λ j. sine (carrier_phase_after self.now.phase self.now.step j)) (range_with_len 0 n) }
     {
+        let mut here = self.earlier(0);
+        let mut cos_sign = Plane::new();
+        let mut sin_sign = Plane::new();
+        let mut sin_size = Plane::new();
+        for w in 0..(n + 63) / 64 {
+            let word = here.next_eighths();
+            cos_sign.set_word(w, word.cos_sign);
+            sin_sign.set_word(w, word.sin_sign);
+            sin_size.set_word(w, word.sin_size);
+        }
         CarrierPlanes {
-            cos: values_of(&COSINES, self.phase, self.step, n),
-            sin: values_of(&SINES, self.phase, self.step, n),
+            cos_sign,
+            sin_sign,
+            sin_size,
             len: n,
         }
     }
 }
 
-/// The values of a table of eighths of a cycle, at a phase and at `n` - 1 steps from there.
-fn values_of(table: &[i8; 8], phase: u32, step: u32, n: usize) -> [i8; MAX_SAMPLES]
-    requires short { n ≤ 1024 }
-    requires table { All (λ v. unsigned_abs v ≤ 2) table.now }
-    ensures values { take n result ≡ map (λ j. get_or table.now (carrier_phase_after phase step j / 2 ^ 29) (pos 0)) (range_with_len 0 n) }
-    ensures small { All (λ v. unsigned_abs v ≤ 2) result }
-{
-    let mut values = [0; MAX_SAMPLES];
-    let mut here = phase;
-    for j in 0..n {
-        // The top three bits number the eighths.
-        values[j] = table[(here >> 29) as usize];
-        here = here.wrapping_add(step);
-    }
-    values
+/// Cosine and sine of a carrier at 64 samples, the first of them in the top bits.
+#[derive(Clone, Copy, Debug)]
+pub struct CarrierWord {
+    /// 1 where the cosine is below 0.
+    pub cos_sign: u64,
+    /// 1 where the sine is below 0.
+    pub sin_sign: u64,
+    /// 1 where the sine is 2 in size and the cosine 1, and 0 where it is the other way round.
+    pub sin_size: u64,
 }
 
 /// Cosine and sine of a carrier at a run of at most 1,024 samples.
 #[derive(Drop)]
 pub struct CarrierPlanes {
-    cos: [i8; MAX_SAMPLES],
-    sin: [i8; MAX_SAMPLES],
+    /// 1 where the cosine is below 0, and where the sine is.
+    cos_sign: Plane,
+    sin_sign: Plane,
+    /// 1 where the sine is 2 in size and the cosine 1, and 0 where it is the other way round.
+    sin_size: Plane,
     len: usize,
 }
 
 impl Model for CarrierPlanes {
     ghost Value = { CarrierViews };
 
-    ghost view = { λ p. record { cos = take p.len p.cos; sin = take p.len p.sin } };
+    ghost view = { λ p. record { cos = map (cos_in p.cos_sign p.sin_size) (range_with_len 0 p.len); sin = map (sin_in p.sin_sign p.sin_size) (range_with_len 0 p.len) } };
 
-    ghost invariant = { λ p. (p.len ≤ 1024) × All (λ v. unsigned_abs v ≤ 2) p.cos × All (λ v. unsigned_abs v ≤ 2) p.sin };
+    ghost invariant = { λ p. p.len ≤ 1024 };
 }
 
 impl CarrierPlanes {
@@ -116,7 +188,7 @@ impl CarrierPlanes {
         ensures value { result ≡ get_or self.now.cos i (pos 0) }
         ensures small { unsigned_abs result ≤ 2 }
     {
-        self.cos[i]
+        signed(self.cos_sign.bit(i), 1 - self.sin_size.bit(i))
     }
 
     /// The sine at sample `i`, counted from 0: 1 or 2 in size.
@@ -125,6 +197,31 @@ impl CarrierPlanes {
         ensures value { result ≡ get_or self.now.sin i (pos 0) }
         ensures small { unsigned_abs result ≤ 2 }
     {
-        self.sin[i]
+        signed(self.sin_sign.bit(i), self.sin_size.bit(i))
     }
+
+    /// From sample `64 * w` on, the first in the top bits: where the cosine is below 0, where the sine is, and where the sine is 2 in
+    /// size and the cosine 1.
+    pub fn word(&self, w: usize) -> (u64, u64, u64)
+        requires { w < 16 }
+        ensures cos { IsCosWord self.now.cos w result.0 result.2 }
+        ensures sin { IsSinWord self.now.sin w result.1 result.2 }
+    {
+        (
+            self.cos_sign.word(w),
+            self.sin_sign.word(w),
+            self.sin_size.word(w),
+        )
+    }
+}
+
+/// A number that is 1 or 2 in size, from the bits of its sign and its size.
+fn signed(sign: u64, size: u64) -> i8
+    requires sign { sign < 2 }
+    requires size { size < 2 }
+    ensures value { result ≡ signed sign size }
+    ensures small { unsigned_abs result ≤ 2 }
+{
+    let value = if size == 0 { 1 } else { 2 };
+    if sign == 0 { value } else { -value }
 }

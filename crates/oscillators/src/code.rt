@@ -1,33 +1,47 @@
 ghost use Rattle.std.specs.Prelude.{◌≡◌, ◌+◌, ◌-◌, ◌*◌, ◌/◌, ◌%◌, ◌^◌, ◌<◌, ◌≤◌, ℕ, ℤ, List, pos, map, take, length, get_or, unsigned_abs, All};
 ghost use Rattle.std.specs.List.{range_with_len};
 ghost use Rattle.definitions.specs.Oscillators.{code_cycle, code_phase_after, early_sign, prompt_sign, late_sign};
+ghost use Rattle.definitions.specs.Samples.{sign_of};
+ghost use Rattle.bit_planes.specs.Bits.{bit};
 ghost use Rattle.oscillators.specs.Views.{Oscillation, CodeViews};
+ghost use Rattle.oscillators.specs.Signs.{sign_in, IsChipWord};
+ghost use Rattle.oscillators.specs.ChipWords.{AreChips, AreChipBits};
 
-use crate::chip_signs::{CODE_CYCLE, in_cycle, signs_of};
 use crate::half_chip::HalfChip;
+use crate::strides::Strides;
+use bit_planes::{Plane, second_bits, top_bits, with_sixteen};
 use ca_codes::{CodeBook, Prn};
-use sample_planes::MAX_SAMPLES;
 use std::marker::Model;
+
+/// The code's cycle of 1,023 chips, in 2^-32 chip.
+const CODE_CYCLE: u64 = 1023 << 32;
+
+/// A chip, in 2^-32 chip.
+const CHIP: u64 = 1 << 32;
 
 /// Half a chip, in 2^-32 chip.
 const HALF_CHIP: u64 = 1 << 31;
 
 /// An oscillator at the code's rate. Its phase is in 2^-32 chip, from 0 to below the cycle of 1,023 * 2^32 (IS-GPS-200, section 3.3.2.3:
 /// the code has 1,023 chips); its step is what a sample adds to it. The fixed-point form is this project's own.
-#[derive(Clone, Copy, Debug, PartialEq, Eq)]
+#[derive(Debug, Drop)]
 pub struct CodeOsc {
     phase: u64,
     step: u32,
+    strides: Strides,
 }
 
 impl Model for CodeOsc {
+    ghost use Rattle.std.specs.Prelude.{◌<◌, ◌^◌};
+    ghost use Rattle.definitions.specs.Oscillators.{code_cycle};
+    ghost use Rattle.oscillators.specs.Views.{Oscillation};
+    ghost use Rattle.oscillators.specs.Strides.{IsStrides};
+
     ghost Value = { Oscillation };
 
     ghost view = { λ o. record { phase = o.phase; step = o.step } };
 
-    ghost invariant = { λ o. o.phase < code_cycle };
-
-    ghost inverse = { λ o. record { phase = o.phase; step = o.step } };
+    ghost invariant = { λ o. (o.phase < code_cycle) × IsStrides o.step (2 ^ 32) o.strides };
 }
 
 impl CodeOsc {
@@ -38,6 +52,7 @@ impl CodeOsc {
         CodeOsc {
             phase: start.get() as u64 * HALF_CHIP,
             step,
+            strides: Strides::new(step, CHIP),
         }
     }
 
@@ -54,6 +69,7 @@ impl CodeOsc {
         ensures { self.new ≡ record self.old { step = step } }
     {
         self.step = step;
+        self.strides = Strides::new(step, CHIP);
     }
 
     /// The least number of samples, at least 1, that brings the phase to the end of the cycle or past it. The step isn't 0.
@@ -85,6 +101,59 @@ impl CodeOsc {
         self.phase = (phase % CODE_CYCLE as u128) as u64;
     }
 
+    /// Where it was `n` samples ago, at most 1,023, if it has had this step since.
+    pub fn earlier(&self, n: u32) -> CodeOsc
+        requires { n ≤ 1023 }
+        ensures now { code_phase_after result.phase result.step n ≡ self.now.phase }
+        ensures step { result.step ≡ self.now.step }
+    {
+        CodeOsc {
+            phase: in_cycle(self.phase + (CODE_CYCLE - n as u64 * self.step as u64)),
+            step: self.step,
+            strides: self.strides,
+        }
+    }
+
+    /// The chips of a satellite at this sample and the 63 that follow: at the phase, half a chip ahead of it and half a chip behind.
+    /// The oscillator goes on by 64 samples, and the book stands for the codes as before.
+    pub fn next_word(&mut self, book: &mut CodeBook, prn: Prn) -> ChipWord
+        ensures word { AreChips prn self.old.phase self.old.step result }
+        ensures moved { self.new ≡ record self.old { phase = code_phase_after self.old.phase self.old.step 64 } }
+    {
+        self.next_chips(book, prn)
+    }
+
+    /// The same, by the bits of the chips.
+    fn next_chips(&mut self, book: &mut CodeBook, prn: Prn) -> ChipWord
+        ensures word { AreChipBits prn self.old.phase self.old.step result }
+        ensures moved { self.new ≡ record self.old { phase = code_phase_after self.old.phase self.old.step 64 } }
+    {
+        let turn = 16 * self.step as u64;
+        let mut word = ChipWord {
+            early: 0,
+            prompt: 0,
+            late: 0,
+        };
+        let mut here = self.phase;
+        let mut ahead = in_cycle(self.phase + HALF_CHIP);
+        for group in 0..4u32 {
+            let cells = self.strides.cells(here % CHIP, CHIP);
+            let chips = book.look_up(prn, (here >> 32) as usize, cells);
+            let cells_ahead = self.strides.cells(ahead % CHIP, CHIP);
+            let chips_ahead = book.look_up(prn, (ahead >> 32) as usize, cells_ahead);
+            word = ChipWord {
+                early: with_sixteen(word.early, top_bits(chips_ahead)),
+                prompt: with_sixteen(word.prompt, top_bits(chips)),
+                // The late chip is the one before the early one.
+                late: with_sixteen(word.late, second_bits(chips_ahead)),
+            };
+            here = in_cycle(here + turn);
+            ahead = in_cycle(ahead + turn);
+        }
+        self.phase = here;
+        word
+    }
+
     /// The signs of a satellite's chips at this sample and the `n` - 1 that follow: at the phase, half a chip ahead of it and half a chip
     /// behind; `n` is at most 1,024. The code goes round as often as the samples take it round. The oscillator stays where it is, and
     /// the book stands for the codes as before.
@@ -97,14 +166,45 @@ impl CodeOsc {
         ensures prompt { result.prompt ≡ map (λ j. prompt_sign prn (code_phase_after self.now.phase self.now.step j)) (range_with_len 0 n) }
         ensures late { result.late ≡ map (λ j. late_sign prn (code_phase_after self.now.phase self.now.step j)) (range_with_len 0 n) }
     {
-        let early = (self.phase + HALF_CHIP) % CODE_CYCLE;
-        let late = (self.phase + CODE_CYCLE - HALF_CHIP) % CODE_CYCLE;
+        let mut here = self.earlier(0);
+        let mut early = Plane::new();
+        let mut prompt = Plane::new();
+        let mut late = Plane::new();
+        for w in 0..(n + 63) / 64 {
+            let word = here.next_chips(book, prn);
+            early.set_word(w, word.early);
+            prompt.set_word(w, word.prompt);
+            late.set_word(w, word.late);
+        }
         CodePlanes {
-            early: signs_of(early, self.step, n, book, prn),
-            prompt: signs_of(self.phase, self.step, n, book, prn),
-            late: signs_of(late, self.step, n, book, prn),
+            early,
+            prompt,
+            late,
             len: n,
         }
+    }
+}
+
+/// The chips of a satellite at 64 samples, the first of them in the top bits.
+#[derive(Clone, Copy, Debug)]
+pub struct ChipWord {
+    /// Half a chip ahead.
+    pub early: u64,
+    /// In time.
+    pub prompt: u64,
+    /// Half a chip behind.
+    pub late: u64,
+}
+
+/// The phase that is left of one less than a cycle ahead, without a division.
+fn in_cycle(phase: u64) -> u64
+    requires { phase < code_cycle + code_cycle }
+    ensures { result ≡ phase % code_cycle }
+{
+    if phase < CODE_CYCLE {
+        phase
+    } else {
+        phase - CODE_CYCLE
     }
 }
 
@@ -112,18 +212,18 @@ impl CodeOsc {
 /// (prompt) and half a chip behind (late).
 #[derive(Drop)]
 pub struct CodePlanes {
-    early: [i8; MAX_SAMPLES],
-    prompt: [i8; MAX_SAMPLES],
-    late: [i8; MAX_SAMPLES],
+    early: Plane,
+    prompt: Plane,
+    late: Plane,
     len: usize,
 }
 
 impl Model for CodePlanes {
     ghost Value = { CodeViews };
 
-    ghost view = { λ p. record { early = take p.len p.early; prompt = take p.len p.prompt; late = take p.len p.late } };
+    ghost view = { λ p. record { early = map (sign_in p.early) (range_with_len 0 p.len); prompt = map (sign_in p.prompt) (range_with_len 0 p.len); late = map (sign_in p.late) (range_with_len 0 p.len) } };
 
-    ghost invariant = { λ p. (p.len ≤ 1024) × All (λ v. unsigned_abs v ≤ 1) p.early × All (λ v. unsigned_abs v ≤ 1) p.prompt × All (λ v. unsigned_abs v ≤ 1) p.late };
+    ghost invariant = { λ p. p.len ≤ 1024 };
 }
 
 impl CodePlanes {
@@ -142,7 +242,7 @@ impl CodePlanes {
         ensures value { result ≡ get_or self.now.early i (pos 0) }
         ensures small { unsigned_abs result ≤ 1 }
     {
-        self.early[i]
+        sign(self.early.bit(i))
     }
 
     /// The sign of the chip at sample `i`, counted from 0: 1 or -1.
@@ -151,7 +251,7 @@ impl CodePlanes {
         ensures value { result ≡ get_or self.now.prompt i (pos 0) }
         ensures small { unsigned_abs result ≤ 1 }
     {
-        self.prompt[i]
+        sign(self.prompt.bit(i))
     }
 
     /// The sign of the chip half a chip behind at sample `i`, counted from 0: 1 or -1.
@@ -160,6 +260,25 @@ impl CodePlanes {
         ensures value { result ≡ get_or self.now.late i (pos 0) }
         ensures small { unsigned_abs result ≤ 1 }
     {
-        self.late[i]
+        sign(self.late.bit(i))
     }
+
+    /// The chips from sample `64 * w` on, the first in the top bits: early, prompt and late.
+    pub fn word(&self, w: usize) -> (u64, u64, u64)
+        requires { w < 16 }
+        ensures early { IsChipWord self.now.early w result.0 }
+        ensures prompt { IsChipWord self.now.prompt w result.1 }
+        ensures late { IsChipWord self.now.late w result.2 }
+    {
+        (self.early.word(w), self.prompt.word(w), self.late.word(w))
+    }
+}
+
+/// The sign of a chip: +1 for 0, -1 for 1.
+fn sign(chip: u64) -> i8
+    requires { chip < 2 }
+    ensures value { result ≡ sign_of chip }
+    ensures small { unsigned_abs result ≤ 1 }
+{
+    if chip == 0 { 1 } else { -1 }
 }

@@ -5,16 +5,16 @@
 #![tactic(auto)]
 
 mod carrier;
-mod chip_signs;
 mod code;
 mod doppler;
 mod half_chip;
 mod settings;
+mod strides;
 #[cfg(test)]
 mod tests;
 
-pub use carrier::{CarrierOsc, CarrierPlanes};
-pub use code::{CodeOsc, CodePlanes};
+pub use carrier::{CarrierOsc, CarrierPlanes, CarrierWord};
+pub use code::{ChipWord, CodeOsc, CodePlanes};
 pub use doppler::Doppler;
 pub use half_chip::HalfChip;
 pub use settings::{Settings, SettingsFault};

@@ -1,0 +1,15 @@
+//! Planes of bits, one bit for each of up to 1,024 samples, and the lanes that fill them sixteen samples at a time.
+//!
+//! A `Plane` stands for a bit at each place. `lookup` and `top_bits` give sixteen bits of a plane from sixteen bytes: lane k stands for
+//! place 15 - k of the sixteen, so that a bitmask of lanes has the first place in its top bit.
+#![tactic(auto)]
+
+mod lanes;
+mod plane;
+#[cfg(test)]
+mod tests;
+mod words;
+
+pub use lanes::{masked_bits, pick_bytes, second_bits, third_bits, top_bits};
+pub use plane::{PLACES, Plane};
+pub use words::with_sixteen;

@@ -1,0 +1,64 @@
+ghost use Rattle.std.specs.Prelude.{◌≡◌, ◌+◌, ◌-◌, ◌*◌, ◌<◌, ◌^◌, ℕ, length};
+ghost use Rattle.std.specs.Int.{bit_at};
+
+/// The places of a plane.
+pub const PLACES: usize = 1024;
+
+/// The words of 64 bits that hold them.
+const WORDS: usize = 16;
+
+/// A bit for each of 1,024 places.
+#[derive(Clone, Copy, Debug)]
+pub struct Plane {
+    /// Place i is in word i / 64, the first place of a word being its top bit.
+    words: [u64; WORDS],
+}
+
+impl Plane {
+    ghost use Rattle.bit_planes.specs.Bits.{bit, IsDrawn};
+
+    /// All bits 0.
+    pub fn new() -> Plane
+        ensures { (f : ℕ → ℕ) → IsDrawn f 0 result }
+    {
+        Plane { words: [0; WORDS] }
+    }
+
+    /// Sets the sixteen places from `16 * group` on, all of which are 0, as all behind them are: the first of them is the highest bit.
+    pub fn put(&mut self, group: usize, bits: u64)
+        requires group { group < 64 }
+        requires bits { bits < 2 ^ 16 }
+        ensures { (f : ℕ → ℕ) → IsDrawn f (16 * group) self.old
+            → ((r : ℕ) → r < 16 → bit_at bits (15 - r) ≡ f (16 * group + r))
+            → IsDrawn f (16 * group + 16) self.new }
+    {
+        self.words[group / 4] |= bits << (48 - 16 * (group % 4));
+    }
+
+    /// Sets the 64 places from `64 * w` on, behind which all are 0: the first of them is the top bit.
+    pub fn set_word(&mut self, w: usize, word: u64)
+        requires { w < 16 }
+        ensures { (f : ℕ → ℕ) → IsDrawn f (64 * w) self.old
+            → ((j : ℕ) → j < 64 → bit_at word (63 - j) ≡ f (64 * w + j))
+            → IsDrawn f (64 * w + 64) self.new }
+    {
+        self.words[w] = word;
+    }
+
+    /// The bit at a place, 0 or 1.
+    pub fn bit(&self, place: usize) -> u64
+        requires { place < 1024 }
+        ensures value { result ≡ bit self.now place }
+        ensures small { result < 2 }
+    {
+        (self.words[place / 64] >> (63 - place % 64)) & 1
+    }
+
+    /// The 64 places from `64 * w` on, the first of them in the top bit.
+    pub fn word(&self, w: usize) -> u64
+        requires { w < 16 }
+        ensures { (j : ℕ) → j < 64 → bit_at result (63 - j) ≡ bit self.now (64 * w + j) }
+    {
+        self.words[w]
+    }
+}

@@ -1,0 +1,14 @@
+use Rattle.std.proofs.Common.{◌≡◌, ◌+◌, ◌*◌, ◌/◌, ◌^◌}
+use Rattle.bit_planes.specs.Bits.{IsBegun}
+use Rattle.definitions.specs.Codes.{chip}
+use Rattle.definitions.specs.Oscillators.{code_phase_after}
+use Rattle.oscillators.proofs.code.CodeOsc.next_chips.Given as goal
+
+abbrev pub invariant-loop-group : goal.invariant-loop-group
+invariant-loop-group l = record {
+  here : l.here ≡ code_phase_after l.fn.self.phase l.fn.self.step (16 * l.group);
+  ahead : l.ahead ≡ code_phase_after (l.fn.self.phase + 2 ^ 31) l.fn.self.step (16 * l.group);
+  prompt : IsBegun (λ i. chip l.prn (code_phase_after l.fn.self.phase l.fn.self.step i / 2 ^ 32)) (16 * l.group) l.word.prompt;
+  early : IsBegun (λ i. chip l.prn (code_phase_after (l.fn.self.phase + 2 ^ 31) l.fn.self.step i / 2 ^ 32)) (16 * l.group) l.word.early;
+  late : IsBegun (λ i. chip l.prn (code_phase_after (l.fn.self.phase + 2 ^ 31) l.fn.self.step i / 2 ^ 32 + 1022)) (16 * l.group) l.word.late;
+}
