@@ -1,4 +1,6 @@
 pub mod WordLemmas
 pub mod PlaceLemmas
+pub mod PartLemmas
+pub mod RunLemmas
 pub mod SumLemmas
 mod ReplicaLemmas

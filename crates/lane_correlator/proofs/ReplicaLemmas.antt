@@ -1,8 +1,10 @@
 -- Sums with a replica that is moved to the beginning of a word, and the replica of words.
-use Rattle.std.proofs.Common.{◌≡◌, ℕ, ◌+◌, ◌-◌, ◌*◌, ◌/◌, ◌%◌, ◌<◌, ◌≤◌, refl, sym, ap, ◌∙◌, arith}
-use Rattle.std.specs.Prelude.{ℤ, ◌*ℤ◌}
+use Rattle.std.proofs.Common.{List, length, ◌≡◌, ℕ, ◌+◌, ◌-◌, ◌*◌, ◌/◌, ◌%◌, ◌<◌, ◌≤◌, refl, sym, ap, ◌∙◌, arith}
+use Rattle.std.specs.Prelude.{ℤ, ◌*ℤ◌, unsigned_abs}
+use Rattle.std.proofs.lemmas.Nat.Bits.{bit_at-lt}
 use Rattle.std.specs.Int.{bit_at}
-use Rattle.definitions.specs.Samples.{Sample, sign_of}
+use Rattle.definitions.specs.Samples.{Sample, sample_at, sign_of}
+use Rattle.sample_planes.specs.Signs.{IsWord}
 use Rattle.definitions.specs.Oscillators.{carrier_phase_after, code_phase_after, cosine, sine, early_sign, prompt_sign, late_sign}
 use Rattle.definitions.specs.Correlation.{Replica, Phases, replica_of, six_sums, in_phase_sum, quadrature_sum, wiped_in_phase, wiped_quadrature}
 use Rattle.definitions.proofs.SumsLemmas.{total-same}
@@ -13,6 +15,9 @@ use Rattle.oscillators.specs.CarrierWords.{IsCarrier}
 use Rattle.oscillators.specs.ChipWords.{AreChips}
 use Rattle.oscillators.proofs.PlaneLemmas.{carrier_behind, code_behind}
 use Rattle.lane_correlator.specs.ReplicaWords.{AreOf}
+use Rattle.lane_correlator.specs.Factors.{AreChips as AreFactors, AreThreeChips}
+use Rattle.lane_correlator.specs.declared.factors.Factors.{Factors}
+use Rattle.lane_correlator.proofs.PartLemmas.{AreSmall, HasSigns, chips_are_signs, part_small, wave_small}
 
 -- ---- a replica that words are of
 of_words : CarrierWord → ChipWord → ℕ → Replica
@@ -34,6 +39,41 @@ own_replica base end carrier chips = record { replica = of_words carrier chips b
   where
     back : (j : ℕ) → base + j - base ≡ j
     back j = omega arith
+
+-- its chips are signs, and with samples it is small
+pub chips_of_replica : (r : Replica) (base end : ℕ) (carrier : CarrierWord) (chips : ChipWord) → AreOf r base end carrier chips
+    → AreThreeChips r base end (chips.early, chips.prompt, chips.late)
+unfolding AreFactors
+chips_of_replica r base end carrier chips of = record { early = of.early; prompt = of.prompt; late = of.late }
+
+pub signs_of_replica : (r : Replica) (base first end : ℕ) (carrier : CarrierWord) (chips : ChipWord) → AreOf r base end carrier chips
+    → HasSigns r (base + first) (base + end)
+signs_of_replica r base first end carrier chips of =
+    let three = chips_of_replica r base end carrier chips of in
+    record {
+      early_signs = chips_are_signs r.early base first end chips.early three.early;
+      prompt_signs = chips_are_signs r.prompt base first end chips.prompt three.prompt;
+      late_signs = chips_are_signs r.late base first end chips.late three.late;
+    }
+
+pub small_of_replica : (samples : List Sample) (r : Replica) (w first end : ℕ) → end ≤ 64 → (i : Factors) (carrier : CarrierWord) (chips : ChipWord) → 64 * w + end ≤ length samples
+    → IsWord samples w i.negative i.large → ((j : ℕ) → j < end → unsigned_abs (sample_at samples (64 * w + j)).quadrature ≤ 3)
+    → AreOf r (64 * w) end carrier chips
+    → AreSmall (sample_at samples) r.cos r.sin (64 * w + first) (64 * w + end)
+unfolding IsWord
+small_of_replica samples r w first end room i carrier chips long parts quadratures of = record {
+  in_phase = on_word w first end (λ k. unsigned_abs (sample_at samples k).in_phase ≤ 3) (λ j h.
+      rw (parts j (omega arith) (omega arith)) (part_small (bit_at i.negative (63 - j)) (bit_at i.large (63 - j)) (bit_at-lt i.negative (63 - j)) (bit_at-lt i.large (63 - j))));
+  quadrature = on_word w first end (λ k. unsigned_abs (sample_at samples k).quadrature ≤ 3) quadratures;
+  wave = on_word w first end (λ k. unsigned_abs (r.cos k) + unsigned_abs (r.sin k) ≤ 3) (λ j h.
+      rw (of.cos j h, of.sin j h)
+      (wave_small (bit_at carrier.cos_sign (63 - j)) (bit_at carrier.sin_sign (63 - j)) (bit_at carrier.sin_size (63 - j)) (bit_at-lt carrier.cos_sign (63 - j)) (bit_at-lt carrier.sin_sign (63 - j)) (bit_at-lt carrier.sin_size (63 - j))));
+}
+  where
+    on_word : (w first end : ℕ) (P : ℕ → Type 0) → ((j : ℕ) → j < end → P (64 * w + j)) → (k : ℕ) → 64 * w + first ≤ k → k < 64 * w + end → P k
+    on_word w first end P each k from below =
+        let place : 64 * w + (k - 64 * w) ≡ k = omega arith in
+        rw place at (each (k - 64 * w) (omega arith))
 
 -- ---- a replica from a sample on, by the numbers of the run
 pub placed : ℕ → Phases → ℕ → Replica

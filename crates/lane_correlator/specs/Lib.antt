@@ -2,3 +2,4 @@ pub mod Counting
 pub mod Products
 pub mod Words
 pub mod ReplicaWords
+pub mod Factors

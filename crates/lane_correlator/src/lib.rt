@@ -1,12 +1,14 @@
-//! The sums of a correlator over a run of samples: samples times the conjugate of a carrier, times the chips of a code.
+//! The sums of a correlator over a run of samples: samples times the conjugate of a carrier, times
+//! the chips of a code.
 //!
-//! `six_sums` gives the sums with the early, prompt and late chips, in phase and in quadrature, and `pair_sum` those with the prompt
-//! chips alone. Both are proved to be the plain sums over every range of the run. (IS-GPS-200 has the signal alone; how a receiver
+//! `six_sums` gives the sums with the early, prompt and late chips, in phase and in quadrature, and
+//! `pair_sum` those with the prompt chips alone. Both are proved to be the plain sums over every range
+//! of the run, for real and for complex samples. (IS-GPS-200 has the signal alone; how a receiver
 //! correlates with it is this project's own.)
 #![tactic(auto)]
 
 mod counts;
-
+mod factors;
 mod sums;
 #[cfg(test)]
 mod tests;
@@ -14,5 +16,5 @@ mod with_replica;
 mod word;
 
 pub use counts::Counts;
-pub use with_replica::replica_sums;
 pub use sums::{pair_sum, six_sums};
+pub use with_replica::replica_sums;

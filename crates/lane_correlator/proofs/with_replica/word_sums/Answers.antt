@@ -1,97 +1,79 @@
-use Rattle.std.proofs.Common.{◌≡◌, ◌≤◌, ◌*◌, refl, arith, rules, lit<, ℕ, ℤ, to_z, of_z, w32}
-use Rattle.std.specs.Prelude.{unsigned_abs, ◌*ℤ◌, bit_xor}
-use Rattle.std.proofs.lemmas.Nat.{xor_lt}
+use Rattle.std.proofs.Common.{◌≡◌, ℕ, ℤ, ◌+◌, ◌-◌, ◌*◌, ◌<◌, ◌≤◌, ◌∙◌, sym, ap, arith}
+use Rattle.std.specs.Prelude.{pos, ◌-ℤ◌, unsigned_abs}
+use Rattle.std.proofs.Math.Path.{ap₂}
+use Rattle.std.specs.Int.{bit_at}
 use Rattle.definitions.specs.Samples.{sample_at}
-use Rattle.definitions.specs.Correlation.{Replica, six_sums, in_phase_sum, quadrature_sum, wiped_in_phase, wiped_quadrature}
-use Rattle.sample_planes.specs.Signs.{IsWord}
+use Rattle.definitions.specs.Correlation.{Replica, six_sums, added}
+use Rattle.lane_correlator.specs.Counting.{counts_in}
 use Rattle.lane_correlator.specs.ReplicaWords.{AreOf}
-use Rattle.lane_correlator.proofs.WordLemmas.{stored}
-use Rattle.lane_correlator.proofs.PlaceLemmas.{IsMask, IsWordSum, in_phase_word, quadrature_word}
-use Rattle.lane_correlator.proofs.ReplicaLemmas.{own_replica}
+use Rattle.lane_correlator.specs.Factors.{IsMask, AreThreeChips, AreChips, AreWave, part_sums}
+use Rattle.lane_correlator.proofs.PartLemmas.{HasSigns, AreSmall, six_by_parts, part_sums-none, six-small}
+use Rattle.lane_correlator.proofs.RunLemmas.{part_of_run, quadrature_of_run, real_in_run, quadrature_small, real_small}
+use Rattle.lane_correlator.proofs.ReplicaLemmas.{own_replica, chips_of_replica, signs_of_replica, small_of_replica}
 use Rattle.lane_correlator.proofs.with_replica.word_sums.Goals as goal
+use Rattle.lane_correlator.proofs.with_replica.word_sums.Goals.{After-add, in-Some, in-None}
 
-kept : (z : ℤ) → unsigned_abs z ≤ 384 → to_z w32 (of_z w32 z) ≡ z
-kept z small = stored z 384 small (lit< tt)
+mask_is : (c : After-add) → IsMask c.args.first c.args.end c.places-mask.result
+mask_is c = record {
+  ordered = c.requires.ordered;
+  within = c.requires.within;
+  before = c.places-mask.ensures.before;
+  inside = c.places-mask.ensures.inside;
+  behind = c.places-mask.ensures.behind;
+}
 
-mask_is : (c : goal.After-products-6) → IsMask c.args.first c.args.end c.places-mask.result
-mask_is c = record { before = c.places-mask.ensures.before; inside = c.places-mask.ensures.inside; behind = c.places-mask.ensures.behind }
+module _ (c : After-add) (r : Replica) (of : AreOf r (64 * c.args.w) c.args.end c.args.carrier c.args.chips) where
+  cos_is : AreWave r.cos (64 * c.args.w) c.args.end c.of_word-wave.result.cos
+  unfolding AreWave
+  cos_is j h = of.cos j h ∙ sym (c.of_word-wave.ensures.cos j (omega (arith, c.requires.within, h)))
 
-in_phase_early : (c : goal.After-products-6) (r : Replica) → AreOf r (64 * c.args.w) c.args.end c.args.carrier c.args.chips
-    → IsWordSum c.products.result (λ j. wiped_in_phase (sample_at c.args.samples.now j) (r.cos j) (r.sin j) *ℤ r.early j) (64 * c.args.w) c.args.first c.args.end
-unfolding IsWord
-in_phase_early c r of =
-    rw c.products.ensures.sum (in_phase_word (sample_at c.args.samples.now) r.cos r.sin r.early (64 * c.args.w) c.args.first c.args.end
-    c.word-sign.result.0 c.word-sign.result.1 c.args.carrier.cos_sign c.args.carrier.sin_size c.args.chips.early c.places-mask.result c.requires.ordered c.requires.within (search rules) (mask_is c)
-    (λ j h. c.word-sign.ensures.word j (omega (arith, c.requires.within)) (omega (arith, c.requires.reach))) of.cos of.early)
+  sin_is : AreWave r.sin (64 * c.args.w) c.args.end c.of_word-wave.result.sin
+  unfolding AreWave
+  sin_is j h = of.sin j h ∙ sym (c.of_word-wave.ensures.sin j (omega (arith, c.requires.within, h)))
 
-quadrature_early : (c : goal.After-products-6) (r : Replica) → AreOf r (64 * c.args.w) c.args.end c.args.carrier c.args.chips
-    → IsWordSum c.products-2.result (λ j. wiped_quadrature (sample_at c.args.samples.now j) (r.cos j) (r.sin j) *ℤ r.early j) (64 * c.args.w) c.args.first c.args.end
-unfolding IsWord
-quadrature_early c r of =
-    rw c.products-2.ensures.sum (quadrature_word (sample_at c.args.samples.now) r.cos r.sin r.early (64 * c.args.w) c.args.first c.args.end
-    c.word-sign.result.0 c.word-sign.result.1 c.args.carrier.sin_sign c.args.carrier.sin_size c.args.chips.early c.places-mask.result c.requires.ordered c.requires.within
-    (xor_lt 64 (bit_xor c.word-sign.result.0 c.args.carrier.sin_sign) c.args.chips.early (xor_lt 64 c.word-sign.result.0 c.args.carrier.sin_sign (search rules) (search rules)) (search rules)) (mask_is c)
-    (λ j h. c.word-sign.ensures.word j (omega (arith, c.requires.within)) (omega (arith, c.requires.reach))) of.sin of.early)
+  minus_sin_is : AreWave (λ j. pos 0 -ℤ r.sin j) (64 * c.args.w) c.args.end c.of_word-wave.result.minus_sin
+  unfolding AreWave
+  minus_sin_is j h = ap (λ (z : ℤ). pos 0 -ℤ z) (of.sin j h) ∙ sym (c.of_word-wave.ensures.minus_sin j (omega (arith, c.requires.within, h)))
 
-in_phase_prompt : (c : goal.After-products-6) (r : Replica) → AreOf r (64 * c.args.w) c.args.end c.args.carrier c.args.chips
-    → IsWordSum c.products-3.result (λ j. wiped_in_phase (sample_at c.args.samples.now j) (r.cos j) (r.sin j) *ℤ r.prompt j) (64 * c.args.w) c.args.first c.args.end
-unfolding IsWord
-in_phase_prompt c r of =
-    rw c.products-3.ensures.sum (in_phase_word (sample_at c.args.samples.now) r.cos r.sin r.prompt (64 * c.args.w) c.args.first c.args.end
-    c.word-sign.result.0 c.word-sign.result.1 c.args.carrier.cos_sign c.args.carrier.sin_size c.args.chips.prompt c.places-mask.result c.requires.ordered c.requires.within (search rules) (mask_is c)
-    (λ j h. c.word-sign.ensures.word j (omega (arith, c.requires.within)) (omega (arith, c.requires.reach))) of.cos of.prompt)
+  chips_are : AreThreeChips r (64 * c.args.w) c.args.end (c.args.chips.early, c.args.chips.prompt, c.args.chips.late)
+  chips_are = chips_of_replica r (64 * c.args.w) c.args.end c.args.carrier c.args.chips of
 
-quadrature_prompt : (c : goal.After-products-6) (r : Replica) → AreOf r (64 * c.args.w) c.args.end c.args.carrier c.args.chips
-    → IsWordSum c.products-4.result (λ j. wiped_quadrature (sample_at c.args.samples.now j) (r.cos j) (r.sin j) *ℤ r.prompt j) (64 * c.args.w) c.args.first c.args.end
-unfolding IsWord
-quadrature_prompt c r of =
-    rw c.products-4.ensures.sum (quadrature_word (sample_at c.args.samples.now) r.cos r.sin r.prompt (64 * c.args.w) c.args.first c.args.end
-    c.word-sign.result.0 c.word-sign.result.1 c.args.carrier.sin_sign c.args.carrier.sin_size c.args.chips.prompt c.places-mask.result c.requires.ordered c.requires.within
-    (xor_lt 64 (bit_xor c.word-sign.result.0 c.args.carrier.sin_sign) c.args.chips.prompt (xor_lt 64 c.word-sign.result.0 c.args.carrier.sin_sign (search rules) (search rules)) (search rules)) (mask_is c)
-    (λ j h. c.word-sign.ensures.word j (omega (arith, c.requires.within)) (omega (arith, c.requires.reach))) of.sin of.prompt)
+  signs : HasSigns r (64 * c.args.w + c.args.first) (64 * c.args.w + c.args.end)
+  signs = signs_of_replica r (64 * c.args.w) c.args.first c.args.end c.args.carrier c.args.chips of
 
-in_phase_late : (c : goal.After-products-6) (r : Replica) → AreOf r (64 * c.args.w) c.args.end c.args.carrier c.args.chips
-    → IsWordSum c.products-5.result (λ j. wiped_in_phase (sample_at c.args.samples.now j) (r.cos j) (r.sin j) *ℤ r.late j) (64 * c.args.w) c.args.first c.args.end
-unfolding IsWord
-in_phase_late c r of =
-    rw c.products-5.ensures.sum (in_phase_word (sample_at c.args.samples.now) r.cos r.sin r.late (64 * c.args.w) c.args.first c.args.end
-    c.word-sign.result.0 c.word-sign.result.1 c.args.carrier.cos_sign c.args.carrier.sin_size c.args.chips.late c.places-mask.result c.requires.ordered c.requires.within (search rules) (mask_is c)
-    (λ j h. c.word-sign.ensures.word j (omega (arith, c.requires.within)) (omega (arith, c.requires.reach))) of.cos of.late)
+  in_phase_is : counts_in c.six_of_part-in_phase.result
+      ≡ part_sums (λ j. (sample_at c.args.samples.now j).in_phase) r.cos (λ j. pos 0 -ℤ r.sin j) r (64 * c.args.w + c.args.first) (64 * c.args.w + c.args.end)
+  in_phase_is =
+      c.six_of_part-in_phase.ensures.sums (λ j. (sample_at c.args.samples.now j).in_phase) r.cos (λ j. pos 0 -ℤ r.sin j) r (64 * c.args.w) c.args.first c.args.end (mask_is c)
+      (part_of_run c.args.w c.args.end c.requires.within c.args.samples.now c.in_phase-part.result c.requires.reach c.in_phase-part.ensures) cos_is minus_sin_is chips_are
 
-quadrature_late : (c : goal.After-products-6) (r : Replica) → AreOf r (64 * c.args.w) c.args.end c.args.carrier c.args.chips
-    → IsWordSum c.products-6.result (λ j. wiped_quadrature (sample_at c.args.samples.now j) (r.cos j) (r.sin j) *ℤ r.late j) (64 * c.args.w) c.args.first c.args.end
-unfolding IsWord
-quadrature_late c r of =
-    rw c.products-6.ensures.sum (quadrature_word (sample_at c.args.samples.now) r.cos r.sin r.late (64 * c.args.w) c.args.first c.args.end
-    c.word-sign.result.0 c.word-sign.result.1 c.args.carrier.sin_sign c.args.carrier.sin_size c.args.chips.late c.places-mask.result c.requires.ordered c.requires.within
-    (xor_lt 64 (bit_xor c.word-sign.result.0 c.args.carrier.sin_sign) c.args.chips.late (xor_lt 64 c.word-sign.result.0 c.args.carrier.sin_sign (search rules) (search rules)) (search rules)) (mask_is c)
-    (λ j h. c.word-sign.ensures.word j (omega (arith, c.requires.within)) (omega (arith, c.requires.reach))) of.sin of.late)
+  quadrature_is : counts_in c.match-quadrature.quadrature
+      ≡ part_sums (λ j. (sample_at c.args.samples.now j).quadrature) r.sin r.cos r (64 * c.args.w + c.args.first) (64 * c.args.w + c.args.end)
+  quadrature_is = elim c.match-quadrature.branch [
+    | in-Some w ↦ rw w.quadrature-is (w.six_of_part-quadrature.ensures.sums (λ j. (sample_at c.args.samples.now j).quadrature) r.sin r.cos r (64 * c.args.w) c.args.first c.args.end (mask_is c)
+        (quadrature_of_run c.args.w c.args.end c.requires.within c.args.samples.now w.in-Some.part c.requires.reach w.in-Some.ensures.word) sin_is cos_is chips_are)
+    | in-None w ↦ rw w.quadrature-is (sym (part_sums-none (λ j. (sample_at c.args.samples.now j).quadrature) r.sin r.cos r
+        (64 * c.args.w + c.args.first) (64 * c.args.w + c.args.end) (real_in_run c.args.w c.args.end c.requires.within c.args.samples.now c.args.first c.requires.reach w.in-None.ensures.real)))
+  ]
+
+  small : AreSmall (sample_at c.args.samples.now) r.cos r.sin (64 * c.args.w + c.args.first) (64 * c.args.w + c.args.end)
+  small =
+      small_of_replica c.args.samples.now r c.args.w c.args.first c.args.end c.requires.within c.in_phase-part.result c.args.carrier c.args.chips c.requires.reach c.in_phase-part.ensures
+      (elim c.match-quadrature.branch [
+        | in-Some w ↦ quadrature_small c.args.w c.args.end c.requires.within c.args.samples.now w.in-Some.part c.requires.reach w.in-Some.ensures.word
+        | in-None w ↦ real_small c.args.w c.args.end c.requires.within c.args.samples.now c.requires.reach w.in-None.ensures.real
+      ]) of
+
+  sums_are : counts_in c.add.result ≡ six_sums (sample_at c.args.samples.now) r (64 * c.args.w + c.args.first) (64 * c.args.w + c.args.end)
+  sums_are =
+      c.add.ensures ∙ ap₂ added in_phase_is quadrature_is
+      ∙ sym (six_by_parts (sample_at c.args.samples.now) r (64 * c.args.w + c.args.first) (64 * c.args.w + c.args.end) signs)
 
 pub returns-clause-sums : goal.returns-clause-sums
-unfolding six_sums in_phase_sum quadrature_sum
-returns-clause-sums c r of = rw (
-  kept c.products.result c.products.ensures.small,
-  kept c.products-2.result c.products-2.ensures.small,
-  kept c.products-3.result c.products-3.ensures.small,
-  kept c.products-4.result c.products-4.ensures.small,
-  kept c.products-5.result c.products-5.ensures.small,
-  kept c.products-6.result c.products-6.ensures.small,
-  (in_phase_early c r of).sum_is,
-  (quadrature_early c r of).sum_is,
-  (in_phase_prompt c r of).sum_is,
-  (quadrature_prompt c r of).sum_is,
-  (in_phase_late c r of).sum_is,
-  (quadrature_late c r of).sum_is,
-) refl
+returns-clause-sums c r of = sums_are c r of
 
 pub returns-clause-small : goal.returns-clause-small
 returns-clause-small c =
     let own = own_replica (64 * c.args.w) c.args.end c.args.carrier c.args.chips in
-    rw (
-  kept c.products.result c.products.ensures.small,
-  kept c.products-2.result c.products-2.ensures.small,
-  kept c.products-3.result c.products-3.ensures.small,
-  kept c.products-4.result c.products-4.ensures.small,
-  kept c.products-5.result c.products-5.ensures.small,
-  kept c.products-6.result c.products-6.ensures.small,
-) (record { ie = (in_phase_early c own.replica own.own).small; qe = (quadrature_early c own.replica own.own).small; ip = (in_phase_prompt c own.replica own.own).small; qp = (quadrature_prompt c own.replica own.own).small; il = (in_phase_late c own.replica own.own).small; ql = (quadrature_late c own.replica own.own).small })
+    let many : 64 * c.args.w + c.args.end - (64 * c.args.w + c.args.first) ≡ c.args.end - c.args.first = omega arith in
+    rw (sums_are c own.replica own.own) (rw many at (six-small (sample_at c.args.samples.now) own.replica (64 * c.args.w + c.args.first) (64 * c.args.w + c.args.end) (small c own.replica own.own) (signs c own.replica own.own)))

@@ -6,7 +6,7 @@ use Rattle.definitions.specs.Correlation.{six_sums}
 use Rattle.lane_correlator.specs.Counting.{counts_in, AreWithin}
 use Rattle.lane_correlator.specs.ReplicaWords.{phases_of}
 use Rattle.lane_correlator.proofs.ReplicaLemmas.{placed}
-use Rattle.lane_correlator.proofs.with_replica.replica_sums.Given as goal
+use Rattle.lane_correlator.proofs.with_replica.run_sums.Given as goal
 
 abbrev pub invariant-loop-w : goal.invariant-loop-w
 invariant-loop-w l = record {

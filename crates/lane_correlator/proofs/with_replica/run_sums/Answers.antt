@@ -10,7 +10,7 @@ use Rattle.lane_correlator.specs.Counting.{counts_in}
 use Rattle.lane_correlator.specs.ReplicaWords.{AreOf, phases_of}
 use Rattle.lane_correlator.proofs.SumLemmas.{six_sums-none, none_within, added_within, added_fit}
 use Rattle.lane_correlator.proofs.ReplicaLemmas.{placed, words_of_placed, carrier_word_on, code_word_on, sums_from}
-use Rattle.lane_correlator.proofs.with_replica.replica_sums.Goals as goal
+use Rattle.lane_correlator.proofs.with_replica.run_sums.Goals as goal
 
 pub loop-w-init : goal.loop-w-init
 loop-w-init c =
@@ -33,7 +33,7 @@ pub add-sums-requires : goal.add-sums-requires
 add-sums-requires c =
     let p : ℕ = min (c.args.from + c.args.count) (max c.args.from (64 * c.loop-w.w)) in
     added_fit (9 * (p - c.args.from)) (9 * (c.min-in-loop-w.result - 64 * c.loop-w.w - (c.max.result - 64 * c.loop-w.w))) (counts_in c.loop-w.sums) (counts_in c.word_sums.result) c.loop-w.invariant.small c.word_sums.ensures.small
-    (omega (arith, c.len-len.ensures.count, c.len-len.ensures.most, c.requires, c.min-in-loop-w.ensures))
+    (omega (arith, c.len-len.ensures.count, c.len-len.ensures.most, c.requires.within, c.min-in-loop-w.ensures))
 
 pub loop-w-preserved : goal.loop-w-preserved
 loop-w-preserved c =
@@ -51,10 +51,10 @@ loop-w-preserved c =
     let high : p ≤ q = omega arith in
     let i = c.loop-w.invariant in
     let few : c.min-in-loop-w.result - 64 * w ≤ 64 = omega (arith, c.min-in-loop-w.ensures) in
-    let carrier = c.next_word-carrier_word.ensures in
+    let carrier = c.next_word-wave.ensures in
     let chips = c.next_word-chips.ensures in
-    let of : AreOf r (64 * w) (c.min-in-loop-w.result - 64 * w) c.next_word-carrier_word.result c.next_word-chips.result =
-        words_of_placed c.args.prn phases (from / 64) w (c.min-in-loop-w.result - 64 * w) c.loop-w.carrier.phase c.loop-w.code.phase c.next_word-carrier_word.result c.next_word-chips.result i.from few i.carrier i.code
+    let of : AreOf r (64 * w) (c.min-in-loop-w.result - 64 * w) c.next_word-wave.result c.next_word-chips.result =
+        words_of_placed c.args.prn phases (from / 64) w (c.min-in-loop-w.result - 64 * w) c.loop-w.carrier.phase c.loop-w.code.phase c.next_word-wave.result c.next_word-chips.result i.from few i.carrier i.code
         (rw i.carrier_step at carrier.word) (rw i.code_step at chips.word) in
     record {
       from = omega (arith, i.from);
@@ -72,7 +72,7 @@ pub returns-clause-sums : goal.returns-clause-sums
 returns-clause-sums c =
     let from : ℕ = c.args.from in
     let w : ℕ = c.loop-w.w in
-    let last : min (c.args.from + c.args.count) (max from (64 * w)) ≡ (c.args.from + c.args.count) = omega (arith, c.min.ensures, c.loop-w.auto.w, c.loop-w-test.false, c.requires, c.len-len.ensures.count) in
+    let last : min (c.args.from + c.args.count) (max from (64 * w)) ≡ (c.args.from + c.args.count) = omega (arith, c.min.ensures, c.loop-w.auto.w, c.loop-w-test.false, c.requires.within, c.len-len.ensures.count) in
     let many : from + c.args.count - from ≡ c.args.count = omega arith in
     rw last at c.loop-w.invariant.sums
     ∙ rw many at (sums_from (sample_at c.args.samples.now) c.args.prn from (c.args.from + c.args.count) (phases_of c.earlier-carrier.result c.earlier-code.result) (phases_of c.args.carrier.now c.args.code.now)
@@ -81,5 +81,5 @@ returns-clause-sums c =
 pub returns-clause-small : goal.returns-clause-small
 returns-clause-small c =
     let from : ℕ = c.args.from in
-    let last : min (from + c.args.count) (max from (64 * c.loop-w.w)) - from ≡ c.args.count = omega (arith, c.min.ensures, c.loop-w.auto.w, c.loop-w-test.false, c.requires, c.len-len.ensures.count) in
+    let last : min (from + c.args.count) (max from (64 * c.loop-w.w)) - from ≡ c.args.count = omega (arith, c.min.ensures, c.loop-w.auto.w, c.loop-w-test.false, c.requires.within, c.len-len.ensures.count) in
     rw last at c.loop-w.invariant.small

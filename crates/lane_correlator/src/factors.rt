@@ -1,0 +1,102 @@
+ghost use Rattle.std.specs.Prelude.{◌≡◌, ◌-◌, ◌<◌, ℕ, false, IfSome, IfNone};
+ghost use Rattle.std.specs.Int.{bit_at};
+ghost use Rattle.sample_planes.specs.Signs.{IsWord, IsQuadratureWord, AreReal, AreOneBit};
+ghost use Rattle.std.specs.Prelude.{pos, ◌-ℤ◌};
+ghost use Rattle.oscillators.specs.Signs.{signed};
+ghost use Rattle.lane_correlator.specs.Factors.{IsCosine, IsSine, IsMinusSine, wave_bits};
+
+use oscillators::{CarrierPlanes, CarrierWord};
+use sample_planes::Planes;
+
+/// Factors at 64 places, the first of them in the top bits: 1 in `negative` where a factor is below 0,
+/// and 1 in `large` where it is the greater of its two sizes, 3 or 1 for samples, 2 or 1 for carriers.
+#[derive(Clone, Copy, Debug)]
+pub(crate) struct Factors {
+    pub(crate) negative: u64,
+    pub(crate) large: u64,
+}
+
+impl Factors {
+    /// The parts in phase of the samples from `64 * w` on.
+    pub(crate) fn in_phase(samples: &Planes, w: usize, has_sizes: bool) -> Factors
+        requires word { w < 16 }
+        requires one_bit { has_sizes ≡ false → AreOneBit samples.now }
+        ensures { IsWord samples.now w result.negative result.large }
+    {
+        let (negative, size) = samples.word(w);
+        let large = if has_sizes { size } else { 0 };
+        Factors { negative, large }
+    }
+
+    /// Their parts in quadrature, or None where the samples are real.
+    pub(crate) fn quadrature(samples: &Planes, w: usize, has_sizes: bool) -> Option<Factors>
+        requires word { w < 16 }
+        requires one_bit { has_sizes ≡ false → AreOneBit samples.now }
+        ensures word { IfSome result (λ f. IsQuadratureWord samples.now w f.negative f.large) }
+        ensures real { IfNone result (AreReal samples.now) }
+    {
+        let (negative, size) = samples.word_q(w)?;
+        let large = if has_sizes { size } else { 0 };
+        Some(Factors { negative, large })
+    }
+}
+
+/// A carrier at 64 places.
+#[derive(Clone, Copy, Debug)]
+pub(crate) struct Wave {
+    pub(crate) cos: Factors,
+    pub(crate) sin: Factors,
+    pub(crate) minus_sin: Factors,
+}
+
+impl Wave {
+    /// That of the samples from `64 * w` on.
+    pub(crate) fn new(carrier: &CarrierPlanes, w: usize) -> Wave
+        requires { w < 16 }
+        ensures cos { IsCosine carrier.now.cos w result.cos }
+        ensures sin { IsSine carrier.now.sin w result.sin }
+        ensures minus_sin { IsMinusSine carrier.now.sin w result.minus_sin }
+        ensures sizes { (j : ℕ) → j < 64 → bit_at result.cos.large (63 - j) ≡ 1 - bit_at result.sin.large (63 - j) }
+    {
+        let (cos, sin, sin_size) = carrier.word(w);
+        Wave {
+            cos: Factors {
+                negative: cos,
+                large: !sin_size,
+            },
+            sin: Factors {
+                negative: sin,
+                large: sin_size,
+            },
+            minus_sin: Factors {
+                negative: !sin,
+                large: sin_size,
+            },
+        }
+    }
+
+    /// That of a word.
+    pub(crate) fn of_word(word: CarrierWord) -> Wave
+        ensures cos { (j : ℕ) → j < 64 → wave_bits result.cos j
+            ≡ signed (bit_at word.cos_sign (63 - j)) (1 - bit_at word.sin_size (63 - j)) }
+        ensures sin { (j : ℕ) → j < 64 → wave_bits result.sin j
+            ≡ signed (bit_at word.sin_sign (63 - j)) (bit_at word.sin_size (63 - j)) }
+        ensures minus_sin { (j : ℕ) → j < 64 → wave_bits result.minus_sin j
+            ≡ pos 0 -ℤ signed (bit_at word.sin_sign (63 - j)) (bit_at word.sin_size (63 - j)) }
+    {
+        Wave {
+            cos: Factors {
+                negative: word.cos_sign,
+                large: !word.sin_size,
+            },
+            sin: Factors {
+                negative: word.sin_sign,
+                large: word.sin_size,
+            },
+            minus_sin: Factors {
+                negative: !word.sin_sign,
+                large: word.sin_size,
+            },
+        }
+    }
+}
