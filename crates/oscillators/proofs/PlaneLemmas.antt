@@ -1,6 +1,9 @@
 -- Planes that are filled sixteen samples at a time.
-use Rattle.std.proofs.Common.{◌≡◌, ℕ, zero, suc, ◌+◌, ◌-◌, ◌*◌, ◌/◌, ◌%◌, ◌^◌, ◌<◌, ◌≤◌, List, ◌∷◌, ◌++◌, length, map, get_or, refl, sym, ap, ◌∙◌, arith, ℤ, pos, mul-le-mul}
+use Rattle.std.proofs.Common.{inl, inr, ◌≡◌, ℕ, zero, suc, ◌+◌, ◌-◌, ◌*◌, ◌/◌, ◌%◌, ◌^◌, ◌<◌, ◌≤◌, List, ◌∷◌, ◌++◌, length, map, get_or, refl, sym, ap, ◌∙◌, arith, ℤ, pos, mul-le-mul}
 use Rattle.std.specs.Int.{bit_at}
+use Rattle.std.specs.Prelude.{bit_xor, bit_and, min}
+use Rattle.std.proofs.lemmas.Nat.Bits.{bit_at_xor, bit_at_and}
+use Rattle.std.proofs.lemmas.Bool.{cases_lt}
 use Rattle.std.proofs.Math.Path.{ap₂}
 use Rattle.std.proofs.Math.Nat.{add-mod-mod, mod-add-mod, mod-eq_of_lt}
 use Rattle.std.proofs.lemmas.Nat.{mul-mod_first}
@@ -111,6 +114,10 @@ code_turned phase step g here e =
     let next : 16 * g + 16 ≡ 16 * (g + 1) = omega arith in
     code_behind phase step (16 * g) 16 here e ∙ ap (code_phase_after phase step) next
 
+-- 64 samples on
+pub code_on : (phase step : ℕ) → (phase + 4 * (16 * step)) % (1023 * 2 ^ 32) ≡ code_phase_after phase step 64
+code_on phase step = let way : 4 * (16 * step) ≡ 64 * step = omega arith in rw way refl
+
 -- chips are told apart by their numbers within a period
 pub same_chip : (prn m n : ℕ) → m % 1023 ≡ n % 1023 → chip prn m ≡ chip prn n
 unfolding chip
@@ -137,6 +144,16 @@ chip_before_found prn phase step g r here cell h l is cell_is =
     let below : here < 1023 * 2 ^ 32 = omega (arith, is) in
     rw cell_is (same_chip prn _ _ (chip_number_before here (r * step) below (few_steps r step h l) ∙ ap (λ (p : ℕ). (p / 2 ^ 32 + 1022) % 1023) (code_behind phase step (16 * g) r here is)))
 
+-- whether a sample lies in the second half of its chip
+half_number : (here w : ℕ) → here < 1023 * 2 ^ 32 → (here % 4294967296 + w) % 4294967296 / 2147483648 ≡ (here + w) % 4393751543808 % 4294967296 / 2147483648
+half_number here w h = omega arith
+
+pub half_found : (phase step g r here : ℕ) → here ≡ code_phase_after phase step (16 * g)
+    → (here % 4294967296 + r * step) % 2 ^ 32 / 2 ^ 31 ≡ code_phase_after phase step (16 * g + r) % 2 ^ 32 / 2 ^ 31
+half_found phase step g r here is =
+    let below : here < 1023 * 2 ^ 32 = omega (arith, is) in
+    half_number here (r * step) below ∙ ap (λ (p : ℕ). p % 2 ^ 32 / 2 ^ 31) (code_behind phase step (16 * g) r here is)
+
 -- half a chip ahead
 ahead_is : (phase step j : ℕ) → code_phase_after (phase + 2 ^ 31) step j ≡ (code_phase_after phase step j + 2 ^ 31) % (1023 * 2 ^ 32)
 ahead_is phase step j =
@@ -148,6 +165,39 @@ early_is prn phase step j = ap (λ (p : ℕ). sign_of (chip prn (p / 2 ^ 32))) (
 
 behind_number : (p : ℕ) → p < 4393751543808 → ((p + 2147483648) % 4393751543808 / 4294967296 + 1022) % 1023 ≡ (p + 4393751543808 - 2147483648) % 4393751543808 / 4294967296 % 1023
 behind_number p h = omega arith
+
+-- where a word is chosen from two by the bits of a third
+pub chosen : (e l h i : ℕ) → bit_at (bit_xor l (bit_and (bit_xor e l) h)) i ≡ (bit_at l i + min ((bit_at e i + bit_at l i) % 2) (bit_at h i)) % 2
+chosen e l h i =
+    bit_at_xor l (bit_and (bit_xor e l) h) i
+    ∙ ap (λ (n : ℕ). (bit_at l i + n) % 2) (bit_at_and (bit_xor e l) h i ∙ ap (λ (n : ℕ). min n (bit_at h i)) (bit_at_xor e l i))
+
+second_number : (p a : ℕ) → p < 4393751543808 → a ≡ (p + 2147483648) % 4393751543808 → a % 4294967296 / 2147483648 ≡ 1 → a / 4294967296 % 1023 ≡ p / 4294967296 % 1023
+second_number p a h is half = omega arith
+
+first_number : (p a : ℕ) → p < 4393751543808 → a ≡ (p + 2147483648) % 4393751543808 → a % 4294967296 / 2147483648 ≡ 0 → (a / 4294967296 + 1022) % 1023 ≡ p / 4294967296 % 1023
+first_number p a h is half = omega arith
+
+-- the chip in time is the early one in the second half of that, and in the first half the one before
+pub prompt_between : (prn phase step j e l h : ℕ) → e < 2 → l < 2 → h < 2
+    → e ≡ chip prn (code_phase_after (phase + 2 ^ 31) step j / 2 ^ 32)
+    → l ≡ chip prn (code_phase_after (phase + 2 ^ 31) step j / 2 ^ 32 + 1022)
+    → h ≡ code_phase_after (phase + 2 ^ 31) step j % 2 ^ 32 / 2 ^ 31
+    → (l + min ((e + l) % 2) h) % 2 ≡ chip prn (code_phase_after phase step j / 2 ^ 32)
+prompt_between prn phase step j e l h he hl hh early late half =
+    let p : ℕ = code_phase_after phase step j in
+    let a : ℕ = code_phase_after (phase + 2 ^ 31) step j in
+    let below : p < 4393751543808 = omega arith in
+    elim (cases_lt h 1) [
+      | inl none ↦
+          let zero_is : a % 4294967296 / 2147483648 ≡ 0 = omega (arith, none, half) in
+          let first : (l + min ((e + l) % 2) h) % 2 ≡ l = omega (arith, none, hl) in
+          first ∙ late ∙ same_chip prn _ _ (first_number p a below (ahead_is phase step j) zero_is)
+      | inr one ↦
+          let one_is : a % 4294967296 / 2147483648 ≡ 1 = omega (arith, one, hh, half) in
+          let second : (l + min ((e + l) % 2) h) % 2 ≡ e = omega (arith, one, hh, he, hl) in
+          second ∙ early ∙ same_chip prn _ _ (second_number p a below (ahead_is phase step j) one_is)
+    ]
 
 pub late_is : (prn phase step j : ℕ) → sign_of (chip prn (code_phase_after (phase + 2 ^ 31) step j / 2 ^ 32 + 1022)) ≡ late_sign prn (code_phase_after phase step j)
 late_is prn phase step j =

@@ -129,29 +129,27 @@ impl CodeOsc {
         ensures moved { self.new ≡ record self.old { phase = code_phase_after self.old.phase self.old.step 64 } }
     {
         let turn = 16 * self.step as u64;
-        let mut word = ChipWord {
-            early: 0,
-            prompt: 0,
-            late: 0,
-        };
-        let mut here = self.phase;
+        let mut early = 0;
+        let mut late = 0;
+        let mut second_half = 0;
         let mut ahead = in_cycle(self.phase + HALF_CHIP);
         for group in 0..4u32 {
-            let cells = self.strides.cells(here % CHIP, CHIP);
-            let chips = book.look_up(prn, (here >> 32) as usize, cells);
-            let cells_ahead = self.strides.cells(ahead % CHIP, CHIP);
-            let chips_ahead = book.look_up(prn, (ahead >> 32) as usize, cells_ahead);
-            word = ChipWord {
-                early: with_sixteen(word.early, top_bits(chips_ahead)),
-                prompt: with_sixteen(word.prompt, top_bits(chips)),
-                // The late chip is the one before the early one.
-                late: with_sixteen(word.late, second_bits(chips_ahead)),
-            };
-            here = in_cycle(here + turn);
+            let cells = self.strides.cells(ahead % CHIP, CHIP);
+            let chips = book.look_up(prn, (ahead >> 32) as usize, cells);
+            let halves = self.strides.second_halves((ahead % CHIP) as u32);
+            early = with_sixteen(early, top_bits(chips));
+            // The late chip is the one before the early one.
+            late = with_sixteen(late, second_bits(chips));
+            second_half = with_sixteen(second_half, halves);
             ahead = in_cycle(ahead + turn);
         }
-        self.phase = here;
-        word
+        self.phase = in_cycle(self.phase + 4 * turn);
+        ChipWord {
+            early,
+            // Half a chip behind the second half of a chip is the same chip, and behind the first half the one before.
+            prompt: late ^ ((early ^ late) & second_half),
+            late,
+        }
     }
 
     /// The signs of a satellite's chips at this sample and the `n` - 1 that follow: at the phase, half a chip ahead of it and half a chip

@@ -1,3 +1,4 @@
+ghost use Rattle.std.specs.Int.{bit_at};
 ghost use Rattle.std.specs.Prelude.{◌≡◌, ◌+◌, ◌-◌, ◌*◌, ◌/◌, ◌%◌, ◌^◌, ◌<◌, ◌≤◌, ℕ, length, slice_index, cond, ltb, ◌⊎◌};
 
 use std::simd::prelude::*;
@@ -43,6 +44,27 @@ impl Strides {
     {
         (self.whole + carries((cell - 1 - part) as u32, self.low)) & u8x16::splat(15)
     }
+
+    /// Whether sixteen samples lie in the second half of a cell of 2^32, where the first lies at `part` of one. The first of them is the
+    /// highest of sixteen bits.
+    pub(crate) fn second_halves(&self, part: u32) -> u64
+        ensures halves { (step : ℕ) → IsStrides step (2 ^ 32) self.now → (r : ℕ) → r < 16
+            → bit_at result (15 - r) ≡ (part + r * step) % 2 ^ 32 / 2 ^ 31 }
+        ensures few { result < 2 ^ 16 }
+    {
+        upper_halves(self.low, part)
+    }
+}
+
+/// Which of sixteen lanes are in the upper half of 32 bits when a number is added to them: that of lane k is bit k.
+fn upper_halves(low: u32x16, part: u32) -> u64
+    requires { length low ≡ 16 }
+    ensures halves { (k : ℕ) → k < 16 → bit_at result k ≡ (slice_index low k + part) % 2 ^ 32 / 2 ^ 31 }
+    ensures few { result < 2 ^ 16 }
+{
+    (low + u32x16::splat(part))
+        .simd_ge(u32x16::splat(1 << 31))
+        .to_bitmask()
 }
 
 /// 1 in each lane above a limit.

@@ -1,8 +1,10 @@
 use Rattle.std.proofs.Common.{◌≡◌, ◌*◌, ◌+◌, ◌-◌, ◌<◌, ◌≤◌, ◌^◌, ◌/◌, ◌%◌, ℕ, get_or, refl, ap, ◌∙◌, arith, rules}
+use Rattle.std.specs.Int.{bit_at}
+use Rattle.std.proofs.lemmas.Nat.Bits.{bit_at-lt}
 use Rattle.definitions.specs.Codes.{chip}
 use Rattle.definitions.specs.Oscillators.{code_phase_after}
 use Rattle.oscillators.specs.Views.{Oscillation}
-use Rattle.oscillators.proofs.PlaneLemmas.{code_turned, chip_found, chip_before_found}
+use Rattle.oscillators.proofs.PlaneLemmas.{code_turned, code_on, chip_found, chip_before_found, half_found, chosen, prompt_between}
 use Rattle.oscillators.proofs.code.CodeOsc.next_chips.Goals as goal
 
 pub loop-group-preserved : goal.loop-group-preserved
@@ -15,28 +17,49 @@ loop-group-preserved c =
     let strides = c.self.invariant.1 in
     let i = c.loop-group.invariant in
     let g : ℕ = c.loop-group.group in
-    let here : ℕ = c.loop-group.here in
     let ahead : ℕ = c.loop-group.ahead in
     let few : 16 * g ≤ 48 = omega arith in
     let next : 16 * g + 16 ≡ 16 * (g + 1) = omega arith in
-    let cell : (r : ℕ) → r < 16 → get_or c.cells-cells.result (15 - r) 0 ≡ (here % 4294967296 + r * step) / 4294967296 % 16 = λ r h.
+    let cell : (r : ℕ) → r < 16 → get_or c.cells-cells.result (15 - r) 0 ≡ (ahead % 4294967296 + r * step) / 4294967296 % 16 = λ r h.
     let lane : 15 - (15 - r) ≡ r = omega arith in
     c.cells-cells.ensures.cells c.self.inside.step strides (15 - r) (omega arith) ∙ rw (lane, step_is) refl
     in
-    let cell_ahead : (r : ℕ) → r < 16 → get_or c.cells-cells_ahead.result (15 - r) 0 ≡ (ahead % 4294967296 + r * step) / 4294967296 % 16 = λ r h.
-    let lane : 15 - (15 - r) ≡ r = omega arith in
-    c.cells-cells_ahead.ensures.cells c.self.inside.step strides (15 - r) (omega arith) ∙ rw (lane, step_is) refl
-    in
     record {
-      here = c.in_cycle-here.ensures ∙ ap (λ (s : ℕ). (here + 16 * s) % (1023 * 2 ^ 32)) step_is ∙ code_turned phase step g here i.here;
       ahead = c.in_cycle-ahead-in-loop-group.ensures ∙ ap (λ (s : ℕ). (ahead + 16 * s) % (1023 * 2 ^ 32)) step_is ∙ code_turned (phase + 2 ^ 31) step g ahead i.ahead;
-      prompt = rw next at (c.with_sixteen-in-loop-group.ensures (λ (n : ℕ). chip c.args.prn (code_phase_after phase step n / 2 ^ 32)) (16 * g) few i.prompt (λ r h.
-          c.top_bits-in-loop-group.ensures.bits (15 - r) (omega arith) ∙ c.look_up-chips.ensures.chips (15 - r) (omega arith)
-          ∙ chip_found c.args.prn phase step g r here (get_or c.cells-cells.result (15 - r) 0) h small i.here (cell r h)));
-      early = rw next at (c.with_sixteen.ensures (λ (n : ℕ). chip c.args.prn (code_phase_after (phase + 2 ^ 31) step n / 2 ^ 32)) (16 * g) few i.early (λ r h.
-          c.top_bits.ensures.bits (15 - r) (omega arith) ∙ c.look_up-chips_ahead.ensures.chips (15 - r) (omega arith)
-          ∙ chip_found c.args.prn (phase + 2 ^ 31) step g r ahead (get_or c.cells-cells_ahead.result (15 - r) 0) h small i.ahead (cell_ahead r h)));
-      late = rw next at (c.with_sixteen-in-loop-group-2.ensures (λ (n : ℕ). chip c.args.prn (code_phase_after (phase + 2 ^ 31) step n / 2 ^ 32 + 1022)) (16 * g) few i.late (λ r h.
-          c.second_bits.ensures.bits (15 - r) (omega arith) ∙ c.look_up-chips_ahead.ensures.before (15 - r) (omega arith)
-          ∙ chip_before_found c.args.prn (phase + 2 ^ 31) step g r ahead (get_or c.cells-cells_ahead.result (15 - r) 0) h small i.ahead (cell_ahead r h)));
+      early = rw next at (c.with_sixteen-early.ensures (λ (n : ℕ). chip c.args.prn (code_phase_after (phase + 2 ^ 31) step n / 2 ^ 32)) (16 * g) few i.early (λ r h.
+          c.top_bits.ensures.bits (15 - r) (omega arith) ∙ c.look_up-chips.ensures.chips (15 - r) (omega arith)
+          ∙ chip_found c.args.prn (phase + 2 ^ 31) step g r ahead (get_or c.cells-cells.result (15 - r) 0) h small i.ahead (cell r h)));
+      late = rw next at (c.with_sixteen-late.ensures (λ (n : ℕ). chip c.args.prn (code_phase_after (phase + 2 ^ 31) step n / 2 ^ 32 + 1022)) (16 * g) few i.late (λ r h.
+          c.second_bits.ensures.bits (15 - r) (omega arith) ∙ c.look_up-chips.ensures.before (15 - r) (omega arith)
+          ∙ chip_before_found c.args.prn (phase + 2 ^ 31) step g r ahead (get_or c.cells-cells.result (15 - r) 0) h small i.ahead (cell r h)));
+      second_half = rw next at (c.with_sixteen-second_half.ensures (λ (n : ℕ). code_phase_after (phase + 2 ^ 31) step n % 2 ^ 32 / 2 ^ 31) (16 * g) few i.second_half (λ r h.
+          c.second_halves-halves.ensures.halves c.self.inside.step strides r h ∙ ap (λ (s : ℕ). (ahead % 4294967296 + r * s) % 2 ^ 32 / 2 ^ 31) step_is
+          ∙ half_found (phase + 2 ^ 31) step g r ahead i.ahead));
     }
+
+pub returns-clause-word : goal.returns-clause-word
+returns-clause-word c =
+    let phase : ℕ = c.args.self.now.phase in
+    let step : ℕ = c.args.self.now.step in
+    let i = c.loop-group.invariant in
+    let all : 16 * c.loop-group.group ≡ 64 = omega arith in
+    let early = (rw all at i.early).bits in
+    let late = (rw all at i.late).bits in
+    let second_half = (rw all at i.second_half).bits in
+    let place : (j : ℕ) → 64 - 1 - j ≡ 63 - j = λ j. omega arith in
+    record {
+      early = λ j h. rw (place j) at (early j h);
+      late = λ j h. rw (place j) at (late j h);
+      prompt = λ j h.
+          let e : ℕ = c.loop-group.early in
+          let l : ℕ = c.loop-group.late in
+          let m : ℕ = c.loop-group.second_half in
+          chosen e l m (63 - j) ∙ prompt_between c.args.prn phase step j (bit_at e (63 - j)) (bit_at l (63 - j)) (bit_at m (63 - j)) (bit_at-lt e (63 - j)) (bit_at-lt l (63 - j)) (bit_at-lt m (63 - j))
+          (rw (place j) at (early j h)) (rw (place j) at (late j h)) (rw (place j) at (second_half j h));
+    }
+
+pub returns-clause-moved : goal.returns-clause-moved
+returns-clause-moved c =
+    let i = c.self.inside in
+    let at : ℕ → Oscillation = λ p. record { phase = p; step = i.step } in
+    rw (← c.self.view_is) (ap at (c.in_cycle-self-inside.ensures ∙ code_on i.phase i.step))

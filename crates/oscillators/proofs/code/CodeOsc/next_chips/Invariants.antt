@@ -1,4 +1,4 @@
-use Rattle.std.proofs.Common.{◌≡◌, ◌+◌, ◌*◌, ◌/◌, ◌^◌}
+use Rattle.std.proofs.Common.{◌≡◌, ◌+◌, ◌*◌, ◌/◌, ◌%◌, ◌^◌}
 use Rattle.bit_planes.specs.Bits.{IsBegun}
 use Rattle.definitions.specs.Codes.{chip}
 use Rattle.definitions.specs.Oscillators.{code_phase_after}
@@ -6,9 +6,8 @@ use Rattle.oscillators.proofs.code.CodeOsc.next_chips.Given as goal
 
 abbrev pub invariant-loop-group : goal.invariant-loop-group
 invariant-loop-group l = record {
-  here : l.here ≡ code_phase_after l.fn.self.phase l.fn.self.step (16 * l.group);
   ahead : l.ahead ≡ code_phase_after (l.fn.self.phase + 2 ^ 31) l.fn.self.step (16 * l.group);
-  prompt : IsBegun (λ i. chip l.prn (code_phase_after l.fn.self.phase l.fn.self.step i / 2 ^ 32)) (16 * l.group) l.word.prompt;
-  early : IsBegun (λ i. chip l.prn (code_phase_after (l.fn.self.phase + 2 ^ 31) l.fn.self.step i / 2 ^ 32)) (16 * l.group) l.word.early;
-  late : IsBegun (λ i. chip l.prn (code_phase_after (l.fn.self.phase + 2 ^ 31) l.fn.self.step i / 2 ^ 32 + 1022)) (16 * l.group) l.word.late;
+  early : IsBegun (λ i. chip l.prn (code_phase_after (l.fn.self.phase + 2 ^ 31) l.fn.self.step i / 2 ^ 32)) (16 * l.group) l.early;
+  late : IsBegun (λ i. chip l.prn (code_phase_after (l.fn.self.phase + 2 ^ 31) l.fn.self.step i / 2 ^ 32 + 1022)) (16 * l.group) l.late;
+  second_half : IsBegun (λ i. code_phase_after (l.fn.self.phase + 2 ^ 31) l.fn.self.step i % 2 ^ 32 / 2 ^ 31) (16 * l.group) l.second_half;
 }
