@@ -1,12 +1,3 @@
-pub mod TextLemmas
-pub mod AnswerLemmas
-pub mod PartLemmas
-pub mod ReadLemmas
-pub mod RunLemmas
-pub mod LineLemmas
-pub mod QueueLemmas
-pub mod SessionLemmas
-pub mod TellingLemmas
-pub mod EntryAnswers
-pub mod OpeningLemmas
-pub mod ProgramLemmas
+pub mod OptionLemmas
+pub mod FileLemmas
+pub mod ReceivingLemmas

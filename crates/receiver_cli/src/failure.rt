@@ -1,9 +1,11 @@
+//! Why the program ends early, and with which status.
+
 ghost use Rattle.std.specs.Prelude.{◌≡◌};
 ghost use Rattle.receiver_cli.specs.declared.failure.Failure.TheVariants.{NoMemory};
 ghost use Rattle.receiver_cli.specs.Programs.{status_of};
 
-use crate::faults::RunFault;
 use oscillators::SettingsFault;
+use receiver::RunFault;
 use std::alloc::{AllocError, AllocFailed};
 use thiserror::Error;
 
@@ -22,15 +24,15 @@ pub enum Failure {
     Run(RunFault),
 }
 
-impl Failure {
-    /// The status of the program: 2 where what was asked is at fault, and 1 where the run is.
-    pub fn status(&self) -> u8
-        ensures { result ≡ status_of self.now }
-    {
-        match self {
-            Failure::NoMemory | Failure::Run(_) => 1,
-            Failure::Script | Failure::Settings(_) => 2,
-        }
+/// The status of the program: 0 behind a run that came to its end, 2 where what was asked for is at fault, and 1 where the run or
+/// memory is.
+pub fn status(ended: Result<u64, Failure>) -> u8
+    ensures { result ≡ status_of ended }
+{
+    match ended {
+        Ok(_) => 0,
+        Err(Failure::NoMemory | Failure::Run(_)) => 1,
+        Err(Failure::Script | Failure::Settings(_)) => 2,
     }
 }
 

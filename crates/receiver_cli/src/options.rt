@@ -1,5 +1,11 @@
 //! The program's command line.
 
+ghost use Rattle.std.specs.Prelude.{◌≡◌, ◌<◌, ◌≤◌, ◌*◌, ◌↔◌, pos, neg_ℤ, if◌then◌else◌, Err, IfOk, codes, map};
+ghost use Rattle.clap.specs.Matches.{found_of, first_value, one_text};
+ghost use Rattle.sample_planes.specs.Packings.{packing_of};
+ghost use Rattle.oscillators.specs.Limits.{IsRate};
+ghost use Rattle.receiver_cli.specs.Programs.{IsAllowed, asked_in, recording_of, number_in, format_in, paths_in};
+
 use clap::{Arg, ArgAction, ArgMatches, Command, Error, value_parser};
 use oscillators::{Settings, SettingsFault};
 use sample_planes::Format;
@@ -85,18 +91,62 @@ fn format<'a>(alloc: Global) -> Arg<'a> {
         .help("Real samples of one or of two bits")
 }
 
-/// The settings that the options give.
-pub fn settings(matches: &ArgMatches) -> Result<Settings, SettingsFault> {
-    let rate = matches.get_one::<u32>("rate").unwrap_or(2_046_000);
-    let offset = i64::from(matches.get_one::<u32>("offset").unwrap_or(0));
-    let offset = if matches.get_flag("minus") {
-        -offset
-    } else {
-        offset
-    };
-    let format = match matches.get_str("format") {
+/// The settings that the options ask for.
+pub fn settings(matches: &ArgMatches) -> Result<Settings, SettingsFault>
+    ensures rate { (result ≡ Err SettingsFault.Rate) ↔ ¬ IsRate (asked_in (found_of matches.now)).rate }
+    ensures offset { (result ≡ Err SettingsFault.Offset) ↔ (IsRate (asked_in (found_of matches.now)).rate
+        × ((asked_in (found_of matches.now)).rate < 2 * (asked_in (found_of matches.now)).offset)) }
+    ensures allowed { IfOk result (λ _. IsAllowed (asked_in (found_of matches.now))) }
+    ensures same { IfOk result (λ settings. settings ≡ recording_of (asked_in (found_of matches.now))) }
+{
+    settings_of(
+        number(matches, "rate", 2_046_000),
+        number(matches, "offset", 0),
+        matches.get_one("minus").unwrap_or(false),
+        packing(matches),
+    )
+}
+
+/// Settings by the words of the options.
+fn settings_of(
+    rate: u32,
+    offset: u32,
+    is_minus: bool,
+    format: Format,
+) -> Result<Settings, SettingsFault>
+    ensures rate { (result ≡ Err SettingsFault.Rate) ↔ ¬ IsRate rate }
+    ensures offset { (result ≡ Err SettingsFault.Offset) ↔ (IsRate rate × (rate < 2 * offset)) }
+    ensures same { IfOk result (λ settings. settings ≡ record {
+      rate = rate;
+      offset = if is_minus then neg_ℤ (pos offset) else pos offset;
+      packing = packing_of format;
+    }) }
+{
+    let offset = i64::from(offset);
+    let offset = if is_minus { -offset } else { offset };
+    Settings::new(rate, offset, format)
+}
+
+/// The number of an option, or its default.
+fn number(matches: &ArgMatches, id: &str, default: u32) -> u32
+    ensures { result ≡ number_in (one_text (found_of matches.now) id.now) default }
+{
+    matches.get_one(id).unwrap_or(default)
+}
+
+/// The format of the samples.
+fn packing(matches: &ArgMatches) -> Format
+    ensures { packing_of result ≡ format_in (first_value (found_of matches.now) (codes "format")) }
+{
+    match matches.get_str("format") {
         Some("real2") => Format::Real2,
         _ => Format::Real1,
-    };
-    Settings::new(rate, offset, format)
+    }
+}
+
+/// The names of the script files, in the order of the command line.
+pub fn scripts<'m>(matches: &'m ArgMatches) -> &'m [&'m str]
+    ensures { map (λ path. path.now) result.now ≡ paths_in (found_of matches.now) }
+{
+    matches.get_strs("script").unwrap_or(&[])
 }

@@ -1,10 +1,11 @@
 //! The program behind its command line: options, scripts in files, statuses and texts.
 
-use crate::failure::Failure;
-use crate::faults::RunFault;
+use crate::failure::{Failure, status};
 use crate::options;
 use crate::receiving::receive;
+use crate::script_files::Stored;
 use crate::tests::fakes::{Giving, Holding};
+use receiver::RunFault;
 use std::alloc::{Alloc, Global};
 use std::fs::{self, Files};
 use std::process::Abort;
@@ -47,10 +48,12 @@ fn ending(
     let Ok(matches) = options::matches(rt.alloc(), &line) else {
         return Err("options that are understood".into());
     };
-    match receive(rt.alloc(), rt, &matches, reader, writer) {
-        Ok(()) => Ok((0, String::new(rt.alloc()))),
-        Err(failure) => Ok((failure.status().into(), failure.to_string(rt.alloc())?)),
-    }
+    let ended = receive(rt.alloc(), &Stored::new(rt), &matches, reader, writer);
+    let said = match ended {
+        Ok(_) => String::new(rt.alloc()),
+        Err(failure) => failure.to_string(rt.alloc())?,
+    };
+    Ok((status(ended).into(), said))
 }
 
 /// Sees that the program ends so, with no device touched.
@@ -180,14 +183,36 @@ fn one_to_eight_scripts(rt: HostRuntime) -> Result<(), Fail> {
     Ok(())
 }
 
+// Client 1 has the script that is named first, and client 2 the other; the one with slot 1 idle is the second file.
+#[test]
+fn scripts_in_their_order(rt: HostRuntime) -> Result<(), Fail> {
+    fs::write(&rt, "slot_0", b"0 state 0\n")?;
+    fs::write(&rt, "slot_1", b"0 state 1\n")?;
+    prints(
+        &rt,
+        &["slot_0", "slot_1"],
+        &[],
+        "1 0 state 0 idle\n2 0 state 1 idle\n1 0 end\n2 0 end\n",
+    )?;
+    prints(
+        &rt,
+        &["slot_1", "slot_0"],
+        &[],
+        "1 0 state 1 idle\n2 0 state 0 idle\n1 0 end\n2 0 end\n",
+    )?;
+    fs::remove_file(&rt, "slot_0")?;
+    fs::remove_file(&rt, "slot_1")?;
+    Ok(())
+}
+
 #[test]
 fn devices_that_fail(rt: HostRuntime) -> Result<(), Fail> {
-    let mut reader = Giving::faulty(&[0], usize::MAX, 0);
+    let mut reader = Giving::faulty(&[]);
     let mut writer = Holding::whole();
     let (ended, said) = ending(&rt, &[], &mut reader, &mut writer)?;
     assert_eq!(rt; (ended, said.as_str()), (1, "read"));
     let mut reader = Giving::whole(&[0]);
-    let mut writer = Holding::faulty(usize::MAX, 3);
+    let mut writer = Holding::faulty(3);
     let (ended, said) = ending(&rt, &[], &mut reader, &mut writer)?;
     assert_eq!(rt; (ended, said.as_str()), (1, "write"));
     assert_eq!(rt; writer.text()?, "1 8");
@@ -199,12 +224,18 @@ fn devices_that_fail(rt: HostRuntime) -> Result<(), Fail> {
 fn other_statuses(rt: HostRuntime) -> Result<(), Fail> {
     let too_long = Failure::Run(RunFault::TooLong);
     assert_eq!(rt;
-        (too_long.status(), too_long.to_string(rt.alloc())?.as_str()),
+        (
+            status(Err(too_long)),
+            too_long.to_string(rt.alloc())?.as_str()
+        ),
         (1, "too long")
     );
     for refused in [Failure::NoMemory, Failure::Run(RunFault::NoMemory)] {
         assert_eq!(rt;
-            (refused.status(), refused.to_string(rt.alloc())?.as_str()),
+            (
+                status(Err(refused)),
+                refused.to_string(rt.alloc())?.as_str()
+            ),
             (1, "no memory")
         );
     }

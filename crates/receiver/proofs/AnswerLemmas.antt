@@ -1,0 +1,87 @@
+-- Answers that are written one by one.
+use Rattle.std.proofs.Common.{◌≡◌, ◌+◌, ◌<◌, ◌≤◌, ℕ, List, [], ◌∷◌, ◌++◌, refl, sym, ap, ◌∙◌, subst, append_assoc, append-nil, add-one, length, drop, get_or}
+use Rattle.std.specs.Prelude.{Option, map}
+use Rattle.std.proofs.Math.Seq.{drop-cons}
+use Rattle.std.proofs.Math.ListN.{drop_of_length-le}
+use Rattle.std.proofs.lemmas.Grind.{flat_map-append}
+use Rattle.std.specs.Io.KnownBytes.{Appends}
+use Rattle.definitions.specs.Samples.{Sample}
+use Rattle.definitions.specs.Oscillators.{Settings}
+use Rattle.definitions.specs.Receiver.{Client}
+use Rattle.definitions.specs.Lines.{ended, as_bytes}
+use Rattle.definitions.specs.Receiver.{body, body_lines, full, full_lines, end_lines}
+use Rattle.definitions.proofs.BodyLemmas.{as_bytes-append}
+use Rattle.receiver.specs.Offered.{offered}
+use Rattle.channel_slots.specs.declared.reply.Reply.{Reply}
+use Rattle.receiver.specs.declared.session.Session.{Session}
+use Rattle.receiver.specs.Texts.{AppendsPart}
+use Rattle.receiver.specs.Sessions.{StandsFor}
+use Rattle.channel_slots.specs.Replies.{line_of}
+use Rattle.receiver.specs.Runs.{HasAnswered}
+use Rattle.receiver.proofs.TextLemmas.{wrote-none, wrote-text, wrote-part, wrote-all, wrote-front}
+
+-- a session gives its next answer
+abbrev pub GivesAnswer : Session → Reply → Session → Type 0
+GivesAnswer old reply new = (settings : Settings) (clients : List Client) (xs : List Sample) (waiting : List (List ℕ)) → StandsFor settings clients old xs waiting
+    → (rest : List (List ℕ)) × (waiting ≡ line_of reply ∷ rest) × StandsFor settings clients new xs rest
+
+pub answered-none : (settings : Settings) (clients : List Client) (xs : List Sample) (waiting : List (List ℕ)) (session : Session) (start : Option (List ℕ))
+    → StandsFor settings clients session xs waiting → HasAnswered settings clients xs waiting start session start
+answered-none settings clients xs waiting session start s = record { left = waiting; stands = s; wrote = wrote-none start (as_bytes waiting) }
+
+pub answered-more : (settings : Settings) (clients : List Client) (xs : List Sample) (waiting : List (List ℕ)) (start b c : Option (List ℕ)) (old new : Session) (reply : Reply) (text : List ℕ)
+    → GivesAnswer old reply new → text ≡ ended (line_of reply) → Appends b c text → HasAnswered settings clients xs waiting start old b → HasAnswered settings clients xs waiting start new c
+unfolding as_bytes
+answered-more settings clients xs waiting start b c old new reply text gives e p h =
+    let n = gives settings clients xs h.left h.stands in
+    record { left = n.0; stands = n.2; wrote = wrote-text start b c (as_bytes waiting) (as_bytes h.left) (ended (line_of reply)) (as_bytes n.0) h.wrote (ap as_bytes n.1) (subst (Appends b c) e p) }
+
+pub answered-part : (settings : Settings) (clients : List Client) (xs : List Sample) (waiting : List (List ℕ)) (start b c : Option (List ℕ)) (old new : Session) (reply : Reply) (text : List ℕ)
+    → GivesAnswer old reply new → text ≡ ended (line_of reply) → AppendsPart b c text → HasAnswered settings clients xs waiting start old b → AppendsPart start c (as_bytes waiting)
+unfolding as_bytes
+answered-part settings clients xs waiting start b c old new reply text gives e p h =
+    let n = gives settings clients xs h.left h.stands in
+    wrote-part start b c (as_bytes waiting) (as_bytes h.left) (ended (line_of reply)) (as_bytes n.0) h.wrote (ap as_bytes n.1) (subst (AppendsPart b c) e p)
+
+pub replies-next : (replies : List Reply) (i : ℕ) (d : Reply) → i < length replies → as_bytes (map line_of (drop i replies)) ≡ ended (line_of (get_or replies i d)) ++ as_bytes (map line_of (drop (i + 1) replies))
+unfolding as_bytes
+replies-next replies i d h = rw (drop-cons replies i d h, add-one) refl
+
+-- none are left
+pub replies-done : (replies : List Reply) (i : ℕ) → length replies ≤ i → as_bytes (map line_of (drop i replies)) ≡ []
+unfolding as_bytes
+replies-done replies i h = rw (drop_of_length-le replies h) refl
+
+-- ---- a stretch: what was told, and then the answers
+pub stretch-text : (before told answers all : List (List ℕ)) → all ≡ before ++ told ++ answers → as_bytes all ≡ as_bytes before ++ (as_bytes told ++ as_bytes answers)
+unfolding as_bytes
+stretch-text before told answers all e = ap as_bytes e ∙ flat_map-append ended (before ++ told) answers ∙ ap (λ r. r ++ as_bytes answers) (flat_map-append ended before told) ∙ append_assoc (as_bytes before) (as_bytes told) (as_bytes answers)
+
+pub stretch-all : (start b c d : Option (List ℕ)) (before told answers all : List (List ℕ)) → all ≡ before ++ told ++ answers
+    → Appends start b (as_bytes before) → Appends b c (as_bytes told) → Appends c d (as_bytes answers) → Appends start d (as_bytes all)
+stretch-all start b c d before told answers all e p q r =
+    let whole = stretch-text before told answers all e in
+    let first = wrote-front start b (as_bytes all) (as_bytes before) (as_bytes told ++ as_bytes answers) p whole in
+    let second = wrote-text start b c (as_bytes all) (as_bytes told ++ as_bytes answers) (as_bytes told) (as_bytes answers) first refl q in
+    let third = wrote-text start c d (as_bytes all) (as_bytes answers) (as_bytes answers) [] second (sym (append-nil (as_bytes answers))) r in
+    wrote-all start d (as_bytes all) [] refl third
+
+pub stretch-part-told : (start b c : Option (List ℕ)) (before told answers all : List (List ℕ)) → all ≡ before ++ told ++ answers
+    → Appends start b (as_bytes before) → AppendsPart b c (as_bytes told) → AppendsPart start c (as_bytes all)
+stretch-part-told start b c before told answers all e p q =
+    let whole = stretch-text before told answers all e in
+    let first = wrote-front start b (as_bytes all) (as_bytes before) (as_bytes told ++ as_bytes answers) p whole in
+    wrote-part start b c (as_bytes all) (as_bytes told ++ as_bytes answers) (as_bytes told) (as_bytes answers) first refl q
+
+pub stretch-part-answers : (start b c d : Option (List ℕ)) (before told answers all : List (List ℕ)) → all ≡ before ++ told ++ answers
+    → Appends start b (as_bytes before) → Appends b c (as_bytes told) → AppendsPart c d (as_bytes answers) → AppendsPart start d (as_bytes all)
+stretch-part-answers start b c d before told answers all e p q r =
+    let whole = stretch-text before told answers all e in
+    let first = wrote-front start b (as_bytes all) (as_bytes before) (as_bytes told ++ as_bytes answers) p whole in
+    let second = wrote-text start b c (as_bytes all) (as_bytes told ++ as_bytes answers) (as_bytes told) (as_bytes answers) first refl q in
+    wrote-part start c d (as_bytes all) (as_bytes answers) (as_bytes answers) [] second (sym (append-nil (as_bytes answers))) r
+
+-- ---- the whole text: the lines of all times, and then `end`
+pub full-is : (settings : Settings) (xs : List Sample) (clients : List Client) → full offered settings xs clients ≡ body offered settings xs clients ++ as_bytes (end_lines xs clients)
+unfolding full full_lines body
+full-is settings xs clients = as_bytes-append (body_lines offered settings xs clients) (end_lines xs clients)

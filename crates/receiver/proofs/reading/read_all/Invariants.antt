@@ -1,0 +1,26 @@
+use Rattle.std.proofs.Common.{◌≡◌, ℕ, ◌-◌, ◌<◌, ◌≤◌, List, []}
+use Rattle.std.specs.Prelude.{false, Option}
+use Rattle.std.specs.Io.KnownBytes.{Consumes}
+use Rattle.definitions.specs.Oscillators.{Settings}
+use Rattle.definitions.specs.Samples.{sample_count, samples}
+use Rattle.definitions.specs.Receiver.{Client}
+use Rattle.receiver.specs.Sessions.{packing_in, time_of}
+use Rattle.receiver.specs.Sessions.{until_next}
+use Rattle.receiver.specs.Runs.{IsWrittenTo}
+use Rattle.receiver.proofs.reading.read_all.Given as goal
+
+abbrev pub invariant-loop-count : goal.invariant-loop-count
+invariant-loop-count g l = let source = g.R.Source in let sink = g.W.Sink in record {
+  format : packing_in l.session ≡ packing_in l.fn.session;
+  ready : 0 < until_next l.session;
+  within : time_of l.session ≤ l.limit;
+  read_failed : source.has_failed l.reader ≡ source.has_failed l.fn.reader;
+  asked_again : source.has_failed l.fn.reader ≡ false → source.was_asked_again l.reader ≡ source.was_asked_again l.fn.reader;
+  write_failed : sink.has_failed l.writer ≡ sink.has_failed l.fn.writer;
+  read : (bytes : List ℕ) × Consumes (source.remaining l.fn.reader) (source.remaining l.reader) bytes × (time_of l.session ≡ sample_count (packing_in l.fn.session) bytes)
+      × ((settings : Settings) (clients : List Client) (start : Option (List ℕ)) → IsWrittenTo settings clients start l.fn.session (sink.contents l.fn.writer) []
+      → IsWrittenTo settings clients start l.session (sink.contents l.writer) (samples settings.packing bytes));
+}
+
+abbrev pub decreases-loop-count : goal.decreases-loop-count
+decreases-loop-count g l = l.limit - time_of l.session

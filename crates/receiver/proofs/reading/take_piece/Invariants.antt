@@ -1,0 +1,25 @@
+use Rattle.std.proofs.Common.{◌≡◌, ℕ, ◌+◌, ◌-◌, ◌<◌, ◌≤◌, List, ◌++◌}
+use Rattle.std.specs.Prelude.{Option}
+use Rattle.definitions.specs.Oscillators.{Settings}
+use Rattle.definitions.specs.Samples.{Sample, sample_count, samples_from}
+use Rattle.definitions.specs.Receiver.{Client}
+use Rattle.receiver.specs.Sessions.{packing_in, time_of}
+use Rattle.receiver.specs.Sessions.{until_next}
+use Rattle.receiver.specs.Runs.{IsWrittenTo}
+use Rattle.receiver.proofs.reading.take_piece.Given as goal
+
+abbrev pub invariant-loop-first : goal.invariant-loop-first
+invariant-loop-first g l = let sink = g.W.Sink in record {
+  count : l.count ≡ sample_count (packing_in l.fn.session) l.bytes;
+  within : l.first ≤ l.count;
+  format : packing_in l.session ≡ packing_in l.fn.session;
+  time : time_of l.session ≡ time_of l.fn.session + l.first;
+  ready : 0 < until_next l.session;
+  failure : sink.has_failed l.writer ≡ sink.has_failed l.fn.writer;
+  written : (settings : Settings) (clients : List Client) (start : Option (List ℕ)) (xs : List Sample) → IsWrittenTo settings clients start l.fn.session (sink.contents l.fn.writer) xs
+      → IsWrittenTo settings clients start l.session (sink.contents l.writer) (xs ++ samples_from settings.packing l.bytes 0 l.first);
+}
+
+-- proposed from the loop's first test
+abbrev pub decreases-loop-first : goal.decreases-loop-first
+decreases-loop-first g l = l.count - l.first

@@ -1,0 +1,43 @@
+use Rattle.std.proofs.Common.{◌≡◌, ◌≤◌, ◌<◌, ◌*◌, ℕ, List, length, subst, arith}
+use Rattle.definitions.specs.Samples.{Sample, samples_from}
+use Rattle.definitions.specs.Banks.{told_at_end, layout}
+use Rattle.definitions.specs.Receiver.{told_between}
+use Rattle.definitions.proofs.SampleLemmas.{samples_from-length}
+use Rattle.channel_slots.specs.Banks.{AreTold}
+use Rattle.receiver.specs.declared.queue.Queue.{Queue}
+use Rattle.receiver.specs.Queues.{least_gap_of}
+use Rattle.receiver.specs.Sessions.{until_next, asked_of}
+use Rattle.receiver.proofs.SessionLemmas.{queues-later, waiting-later, same-number}
+use Rattle.receiver.proofs.TellingLemmas.{told-stretch}
+use Rattle.receiver.proofs.session.Session.feed.Goals as goal
+
+-- the samples come before the entry that is next
+before-next : (queues : List Queue) (time len n m : ℕ) → len ≤ least_gap_of time queues → time ≡ n → m ≡ len → m ≤ least_gap_of n queues
+before-next queues time len n m h same many = rw (many, ← same) h
+
+pub returns-clause-stands : goal.returns-clause-stands
+unfolding until_next
+returns-clause-stands c settings clients xs s =
+    let ys : List Sample = samples_from settings.packing c.args.bytes.now c.args.first c.args.len in
+    let many : length ys ≡ c.args.len = samples_from-length settings.packing c.args.bytes.now c.args.first c.args.len in
+    let queues : List Queue = c.args.self.now.queues.items in
+    let free = before-next queues c.args.self.now.bank.time c.args.len (length xs) (length ys) c.requires.quiet s.bank.now many in
+    let some : 0 < length ys = omega (arith, many, c.requires.some) in
+    record {
+      done = s.done;
+      bank = c.feed.ensures.stands settings xs (asked_of s.done) s.bank;
+      queues = queues-later settings xs ys s.done some 1 clients queues s.queues free;
+      waits = waiting-later settings xs ys s.done some clients queues s.queues free;
+    }
+
+pub returns-clause-told : goal.returns-clause-told
+unfolding until_next
+returns-clause-told c settings clients xs s =
+    let ys : List Sample = samples_from settings.packing c.args.bytes.now c.args.first c.args.len in
+    let many : length ys ≡ c.args.len = samples_from-length settings.packing c.args.bytes.now c.args.first c.args.len in
+    let queues : List Queue = c.args.self.now.queues.items in
+    let free = before-next queues c.args.self.now.bank.time c.args.len (length xs) (length ys) c.requires.quiet s.bank.now many in
+    let some : 0 < length ys = omega (arith, many, c.requires.some) in
+    let number : 4 * c.args.self.now.bank.clients ≡ length clients * 4 = omega (arith, same-number xs s.done 1 clients queues s.queues, c.args.self.now.clients) in
+    told-stretch settings clients queues s.done xs ys c.feed.result.items some s.queues free
+    (subst (λ (n : ℕ). AreTold c.feed.result.items (told_between (told_at_end settings (layout 4 n) (asked_of s.done)) xs ys)) number (c.feed.ensures.told settings xs (asked_of s.done) s.bank))

@@ -1,0 +1,69 @@
+use Rattle.std.proofs.Common.{◌≡◌, ◌+◌, ◌-◌, ◌++◌, ℕ, List, [], length, append-nil, refl, sym, ap, ◌∙◌, subst, arith}
+use Rattle.std.specs.Prelude.{codes}
+use Rattle.std.specs.Io.KnownBytes.{Appends}
+use Rattle.definitions.specs.Lines.{as_bytes, ended}
+use Rattle.definitions.specs.Texts.{for_client, at_time}
+use Rattle.definitions.specs.Samples.{Sample}
+use Rattle.definitions.specs.Oscillators.{Settings}
+use Rattle.definitions.specs.Receiver.{Client, body, full}
+use Rattle.receiver.specs.Offered.{offered}
+use Rattle.receiver.specs.LineTexts.{ends}
+use Rattle.receiver.specs.Sessions.{time_of, StandsFor}
+use Rattle.receiver.specs.declared.session.Session.{Session}
+use Rattle.receiver.specs.Texts.{AppendsPart}
+use Rattle.receiver.proofs.TextLemmas.{wrote-none, wrote-front, wrote-text, wrote-part, wrote-all, on_err}
+use Rattle.receiver.proofs.AnswerLemmas.{full-is}
+use Rattle.receiver.proofs.SessionLemmas.{same-number}
+use Rattle.receiver.proofs.OpeningLemmas.{ends-are, ends-next, ends-done}
+use Rattle.receiver.proofs.writing.write_ends.Goals as goal
+
+-- the ends of all clients
+all-ends : (settings : Settings) (clients : List Client) (session : Session) (xs : List Sample) (n : ℕ) → StandsFor settings clients session xs [] → n ≡ session.bank.clients → full offered settings xs clients ≡ body offered settings xs clients ++ as_bytes (ends (time_of session) 1 n)
+all-ends settings clients session xs n s is =
+    let many : length clients ≡ n = same-number xs s.done 1 clients session.queues.items s.queues ∙ session.clients ∙ sym is in
+    full-is settings xs clients
+    ∙ ap (λ (l : List (List ℕ)). body offered settings xs clients ++ as_bytes l) (ends-are (time_of session) xs clients (sym s.bank.now))
+    ∙ ap (λ (m : ℕ). body offered settings xs clients ++ as_bytes (ends (time_of session) 1 m)) many
+
+pub loop-client-init : goal.loop-client-init
+loop-client-init g c = let z : c.clients-client-end.result - 0 ≡ c.clients-client-end.result = omega arith in rw z (record { failure = refl; wrote = wrote-none (g.W.Sink.contents c.args.writer.now) (as_bytes (ends (time_of c.args.session.now) 1 c.clients-client-end.result)) })
+
+pub loop-client-preserved : goal.loop-client-preserved
+loop-client-preserved g c =
+    let s = g.W.Sink in
+    let time = time_of c.args.session.now in
+    let k = c.loop-client.client in
+    let n = c.clients-client-end.result in
+    let e = c.deref.ensures.0 ∙ c.end_line.ensures ∙ ap (λ (t : ℕ). ended (for_client (k + 1) (at_time t (codes "end")))) c.time.ensures in
+    record {
+      failure = c.in_ok-write_text.ensures.failure ∙ c.loop-client.invariant.failure;
+      wrote = wrote-text (s.contents c.args.writer.now) (s.contents c.loop-client.writer) (s.contents c.write_text.new.writer) (as_bytes (ends time 1 n)) (as_bytes (ends time (k + 1) (n - k))) _ (as_bytes (ends time (k + 1 + 1) (n - (k + 1))))
+          c.loop-client.invariant.wrote (ends-next time k n c.loop-client-test.true) (subst (Appends (s.contents c.loop-client.writer) (s.contents c.write_text.new.writer)) e c.in_ok-write_text.ensures.ok);
+    }
+
+pub returns-in_err-write_text-clause-err : goal.returns-in_err-write_text-clause-err
+returns-in_err-write_text-clause-err g c =
+    let s = g.W.Sink in
+    let time = time_of c.args.session.now in
+    let k = c.loop-client.client in
+    let n = c.clients-client-end.result in
+    let e = c.deref.ensures.0 ∙ c.end_line.ensures ∙ ap (λ (t : ℕ). ended (for_client (k + 1) (at_time t (codes "end")))) c.time.ensures in
+    let part = wrote-part (s.contents c.args.writer.now) (s.contents c.loop-client.writer) (s.contents c.write_text.new.writer) (as_bytes (ends time 1 n)) (as_bytes (ends time (k + 1) (n - k))) _ (as_bytes (ends time (k + 1 + 1) (n - (k + 1))))
+    c.loop-client.invariant.wrote (ends-next time k n c.loop-client-test.true) (subst (AppendsPart (s.contents c.loop-client.writer) (s.contents c.write_text.new.writer)) e c.in_err-write_text.ensures.err) in
+    on_err c.from_residual.result _ (λ settings clients start xs at.
+    let whole = all-ends settings clients c.args.session.now xs n at.stands c.clients-client-end.ensures.number in
+    wrote-part start (s.contents c.args.writer.now) (s.contents c.write_text.new.writer) (full offered settings xs clients) (as_bytes (ends time 1 n)) (as_bytes (ends time 1 n)) []
+    (wrote-front start (s.contents c.args.writer.now) (full offered settings xs clients) (body offered settings xs clients) (as_bytes (ends time 1 n)) at.written whole) (sym (append-nil (as_bytes (ends time 1 n)))) part)
+
+pub returns-clause-ok : goal.returns-clause-ok
+returns-clause-ok g c settings clients start xs at =
+    let s = g.W.Sink in
+    let time = time_of c.args.session.now in
+    let k = c.loop-client.client in
+    let n = c.clients-client-end.result in
+    let text = as_bytes (ends time 1 n) in
+    let all = wrote-all (s.contents c.args.writer.now) (s.contents c.loop-client.writer) text (as_bytes (ends time (k + 1) (n - k))) (ends-done time k n c.loop-client-test.false) c.loop-client.invariant.wrote in
+    let whole = all-ends settings clients c.args.session.now xs n at.stands c.clients-client-end.ensures.number in
+    let first = wrote-front start (s.contents c.args.writer.now) (full offered settings xs clients) (body offered settings xs clients) text at.written whole in
+    wrote-all start (s.contents c.loop-client.writer) (full offered settings xs clients) [] refl
+    (wrote-text start (s.contents c.args.writer.now) (s.contents c.loop-client.writer) (full offered settings xs clients) text text [] first (sym (append-nil text)) all)

@@ -1,0 +1,125 @@
+-- What a run reads and writes, by its answer.
+use Rattle.std.specs.Prelude.{◌≡◌, ◌≤◌, ◌<◌, ℕ, Bool, true, false, List, [], length, take, slice_get, ◌+◌, Option, Some, Result, Ok, Err}
+use Rattle.std.specs.Io.KnownBytes.{Appends, Consumes, IsAtEnd}
+use Rattle.definitions.specs.Oscillators.{Settings}
+use Rattle.definitions.specs.Samples.{Sample, samples}
+use Rattle.definitions.specs.Receiver.{Client}
+use Rattle.definitions.specs.Receiver.{body, full, body_lines, lines_of_client, alone_to_end}
+use Rattle.definitions.specs.Lines.{as_bytes, lines_of}
+use Rattle.receiver.specs.Offered.{offered}
+use Rattle.receiver.specs.Texts.{AppendsPart, WroteUpTo}
+use Rattle.definitions.specs.Receiver.{answers_at}
+use Rattle.receiver.specs.Sessions.{StandsFor}
+use Rattle.receiver.specs.declared.session.Session.{Session}
+use Rattle.receiver.specs.declared.faults.RunFault.{RunFault}
+use Rattle.receiver.specs.declared.faults.RunFault.TheVariants.{NoMemory, Clients, Read, Write, TooLong}
+use Rattle.receiver.specs.declared.faults.Stop.{Stop}
+use Rattle.receiver.specs.declared.faults.Stop.TheVariants.{AtEnd, ReadFailed, PastLimit}
+
+-- what a reader and a writer tell: the bytes to come and those held, and whether a call has failed
+pub record Devices : Type 0 where
+  pub remaining : Option (List ℕ)
+  pub read_failed : Bool
+  pub contents : Option (List ℕ)
+  pub write_failed : Bool
+
+-- so seen at one moment
+abbrev pub seen : Option (List ℕ) → Bool → Option (List ℕ) → Bool → Devices
+seen remaining read_failed contents write_failed = record { remaining = remaining; read_failed = read_failed; contents = contents; write_failed = write_failed }
+
+-- the samples of what was read, up to a limit
+abbrev pub samples_read : Settings → ℕ → List ℕ → List Sample
+samples_read settings limit read = take limit (samples settings.packing read)
+
+-- reading stops where a read gave 0 bytes, where a read failed, or where more samples than the limit came
+abbrev pub StopsFor : ℕ → ℕ → Bool → Bool → Option (List ℕ) → Stop → Type 0
+StopsFor limit count failed_before failed remaining AtEnd = IsAtEnd remaining × (count ≤ limit) × (failed ≡ failed_before)
+StopsFor limit count failed_before failed remaining ReadFailed = (failed ≡ true) × (count ≤ limit)
+StopsFor limit count failed_before failed remaining PastLimit = (limit < count) × (failed ≡ failed_before)
+
+-- the lines of all clients, with `end` only where all was read
+abbrev pub text_for : Stop → Settings → List Sample → List Client → List ℕ
+text_for AtEnd settings xs clients = full offered settings xs clients
+text_for ReadFailed settings xs clients = body offered settings xs clients
+text_for PastLimit settings xs clients = body offered settings xs clients
+
+-- all of the text was written
+pub record Completes (settings : Settings) (clients : List Client) (limit : ℕ) (read : List ℕ) (old new : Devices) (stop : Stop) : Type 0 where
+  pub why : StopsFor limit (length (samples settings.packing read)) old.read_failed new.read_failed new.remaining stop
+  pub written : Appends old.contents new.contents (text_for stop settings (samples_read settings limit read) clients)
+  pub write_failed : new.write_failed ≡ old.write_failed
+
+-- a write failed: a front of the text was written
+pub record BreaksOff (settings : Settings) (clients : List Client) (limit : ℕ) (read : List ℕ) (old new : Devices) : Type 0 where
+  pub failed : new.write_failed ≡ true
+  pub written : AppendsPart old.contents new.contents (full offered settings (samples_read settings limit read) clients)
+  pub after_failed_read : old.read_failed ≡ false → new.read_failed ≡ true → AppendsPart old.contents new.contents (body offered settings (samples_read settings limit read) clients)
+  pub past_limit : limit < length (samples settings.packing read) → AppendsPart old.contents new.contents (body offered settings (samples_read settings limit read) clients)
+
+-- what each answer means
+abbrev pub Answers : Settings → List Client → ℕ → List ℕ → Devices → Devices → Result ℕ RunFault → Type 0
+Answers settings clients limit read old new (Ok n) = (n ≡ length (samples settings.packing read)) × Completes settings clients limit read old new AtEnd
+Answers settings clients limit read old new (Err Read) = Completes settings clients limit read old new ReadFailed
+Answers settings clients limit read old new (Err TooLong) = Completes settings clients limit read old new PastLimit
+Answers settings clients limit read old new (Err Write) = BreaksOff settings clients limit read old new
+Answers settings clients limit read old new (Err Clients) = new ≡ old
+Answers settings clients limit read old new (Err NoMemory) = new ≡ old
+
+-- a run over bytes that reads gave
+pub record IsRun (settings : Settings) (clients : List Client) (limit : ℕ) (old new : Devices) (result : Result ℕ RunFault) : Type 0 where
+  pub read : List ℕ
+  pub consumed : Consumes old.remaining new.remaining read
+  pub answer : Answers settings clients limit read old new result
+
+-- what was written has for each client, behind its number, the lines of a receiver with that client alone over the samples that were
+-- read, and then its end, whatever the others ask
+pub record ServesEachAlone (settings : Settings) (clients : List Client) (old new : Devices) : Type 0 where
+  pub read : List ℕ
+  pub text : List ℕ
+  pub consumed : Consumes old.remaining new.remaining read
+  pub written : Appends old.contents new.contents text
+  pub alone : (k : ℕ) (client : Client) → slice_get clients k ≡ Some client
+      → lines_of_client (1 + k) (lines_of text) ≡ alone_to_end offered settings (samples settings.packing read) client
+
+-- ---- within a run
+
+-- a session before the first sample, with the answers at time 0 to come
+pub record IsOpen (settings : Settings) (clients : List Client) (session : Session) : Type 0 where
+  pub stands : StandsFor settings clients session [] (answers_at offered settings clients [])
+  pub first : body_lines offered settings [] clients ≡ answers_at offered settings clients []
+
+-- a session at the end of samples, with all that was to be written by then, since the writer held `start`
+pub record IsWrittenTo (settings : Settings) (clients : List Client) (start : Option (List ℕ)) (session : Session) (contents : Option (List ℕ)) (xs : List Sample) : Type 0 where
+  pub stands : StandsFor settings clients session xs []
+  pub written : Appends start contents (body offered settings xs clients)
+
+-- of these answers some have been written since the writer held `start`, and the session has the others
+pub record HasAnswered (settings : Settings) (clients : List Client) (xs : List Sample) (waiting : List (List ℕ)) (start : Option (List ℕ)) (session : Session) (contents : Option (List ℕ)) : Type 0 where
+  pub left : List (List ℕ)
+  pub stands : StandsFor settings clients session xs left
+  pub wrote : WroteUpTo start contents (as_bytes waiting) (as_bytes left)
+
+-- reading stopped, and all that was to be written by then is written
+pub record HasRead (settings : Settings) (clients : List Client) (limit : ℕ) (start : Option (List ℕ)) (session : Session) (old new : Devices) (stop : Stop) : Type 0 where
+  pub read : List ℕ
+  pub consumed : Consumes old.remaining new.remaining read
+  pub why : StopsFor limit (length (samples settings.packing read)) old.read_failed new.read_failed new.remaining stop
+  pub at : IsWrittenTo settings clients start session new.contents (samples_read settings limit read)
+
+-- a write failed while reading
+pub record BrokeOffReading (settings : Settings) (clients : List Client) (limit : ℕ) (start : Option (List ℕ)) (old new : Devices) : Type 0 where
+  pub read : List ℕ
+  pub consumed : Consumes old.remaining new.remaining read
+  pub written : AppendsPart start new.contents (body offered settings (samples_read settings limit read) clients)
+
+-- a run over a session came to its stop, or a write failed in it
+pub record Ran (settings : Settings) (clients : List Client) (limit : ℕ) (session : Session) (old new : Devices) (stop : Stop) : Type 0 where
+  pub read : List ℕ
+  pub consumed : Consumes old.remaining new.remaining read
+  pub stands : StandsFor settings clients session (samples_read settings limit read) []
+  pub completes : Completes settings clients limit read old new stop
+
+pub record BrokeOff (settings : Settings) (clients : List Client) (limit : ℕ) (old new : Devices) : Type 0 where
+  pub read : List ℕ
+  pub consumed : Consumes old.remaining new.remaining read
+  pub breaks : BreaksOff settings clients limit read old new

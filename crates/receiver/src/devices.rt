@@ -1,0 +1,122 @@
+//! What a run reads from and writes to.
+
+ghost use Rattle.std.specs.Prelude.{◌≡◌, ◌<◌, ◌||◌, ℕ, Bool, false, Option, List, length};
+ghost use Rattle.std.specs.Io.{ReadsAtMost, WritesAtMost};
+ghost use Rattle.std.specs.Io.KnownBytes.{Keeps, ReadConsumes, WriteAppends};
+ghost use Rattle.receiver.specs.Devices.{TellsFailure, TakesSome};
+
+use std::io::{Read, Write};
+
+/// A device failed.
+#[derive(Clone, Copy, Debug, PartialEq, Eq, thiserror::Error)]
+#[error("device")]
+pub struct DeviceFault;
+
+/// What gives bytes.
+pub trait Source {
+    /// The bytes that reads will give from here on, where they are known.
+    ghost remaining: { Self → Option (List ℕ) };
+
+    /// Whether a call has failed.
+    ghost has_failed: { Self → Bool };
+
+    /// Whether there was a call behind one that had failed.
+    ghost was_asked_again: { Self → Bool };
+
+    /// Reads some bytes into the front of the buffer, which has room for one, and answers how many: 0 only at the end.
+    fn read(&mut self, buffer: &mut [u8]) -> Result<usize, DeviceFault>
+        requires some { 0 < length buffer.old }
+        ensures again { was_asked_again self.new ≡ was_asked_again self.old || has_failed self.old }
+        ensures bound { ReadsAtMost result buffer.new }
+        ensures bytes { ReadConsumes (remaining self.old) (remaining self.new) result buffer.new }
+        ensures failure { TellsFailure (has_failed self.old) (has_failed self.new) result };
+}
+
+/// What takes bytes.
+pub trait Sink {
+    /// The bytes that it holds, where they are known.
+    ghost contents: { Self → Option (List ℕ) };
+
+    /// Whether a call has failed.
+    ghost has_failed: { Self → Bool };
+
+    /// Takes some of the bytes, at least one where there are any, and answers how many.
+    fn write(&mut self, bytes: &[u8]) -> Result<usize, DeviceFault>
+        ensures bound { WritesAtMost result bytes.now }
+        ensures some { TakesSome result bytes.now }
+        ensures bytes { WriteAppends (contents self.old) (contents self.new) result bytes.now }
+        ensures failure { TellsFailure (has_failed self.old) (has_failed self.new) result };
+
+    /// Passes on what it may hold back.
+    fn flush(&mut self) -> Result<(), DeviceFault>
+        ensures bytes { Keeps (contents self.old) (contents self.new) }
+        ensures failure { TellsFailure (has_failed self.old) (has_failed self.new) result };
+}
+
+/// A reader or a writer of std, each call of which is one call of it. No error is tried again.
+#[derive(Drop)]
+pub struct Plain<T> {
+    inner: T,
+    has_failed: bool,
+    was_asked_again: bool,
+}
+
+impl<T> Plain<T> {
+    /// No call on it has failed yet.
+    pub fn new(inner: T) -> Self
+        ensures inner { result.inner ≡ inner }
+        ensures has_failed { result.has_failed ≡ false }
+        ensures was_asked_again { result.was_asked_again ≡ false }
+    {
+        Plain {
+            inner,
+            has_failed: false,
+            was_asked_again: false,
+        }
+    }
+}
+
+impl<R: Read> Source for Plain<R> {
+    ghost remaining = { λ device. R.remaining device.inner };
+
+    ghost has_failed = { λ device. device.has_failed };
+
+    ghost was_asked_again = { λ device. device.was_asked_again };
+
+    fn read(&mut self, buffer: &mut [u8]) -> Result<usize, DeviceFault> {
+        self.was_asked_again |= self.has_failed;
+        match self.inner.read(buffer) {
+            Ok(count) => Ok(count),
+            Err(_) => {
+                self.has_failed = true;
+                Err(DeviceFault)
+            }
+        }
+    }
+}
+
+impl<W: Write> Sink for Plain<W> {
+    ghost contents = { λ device. W.contents device.inner };
+
+    ghost has_failed = { λ device. device.has_failed };
+
+    fn write(&mut self, bytes: &[u8]) -> Result<usize, DeviceFault> {
+        match self.inner.write(bytes) {
+            Ok(count) if count > 0 || bytes.is_empty() => Ok(count),
+            _ => {
+                self.has_failed = true;
+                Err(DeviceFault)
+            }
+        }
+    }
+
+    fn flush(&mut self) -> Result<(), DeviceFault> {
+        match self.inner.flush() {
+            Ok(()) => Ok(()),
+            Err(_) => {
+                self.has_failed = true;
+                Err(DeviceFault)
+            }
+        }
+    }
+}

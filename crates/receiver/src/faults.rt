@@ -1,0 +1,32 @@
+//! How a run ends.
+
+/// Why a run ended early, and what is written then.
+#[derive(Clone, Copy, Debug, PartialEq, Eq, thiserror::Error)]
+pub enum RunFault {
+    /// There was no memory for the slots: nothing was read or written.
+    #[error("no memory")]
+    NoMemory,
+    /// There is no script, or more than eight: nothing was read or written.
+    #[error("clients")]
+    Clients,
+    /// A read failed: the lines up to there are written, without the ends.
+    #[error("read")]
+    Read,
+    /// A write or a flush failed: a front of the lines is written.
+    #[error("write")]
+    Write,
+    /// More samples than the limit came: the lines up to the limit are written, without the ends.
+    #[error("too long")]
+    TooLong,
+}
+
+/// Why reading stopped.
+#[derive(Clone, Copy, Debug, PartialEq, Eq)]
+pub enum Stop {
+    /// A read gave 0 bytes.
+    AtEnd,
+    /// A read failed.
+    ReadFailed,
+    /// More samples than the limit came.
+    PastLimit,
+}

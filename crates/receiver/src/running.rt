@@ -1,0 +1,109 @@
+//! A whole run: what is written, and what it answers.
+
+ghost use Rattle.std.specs.Prelude.{◌≡◌, ◌≤◌, ◌<◌, ◌%◌, ◌^◌, List, length, map, false, OnErr, IfOk, Err, IsErrOf, ◌⊎◌, ◌↔◌};
+ghost use Rattle.definitions.specs.Oscillators.{Settings as Recording};
+ghost use Rattle.definitions.specs.Samples.{samples_per_byte};
+ghost use Rattle.definitions.specs.Receiver.{Client};
+ghost use Rattle.receiver.specs.Offered.{client_with};
+ghost use Rattle.receiver.specs.Runs.{seen, IsOpen, Ran, BrokeOff, IsRun, ServesEachAlone};
+ghost use Rattle.receiver.specs.Sessions.{packing_in, time_of};
+
+use crate::devices::{DeviceFault, Sink, Source};
+use crate::faults::{RunFault, Stop};
+use crate::lines::line;
+use crate::reading::read_all;
+use crate::session::Session;
+use crate::writing::{finish, write_answers};
+use channel_slots::OpenFault;
+use oscillators::Settings;
+use std::alloc::Global;
+
+/// The most samples of a run: 2^40.
+const MOST_SAMPLES: u64 = 1 << 40;
+
+/// Runs a session over a reader and a writer, from its first line to the flush.
+fn run_session<R: Source, W: Sink>(
+    session: &mut Session,
+    per_byte: usize,
+    limit: u64,
+    reader: &mut R,
+    writer: &mut W,
+) -> Result<Stop, DeviceFault>
+    requires per_byte { per_byte ≡ samples_per_byte (packing_in session.old) }
+    requires limit { limit ≤ 2 ^ 40 }
+    requires whole { limit % 8 ≡ 0 }
+    requires start { time_of session.old ≡ 0 }
+    ensures once { R.has_failed reader.old ≡ false
+        → R.was_asked_again reader.new ≡ R.was_asked_again reader.old }
+    ensures ran { IfOk result (λ stop. (settings : Recording) (clients : List Client) → IsOpen settings clients session.old → Ran settings clients limit session.new
+        (seen (R.remaining reader.old) (R.has_failed reader.old) (W.contents writer.old) (W.has_failed writer.old))
+        (seen (R.remaining reader.new) (R.has_failed reader.new) (W.contents writer.new) (W.has_failed writer.new)) stop) }
+    ensures broken { OnErr result ((settings : Recording) (clients : List Client) → IsOpen settings clients session.old → BrokeOff settings clients limit
+        (seen (R.remaining reader.old) (R.has_failed reader.old) (W.contents writer.old) (W.has_failed writer.old))
+        (seen (R.remaining reader.new) (R.has_failed reader.new) (W.contents writer.new) (W.has_failed writer.new))) }
+{
+    write_answers(session, writer)?;
+    let stop = read_all(session, per_byte, limit, reader, writer)?;
+    finish(session, stop, writer)?;
+    Ok(stop)
+}
+
+/// Runs one to eight scripts over all samples that a reader gives, at most 2^40 of them: writes the lines of all clients, time by time,
+/// with an `end` for each behind the last, and answers the number of samples. However reads cut the bytes, and whatever the other
+/// clients ask, each client's lines are those of a receiver with that client alone.
+pub fn run<R: Source, W: Sink>(
+    alloc: Global,
+    settings: Settings,
+    scripts: &[&[u8]],
+    reader: &mut R,
+    writer: &mut W,
+) -> Result<u64, RunFault>
+    ensures clients { (result ≡ Err RunFault.Clients) ↔ ((length scripts.now ≡ 0) ⊎ (8 < length scripts.now)) }
+    ensures untouched { IsErrOf result RunFault.Clients ⊎ IsErrOf result RunFault.NoMemory → (reader.new ≡ reader.old) × (writer.new ≡ writer.old) }
+    ensures once { R.has_failed reader.old ≡ false
+        → R.was_asked_again reader.new ≡ R.was_asked_again reader.old }
+    ensures run { IsRun settings (map (λ script. client_with script.now) scripts.now) (2 ^ 40)
+        (seen (R.remaining reader.old) (R.has_failed reader.old) (W.contents writer.old) (W.has_failed writer.old))
+        (seen (R.remaining reader.new) (R.has_failed reader.new) (W.contents writer.new) (W.has_failed writer.new)) result }
+    ensures alone { IfOk result (λ _. ServesEachAlone settings (map (λ script. client_with script.now) scripts.now)
+        (seen (R.remaining reader.old) (R.has_failed reader.old) (W.contents writer.old) (W.has_failed writer.old))
+        (seen (R.remaining reader.new) (R.has_failed reader.new) (W.contents writer.new) (W.has_failed writer.new))) }
+{
+    run_to(alloc, settings, scripts, MOST_SAMPLES, reader, writer)
+}
+
+/// The same over at most `limit` samples, a multiple of 8 of at most 2^40.
+pub fn run_to<R: Source, W: Sink>(
+    alloc: Global,
+    settings: Settings,
+    scripts: &[&[u8]],
+    limit: u64,
+    reader: &mut R,
+    writer: &mut W,
+) -> Result<u64, RunFault>
+    requires limit { limit ≤ 2 ^ 40 }
+    requires whole { limit % 8 ≡ 0 }
+    ensures clients { (result ≡ Err RunFault.Clients) ↔ ((length scripts.now ≡ 0) ⊎ (8 < length scripts.now)) }
+    ensures untouched { IsErrOf result RunFault.Clients ⊎ IsErrOf result RunFault.NoMemory → (reader.new ≡ reader.old) × (writer.new ≡ writer.old) }
+    ensures once { R.has_failed reader.old ≡ false
+        → R.was_asked_again reader.new ≡ R.was_asked_again reader.old }
+    ensures run { IsRun settings (map (λ script. client_with script.now) scripts.now) limit
+        (seen (R.remaining reader.old) (R.has_failed reader.old) (W.contents writer.old) (W.has_failed writer.old))
+        (seen (R.remaining reader.new) (R.has_failed reader.new) (W.contents writer.new) (W.has_failed writer.new)) result }
+    ensures alone { IfOk result (λ _. ServesEachAlone settings (map (λ script. client_with script.now) scripts.now)
+        (seen (R.remaining reader.old) (R.has_failed reader.old) (W.contents writer.old) (W.has_failed writer.old))
+        (seen (R.remaining reader.new) (R.has_failed reader.new) (W.contents writer.new) (W.has_failed writer.new))) }
+{
+    let per_byte = settings.format().per_byte();
+    let mut session = match Session::open(alloc, settings, scripts) {
+        Ok(session) => session,
+        Err(OpenFault::NoMemory) => return Err(RunFault::NoMemory),
+        Err(OpenFault::Clients) => return Err(RunFault::Clients),
+    };
+    match run_session(&mut session, per_byte, limit, reader, writer) {
+        Ok(Stop::AtEnd) => Ok(session.time()),
+        Ok(Stop::ReadFailed) => Err(RunFault::Read),
+        Ok(Stop::PastLimit) => Err(RunFault::TooLong),
+        Err(DeviceFault) => Err(RunFault::Write),
+    }
+}

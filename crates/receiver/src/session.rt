@@ -1,0 +1,112 @@
+//! The slots of all clients, with what is left of their scripts.
+
+ghost use Rattle.std.specs.Prelude.{◌≡◌, length};
+ghost use Rattle.channel_slots.specs.BankStates.{clients_of};
+
+use crate::queue::Queue;
+use crate::queues::{least_gap, queues_of, take_due};
+use arrayvec::ArrayVec;
+use channel_slots::{Bank, OpenFault, Reply};
+use oscillators::Settings;
+use std::alloc::Global;
+
+/// The most clients.
+pub const MOST_CLIENTS: usize = 8;
+
+/// The most replies of a run of samples.
+const MOST_REPLIES: usize = 256;
+
+/// The slots of all clients, and beside them what is left of the clients' scripts.
+#[derive(Drop)]
+pub struct Session<'a> {
+    bank: Bank,
+    queues: ArrayVec<Queue<'a>, MOST_CLIENTS>,
+    ghost clients: { length queues.items ≡ clients_of bank },
+}
+
+impl<'a> Session<'a> {
+    ghost use Rattle.std.specs.Prelude.{◌≤◌, ◌<◌, ◌+◌, ◌^◌, ◌⊎◌, ◌↔◌, ℕ, List, [], ◌∷◌, ◌++◌, map, IfSome, IsNone, IfOk, Err};
+    ghost use Rattle.definitions.specs.Oscillators.{Settings as Recording};
+    ghost use Rattle.definitions.specs.Samples.{Sample, sample_count, samples_from};
+    ghost use Rattle.definitions.specs.Receiver.{Client, body_lines, answers_at};
+    ghost use Rattle.channel_slots.specs.Replies.{line_of};
+    ghost use Rattle.receiver.specs.Offered.{offered, client_with};
+    ghost use Rattle.receiver.specs.Sessions.{StandsFor, packing_in, time_of, until_next, lines_left};
+
+    /// A session before the first sample. It takes the memory of the slots.
+    pub fn open(
+        alloc: Global,
+        settings: Settings,
+        scripts: &'a [&'a [u8]],
+    ) -> Result<Session<'a>, OpenFault>
+        ensures clients { (result ≡ Err OpenFault.Clients) ↔ ((length scripts.now ≡ 0) ⊎ (8 < length scripts.now)) }
+        ensures packing { IfOk result (λ session. packing_in session ≡ settings.packing) }
+        ensures time { IfOk result (λ session. time_of session ≡ 0) }
+        ensures stands { IfOk result (λ session. StandsFor settings (map (λ script. client_with script.now) scripts.now) session [] (answers_at offered settings (map (λ script. client_with script.now) scripts.now) [])) }
+    {
+        let clients = scripts.len().min(MOST_CLIENTS + 1);
+        let bank = Bank::open(alloc, settings, clients as u8)?;
+        Ok(Session {
+            bank,
+            queues: queues_of(scripts),
+        })
+    }
+
+    /// The samples so far.
+    pub fn time(&self) -> u64
+        ensures { result ≡ time_of self.now }
+    {
+        self.bank.time()
+    }
+
+    /// How many clients it has.
+    pub fn clients(&self) -> u8
+        ensures number { result ≡ clients_of self.now.bank }
+        ensures few { result ≤ 8 }
+    {
+        self.queues.len() as u8
+    }
+
+    /// The samples until the next command's time.
+    #[tactic(auto, unfolding(crate::specs::Sessions::until_next))]
+    pub fn until_next(&self) -> u64
+        ensures { result ≡ until_next self.now }
+    {
+        least_gap(&self.queues, self.bank.time())
+    }
+
+    /// Takes samples, none of them past the next command's time, and answers what they make the slots tell.
+    pub fn feed(&mut self, bytes: &[u8], first: usize, len: usize) -> ArrayVec<Reply, MOST_REPLIES>
+        requires within { first + len ≤ sample_count (packing_in self.old) bytes.now }
+        requires some { 0 < len }
+        requires short { len ≤ 1024 }
+        requires quiet { len ≤ until_next self.old }
+        requires room { time_of self.old + len ≤ 2 ^ 40 }
+        ensures packing { packing_in self.new ≡ packing_in self.old }
+        ensures time { time_of self.new ≡ time_of self.old + len }
+        ensures stands { (settings : Recording) (clients : List Client) (xs : List Sample) → StandsFor settings clients self.old xs []
+            → StandsFor settings clients self.new (xs ++ samples_from settings.packing bytes.now first len) (answers_at offered settings clients (xs ++ samples_from settings.packing bytes.now first len)) }
+        ensures told { (settings : Recording) (clients : List Client) (xs : List Sample) → StandsFor settings clients self.old xs []
+            → body_lines offered settings (xs ++ samples_from settings.packing bytes.now first len) clients
+            ≡ body_lines offered settings xs clients ++ map line_of result.items ++ answers_at offered settings clients (xs ++ samples_from settings.packing bytes.now first len) }
+    {
+        self.bank.feed(bytes, first, len)
+    }
+
+    /// The next answer at this time.
+    #[tactic(auto, unfolding(crate::specs::Sessions::until_next, crate::specs::Sessions::lines_left))]
+    pub fn answer(&mut self) -> Option<Reply>
+        ensures packing { packing_in self.new ≡ packing_in self.old }
+        ensures time { time_of self.new ≡ time_of self.old }
+        ensures ready { IsNone result → 0 < until_next self.new }
+        ensures fewer { IfSome result (λ _. lines_left self.new < lines_left self.old) }
+        ensures some { IfSome result (λ reply. (settings : Recording) (clients : List Client) (xs : List Sample) (waiting : List (List ℕ)) → StandsFor settings clients self.old xs waiting
+            → (rest : List (List ℕ)) × (waiting ≡ line_of reply ∷ rest) × StandsFor settings clients self.new xs rest) }
+        ensures none { IsNone result → (settings : Recording) (clients : List Client) (xs : List Sample) (waiting : List (List ℕ)) → StandsFor settings clients self.old xs waiting
+            → (waiting ≡ []) × StandsFor settings clients self.new xs [] }
+    {
+        let now = self.bank.time();
+        let due = take_due(&mut self.queues, now)?;
+        Some(due.answer(&mut self.bank))
+    }
+}

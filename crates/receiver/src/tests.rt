@@ -1,0 +1,87 @@
+//! Whole runs: what they answer, and what they write, over readers and writers that count and fail.
+
+ghost use Rattle.std.specs.Prelude.{◌≡◌, ◌≤◌, ◌%◌, ◌^◌};
+
+mod clients;
+mod devices;
+mod fakes;
+mod limits;
+mod recording;
+mod runs;
+mod scripts;
+mod std_devices;
+
+use crate::faults::RunFault;
+use crate::running::{run, run_to};
+use crate::tests::fakes::{Giving, Holding};
+use ca_codes::{CodeBook, Prn};
+use oscillators::Settings;
+use sample_planes::Format;
+use std::alloc::Global;
+use std::test::Fail;
+
+/// Holds satellite 1 from the first sample on, and asks for one dump.
+const FIRST_COUNT: &[u8] = b"0 hold 0 1 0 0\n0 counts 0 1\n";
+
+/// What a client alone gets for it over the code file.
+///
+/// Each sample meets its own chip, so the prompt products are 2,046 times +1, and the carrier's pair is 2 and 1 throughout. The early
+/// and the late chip are half a chip away: half of the samples meet their own chip, the others a neighbouring one. The products of all
+/// neighbouring chips of satellite 1 add up to -1, so 1,023 - 1 is left of these.
+const FIRST_COUNT_LINES: &str = "1 0 ok\n\
+    1 0 ok\n\
+    1 2046 count 0 2044 -1022 4092 -2046 2044 -1022\n\
+    1 2048 end\n";
+
+/// One-bit samples at two samples a chip, with the carrier at 0 Hz.
+fn plain_settings() -> Result<Settings, Fail> {
+    Ok(Settings::new(2_046_000, 0, Format::Real1)?)
+}
+
+/// 2,048 samples of one bit: sample n is the chip of satellite 1 with number (n mod 2,046) / 2.
+fn code_file() -> Result<[u8; 256], Fail> {
+    let prn = Prn::new(1).ok_or("a satellite")?;
+    let mut book = CodeBook::new();
+    let mut bytes = [0u8; 256];
+    let mut first: u32 = 0;
+    for byte in &mut bytes {
+        for n in first..first.saturating_add(8) {
+            *byte = byte.wrapping_mul(2) | u8::from(book.chip(prn, n % 2046 / 2));
+        }
+        first = first.saturating_add(8);
+    }
+    Ok(bytes)
+}
+
+/// A run of scripts over plain settings.
+fn run_plain(
+    alloc: Global,
+    scripts: &[&[u8]],
+    reader: &mut Giving,
+    writer: &mut Holding,
+) -> Result<Result<u64, RunFault>, Fail> {
+    Ok(run(alloc, plain_settings()?, scripts, reader, writer))
+}
+
+/// A run of one script over plain settings and at most `limit` samples.
+fn run_one(
+    alloc: Global,
+    script: &[u8],
+    limit: u64,
+    reader: &mut Giving,
+    writer: &mut Holding,
+) -> Result<Result<u64, RunFault>, Fail>
+    requires limit { limit ≤ 2 ^ 40 }
+    requires whole { limit % 8 ≡ 0 }
+{
+    let settings = plain_settings()?;
+    Ok(run_to(alloc, settings, &[script], limit, reader, writer))
+}
+
+#[test]
+fn code_file_begins_with_the_code(rt: HostRuntime) -> Result<(), Fail> {
+    // The first chips are 1100100000 (IS-GPS-200, table 3-Ia: octal 1440), each of them in two samples.
+    let bytes = code_file()?;
+    assert_eq!(rt; &bytes[..2], [0xf0, 0xc0].as_slice());
+    Ok(())
+}

@@ -1,0 +1,114 @@
+//! Runs of one client, and the texts of faults.
+
+use super::{FIRST_COUNT, FIRST_COUNT_LINES, code_file, run_plain};
+use crate::devices::DeviceFault;
+use crate::faults::RunFault;
+use crate::running::run;
+use crate::tests::fakes::{Giving, Holding};
+use oscillators::Settings;
+use sample_planes::Format;
+use std::test::Fail;
+
+#[test]
+fn empty_run(rt: HostRuntime) -> Result<(), Fail> {
+    let mut reader = Giving::whole(&[]);
+    let mut writer = Holding::whole();
+    let answer = run_plain(rt.alloc(), &[b""], &mut reader, &mut writer)?;
+    assert_eq!(rt; answer, Ok(0));
+    assert_eq!(rt; writer.text()?, "1 0 end\n");
+    assert_eq!(rt; reader.reads, 1);
+    assert!(rt; writer.is_flushed);
+    Ok(())
+}
+
+#[test]
+fn first_count(rt: HostRuntime) -> Result<(), Fail> {
+    let code = code_file()?;
+    // The last read is the one that gives nothing.
+    for (bytes_a_read, reads) in [(256, 2), (7, 38), (1, 257)] {
+        for bytes_a_write in [usize::MAX, 1] {
+            let mut reader = Giving::pieces(&code, bytes_a_read);
+            let mut writer = Holding::faulty(bytes_a_write, usize::MAX);
+            let answer = run_plain(rt.alloc(), &[FIRST_COUNT], &mut reader, &mut writer)?;
+            assert_eq!(rt; answer, Ok(2048));
+            assert_eq!(rt; writer.text()?, FIRST_COUNT_LINES);
+            assert_eq!(rt; reader.reads, reads);
+            assert!(rt; writer.is_flushed);
+        }
+    }
+    Ok(())
+}
+
+// The slot begins half a chip before the end of the code, so its first segment is one sample. Chips 1,022 and 0 of satellite 1 are 0
+// and 1. The sample and the prompt and late chip are chip 1,022; the early chip is that of the next period, and of the other sign.
+#[test]
+fn early_wraps(rt: HostRuntime) -> Result<(), Fail> {
+    let code = code_file()?;
+    let mut reader = Giving::whole(&code);
+    let mut writer = Holding::whole();
+    let script = b"2045 hold 0 1 0 2045\n2045 counts 0 1";
+    let answer = run_plain(rt.alloc(), &[script], &mut reader, &mut writer)?;
+    assert_eq!(rt; answer, Ok(2048));
+    let text = "1 2045 ok\n\
+        1 2045 ok\n\
+        1 2046 count 0 -2 1 2 -1 2 -1\n\
+        1 2048 end\n";
+    assert_eq!(rt; writer.text()?, text);
+    Ok(())
+}
+
+// The samples are 3, -3, 1, -1, a quarter of a cycle apart, where the carrier's pairs are (2, 1), (-1, 2), (-2, -1), (1, -2). At four
+// samples a chip they are chip 1,022, which is 0 as chip 1,021 is. The early chip of the last two is chip 0, which is 1: so
+// the in-phase products are 6, 3, -2, -1 with the prompt and the late chip, and 6, 3, 2, 1 with the early one; the quadrature products
+// are -3, 6, 1, -2 and -3, 6, -1, 2.
+#[test]
+fn two_bit_byte(rt: HostRuntime) -> Result<(), Fail> {
+    let settings = Settings::new(4_092_000, 1_023_000, Format::Real2)?;
+    let mut reader = Giving::whole(&[0x72]);
+    let mut writer = Holding::whole();
+    let script = b"0 hold 0 1 0 2044\n0 counts 0 1\n";
+    let answer = run(rt.alloc(), settings, &[script], &mut reader, &mut writer);
+    assert_eq!(rt; answer, Ok(4));
+    let text = "1 0 ok\n\
+        1 0 ok\n\
+        1 4 count 0 12 4 6 2 6 2\n\
+        1 4 end\n";
+    assert_eq!(rt; writer.text()?, text);
+    Ok(())
+}
+
+#[test]
+fn a_line_is_one_write(rt: HostRuntime) -> Result<(), Fail> {
+    let code = code_file()?;
+    let mut reader = Giving::pieces(&code, 1);
+    let mut writer = Holding::whole();
+    let script = b"x\n0 hold 0 1 0 0\n0 counts 0 1\n2046 state 0\n2047 stop 1\n";
+    let answer = run_plain(rt.alloc(), &[script], &mut reader, &mut writer)?;
+    assert_eq!(rt; answer, Ok(2048));
+    let text = "1 0 err 3\n\
+        1 0 ok\n\
+        1 0 ok\n\
+        1 2046 count 0 2044 -1022 4092 -2046 2044 -1022\n\
+        1 2046 state 0 hold 1 1\n\
+        1 2047 err 10\n\
+        1 2048 end\n";
+    assert_eq!(rt; writer.text()?, text);
+    assert_eq!(rt; writer.writes, 7);
+    assert_eq!(rt; writer.flushes, 1);
+    Ok(())
+}
+
+#[test]
+fn faults_have_texts(rt: HostRuntime) -> Result<(), Fail> {
+    for (fault, text) in [
+        (RunFault::NoMemory, "no memory"),
+        (RunFault::Clients, "clients"),
+        (RunFault::Read, "read"),
+        (RunFault::Write, "write"),
+        (RunFault::TooLong, "too long"),
+    ] {
+        assert_eq!(rt; fault.to_string(rt.alloc())?.as_str(), text);
+    }
+    assert_eq!(rt; DeviceFault.to_string(rt.alloc())?.as_str(), "device");
+    Ok(())
+}
