@@ -1,10 +1,13 @@
 -- What a bank stands for.
-use Rattle.std.specs.Prelude.{◌≡◌, ℕ, List, length}
-use Rattle.definitions.specs.Samples.{Sample}
+use Rattle.std.specs.Prelude.{◌≡◌, ◌*◌, ◌++◌, ℕ, List, length}
+use Rattle.definitions.specs.Samples.{Sample, Packing}
+use Rattle.definitions.specs.Receiver.{told_between}
+use Rattle.definitions.specs.Banks.{told_at_end, layout}
 use Rattle.definitions.specs.Oscillators.{Settings}
 use Rattle.definitions.specs.Commands.{TimedRequest}
 use Rattle.channel_slots.specs.declared.bank.Bank.{Bank}
-use Rattle.channel_slots.specs.Banks.{BankStands}
+use Rattle.channel_slots.specs.declared.reply.Reply.{Reply}
+use Rattle.channel_slots.specs.Banks.{AreTold, BankStands}
 
 -- how many samples there were
 abbrev pub time_of : Bank → ℕ
@@ -23,3 +26,13 @@ pub record StandsFor (settings : Settings) (xs : List Sample) (asked : ℕ → �
   pub recorded : bank.settings ≡ settings
   pub now : bank.time ≡ length xs
   pub slots : BankStands settings xs asked bank.time bank.places.items
+
+-- whatever a bank stood for: what its slots tell over a run of samples, which it knows by its packing, are these replies
+abbrev pub Tells : Bank → (Packing → List Sample) → List Reply → Type 0
+Tells old run replies = (settings : Settings) (xs : List Sample) (asked : ℕ → ℕ → List TimedRequest) → StandsFor settings xs asked old
+    → AreTold replies (told_between (told_at_end settings (layout 4 (4 * clients_of old)) asked) xs (run settings.packing))
+
+-- and behind the run it stands for the same with these samples
+abbrev pub Takes : Bank → (Packing → List Sample) → Bank → Type 0
+Takes old run new = (settings : Settings) (xs : List Sample) (asked : ℕ → ℕ → List TimedRequest) → StandsFor settings xs asked old
+    → StandsFor settings (xs ++ run settings.packing) asked new

@@ -12,8 +12,10 @@ ghost use Rattle.receiver.specs.Texts.{AppendsPart};
 
 use crate::devices::{DeviceFault, Sink, Source};
 use crate::faults::Stop;
-use crate::session::Session;
+use crate::session::{MOST_REPLIES, Session};
 use crate::writing::{write_answers, write_replies};
+use arrayvec::ArrayVec;
+use channel_slots::Reply;
 
 /// Takes samples, none of them past the next command's time, and writes the lines of each time.
 fn take_samples<W: Sink>(
@@ -21,13 +23,16 @@ fn take_samples<W: Sink>(
     bytes: &[u8],
     first: usize,
     len: usize,
+    replies: &mut ArrayVec<Reply, MOST_REPLIES>,
     writer: &mut W,
 ) -> Result<(), DeviceFault>
+    requires empty { replies.old.items ≡ [] }
     requires within { first + len ≤ sample_count (packing_in session.old) bytes.now }
     requires some { 0 < len }
     requires short { len ≤ 1024 }
     requires quiet { len ≤ until_next session.old }
     requires room { time_of session.old + len ≤ 2 ^ 40 }
+    ensures empty { OnOk result (replies.new.items ≡ []) }
     ensures packing { packing_in session.new ≡ packing_in session.old }
     ensures time { time_of session.new ≡ time_of session.old + len }
     ensures ready { OnOk result (0 < until_next session.new) }
@@ -37,8 +42,9 @@ fn take_samples<W: Sink>(
         AppendsPart start (W.contents writer.new) (body offered settings (xs ++ samples_from settings.packing bytes.now first len) clients)) }
     ensures failure { TellsFailure (W.has_failed writer.old) (W.has_failed writer.new) result }
 {
-    let replies = session.feed(bytes, first, len);
-    write_replies(&replies, writer)?;
+    session.feed(bytes, first, len, replies);
+    write_replies(replies, writer)?;
+    replies.clear();
     write_answers(session, writer)
 }
 
@@ -47,12 +53,15 @@ fn take_piece<W: Sink>(
     session: &mut Session,
     bytes: &[u8],
     per_byte: usize,
+    replies: &mut ArrayVec<Reply, MOST_REPLIES>,
     writer: &mut W,
 ) -> Result<(), DeviceFault>
+    requires empty { replies.old.items ≡ [] }
     requires short { length bytes.now ≤ 4096 }
     requires per_byte { per_byte ≡ samples_per_byte (packing_in session.old) }
     requires room { time_of session.old + sample_count (packing_in session.old) bytes.now ≤ 2 ^ 40 }
     requires ready { 0 < until_next session.old }
+    ensures empty { OnOk result (replies.new.items ≡ []) }
     ensures packing { packing_in session.new ≡ packing_in session.old }
     ensures time { OnOk result (time_of session.new ≡ time_of session.old + sample_count (packing_in session.old) bytes.now) }
     ensures ready { OnOk result (0 < until_next session.new) }
@@ -66,7 +75,7 @@ fn take_piece<W: Sink>(
     let mut first = 0;
     while first < count {
         let len = ((count - first) as u64).min(1024).min(session.until_next()) as usize;
-        take_samples(session, bytes, first, len, writer)?;
+        take_samples(session, bytes, first, len, replies, writer)?;
         first += len;
     }
     Ok(())
@@ -99,6 +108,7 @@ pub fn read_all<R: Source, W: Sink>(
     ensures failure { TellsFailure (W.has_failed writer.old) (W.has_failed writer.new) result }
 {
     let mut buffer = [0; 4096];
+    let mut replies = ArrayVec::new();
     loop {
         let Ok(count) = reader.read(&mut buffer) else {
             return Ok(Stop::ReadFailed);
@@ -108,7 +118,7 @@ pub fn read_all<R: Source, W: Sink>(
         }
         let room = (limit - session.time()) / per_byte as u64;
         let used = (count as u64).min(room) as usize;
-        take_piece(session, &buffer[..used], per_byte, writer)?;
+        take_piece(session, &buffer[..used], per_byte, &mut replies, writer)?;
         if used < count {
             return Ok(Stop::PastLimit);
         }

@@ -14,7 +14,7 @@ use std::alloc::Global;
 pub const MOST_CLIENTS: usize = 8;
 
 /// The most replies of a run of samples.
-const MOST_REPLIES: usize = 256;
+pub const MOST_REPLIES: usize = 256;
 
 /// The slots of all clients, and beside them what is left of the clients' scripts.
 #[derive(Drop)]
@@ -75,22 +75,29 @@ impl<'a> Session<'a> {
         least_gap(&self.queues, self.bank.time())
     }
 
-    /// Takes samples, none of them past the next command's time, and answers what they make the slots tell.
-    pub fn feed(&mut self, bytes: &[u8], first: usize, len: usize) -> ArrayVec<Reply, MOST_REPLIES>
+    /// Takes samples, none of them past the next command's time, and puts what they make the slots tell into an empty list.
+    pub fn feed(
+        &mut self,
+        bytes: &[u8],
+        first: usize,
+        len: usize,
+        replies: &mut ArrayVec<Reply, MOST_REPLIES>,
+    )
         requires within { first + len ≤ sample_count (packing_in self.old) bytes.now }
         requires some { 0 < len }
         requires short { len ≤ 1024 }
         requires quiet { len ≤ until_next self.old }
         requires room { time_of self.old + len ≤ 2 ^ 40 }
+        requires empty { replies.old.items ≡ [] }
         ensures packing { packing_in self.new ≡ packing_in self.old }
         ensures time { time_of self.new ≡ time_of self.old + len }
         ensures stands { (settings : Recording) (clients : List Client) (xs : List Sample) → StandsFor settings clients self.old xs []
             → StandsFor settings clients self.new (xs ++ samples_from settings.packing bytes.now first len) (answers_at offered settings clients (xs ++ samples_from settings.packing bytes.now first len)) }
         ensures told { (settings : Recording) (clients : List Client) (xs : List Sample) → StandsFor settings clients self.old xs []
             → body_lines offered settings (xs ++ samples_from settings.packing bytes.now first len) clients
-            ≡ body_lines offered settings xs clients ++ map line_of result.items ++ answers_at offered settings clients (xs ++ samples_from settings.packing bytes.now first len) }
+            ≡ body_lines offered settings xs clients ++ map line_of replies.new.items ++ answers_at offered settings clients (xs ++ samples_from settings.packing bytes.now first len) }
     {
-        self.bank.feed(bytes, first, len)
+        self.bank.feed_into(bytes, first, len, replies);
     }
 
     /// The next answer at this time.

@@ -66,6 +66,7 @@ loop-count-preserved g c = let s = g.W.Sink in let r = g.R.Source in let i = c.l
     let time : time_of c.take_piece.new.session ≡ sample_count packing was.0 + sample_count packing piece =
     e.time ∙ ap (λ (f : Packing). (time_of c.loop-count.session) + sample_count f piece) i.format ∙ ap (λ t. t + sample_count packing piece) was.2 in
     record {
+      empty = e.empty;
       format = e.packing ∙ i.format;
       ready = e.ready;
       within = subst (λ k. k ≤ c.args.limit) (sym (time ∙ ap (λ k. sample_count packing was.0 + k) (count_of packing piece used len))) u.within;
@@ -84,6 +85,7 @@ loop-count-preserved g c = let s = g.W.Sink in let r = g.R.Source in let i = c.l
 
 pub loop-count-init : goal.loop-count-init
 loop-count-init g c = record {
+  empty = c.new-replies.ensures;
   format = refl;
   ready = c.requires.ready;
   within = omega (arith, c.requires.start);

@@ -31,6 +31,7 @@ loop-first-preserved g c = let s = g.W.Sink in let i = c.loop-first.invariant in
     let shorter = c.min-len.ensures in
     let later = e.time in
     record {
+      empty = e.empty;
       count = i.count;
       within = omega (arith, short, shorter);
       format = e.packing ∙ i.format;
@@ -46,6 +47,7 @@ loop-first-preserved g c = let s = g.W.Sink in let i = c.loop-first.invariant in
 pub loop-first-init : goal.loop-first-init
 unfolding samples_from
 loop-first-init g c = record {
+  empty = c.requires.empty;
   count = mul_comm (length c.args.bytes.now) c.args.per_byte ∙ ap (λ (k : ℕ). k * length c.args.bytes.now) c.requires.per_byte;
   within = omega arith;
   format = refl;

@@ -1,4 +1,4 @@
-use Rattle.std.proofs.Common.{◌≡◌, ℕ, ◌+◌, ◌-◌, ◌<◌, ◌≤◌, List, ◌++◌}
+use Rattle.std.proofs.Common.{◌≡◌, ℕ, ◌+◌, ◌-◌, ◌<◌, ◌≤◌, List, [], ◌++◌}
 use Rattle.std.specs.Prelude.{Option}
 use Rattle.definitions.specs.Oscillators.{Settings}
 use Rattle.definitions.specs.Samples.{Sample, sample_count, samples_from}
@@ -10,6 +10,7 @@ use Rattle.receiver.proofs.reading.take_piece.Given as goal
 
 abbrev pub invariant-loop-first : goal.invariant-loop-first
 invariant-loop-first g l = let sink = g.W.Sink in record {
+  empty : l.replies.items ≡ [];
   count : l.count ≡ sample_count (packing_in l.fn.session) l.bytes;
   within : l.first ≤ l.count;
   format : packing_in l.session ≡ packing_in l.fn.session;

@@ -16,19 +16,19 @@ returns-in_err-write_replies-clause-err g c = let s = g.W.Sink in on_err c.from_
     let more = xs ++ samples_from settings.packing c.args.bytes.now c.args.first c.args.len in
     stretch-part-told start (s.contents c.args.writer.now) (s.contents c.write_replies.new.writer) (body_lines offered settings xs clients) (map line_of c.deref.result.now) (answers_at offered settings clients more)
     (body_lines offered settings more clients)
-    (c.feed-replies.ensures.told settings clients xs at.stands ∙ ap (λ r. body_lines offered settings xs clients ++ map line_of r ++ answers_at offered settings clients more) (sym c.deref.ensures.0))
+    (c.feed.ensures.told settings clients xs at.stands ∙ ap (λ r. body_lines offered settings xs clients ++ map line_of r ++ answers_at offered settings clients more) (sym c.deref.ensures.0))
     at.written c.in_err-write_replies.ensures.err)
 
 pub returns-clause-ok : goal.returns-clause-ok
 unfolding body
 returns-clause-ok g c = let s = g.W.Sink in IfOk-weaker c.write_answers.result _ _ (λ _ answered. λ settings clients start xs at.
     let more = xs ++ samples_from settings.packing c.args.bytes.now c.args.first c.args.len in
-    let said = answered settings clients more (answers_at offered settings clients more) (c.feed-replies.ensures.stands settings clients xs at.stands) in
+    let said = answered settings clients more (answers_at offered settings clients more) (c.feed.ensures.stands settings clients xs at.stands) in
     record {
       stands = said.1;
       written = stretch-all start (s.contents c.args.writer.now) (s.contents c.write_replies.new.writer) (s.contents c.write_answers.new.writer) (body_lines offered settings xs clients) (map line_of c.deref.result.now) (answers_at offered settings clients more)
           (body_lines offered settings more clients)
-          (c.feed-replies.ensures.told settings clients xs at.stands ∙ ap (λ r. body_lines offered settings xs clients ++ map line_of r ++ answers_at offered settings clients more) (sym c.deref.ensures.0))
+          (c.feed.ensures.told settings clients xs at.stands ∙ ap (λ r. body_lines offered settings xs clients ++ map line_of r ++ answers_at offered settings clients more) (sym c.deref.ensures.0))
           at.written c.in_ok-write_replies.ensures.ok said.0;
     }) c.write_answers.ensures.ok
 
@@ -38,6 +38,6 @@ returns-clause-err g c = let s = g.W.Sink in IfErr-weaker c.write_answers.result
     let more = xs ++ samples_from settings.packing c.args.bytes.now c.args.first c.args.len in
     stretch-part-answers start (s.contents c.args.writer.now) (s.contents c.write_replies.new.writer) (s.contents c.write_answers.new.writer) (body_lines offered settings xs clients) (map line_of c.deref.result.now) (answers_at offered settings clients more)
     (body_lines offered settings more clients)
-    (c.feed-replies.ensures.told settings clients xs at.stands ∙ ap (λ r. body_lines offered settings xs clients ++ map line_of r ++ answers_at offered settings clients more) (sym c.deref.ensures.0))
-    at.written c.in_ok-write_replies.ensures.ok (answered settings clients more (answers_at offered settings clients more) (c.feed-replies.ensures.stands settings clients xs at.stands)))
+    (c.feed.ensures.told settings clients xs at.stands ∙ ap (λ r. body_lines offered settings xs clients ++ map line_of r ++ answers_at offered settings clients more) (sym c.deref.ensures.0))
+    at.written c.in_ok-write_replies.ensures.ok (answered settings clients more (answers_at offered settings clients more) (c.feed.ensures.stands settings clients xs at.stands)))
     c.write_answers.ensures.err

@@ -26,14 +26,14 @@ pub run_all-requires-clause-few : goal.run_all-requires-clause-few
 run_all-requires-clause-few c = rw c.deref_mut.ensures.value (few-from_most (2 ^ 61) c.args.self.now.places.items (omega (arith, c.args.self.now.few, c.requires.room)))
 
 pub run_all-requires-clause-fits : goal.run_all-requires-clause-fits
-run_all-requires-clause-fits c = rw (c.deref_mut.ensures.value, c.new-replies.ensures) (omega (arith, few_slots c.args.self.now.clients c.args.self.now.places.items c.args.self.now.size c.args.self.now.keys))
+run_all-requires-clause-fits c = rw (c.deref_mut.ensures.value, c.requires.empty) (omega (arith, few_slots c.args.self.now.clients c.args.self.now.places.items c.args.self.now.size c.args.self.now.keys))
 
 pub invariant_of-self : goal.invariant_of-self
 invariant_of-self c =
     let places : List Place = c.args.self.now.places.items in
     let new : List Place = c.run_all.new.places in
     let ys : List Sample = samples_from (packing_of c.format.result) c.args.bytes.now c.args.first c.args.len in
-    let runs : RunsAll ys c.args.self.now.time places new [] c.run_all.new.replies.items = rw (c.deref_mut.ensures.value, c.new-replies.ensures, c.unpack-run.ensures) at c.run_all.ensures in
+    let runs : RunsAll ys c.args.self.now.time places new [] c.run_all.new.replies.items = rw (c.deref_mut.ensures.value, c.requires.empty, c.unpack-run.ensures) at c.run_all.ensures in
     let whole = refilled c.args.self.now.places.len places new (omega (arith, c.run_all.auto.places, c.deref_mut.ensures.len)) in
     let is : length ys ≡ c.args.len = samples_from-length (packing_of c.format.result) c.args.bytes.now c.args.first c.args.len in
     record {
@@ -46,7 +46,7 @@ pub returns-clause-told : goal.returns-clause-told
 returns-clause-told c settings xs asked s =
     let packing : packing_of c.format.result ≡ settings.packing = c.format.ensures ∙ ap (λ (s : Settings). s.packing) s.recorded in
     let ys : List Sample = samples_from settings.packing c.args.bytes.now c.args.first c.args.len in
-    let runs : RunsAll ys c.args.self.now.time c.args.self.now.places.items c.run_all.new.places [] c.run_all.new.replies.items = rw (c.deref_mut.ensures.value, c.new-replies.ensures, c.unpack-run.ensures, packing) at c.run_all.ensures in
+    let runs : RunsAll ys c.args.self.now.time c.args.self.now.places.items c.run_all.new.places [] c.run_all.new.replies.items = rw (c.deref_mut.ensures.value, c.requires.empty, c.unpack-run.ensures, packing) at c.run_all.ensures in
     run-tells settings asked xs ys c.args.self.now.time (sym s.now) c.args.self.now.places.items c.run_all.new.places c.run_all.new.replies.items (layout 4 (4 * c.args.self.now.clients)) c.args.self.now.keys runs s.slots
 
 pub returns-clause-stands : goal.returns-clause-stands
@@ -55,7 +55,7 @@ returns-clause-stands c settings xs asked s =
     let places : List Place = c.args.self.now.places.items in
     let new : List Place = c.run_all.new.places in
     let ys : List Sample = samples_from settings.packing c.args.bytes.now c.args.first c.args.len in
-    let runs : RunsAll ys c.args.self.now.time places new [] c.run_all.new.replies.items = rw (c.deref_mut.ensures.value, c.new-replies.ensures, c.unpack-run.ensures, packing) at c.run_all.ensures in
+    let runs : RunsAll ys c.args.self.now.time places new [] c.run_all.new.replies.items = rw (c.deref_mut.ensures.value, c.requires.empty, c.unpack-run.ensures, packing) at c.run_all.ensures in
     let whole = refilled c.args.self.now.places.len places new (omega (arith, c.run_all.auto.places, c.deref_mut.ensures.len)) in
     let slots : BankStands settings (xs ++ ys) asked (c.args.self.now.time + c.args.len) new =
     run-stands settings asked xs ys c.args.self.now.time (sym s.now) c.args.len places new [] c.run_all.new.replies.items (samples_from-length settings.packing c.args.bytes.now c.args.first c.args.len) runs s.slots in

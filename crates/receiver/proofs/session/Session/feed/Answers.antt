@@ -25,7 +25,7 @@ returns-clause-stands c settings clients xs s =
     let some : 0 < length ys = omega (arith, many, c.requires.some) in
     record {
       done = s.done;
-      bank = c.feed.ensures.stands settings xs (asked_of s.done) s.bank;
+      bank = c.feed_into.ensures.stands settings xs (asked_of s.done) s.bank;
       queues = queues-later settings xs ys s.done some 1 clients queues s.queues free;
       waits = waiting-later settings xs ys s.done some clients queues s.queues free;
     }
@@ -39,5 +39,5 @@ returns-clause-told c settings clients xs s =
     let free = before-next queues c.args.self.now.bank.time c.args.len (length xs) (length ys) c.requires.quiet s.bank.now many in
     let some : 0 < length ys = omega (arith, many, c.requires.some) in
     let number : 4 * c.args.self.now.bank.clients ≡ length clients * 4 = omega (arith, same-number xs s.done 1 clients queues s.queues, c.args.self.now.clients) in
-    told-stretch settings clients queues s.done xs ys c.feed.result.items some s.queues free
-    (subst (λ (n : ℕ). AreTold c.feed.result.items (told_between (told_at_end settings (layout 4 n) (asked_of s.done)) xs ys)) number (c.feed.ensures.told settings xs (asked_of s.done) s.bank))
+    told-stretch settings clients queues s.done xs ys c.feed_into.new.replies.items some s.queues free
+    (subst (λ (n : ℕ). AreTold c.feed_into.new.replies.items (told_between (told_at_end settings (layout 4 n) (asked_of s.done)) xs ys)) number (c.feed_into.ensures.told settings xs (asked_of s.done) s.bank))
