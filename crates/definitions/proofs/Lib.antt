@@ -26,3 +26,5 @@ pub mod TellLemmas
 pub mod GreatestLemmas
 pub mod LaterLemmas
 pub mod EntryLemmas
+pub mod CellLemmas
+pub mod PageLemmas

@@ -163,7 +163,8 @@ SubframesStay = (bits more : List Bool) (n : ℕ) → n + 300 ≤ length bits �
 abbrev pub IsChecked : List Bool → ℕ → ℕ → ℕ → Type 0
 IsChecked bits n i shown = (passes (word_at bits (n + 30 * i)) (prior_at bits (n + 30 * i)) ≡ true) × (shown ≡ data_of (word_at bits (n + 30 * i)) (prior_at bits (n + 30 * i)))
 
--- A subframe that the last bit makes whole is that of the last 300 bits, and each word that is shown of it is checked.
+-- A subframe that the last bit makes whole is that of the last 300 bits, two bits are there before them, and each word that is shown of
+-- it is checked.
 abbrev pub ShownWordsPass : Type 0
 ShownWordsPass = (bits : List Bool) (found : Found) → found_by bits ≡ Some found
-    → (n : ℕ) × (n + 300 ≡ length bits) × ((i shown : ℕ) → i < 10 → slice_get found.subframe.words i ≡ Some (Some shown) → IsChecked bits n i shown)
+    → (n : ℕ) × (2 ≤ n) × (n + 300 ≡ length bits) × ((i shown : ℕ) → i < 10 → slice_get found.subframe.words i ≡ Some (Some shown) → IsChecked bits n i shown)

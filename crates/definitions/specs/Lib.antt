@@ -24,3 +24,4 @@ pub mod Banks
 pub mod Receiver
 pub mod Runs
 pub mod Laws
+pub mod SlotLaws
