@@ -26,5 +26,6 @@ pub mod TellLemmas
 pub mod GreatestLemmas
 pub mod LaterLemmas
 pub mod EntryLemmas
+pub mod DumpLemmas
 pub mod CellLemmas
 pub mod PageLemmas
