@@ -27,5 +27,7 @@ pub mod GreatestLemmas
 pub mod LaterLemmas
 pub mod EntryLemmas
 pub mod DumpLemmas
+pub mod AlmanacLemmas
+pub mod EventLemmas
 pub mod CellLemmas
 pub mod PageLemmas

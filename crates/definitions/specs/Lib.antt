@@ -25,3 +25,4 @@ pub mod Receiver
 pub mod Runs
 pub mod Laws
 pub mod SlotLaws
+pub mod EventLaws

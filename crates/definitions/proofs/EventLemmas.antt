@@ -1,0 +1,255 @@
+-- Each event that a slot tells says what holds of the life that is on.
+use Rattle.std.proofs.Common.{◌≡◌, ℕ, zero, suc, ◌+◌, ◌-◌, ◌*◌, ◌≤◌, List, [], ◌∷◌, ◌++◌, length, take, map, refl, sym, ap, ◌∙◌, arith}
+use Rattle.std.specs.Prelude.{Bool, true, false, ℤ, ◌&&◌, Option, Some, None, slice_get, cond, not, if◌then◌else◌, nat_lt, nat_le, nat_eq, option_map, option_and_then, sum, ◌↔◌}
+use Rattle.std.specs.Option.{option_map_or}
+use Rattle.std.specs.List.{AllByRecursion, range_with_len}
+use Rattle.std.proofs.Math.Seq.{take-length}
+use Rattle.std.proofs.lemmas.Bool.{eqb-true, ltb-true, leb-true, le-leb}
+use Rattle.definitions.specs.Samples.{Sample}
+use Rattle.definitions.specs.Oscillators.{Settings}
+use Rattle.definitions.specs.Segments.{Channel, Dump, counts_of, dumps_of}
+use Rattle.definitions.specs.Lock.{News, nothing, lock, unlock, lost, news_of}
+use Rattle.definitions.specs.Acquisition.{Plan, cell_count, power_of, named_cell, result_of, due_time}
+use Rattle.definitions.specs.BitEdge.{has_edge, bits_of}
+use Rattle.definitions.specs.Frames.{Found, found_by}
+use Rattle.definitions.specs.Pages.{Page, page_of, clock, eph2, eph3}
+use Rattle.definitions.specs.DataSets.{SetKind, Report, ephemeris, single, AlmanacSet, almanac_set, last_page, is_of, is_ephemeris, belong_together, joined, ephemeris_of, ephemerides, almanac_sets, new_set, reported_with, last_reported, differing, same_values, page_report, reports_of}
+use Rattle.definitions.specs.Commands.{Start, hold, track, acquire}
+use Rattle.definitions.specs.Lives.{Life, channel_of, is_steered, until_lost, lost_after, dumps_of_channel, dumps_of_life, life_now}
+use Rattle.definitions.specs.Events.{Event, acquired, count, edge, gap, subframe, reported, almanacs, when, events_of, unprinted, last_of, front_of, news_events, pages_among, page_events, bit_events, push_events, steered_events, dump_events, last_dump_events, due_events, life_events, events_at_end}
+use Rattle.definitions.specs.EventLaws.{counts_by, pushes_so_far, bits_so_far, IsCount, IsNamed, IsSubframe, IsEphemeris, IsReport, IsAlmanacSet, IsOfLife, IsRight, EventsAreRight}
+use Rattle.definitions.proofs.GreatestLemmas.{greatest_of-first}
+use Rattle.definitions.proofs.FrameLemmas.{found-whole}
+use Rattle.definitions.proofs.PageLemmas.{pages-pass}
+use Rattle.definitions.proofs.AlmanacLemmas.{set-agrees, pages_among-whole}
+
+-- ---- lists of events
+abbrev pub All : (Event → Type 0) → List Event → Type 0
+All P es = AllByRecursion P es
+
+all-append : (P : Event → Type 0) (es fs : List Event) → All P es → All P fs → All P (es ++ fs)
+all-append P [] fs he hf = hf
+all-append P (e ∷ es) fs he hf = (he.0, all-append P es fs he.1 hf)
+
+all-when : (P : Event → Type 0) (b : Bool) (e : Event) → (b ≡ true → P e) → All P (when b e)
+all-when P true e h = (h refl, tt)
+all-when P false e h = tt
+
+all-events_of : {A : Type 0} (P : Event → Type 0) (f : A → Event) (o : Option A) → ((x : A) → o ≡ Some x → P (f x)) → All P (events_of f o)
+all-events_of P f None h = tt
+all-events_of P f (Some x) h = (h x refl, tt)
+
+all-if : (P : Event → Type 0) (b : Bool) (es : List Event) → All P es → All P (if b then es else [])
+all-if P true es h = h
+all-if P false es h = tt
+
+pub all-at : {A : Type 0} (P : A → Type 0) (xs : List A) → AllByRecursion P xs → (i : ℕ) (x : A) → slice_get xs i ≡ Some x → P x
+all-at P [] all i x there = cc
+all-at P (y ∷ ys) all zero x there = let it : y ≡ x = cc in rw (sym it) all.0
+all-at P (y ∷ ys) all (suc i) x there = all-at P ys all.1 i x there
+
+-- ---- dumps
+took-at : {A : Type 0} (m : ℕ) (xs : List A) (k : ℕ) (x : A) → slice_get (take m xs) k ≡ Some x → slice_get xs k ≡ Some x
+took-at zero xs k x e = cc
+took-at (suc m) [] k x e = cc
+took-at (suc m) (y ∷ ys) zero x e = e
+took-at (suc m) (y ∷ ys) (suc k) x e = took-at m ys k x e
+
+until_lost-at : (dumps : List Dump) (k : ℕ) (d : Dump) → slice_get (until_lost dumps) k ≡ Some d → slice_get dumps k ≡ Some d
+until_lost-at dumps k d e = by_lost (lost_after (counts_of dumps)) e
+  where
+    by_lost : (o : Option ℕ) → slice_get (elim o [ Some m ↦ take m dumps | None ↦ dumps ]) k ≡ Some d → slice_get dumps k ≡ Some d
+    by_lost None e = e
+    by_lost (Some m) e = took-at m dumps k d e
+
+-- a dump of a life is one of its channel
+pub life-dump : (settings : Settings) (xs : List Sample) (life : Life) (k : ℕ) (d : Dump) → slice_get (dumps_of_life settings xs life) k ≡ Some d
+    → (channel : Channel) × (channel_of settings xs life.begun life.start ≡ Some channel) × (slice_get (dumps_of settings channel xs) k ≡ Some d)
+unfolding dumps_of_life
+life-dump settings xs life k d e = by_channel (channel_of settings xs life.begun life.start) refl e
+  where
+    by_steered : (channel : Channel) (b : Bool) → slice_get (if b then until_lost (dumps_of settings channel xs) else dumps_of settings channel xs) k ≡ Some d → slice_get (dumps_of settings channel xs) k ≡ Some d
+    by_steered channel true e = until_lost-at (dumps_of settings channel xs) k d e
+    by_steered channel false e = e
+
+    by_channel : (o : Option Channel) → channel_of settings xs life.begun life.start ≡ o → slice_get (dumps_of_channel settings xs life.start o) k ≡ Some d
+        → (channel : Channel) × (channel_of settings xs life.begun life.start ≡ Some channel) × (slice_get (dumps_of settings channel xs) k ≡ Some d)
+    by_channel None is e = cc
+    by_channel (Some channel) is e = (channel, is, by_steered channel (is_steered life.start) e)
+
+-- ---- an acquisition
+named : (settings : Settings) (xs : List Sample) (plan : Plan) (start : ℕ) → (cell : ℕ) × IsNamed settings xs plan start cell (result_of settings plan xs start)
+unfolding result_of named_cell
+named settings xs plan start =
+    let power : ℕ → ℕ = power_of settings plan xs start in
+    let greatest = greatest_of-first power (cell_count plan) (omega arith) in (
+      _,
+      record {
+        is_greatest = greatest;
+        bin = refl;
+        half_chip = refl;
+        power = refl;
+        found = both (plan.threshold * sum (map power (range_with_len 0 (cell_count plan)))) (10 * _ * cell_count plan);
+      },
+    )
+  where
+    both : (a b : ℕ) → (nat_le a b ≡ true) ↔ (a ≤ b)
+    both a b = (leb-true a b, le-leb a b)
+
+-- ---- sets of pages
+new-set : (kind : SetKind) (pages : List Page) (values : List ℤ) → new_set kind pages ≡ Some values → kind.values_of pages ≡ Some values
+unfolding new_set
+new-set kind pages values e = by_pages pages e
+  where
+    differs : (before now : Option (List ℤ)) → differing before now ≡ Some values → now ≡ Some values
+    differs before None e = cc
+    differs None (Some now) e = e
+    differs (Some before) (Some now) e = by_same (same_values before now) e
+      where
+        by_same : (b : Bool) → (if b then None else Some now) ≡ Some values → Some now ≡ Some values
+        by_same true e = cc
+        by_same false e = e
+
+    by_looked : (b : Bool) (o before : Option (List ℤ)) → (if b then differing before o else None) ≡ Some values → o ≡ Some values
+    by_looked false o before e = cc
+    by_looked true o before e = differs before o e
+
+    by_pages : (pages : List Page) → reported_with kind pages (length pages - 1) (last_reported kind pages (length pages - 1)) ≡ Some values → kind.values_of pages ≡ Some values
+    by_pages [] e = cc
+    by_pages (p ∷ ps) e =
+        let n : length (p ∷ ps) - 1 + 1 ≡ length (p ∷ ps) = omega arith in
+        let whole : take (length (p ∷ ps) - 1 + 1) (p ∷ ps) ≡ p ∷ ps = rw n (take-length (p ∷ ps)) in
+        ap kind.values_of (sym whole) ∙ by_looked (option_map_or kind.is_looked_for (slice_get (p ∷ ps) (length (p ∷ ps) - 1)) false) (kind.values_of (take (length (p ∷ ps) - 1 + 1) (p ∷ ps))) (last_reported kind (p ∷ ps) (length (p ∷ ps) - 1)) e
+
+is-ephemeris : (pages : List Page) (values : List ℤ) → ephemeris_of pages ≡ Some values → IsEphemeris pages values
+is-ephemeris pages values e = by_pages (last_page (is_of clock) pages) (last_page (is_of eph2) pages) (last_page (is_of eph3) pages) refl refl refl e
+  where
+    by_issue : (b : Bool) (all : List ℤ) → cond b (Some all) None ≡ Some values → (b ≡ true) × (values ≡ all)
+    by_issue true all e = (refl, cc)
+    by_issue false all e = cc
+
+    by_pages : (o p q : Option Page) → last_page (is_of clock) pages ≡ o → last_page (is_of eph2) pages ≡ p → last_page (is_of eph3) pages ≡ q → joined o p q ≡ Some values → IsEphemeris pages values
+    by_pages (Some c) (Some e2) (Some e3) f g h e = let it = by_issue (belong_together c e2 e3) (c.values ++ e2.values ++ e3.values) e in (c, e2, e3, f, g, h, it.0, it.1)
+    by_pages (Some c) (Some e2) None f g h e = cc
+    by_pages (Some c) None q f g h e = cc
+    by_pages None p q f g h e = cc
+
+is-report : (bits : List Bool) (r : Report) → (reports_of (pages_among bits)).page ≡ Some r → IsReport bits r
+unfolding reports_of
+is-report bits r e = by_page (slice_get (pages_among bits) (length (pages_among bits) - 1)) refl e
+  where
+    of_set : (o : Option (List ℤ)) → new_set ephemerides (pages_among bits) ≡ o → option_map ephemeris o ≡ Some r → IsReport bits r
+    of_set None is e = cc
+    of_set (Some values) is e = let it : ephemeris values ≡ r = cc in rw (sym it) (is-ephemeris (pages_among bits) values (new-set ephemerides (pages_among bits) values is))
+
+    by_kind : (b : Bool) (page : Page) → slice_get (pages_among bits) (length (pages_among bits) - 1) ≡ Some page
+        → cond b (option_map ephemeris (new_set ephemerides (pages_among bits))) (Some (single page)) ≡ Some r → IsReport bits r
+    by_kind true page is e = of_set (new_set ephemerides (pages_among bits)) refl e
+    by_kind false page is e = let it : single page ≡ r = cc in rw (sym it) (pages-pass bits (length (pages_among bits) - 1) page is)
+
+    by_page : (o : Option Page) → slice_get (pages_among bits) (length (pages_among bits) - 1) ≡ o → option_and_then (page_report (pages_among bits)) o ≡ Some r → IsReport bits r
+    by_page None is e = cc
+    by_page (Some page) is e = by_kind (is_ephemeris page) page is e
+
+pub is-almanac_set : (bits : List Bool) (set : AlmanacSet) → (reports_of (pages_among bits)).set ≡ Some set → IsAlmanacSet (pages_among bits) set
+unfolding reports_of
+is-almanac_set bits set e = of_set (new_set almanac_sets (pages_among bits)) refl e
+  where
+    of_set : (o : Option (List ℤ)) → new_set almanac_sets (pages_among bits) ≡ o → option_map almanac_set o ≡ Some set → IsAlmanacSet (pages_among bits) set
+    of_set None is e = cc
+    of_set (Some values) is e = let it : almanac_set values ≡ set = cc in rw (sym it) (set-agrees (pages_among bits) values (pages_among-whole bits) (new-set almanac_sets (pages_among bits) values is))
+
+-- ---- all events of a life
+all-bits : (P : Event → Type 0) (bits : List Bool) (found : Found) → All P (events_of gap found.gap) → P (subframe found.subframe) → All P (page_events bits (page_of found.subframe)) → All P (bit_events bits (Some found))
+all-bits P bits found gaps shown paged =
+    all-append P (events_of gap found.gap ++ (subframe found.subframe ∷ [])) (page_events bits (page_of found.subframe))
+    (all-append P (events_of gap found.gap) (subframe found.subframe ∷ []) gaps (shown, tt)) paged
+
+module _ (settings : Settings) (xs : List Sample) (life : Life) where
+  P : Event → Type 0
+  P e = IsOfLife settings xs life e
+
+  dumps : List Dump
+  dumps = dumps_of_life settings xs life
+
+  bits-right : (o : Option Found) → found_by (bits_so_far settings xs life) ≡ o → All P (bit_events (bits_so_far settings xs life) o)
+  unfolding P
+  bits-right None e = tt
+  bits-right (Some found) e =
+      all-bits P bits found (all-events_of P gap found.gap (λ n is. rw e is)) shown (paged (page_of found.subframe))
+    where
+      bits : List Bool
+      bits = bits_so_far settings xs life
+
+      shown : IsSubframe bits found.subframe
+      shown = found-whole bits found e
+
+      paged : (o : Option Page) → All P (page_events bits o)
+      paged None = tt
+      paged (Some page) =
+          all-append P (events_of reported (reports_of (pages_among bits)).page) (events_of almanacs (reports_of (pages_among bits)).set)
+          (all-events_of P reported (reports_of (pages_among bits)).page (λ r is. is-report bits r is))
+          (all-events_of P almanacs (reports_of (pages_among bits)).set (λ s is. is-almanac_set bits s is))
+
+  news-right : (n : News) → news_of (counts_by settings xs life) ≡ n → All P (news_events n)
+  unfolding P
+  news-right nothing e = tt
+  news-right lock e = (e, tt)
+  news-right unlock e = (e, tt)
+  news-right lost e = (e, tt)
+
+  edge-right : (b c : Bool) → has_edge (pushes_so_far settings xs life) ≡ b → All P (when (b && c) edge)
+  unfolding P
+  edge-right true c e = all-when P c edge (λ h. e)
+  edge-right false c e = tt
+
+  steered-right : All P (steered_events (counts_of dumps))
+  unfolding steered_events push_events dumps
+  steered-right =
+      let pushes : List ℤ = pushes_so_far settings xs life in
+      let bits : List Bool = bits_so_far settings xs life in
+      all-append P (news_events (news_of (counts_by settings xs life)))
+      (when (has_edge pushes && not (has_edge (front_of pushes))) edge ++ (if nat_lt (length (bits_of (front_of pushes))) (length bits) then bit_events bits (found_by bits) else []))
+      (news-right (news_of (counts_by settings xs life)) refl)
+      (all-append P (when (has_edge pushes && not (has_edge (front_of pushes))) edge)
+      (if nat_lt (length (bits_of (front_of pushes))) (length bits) then bit_events bits (found_by bits) else [])
+      (edge-right (has_edge pushes) (not (has_edge (front_of pushes))) refl)
+      (all-if P (nat_lt (length (bits_of (front_of pushes))) (length bits)) (bit_events bits (found_by bits)) (bits-right (found_by bits) refl)))
+
+  count-right : (d : Dump) → last_of dumps ≡ Some d → d.time ≡ length xs → nat_lt 0 (unprinted life (front_of dumps)) ≡ true → IsCount settings xs life d.counts
+  unfolding last_of dumps
+  count-right d last time wanted =
+      let it = life-dump settings xs life (length dumps - 1) d last in
+      (ltb-true 0 (unprinted life (front_of dumps)) wanted, it.0, it.1, length dumps - 1, it.2 ∙ ap (λ t. Some (record { time = t; counts = d.counts })) time)
+
+  dump-right : (o : Option Dump) → last_of dumps ≡ o → All P (last_dump_events life (length xs) dumps o)
+  unfolding P
+  dump-right None e = tt
+  dump-right (Some d) e = by_time (nat_eq d.time (length xs)) refl
+    where
+      by_time : (b : Bool) → nat_eq d.time (length xs) ≡ b → All P (if b then dump_events life dumps d else [])
+      by_time false is = tt
+      by_time true is =
+          all-append P (when (nat_lt 0 (unprinted life (front_of dumps))) (count d.counts)) (if is_steered life.start then steered_events (counts_of dumps) else [])
+          (all-when P (nat_lt 0 (unprinted life (front_of dumps))) (count d.counts) (λ wanted. count-right d e (eqb-true d.time (length xs) is) wanted))
+          (all-if P (is_steered life.start) (steered_events (counts_of dumps)) steered-right)
+
+  due-right : (start : Start) → life.start ≡ start → All P (due_events settings xs life.begun start)
+  unfolding P
+  due-right (hold prn doppler half_chip) e = tt
+  due-right (track prn doppler half_chip) e = tt
+  due-right (acquire plan) e =
+      all-when P (nat_eq (due_time settings plan life.begun) (length xs)) (acquired plan.prn (result_of settings plan xs life.begun))
+      (λ due. let one = named settings xs plan life.begun in (plan, e, refl, eqb-true (due_time settings plan life.begun) (length xs) due, one.0, one.1))
+
+  life-right : All P (life_events settings xs (Some life))
+  unfolding life_events dumps
+  life-right = all-append P (due_events settings xs life.begun life.start) (last_dump_events life (length xs) dumps (last_of dumps)) (due-right life.start refl) (dump-right (last_of dumps) refl)
+
+pub events-right : EventsAreRight
+unfolding events_at_end P life_events
+events-right settings xs commands i event there = by_life (life_now settings (front_of xs) commands) refl there
+  where
+    by_life : (o : Option Life) → life_now settings (front_of xs) commands ≡ o → slice_get (life_events settings xs o) i ≡ Some event → IsRight settings xs commands event
+    by_life None on there = cc
+    by_life (Some life) on there = (life, on, all-at (P settings xs life) (life_events settings xs (Some life)) (life-right settings xs life) i event there)
