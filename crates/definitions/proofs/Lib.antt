@@ -28,6 +28,8 @@ pub mod LaterLemmas
 pub mod EntryLemmas
 pub mod DumpLemmas
 pub mod AlmanacLemmas
+pub mod ReportLemmas
 pub mod EventLemmas
+pub mod FoundLemmas
 pub mod CellLemmas
 pub mod PageLemmas

@@ -1,20 +1,20 @@
 -- What holds of the events that a slot tells, by what the definitions make of the samples and commands so far. Each law is promised by
 -- a function of the same name in this crate.
-use Rattle.std.specs.Prelude.{ℕ, ◌≡◌, ◌+◌, ◌-◌, ◌*◌, ◌<◌, ◌≤◌, ◌↔◌, Bool, true, ℤ, pos, List, ◌++◌, map, sum, length, slice_get, get_or, Some, option_and_then}
+use Rattle.std.specs.Prelude.{ℕ, ◌≡◌, ◌+◌, ◌-◌, ◌*◌, ◌^◌, ◌<◌, ◌≤◌, ◌↔◌, Bool, true, ℤ, pos, List, ◌++◌, map, sum, length, slice_get, get_or, Some, option_and_then}
 use Rattle.std.specs.List.{range_with_len}
 use Rattle.definitions.specs.Samples.{Sample}
-use Rattle.definitions.specs.Oscillators.{Settings}
+use Rattle.definitions.specs.Oscillators.{Settings, code_step, code_phase_after}
 use Rattle.definitions.specs.Correlation.{Counts}
 use Rattle.definitions.specs.Segments.{Channel, counts_of, dumps_of}
 use Rattle.definitions.specs.Lock.{lock, unlock, lost, news_of}
-use Rattle.definitions.specs.Acquisition.{Plan, Cell, cell_count, bin_of, half_chip_of, power_of, due_time}
+use Rattle.definitions.specs.Acquisition.{Plan, Cell, cell_count, bin_of, half_chip_of, power_of, bin_shift, result_of, due_time}
 use Rattle.definitions.specs.BitEdge.{has_edge, bits_of}
 use Rattle.definitions.specs.Parity.{passes}
 use Rattle.definitions.specs.Frames.{Subframe, Found, found_by, subframe_at, word_at, prior_at}
 use Rattle.definitions.specs.Pages.{Page, page_of, clock, eph2, eph3}
-use Rattle.definitions.specs.DataSets.{Report, ephemeris, single, AlmanacSet, last_page, is_of, belong_together, last_almanac, toa_of}
+use Rattle.definitions.specs.DataSets.{Report, ephemeris, single, AlmanacSet, last_page, is_of, belong_together, last_almanac, toa_of, reports_of}
 use Rattle.definitions.specs.Commands.{TimedRequest, acquire}
-use Rattle.definitions.specs.Lives.{Life, channel_of, dumps_of_life, life_now}
+use Rattle.definitions.specs.Lives.{Life, acquired_channel, channel_of, dumps_of_life, life_now}
 use Rattle.definitions.specs.Events.{Event, acquired, count, locked, unlocked, signal_lost, edge, gap, subframe, reported, almanacs, events_at_end, front_of, pages_among, pushes_of, unprinted}
 use Rattle.definitions.specs.Laws.{IsFirstGreatest, IsChecked}
 
@@ -95,9 +95,45 @@ IsOfLife settings xs life (almanacs set) = IsAlmanacSet (pages_among (bits_so_fa
 abbrev pub IsRight : Settings → List Sample → List TimedRequest → Event → Type 0
 IsRight settings xs commands event = (life : Life) × (life_now settings (front_of xs) commands ≡ Some life) × IsOfLife settings xs life event
 
+-- the phase of the code at an acquisition's start, and its step, of the cell that is named
+abbrev pub found_phase : Settings → List Sample → Plan → ℕ → ℕ
+found_phase settings xs plan start = (result_of settings plan xs start).half_chip * 2 ^ 31
+
+abbrev pub found_step : Settings → List Sample → Plan → ℕ → ℕ
+found_step settings xs plan start = code_step settings (bin_shift plan (result_of settings plan xs start).bin).v (pos 0)
+
 -- ---- laws
 
 -- Each event that a slot tells is right.
 abbrev pub EventsAreRight : Type 0
 EventsAreRight = (settings : Settings) (xs : List Sample) (commands : List TimedRequest) (i : ℕ) (event : Event)
     → slice_get (events_at_end settings xs commands) i ≡ Some event → IsRight settings xs commands event
+
+-- Of these, one by one: each count that is told is a dump of the channel that the slot follows, ended by the last sample.
+abbrev pub CountsAreDumps : Type 0
+CountsAreDumps = (settings : Settings) (xs : List Sample) (commands : List TimedRequest) (i : ℕ) (c : Counts)
+    → slice_get (events_at_end settings xs commands) i ≡ Some (count c)
+    → (life : Life) × (life_now settings (front_of xs) commands ≡ Some life) × IsCount settings xs life c
+
+-- Each acquisition that is told names the first greatest cell of its plan, over the dwell behind its start.
+abbrev pub AcquisitionsNameTheGreatest : Type 0
+AcquisitionsNameTheGreatest = (settings : Settings) (xs : List Sample) (commands : List TimedRequest) (i prn : ℕ) (cell : Cell)
+    → slice_get (events_at_end settings xs commands) i ≡ Some (acquired prn cell)
+    → (life : Life) × (life_now settings (front_of xs) commands ≡ Some life) × IsAcquisition settings xs life prn cell
+
+-- Each word that is shown of a subframe that is told passes.
+abbrev pub WordsToldPass : Type 0
+WordsToldPass = (settings : Settings) (xs : List Sample) (commands : List TimedRequest) (i : ℕ) (s : Subframe)
+    → slice_get (events_at_end settings xs commands) i ≡ Some (subframe s)
+    → (life : Life) × (life_now settings (front_of xs) commands ≡ Some life) × IsSubframe (bits_so_far settings xs life) s
+
+-- A set of almanacs that is reported has the last almanac of each satellite, all of one time of applicability.
+abbrev pub AlmanacSetsAgree : Type 0
+AlmanacSetsAgree = (bits : List Bool) (set : AlmanacSet) → (reports_of (pages_among bits)).set ≡ Some set → IsAlmanacSet (pages_among bits) set
+
+-- A found signal is tracked from the due time on, and its code goes on: j samples later it has come as far as the replica of the named
+-- cell, which began with the acquisition, has by then.
+abbrev pub FoundCodeGoesOn : Type 0
+FoundCodeGoesOn = (settings : Settings) (xs : List Sample) (plan : Plan) (start : ℕ) (channel : Channel) → acquired_channel settings xs plan start ≡ Some channel
+    → (channel.prn ≡ plan.prn) × (channel.start ≡ due_time settings plan start) × (due_time settings plan start ≤ length xs)
+    × ((j : ℕ) → code_phase_after channel.code (found_step settings xs plan start) j ≡ code_phase_after (found_phase settings xs plan start) (found_step settings xs plan start) (channel.start - start + j))

@@ -1,6 +1,6 @@
 -- The lives of one slot alone, over all samples so far and the requests made to it: when each begins and ends, and what channel it
 -- follows. No block, piece or request to another slot occurs here. (This project's own.)
-use Rattle.std.specs.Prelude.{ℕ, ◌+◌, ◌-◌, ◌*◌, ◌^◌, ◌&&◌, ◌||◌, not, Bool, true, false, nat_le, if◌then◌else◌, ℤ, pos, ◌+ℤ◌, ◌*ℤ◌, List, [], fold, length, take, Option, Some, None}
+use Rattle.std.specs.Prelude.{ℕ, ◌+◌, ◌-◌, ◌*◌, ◌^◌, ◌&&◌, ◌||◌, not, Bool, true, false, nat_le, if◌then◌else◌, ℤ, pos, ◌*ℤ◌, List, [], fold, length, take, Option, Some, None}
 use Rattle.std.specs.Option.{is_some}
 use Rattle.definitions.specs.Sums.{least_below}
 use Rattle.definitions.specs.Samples.{Sample}
@@ -9,7 +9,7 @@ use Rattle.definitions.specs.Correlation.{Counts}
 use Rattle.definitions.specs.Segments.{Channel, Dump, counts_of, dumps_of}
 use Rattle.definitions.specs.Loops.{shift_after}
 use Rattle.definitions.specs.Lock.{nothing, lock, unlock, lost, news_of}
-use Rattle.definitions.specs.Acquisition.{Plan, result_of, due_time}
+use Rattle.definitions.specs.Acquisition.{Plan, Cell, bin_shift, result_of, due_time}
 use Rattle.definitions.specs.Commands.{Start, Request, TimedRequest, hold, track, acquire, begin, counts, state, stop}
 
 -- a life of a slot begins with a `hold`, `track` or `acquire` that is accepted. It has the time of that command, what the command
@@ -25,15 +25,23 @@ pub record Life : Type 0 where
 abbrev pub doppler_shift : ℤ → ℤ
 doppler_shift doppler = doppler *ℤ pos 65536
 
--- a signal that was found is tracked from the due time on, at the phase to which its code has come by then
+-- a cell that was found is tracked from the due time on, at its bin's shift, and at the phase to which its code has come since the
+-- start
+abbrev pub found_channel : Settings → Plan → ℕ → Cell → Channel
+found_channel settings plan begun cell =
+    let due = due_time settings plan begun in
+    let shift = bin_shift plan cell.bin in
+    record {
+      prn = plan.prn;
+      start = due;
+      code = code_phase_after (cell.half_chip * 2 ^ 31) (code_step settings shift.v shift.w) (due - begun);
+      steering = shift_after shift.v;
+    }
+
 abbrev pub acquired_channel : Settings → List Sample → Plan → ℕ → Option Channel
 acquired_channel settings xs plan begun =
     let cell = result_of settings plan xs begun in
-    let due = due_time settings plan begun in
-    let v = (plan.centre +ℤ pos 250 *ℤ cell.bin) *ℤ pos 65536 in
-    if nat_le due (length xs) && cell.found
-    then Some (record { prn = plan.prn; start = due; code = code_phase_after (cell.half_chip * 2 ^ 31) (code_step settings v (pos 0)) (due - begun); steering = shift_after v })
-    else None
+    if nat_le (due_time settings plan begun) (length xs) && cell.found then Some (found_channel settings plan begun cell) else None
 
 -- the channel that a holding slot follows from a time on
 abbrev pub held : ℕ → ℕ → ℤ → ℕ → Channel

@@ -1,6 +1,7 @@
 //! Laws of what one slot tells.
 
 ghost use Rattle.definitions.specs.SlotLaws.{DumpsArePlainSums, CellsComeWithSamples, PagesPass};
+ghost use Rattle.definitions.specs.EventLaws.{EventsAreRight, CountsAreDumps, AcquisitionsNameTheGreatest, WordsToldPass, AlmanacSetsAgree, FoundCodeGoesOn};
 
 /// The dumps of a channel are the six plain sums over one run of the code after another.
 pub fn dumps_are_plain_sums()
@@ -15,4 +16,34 @@ pub fn cells_come_with_samples()
 /// Each page that is reported comes from ten words that all pass with the two bits before them.
 pub fn pages_pass()
     ensures { PagesPass }
+{}
+
+/// Each event that a slot tells says what holds of the life that is on.
+pub fn events_are_right()
+    ensures { EventsAreRight }
+{}
+
+/// Each count that is told is a dump of the channel that the slot follows, ended by the last sample.
+pub fn counts_are_dumps()
+    ensures { CountsAreDumps }
+{}
+
+/// Each acquisition that is told names the first greatest cell of its plan, and is found exactly at the threshold.
+pub fn acquisitions_name_the_greatest()
+    ensures { AcquisitionsNameTheGreatest }
+{}
+
+/// Each word that is shown of a subframe that is told passes with the two bits before it.
+pub fn words_told_pass()
+    ensures { WordsToldPass }
+{}
+
+/// A set of almanacs that is reported has the last almanac of each satellite, all of one time of applicability.
+pub fn almanac_sets_agree()
+    ensures { AlmanacSetsAgree }
+{}
+
+/// The code of a found signal is at the due time where the replica of the named cell has come by then, and goes on from there.
+pub fn found_code_goes_on()
+    ensures { FoundCodeGoesOn }
 {}
