@@ -30,6 +30,9 @@ pub mod DumpLemmas
 pub mod AlmanacLemmas
 pub mod ReportLemmas
 pub mod EventLemmas
+pub mod PrintedLemmas
+pub mod VerbLemmas
+pub mod PrintedVerbLemmas
 pub mod FoundLemmas
 pub mod CellLemmas
 pub mod PageLemmas

@@ -26,3 +26,4 @@ pub mod Runs
 pub mod Laws
 pub mod SlotLaws
 pub mod EventLaws
+pub mod PrintedLaws

@@ -1,0 +1,33 @@
+//! Laws of what is printed: the lines of the whole text, whatever the settings, the samples and the clients are.
+
+ghost use Rattle.definitions.specs.PrintedLaws.{LinesComeFromEvents, PrintedCountsAreDumps, PrintedAcquisitionsNameTheGreatest, PrintedWordsPass, PrintedPagesPass, PrintedAlmanacsAgree};
+
+/// Each line of the whole text is that of an event that a slot tells, or that of an answer, or an end.
+pub fn lines_come_from_events()
+    ensures { LinesComeFromEvents }
+{}
+
+/// Each count that is printed is that of a dump, the plain sums over just its samples.
+pub fn printed_counts_are_dumps()
+    ensures { PrintedCountsAreDumps }
+{}
+
+/// Each acquisition that is printed names the first greatest cell of its plan, and is found exactly at the threshold.
+pub fn printed_acquisitions_name_the_greatest()
+    ensures { PrintedAcquisitionsNameTheGreatest }
+{}
+
+/// Each data word that is shown passes with the two bits before it.
+pub fn printed_words_pass()
+    ensures { PrintedWordsPass }
+{}
+
+/// Each page that is printed comes from ten words that all pass, and each set of clock and ephemeris is of one issue of data.
+pub fn printed_pages_pass()
+    ensures { PrintedPagesPass }
+{}
+
+/// Each set of almanacs that is printed has the last almanac of each satellite, all of one time of applicability.
+pub fn printed_almanacs_agree()
+    ensures { PrintedAlmanacsAgree }
+{}
