@@ -1,11 +1,11 @@
 -- Each event that a slot tells says what holds of the life that is on.
-use Rattle.std.proofs.Common.{◌≡◌, ℕ, zero, suc, ◌-◌, ◌*◌, ◌≤◌, List, [], ◌∷◌, ◌++◌, length, take, map, refl, sym, ap, ◌∙◌, arith}
+use Rattle.std.proofs.Common.{◌≡◌, ℕ, zero, suc, ◌-◌, ◌*◌, ◌≤◌, List, [], ◌∷◌, ◌++◌, length, map, refl, sym, ap, ◌∙◌, arith}
 use Rattle.std.specs.Prelude.{Bool, true, false, ℤ, ◌&&◌, Option, Some, None, slice_get, not, if◌then◌else◌, nat_lt, nat_le, nat_eq, sum, ◌↔◌}
 use Rattle.std.specs.List.{AllByRecursion, range_with_len}
 use Rattle.std.proofs.lemmas.Bool.{eqb-true, ltb-true, leb-true, le-leb}
 use Rattle.definitions.specs.Samples.{Sample}
 use Rattle.definitions.specs.Oscillators.{Settings}
-use Rattle.definitions.specs.Segments.{Channel, Dump, counts_of, dumps_of}
+use Rattle.definitions.specs.Segments.{Channel, Dump, counts_of}
 use Rattle.definitions.specs.Lock.{News, nothing, lock, unlock, lost, news_of}
 use Rattle.definitions.specs.Acquisition.{Plan, cell_count, power_of, named_cell, result_of, due_time}
 use Rattle.definitions.specs.BitEdge.{has_edge, bits_of}
@@ -13,9 +13,11 @@ use Rattle.definitions.specs.Frames.{Found, found_by}
 use Rattle.definitions.specs.Pages.{Page, page_of}
 use Rattle.definitions.specs.DataSets.{reports_of}
 use Rattle.definitions.specs.Commands.{Start, hold, track, acquire}
-use Rattle.definitions.specs.Lives.{Life, channel_of, is_steered, until_lost, lost_after, dumps_of_channel, dumps_of_life, life_now}
+use Rattle.definitions.specs.Lives.{Life, is_steered, dumps_of_life, life_now}
 use Rattle.definitions.specs.Events.{Event, acquired, count, edge, gap, subframe, reported, almanacs, when, events_of, unprinted, last_of, front_of, news_events, pages_among, page_events, bit_events, push_events, steered_events, dump_events, last_dump_events, due_events, life_events, events_at_end}
 use Rattle.definitions.specs.EventLaws.{counts_by, pushes_so_far, bits_so_far, IsCount, IsNamed, IsSubframe, IsOfLife, IsRight, EventsAreRight, CountsAreDumps, AcquisitionsNameTheGreatest, WordsToldPass}
+use Rattle.definitions.proofs.DumpLemmas.{are-dumps}
+use Rattle.definitions.proofs.LifeDumpLemmas.{life-dump}
 use Rattle.definitions.proofs.GreatestLemmas.{greatest_of-first}
 use Rattle.definitions.proofs.FrameLemmas.{found-whole}
 use Rattle.definitions.proofs.ReportLemmas.{is-report, is-almanac_set}
@@ -44,35 +46,6 @@ pub all-at : {A : Type 0} (P : A → Type 0) (xs : List A) → AllByRecursion P 
 all-at P [] all i x there = cc
 all-at P (y ∷ ys) all zero x there = let it : y ≡ x = cc in rw (sym it) all.0
 all-at P (y ∷ ys) all (suc i) x there = all-at P ys all.1 i x there
-
--- ---- dumps
-took-at : {A : Type 0} (m : ℕ) (xs : List A) (k : ℕ) (x : A) → slice_get (take m xs) k ≡ Some x → slice_get xs k ≡ Some x
-took-at zero xs k x e = cc
-took-at (suc m) [] k x e = cc
-took-at (suc m) (y ∷ ys) zero x e = e
-took-at (suc m) (y ∷ ys) (suc k) x e = took-at m ys k x e
-
-until_lost-at : (dumps : List Dump) (k : ℕ) (d : Dump) → slice_get (until_lost dumps) k ≡ Some d → slice_get dumps k ≡ Some d
-until_lost-at dumps k d e = by_lost (lost_after (counts_of dumps)) e
-  where
-    by_lost : (o : Option ℕ) → slice_get (elim o [ Some m ↦ take m dumps | None ↦ dumps ]) k ≡ Some d → slice_get dumps k ≡ Some d
-    by_lost None e = e
-    by_lost (Some m) e = took-at m dumps k d e
-
--- a dump of a life is one of its channel
-pub life-dump : (settings : Settings) (xs : List Sample) (life : Life) (k : ℕ) (d : Dump) → slice_get (dumps_of_life settings xs life) k ≡ Some d
-    → (channel : Channel) × (channel_of settings xs life.begun life.start ≡ Some channel) × (slice_get (dumps_of settings channel xs) k ≡ Some d)
-unfolding dumps_of_life
-life-dump settings xs life k d e = by_channel (channel_of settings xs life.begun life.start) refl e
-  where
-    by_steered : (channel : Channel) (b : Bool) → slice_get (if b then until_lost (dumps_of settings channel xs) else dumps_of settings channel xs) k ≡ Some d → slice_get (dumps_of settings channel xs) k ≡ Some d
-    by_steered channel true e = until_lost-at (dumps_of settings channel xs) k d e
-    by_steered channel false e = e
-
-    by_channel : (o : Option Channel) → channel_of settings xs life.begun life.start ≡ o → slice_get (dumps_of_channel settings xs life.start o) k ≡ Some d
-        → (channel : Channel) × (channel_of settings xs life.begun life.start ≡ Some channel) × (slice_get (dumps_of settings channel xs) k ≡ Some d)
-    by_channel None is e = cc
-    by_channel (Some channel) is e = (channel, is, by_steered channel (is_steered life.start) e)
 
 -- ---- an acquisition
 named : (settings : Settings) (xs : List Sample) (plan : Plan) (start : ℕ) → (cell : ℕ) × IsNamed settings xs plan start cell (result_of settings plan xs start)
@@ -150,11 +123,21 @@ module _ (settings : Settings) (xs : List Sample) (life : Life) where
       (edge-right (has_edge pushes) (not (has_edge (front_of pushes))) refl)
       (all-if P (nat_lt (length (bits_of (front_of pushes))) (length bits)) (bit_events bits (found_by bits)) (bits-right (found_by bits) refl)))
 
-  count-right : (d : Dump) → last_of dumps ≡ Some d → d.time ≡ length xs → nat_lt 0 (unprinted life (front_of dumps)) ≡ true → IsCount settings xs life d.counts
+  count-right : (d : Dump) → last_of dumps ≡ Some d → d.time ≡ length xs → nat_lt 0 (unprinted life (front_of dumps)) ≡ true
+      → (channel : Channel) × (k : ℕ) × IsCount settings xs life channel k d.counts
   unfolding last_of dumps
   count-right d last time wanted =
       let it = life-dump settings xs life (length dumps - 1) d last in
-      (ltb-true 0 (unprinted life (front_of dumps)) wanted, it.0, it.1, length dumps - 1, it.2 ∙ ap (λ t. Some (record { time = t; counts = d.counts })) time)
+      let dump = it.2 ∙ ap (λ t. Some (record { time = t; counts = d.counts })) time in (
+        it.0,
+        length dumps - 1,
+        record {
+          is_wanted = ltb-true 0 (unprinted life (front_of dumps)) wanted;
+          is_followed = it.1;
+          is_dump = dump;
+          is_sum = (are-dumps settings it.0 xs).each (length dumps - 1) (record { time = length xs; counts = d.counts }) dump;
+        },
+      )
 
   dump-right : (o : Option Dump) → last_of dumps ≡ o → All P (last_dump_events life (length xs) dumps o)
   unfolding P
@@ -190,7 +173,7 @@ events-right settings xs commands i event there = by_life (life_now settings (fr
 
 -- ---- one kind of event
 pub counts-right : CountsAreDumps
-counts-right settings xs commands i c there = events-right settings xs commands i (count c) there
+counts-right settings xs commands i c there = let it = events-right settings xs commands i (count c) there in (it.0, it.1, it.2.0, it.2.1, it.2.2)
 
 pub acquisitions-right : AcquisitionsNameTheGreatest
 acquisitions-right settings xs commands i prn cell there = events-right settings xs commands i (acquired prn cell) there

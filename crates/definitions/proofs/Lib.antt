@@ -29,6 +29,7 @@ pub mod EntryLemmas
 pub mod DumpLemmas
 pub mod AlmanacLemmas
 pub mod ReportLemmas
+pub mod LifeDumpLemmas
 pub mod EventLemmas
 pub mod PrintedLemmas
 pub mod VerbLemmas

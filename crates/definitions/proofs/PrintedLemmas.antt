@@ -1,17 +1,16 @@
 -- Where each line of the whole text comes from.
 use Rattle.std.proofs.Common.{inl, inr, ◌≡◌, ℕ, zero, suc, ◌+◌, ◌<◌, ◌≤◌, List, [], ◌∷◌, ◌++◌, length, take, map, refl, sym, ap, ◌∙◌, arith}
-use Rattle.std.specs.Prelude.{Bool, true, false, nat_eq, filter, flat_map, slice_get, cond, Some, None, ◌⊎◌}
+use Rattle.std.specs.Prelude.{Bool, true, false, nat_eq, filter, flat_map, slice_get, cond, Some}
 use Rattle.std.specs.List.{AllByRecursion, range_with_len, enumerate_from}
 use Rattle.std.proofs.lemmas.Bool.{eqb-true}
 use Rattle.std.proofs.lemmas.List.{length-take-le}
 use Rattle.definitions.specs.Samples.{Sample}
 use Rattle.definitions.specs.Oscillators.{Settings}
 use Rattle.definitions.specs.Scripts.{Entry}
-use Rattle.definitions.specs.Lines.{lines_of}
 use Rattle.definitions.specs.Events.{Event, events_at_end}
 use Rattle.definitions.specs.Texts.{event_text, at_time, for_client}
-use Rattle.definitions.specs.Receiver.{Client, Profile, entries_of, told, told_by_slot, answered, answered_by, reply_text, at_each_time, timed, for_each_client, lines_at, told_at, answers_at, body_lines, end_lines, end_line, full_lines, full}
-use Rattle.definitions.specs.PrintedLaws.{commands_before, Tells, IsLineOf, IsAnswerLine, IsEndLine, IsOneOf, LinesComeFromEvents}
+use Rattle.definitions.specs.Receiver.{Client, Profile, entries_of, told, told_by_slot, answered, answered_by, reply_text, at_each_time, timed, for_each_client, lines_at, told_at, answers_at, body_lines, end_lines, end_line, full_lines}
+use Rattle.definitions.specs.PrintedLaws.{commands_before, Tells, IsOneOf, LinesComeFromEvents}
 use Rattle.definitions.proofs.EventLemmas.{all-at, events-right}
 use Rattle.definitions.proofs.TextLemmas.{lines_of-full}
 
@@ -91,10 +90,20 @@ module _ (profile : Profile) (settings : Settings) (clients : List Client) (xs :
       let same : length zs ≡ entry.time = sym (eqb-true entry.time (length zs) e) in
       let time : now.0 ≡ entry.time = sym now.3 ∙ same in
       let samples : zs ≡ take entry.time xs = now.2 ∙ ap (λ t. take t xs) time in
-      let within : entry.time ≤ length xs = omega (arith, now.1, time) in
-      (inr (inl (k, i, client, entry, is_client, there, within,
-      ap (λ n. for_client (1 + k) (at_time n (reply_text settings zs (take i (entries_of profile client)) entry.what))) same
-      ∙ ap (λ ys. for_client (1 + k) (at_time entry.time (reply_text settings ys (take i (entries_of profile client)) entry.what))) samples)), tt)
+      let within : entry.time ≤ length xs = omega (arith, now.1, time) in (
+        inr (inl (
+          k,
+          i,
+          client,
+          entry,
+          is_client,
+          there,
+          within,
+          ap (λ n. for_client (1 + k) (at_time n (reply_text settings zs (take i (entries_of profile client)) entry.what))) same
+              ∙ ap (λ ys. for_client (1 + k) (at_time entry.time (reply_text settings ys (take i (entries_of profile client)) entry.what))) samples,
+        )),
+        tt,
+      )
 
   answered-ones : (zs : List Sample) (k : ℕ) (client : Client) → Now zs → slice_get clients k ≡ Some client
       → AllByRecursion One (map (for_client (1 + k)) (timed zs (answered profile settings client zs)))

@@ -1,6 +1,6 @@
 -- What each line with a verb of an event is the line of.
-use Rattle.std.proofs.Common.{inl, inr, ◌≡◌, ℕ, ◌+◌, List, [], ◌∷◌, sym, ap, ◌∙◌, refl}
-use Rattle.std.specs.Prelude.{Bool, true, false, Option, Some, None, codes, slice_get, take, nat_eq, bytes_eq, ◌⊎◌, ◌||◌}
+use Rattle.std.proofs.Common.{inl, inr, ◌≡◌, ℕ, ◌+◌, List, sym, ap, ◌∙◌, refl}
+use Rattle.std.specs.Prelude.{Bool, true, false, Option, Some, codes, take, bytes_eq, ◌||◌}
 use Rattle.std.specs.Option.{option_map_or}
 use Rattle.definitions.specs.Samples.{Sample}
 use Rattle.definitions.specs.Oscillators.{Settings}
@@ -11,7 +11,7 @@ use Rattle.definitions.specs.Pages.{Kind, clock, eph2, eph3, almanac, utc, healt
 use Rattle.definitions.specs.DataSets.{Report, ephemeris, single, AlmanacSet}
 use Rattle.definitions.specs.Events.{Event, acquired, count, locked, unlocked, signal_lost, edge, gap, subframe, reported, almanacs}
 use Rattle.definitions.specs.Receiver.{Client, Profile, entries_of}
-use Rattle.definitions.specs.PrintedLaws.{verb_of, IsLineOf, IsOneOf, IsPrinted, IsPageVerb, PrintedCountsAreDumps, PrintedAcquisitionsNameTheGreatest, PrintedWordsPass, PrintedPagesPass, PrintedAlmanacsAgree}
+use Rattle.definitions.specs.PrintedLaws.{verb_of, IsLineOf, IsOneOf, IsPrinted, IsPageVerb, PrintedCountsAreSums, PrintedAcquisitionsNameTheGreatest, PrintedWordsPass, PrintedPagesPass, PrintedAlmanacsAgree}
 use Rattle.definitions.proofs.PrintedLemmas.{lines-come}
 use Rattle.definitions.proofs.VerbLemmas.{event_verb, page_verb, event-verb, IsAnswerVerb, reply-verb, end-verb}
 
@@ -156,7 +156,7 @@ is-report (reported (single page)) e = (single page, refl)
 is-report (almanacs set) e = cc
 
 -- ---- the laws
-pub counts-printed : PrintedCountsAreDumps
+pub counts-printed : PrintedCountsAreSums
 counts-printed profile settings clients xs line printed =
     let it = of-event profile settings clients xs line (codes "count") (is_verb (codes "count")) refl (record { ok = refl; err = refl; state = refl; end = refl }) printed in
     let c = is-count it.0 it.2 in

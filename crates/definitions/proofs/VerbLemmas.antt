@@ -1,23 +1,19 @@
 -- The verb of a line says which event, answer or end it is.
-use Rattle.std.proofs.Common.{inl, inr, ◌≡◌, ℕ, zero, suc, ◌+◌, ◌/◌, ◌%◌, ◌<◌, ◌≤◌, List, [], ◌∷◌, ◌++◌, length, take, map, refl, sym, ap, ◌∙◌, arith}
-use Rattle.std.specs.Prelude.{Bool, true, false, not, nat_eq, nat_lt, filter, slice_get, cond, if◌then◌else◌, Option, Some, None, Result, Ok, Err, codes, ◌⊎◌, ℤ}
+use Rattle.std.proofs.Common.{inl, inr, ◌≡◌, ℕ, zero, suc, ◌+◌, ◌/◌, ◌%◌, List, [], ◌∷◌, ◌++◌, length, refl, ap, ◌∙◌, arith}
+use Rattle.std.specs.Prelude.{Bool, true, false, not, nat_eq, nat_lt, slice_get, if◌then◌else◌, Option, Some, None, Result, Ok, Err, codes, ◌⊎◌, ℤ}
 use Rattle.std.specs.List.{AllByRecursion, list_all}
-use Rattle.std.specs.Fmt.{decimal, digits, digits_onto, digit_glyph, signed_decimal}
+use Rattle.std.specs.Fmt.{decimal, digits, digits_onto, digit_glyph}
 use Rattle.std.proofs.lemmas.Bool.{ne_eqb, and_parts, not-true}
 use Rattle.definitions.specs.Samples.{Sample}
 use Rattle.definitions.specs.Oscillators.{Settings}
-use Rattle.definitions.specs.Correlation.{Counts}
-use Rattle.definitions.specs.Acquisition.{Cell}
 use Rattle.definitions.specs.Commands.{Command}
 use Rattle.definitions.specs.Scripts.{Entry}
-use Rattle.definitions.specs.Frames.{Subframe, id_of, tow_of}
-use Rattle.definitions.specs.Fields.{clock_fields, eph2_fields, eph3_fields}
-use Rattle.definitions.specs.Pages.{Kind, clock, eph2, eph3, almanac, utc, health, message, Page, fields_of}
-use Rattle.definitions.specs.DataSets.{Report, ephemeris, single, AlmanacSet}
+use Rattle.definitions.specs.Pages.{Kind, clock, eph2, eph3, almanac, utc, health, message}
+use Rattle.definitions.specs.DataSets.{ephemeris, single}
 use Rattle.definitions.specs.Events.{Event, acquired, count, locked, unlocked, signal_lost, edge, gap, subframe, reported, almanacs}
 use Rattle.definitions.specs.Answers.{View, idle, acquiring, holding, tracking, Answer, accepted, refused, shown, answer_at_end}
-use Rattle.definitions.specs.Lines.{pieces_ended_by, words_of, in_front}
-use Rattle.definitions.specs.Texts.{spaced, event_text, page_text, report_text, almanacs_text, view_text, refusal_text, answer_text, at_time, for_client}
+use Rattle.definitions.specs.Lines.{pieces_ended_by, words_of}
+use Rattle.definitions.specs.Texts.{event_text, page_text, view_text, refusal_text, answer_text, at_time, for_client}
 use Rattle.definitions.specs.Receiver.{reply_text, end_line}
 use Rattle.definitions.specs.PrintedLaws.{verb_of}
 

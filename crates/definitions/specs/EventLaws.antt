@@ -17,6 +17,7 @@ use Rattle.definitions.specs.Commands.{TimedRequest, acquire}
 use Rattle.definitions.specs.Lives.{Life, acquired_channel, channel_of, dumps_of_life, life_now}
 use Rattle.definitions.specs.Events.{Event, acquired, count, locked, unlocked, signal_lost, edge, gap, subframe, reported, almanacs, events_at_end, front_of, pages_among, pushes_of, unprinted}
 use Rattle.definitions.specs.Laws.{IsFirstGreatest, IsChecked}
+use Rattle.definitions.specs.SlotLaws.{IsDump, time_behind, phases_behind}
 
 -- ---- what an event says of a life
 
@@ -30,11 +31,13 @@ pushes_so_far settings xs life = pushes_of (counts_by settings xs life)
 abbrev pub bits_so_far : Settings → List Sample → Life → List Bool
 bits_so_far settings xs life = bits_of (pushes_so_far settings xs life)
 
--- A dump of the channel that the life follows, ended by the last sample; and not all that were asked for had come before.
-abbrev pub IsCount : Settings → List Sample → Life → Counts → Type 0
-IsCount settings xs life c = (0 < unprinted life (front_of (dumps_of_life settings xs life)))
-    × (channel : Channel) × (channel_of settings xs life.begun life.start ≡ Some channel)
-    × (k : ℕ) × (slice_get (dumps_of settings channel xs) k ≡ Some (record { time = length xs; counts = c }))
+-- Dump number k of the channel that the life follows, ended by the last sample: the six plain sums over one run of the code. And not
+-- all that were asked for had come before.
+pub record IsCount (settings : Settings) (xs : List Sample) (life : Life) (channel : Channel) (k : ℕ) (c : Counts) : Type 0 where
+  pub is_wanted : 0 < unprinted life (front_of (dumps_of_life settings xs life))
+  pub is_followed : channel_of settings xs life.begun life.start ≡ Some channel
+  pub is_dump : slice_get (dumps_of settings channel xs) k ≡ Some (record { time = length xs; counts = c })
+  pub is_sum : IsDump channel xs (time_behind channel (dumps_of settings channel xs) k) (phases_behind settings channel (dumps_of settings channel xs) k) (record { time = length xs; counts = c })
 
 -- The first greatest of the plan's cells over the dwell behind a start, found exactly where it has the threshold or more.
 pub record IsNamed (settings : Settings) (xs : List Sample) (plan : Plan) (start named : ℕ) (cell : Cell) : Type 0 where
@@ -81,7 +84,7 @@ pub record IsAlmanacSet (pages : List Page) (set : AlmanacSet) : Type 0 where
 -- what an event says of the life that is on, the last sample being the last of these
 abbrev pub IsOfLife : Settings → List Sample → Life → Event → Type 0
 IsOfLife settings xs life (acquired prn cell) = IsAcquisition settings xs life prn cell
-IsOfLife settings xs life (count c) = IsCount settings xs life c
+IsOfLife settings xs life (count c) = (channel : Channel) × (k : ℕ) × IsCount settings xs life channel k c
 IsOfLife settings xs life locked = news_of (counts_by settings xs life) ≡ lock
 IsOfLife settings xs life unlocked = news_of (counts_by settings xs life) ≡ unlock
 IsOfLife settings xs life signal_lost = news_of (counts_by settings xs life) ≡ lost
@@ -113,7 +116,7 @@ EventsAreRight = (settings : Settings) (xs : List Sample) (commands : List Timed
 abbrev pub CountsAreDumps : Type 0
 CountsAreDumps = (settings : Settings) (xs : List Sample) (commands : List TimedRequest) (i : ℕ) (c : Counts)
     → slice_get (events_at_end settings xs commands) i ≡ Some (count c)
-    → (life : Life) × (life_now settings (front_of xs) commands ≡ Some life) × IsCount settings xs life c
+    → (life : Life) × (life_now settings (front_of xs) commands ≡ Some life) × (channel : Channel) × (k : ℕ) × IsCount settings xs life channel k c
 
 -- Each acquisition that is told names the first greatest cell of its plan, over the dwell behind its start.
 abbrev pub AcquisitionsNameTheGreatest : Type 0

@@ -64,8 +64,8 @@ abbrev pub IsPrinted : Profile → Settings → List Client → List Sample → 
 IsPrinted profile settings clients xs line verb = ((i : ℕ) × (slice_get (lines_of (full profile settings xs clients)) i ≡ Some line)) × (verb_of line ≡ Some verb)
 
 -- Each count that is printed is that of a dump, the plain sums over just its samples.
-abbrev pub PrintedCountsAreDumps : Type 0
-PrintedCountsAreDumps = (profile : Profile) (settings : Settings) (clients : List Client) (xs : List Sample) (line : List ℕ)
+abbrev pub PrintedCountsAreSums : Type 0
+PrintedCountsAreSums = (profile : Profile) (settings : Settings) (clients : List Client) (xs : List Sample) (line : List ℕ)
     → IsPrinted profile settings clients xs line (codes "count") → (c : Counts) × IsLineOf profile settings clients xs line (count c)
 
 -- Each acquisition that is printed names the first greatest cell of its plan.

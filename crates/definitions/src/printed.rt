@@ -1,6 +1,6 @@
 //! Laws of what is printed: the lines of the whole text, whatever the settings, the samples and the clients are.
 
-ghost use Rattle.definitions.specs.PrintedLaws.{LinesComeFromEvents, PrintedCountsAreDumps, PrintedAcquisitionsNameTheGreatest, PrintedWordsPass, PrintedPagesPass, PrintedAlmanacsAgree};
+ghost use Rattle.definitions.specs.PrintedLaws.{LinesComeFromEvents, PrintedCountsAreSums, PrintedAcquisitionsNameTheGreatest, PrintedWordsPass, PrintedPagesPass, PrintedAlmanacsAgree};
 
 /// Each line of the whole text is that of an event that a slot tells, or that of an answer, or an end.
 pub fn lines_come_from_events()
@@ -8,8 +8,8 @@ pub fn lines_come_from_events()
 {}
 
 /// Each count that is printed is that of a dump, the plain sums over just its samples.
-pub fn printed_counts_are_dumps()
-    ensures { PrintedCountsAreDumps }
+pub fn printed_counts_are_sums()
+    ensures { PrintedCountsAreSums }
 {}
 
 /// Each acquisition that is printed names the first greatest cell of its plan, and is found exactly at the threshold.
