@@ -96,7 +96,7 @@ lost-stays ds more e = by_lost (lost_after (counts_of ds)) refl
 
 -- ---- ended lives
 
-no_counts-not_lost : is_some (lost_after []) ≡ false
+pub no_counts-not_lost : is_some (lost_after []) ≡ false
 unfolding least_below news_of
 no_counts-not_lost = refl
 
@@ -155,6 +155,12 @@ module _ (settings : Settings) (plan : Plan) (begun : ℕ) (wanted wanted_from :
               ∙ ap (λ ds. lost_dumps (until_lost ds)) more.1
               ∙ ap lost_dumps (lost-stays (dumps_of settings c xs) more.0 was)
               ∙ was
+
+-- an acquisition that isn't due is on
+pub not_due-not_over : (settings : Settings) (xs : List Sample) (plan : Plan) (begun wanted wanted_from : ℕ) → nat_le (due_time settings plan begun) (length xs) ≡ false
+    → is_over settings xs (record { begun = begun; start = acquire plan; wanted = wanted; wanted_from = wanted_from }) ≡ false
+unfolding acquiring_life
+not_due-not_over settings xs plan begun wanted wanted_from due = is_over-not_due settings plan begun wanted wanted_from xs due
 
 -- what samples have ended stays ended, whatever samples follow
 pub is_over-append : (settings : Settings) (xs ys : List Sample) (begun : ℕ) (start : Start) (wanted wanted_from : ℕ) → begun ≤ length xs

@@ -34,6 +34,7 @@ pub mod EventLemmas
 pub mod PrintedLemmas
 pub mod VerbLemmas
 pub mod PrintedVerbLemmas
+pub mod OnLemmas
 pub mod FoundLemmas
 pub mod CellLemmas
 pub mod PageLemmas

@@ -1,5 +1,5 @@
 -- What holds of the events of a slot. Each of these is promised by a function of the same name in this crate.
-use Rattle.std.specs.Prelude.{ℕ, zero, suc, ◌≡◌, ◌+◌, ◌-◌, ◌*◌, ◌/◌, ◌<◌, ◌≤◌, Bool, true, List, length, slice_get, take, Some}
+use Rattle.std.specs.Prelude.{ℕ, zero, suc, ◌≡◌, ◌+◌, ◌-◌, ◌*◌, ◌/◌, ◌<◌, ◌≤◌, Bool, true, false, List, length, slice_get, take, Some, None}
 use Rattle.std.specs.Option.{option_map_or}
 use Rattle.definitions.specs.Samples.{Sample}
 use Rattle.definitions.specs.Oscillators.{Settings, code_cycle}
@@ -9,6 +9,8 @@ use Rattle.definitions.specs.Acquisition.{Plan, cells_done}
 use Rattle.definitions.specs.Parity.{passes}
 use Rattle.definitions.specs.Frames.{subframe_at, word_at, prior_at}
 use Rattle.definitions.specs.Pages.{Page, page_of}
+use Rattle.definitions.specs.Commands.{TimedRequest, begin, stop}
+use Rattle.definitions.specs.Lives.{Life, is_over, still_on, life_of, life_now}
 use Rattle.definitions.specs.Events.{pages_among}
 
 -- ---- the dumps of a channel
@@ -60,3 +62,18 @@ abbrev pub PagesPass : Type 0
 PagesPass = (bits : List Bool) (k : ℕ) (page : Page) → slice_get (pages_among bits) k ≡ Some page
     → (n : ℕ) × (2 ≤ n) × (n + 300 ≤ length bits) × (page_of (subframe_at bits n) ≡ Some page)
     × ((i : ℕ) → i < 10 → passes (word_at bits (n + 30 * i)) (prior_at bits (n + 30 * i)) ≡ true)
+
+-- ---- lives
+
+-- Command number i begins this life: it is a start, and the slot was idle for it.
+pub record Begins (settings : Settings) (xs : List Sample) (commands : List TimedRequest) (i : ℕ) (life : Life) : Type 0 where
+  pub command : slice_get commands i ≡ Some (record { time = life.begun; request = begin life.start })
+  pub was_idle : still_on settings (take life.begun xs) (life_of settings xs (take i commands)) ≡ None
+
+-- The life that is on was begun by a command for which the slot was idle, no `stop` came behind that command, and the samples have not
+-- ended it.
+abbrev pub LifeIsOn : Type 0
+LifeIsOn = (settings : Settings) (xs : List Sample) (commands : List TimedRequest) (life : Life) → life_now settings xs commands ≡ Some life
+    → (i : ℕ) × Begins settings xs commands i life
+    × ((j : ℕ) (command : TimedRequest) → i < j → slice_get commands j ≡ Some command → command.request ≡ stop → ⊥)
+    × (is_over settings xs life ≡ false)
