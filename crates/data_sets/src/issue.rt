@@ -2,7 +2,6 @@
 //! 20.3.3.4.1).
 
 ghost use Rattle.std.specs.Prelude.{◌≡◌, ◌++◌};
-ghost use Rattle.definitions.specs.Sums.{natural};
 ghost use Rattle.data_sets.specs.Standing.{are_of_one_issue};
 
 /// Where the issue of data stands among the numbers of a clock page (ten bits).
@@ -15,19 +14,11 @@ const IODE: usize = 0;
 const IODE3: usize = 7;
 
 /// Says whether the low eight bits of the clock's issue of data are that of both ephemeris pages.
+/// For a number below 0, which no subframe holds, they are its remainder modulo 256, from 0 up.
 pub fn are_of_one_issue(clock: &[i64; 11], eph2: &[i64; 11], eph3: &[i64; 9]) -> bool
     ensures { result ≡ are_of_one_issue clock.now eph2.now eph3.now }
 {
-    let issue = natural(eph2[IODE]);
-    natural(clock[IODC]) % 256 == issue && issue == natural(eph3[IODE3])
-}
-
-/// An issue of data as a number from 0 up, which each is that a subframe holds. One below 0 counts
-/// as 0.
-fn natural(number: i64) -> u64
-    ensures { result ≡ natural number }
-{
-    u64::try_from(number).unwrap_or(0)
+    clock[IODC].rem_euclid(256) == eph2[IODE] && eph2[IODE] == eph3[IODE3]
 }
 
 /// The numbers of the three pages, one page behind the other.

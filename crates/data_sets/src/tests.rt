@@ -96,6 +96,24 @@ fn low_bits_of_the_issue(rt: HostRuntime) {
     assert_eq!(rt; sets.take(&clock(775)), None);
 }
 
+// No subframe holds an issue below zero, but a page made by hand may. -249 is 7 less 256, so its low
+// eight bits are 7; and of pages that hold 0, -5 and 0 the second is of another issue.
+#[test]
+fn issues_below_zero(rt: HostRuntime) {
+    for (issues, is_set) in [
+        ([-249, 7, 7], true),
+        ([0, -5, 0], false),
+        ([-1, 0, 0], false),
+        ([-249, -249, -249], false),
+    ] {
+        let [first, second, third] = issues;
+        let mut sets = DataSets::new();
+        assert_eq!(rt; sets.take(&clock(first)), None);
+        assert_eq!(rt; sets.take(&eph2(second)), None);
+        assert_eq!(rt; sets.take(&eph3(third)).is_some(), is_set, "{first}");
+    }
+}
+
 // Neither of two issues decides alone: the third page has to be of the same.
 #[test]
 fn two_of_three(rt: HostRuntime) {

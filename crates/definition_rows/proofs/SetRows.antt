@@ -1,6 +1,6 @@
 -- Worked examples of sets of pages.
 use Rattle.std.proofs.Common.{◌≡◌, ℕ, List, [], ◌∷◌, ◌++◌, refl}
-use Rattle.std.specs.Prelude.{pos, map, take, replicate, Some, None, Bool, true, false, codes, flat_map}
+use Rattle.std.specs.Prelude.{ℤ, pos, neg_ℤ, map, take, replicate, Some, None, Bool, true, false, codes, flat_map}
 use Rattle.std.specs.Option.{is_some}
 use Rattle.std.specs.List.{range_with_len}
 use Rattle.std.specs.Fmt.{digits}
@@ -79,3 +79,23 @@ each_page = refl
 set_text : event_text 0 (almanacs healthy) ≡ codes "als 0 toa=5:12" ++ flat_map (λ n. codes " 0") (range_with_len 0 32)
 unfolding event_text digits
 set_text = refl
+
+-- the two high bits of a clock page's issue don't matter
+high_bits_of_issue : is_some (reports_of (clock_of_issue 519 ∷ second_of_issue 7 ∷ third_of_issue 7 ∷ [])).page ≡ true
+unfolding reports_of new_set last_reported
+high_bits_of_issue = refl
+
+-- issues below zero, which no subframe has: the remainder of -249 is 7, and -5 isn't 0
+abbrev clock_of_value : ℤ → Page
+clock_of_value issue = record { kind = clock; values = replicate 4 (pos 0) ++ issue ∷ replicate 6 (pos 0) }
+
+abbrev second_of_value : ℤ → Page
+second_of_value issue = record { kind = eph2; values = issue ∷ replicate 10 (pos 0) }
+
+negative_issue : is_some (reports_of (clock_of_value (neg_ℤ (pos 249)) ∷ second_of_issue 7 ∷ third_of_issue 7 ∷ [])).page ≡ true
+unfolding reports_of new_set last_reported
+negative_issue = refl
+
+negative_is_not_zero : is_some (reports_of (clock_of_issue 0 ∷ second_of_value (neg_ℤ (pos 5)) ∷ third_of_issue 0 ∷ [])).page ≡ false
+unfolding reports_of new_set last_reported
+negative_is_not_zero = refl

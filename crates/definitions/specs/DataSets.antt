@@ -1,12 +1,12 @@
 -- Sets of pages over the pages since lock: clock and ephemeris of one issue of data (IS-GPS-200, sections 20.3.3.3.1.5, 20.3.3.4.1
 -- and 20.3.4.4), and the almanacs of all satellites for one time (section 20.3.3.5.1.2).
-use Rattle.std.specs.Prelude.{ℕ, zero, suc, ◌+◌, ◌-◌, ◌*◌, ◌%◌, ◌==◌, ◌&&◌, ◌||◌, Bool, false, if◌then◌else◌, ℤ, pos, List, [], ◌∷◌, ◌++◌, map, flat_map, length, get_or, take, filter, slice_get, Option, Some, None}
+use Rattle.std.specs.Prelude.{ℕ, zero, suc, ◌+◌, ◌-◌, ◌*◌, ◌==◌, ◌&&◌, ◌||◌, Bool, false, if◌then◌else◌, ℤ, pos, List, [], ◌∷◌, ◌++◌, map, flat_map, length, get_or, take, filter, slice_get, Option, Some, None}
 use Rattle.std.specs.Prelude.{option_map, option_and_then}
 use Rattle.std.specs.List.{list_all, range_with_len}
 use Rattle.std.specs.Option.{option_map_or}
 use Rattle.std.specs.Ordering.{int_eq}
 use lib.Pointwise.{pointwise}
-use Rattle.definitions.specs.Sums.{natural}
+use Rattle.std.specs.Int.{int_rem_euclid}
 use Rattle.definitions.specs.Pages.{Kind, clock, eph2, eph3, almanac, utc, health, message, Page}
 
 abbrev pub kind_number : Kind → ℕ
@@ -28,14 +28,14 @@ is_ephemeris page = is_of clock page || is_of eph2 page || is_of eph3 page
 abbrev pub last_page : (Page → Bool) → List Page → Option Page
 last_page test pages = let those = filter test pages in slice_get those (length those - 1)
 
-abbrev pub number_in : Page → ℕ → ℕ
-number_in page i = natural (get_or page.values i (pos 0))
+abbrev pub value_in : Page → ℕ → ℤ
+value_in page i = get_or page.values i (pos 0)
 
 -- ---- clock and ephemeris
 
 -- the low eight bits of the clock page's issue of data (value 4) are the issue of data of the other two (their values 0 and 7)
 abbrev pub belong_together : Page → Page → Page → Bool
-belong_together c e2 e3 = (number_in c 4 % 256 == number_in e2 0) && (number_in e2 0 == number_in e3 7)
+belong_together c e2 e3 = int_eq (int_rem_euclid (value_in c 4) (pos 256)) (value_in e2 0) && int_eq (value_in e2 0) (value_in e3 7)
 
 abbrev pub joined : Option Page → Option Page → Option Page → Option (List ℤ)
 joined (Some c) (Some e2) (Some e3) = if belong_together c e2 e3 then Some (c.values ++ e2.values ++ e3.values) else None
@@ -51,7 +51,7 @@ ephemeris_of pages = joined (last_page (is_of clock) pages) (last_page (is_of ep
 
 -- the SV ID of an almanac page is its value 1, the time of applicability its value 3, the health its value 6
 abbrev pub is_almanac_of : ℕ → Page → Bool
-is_almanac_of sv page = is_of almanac page && (number_in page 1 == sv)
+is_almanac_of sv page = is_of almanac page && int_eq (value_in page 1) (pos sv)
 
 -- the last almanac page of a satellite
 abbrev pub last_almanac : List Page → ℕ → Option Page
@@ -68,7 +68,7 @@ all_there [] = Some []
 all_there (o ∷ os) = with_first o (all_there os)
 
 abbrev pub toa_of : Page → ℤ
-toa_of page = get_or page.values 3 (pos 0)
+toa_of page = value_in page 3
 
 abbrev pub have_one_toa : List Page → Bool
 have_one_toa [] = false
