@@ -6,6 +6,13 @@ use Rattle.definitions.specs.Correlation.{Counts}
 use Rattle.definitions.specs.Events.{pushes_of, pushes_by}
 use Rattle.definitions.specs.Lock.{is_locked}
 use Rattle.definitions.specs.BitEdge.{bits_behind}
+use Rattle.std.proofs.Common.{inl, inr, ℕ, zero, suc, ◌<◌, ◌≤◌, sym, arith}
+use Rattle.std.specs.Prelude.{Bool, ◌||◌, not, ◌+◌}
+use mathlib.Core.Bool.{xor}
+use Rattle.std.specs.List.{list_all}
+use Rattle.std.proofs.lemmas.Bool.{cases_lt, and_parts, eqb-true}
+use Rattle.definitions.specs.BitEdge.{changes_at, is_change, is_edge}
+use Rattle.definitions.proofs.SixteenthLemmas.{sixteenth}
 
 -- pushes begin with the dump behind a lock
 abbrev dump : ℤ → ℤ → Counts
@@ -21,3 +28,37 @@ square_wave = map (λ i. if i / 20 % 2 == 0 then pos 1 else negsuc 0) (range_wit
 -- the bits behind an edge at push 320
 bits_behind_edge : bits_behind square_wave (Some 320) ≡ false ∷ true ∷ []
 bits_behind_edge = refl
+
+-- the wave changes at place 0 modulo 20 alone: for the fifteenth time at push 300, for the sixteenth at push 320, which is the edge
+changes_of_wave : map (changes_at square_wave 0 0) (300 ∷ 320 ∷ []) ≡ 15 ∷ 16 ∷ []
+unfolding xor
+changes_of_wave = refl
+
+abbrev is_at_place : ℕ → Bool
+is_at_place i = not (is_change square_wave i) || (i % 20 == 0)
+
+at_place : list_all is_at_place (range_with_len 0 361) ≡ true
+unfolding xor
+at_place = refl
+
+range_passes : (test : ℕ → Bool) (a n i : ℕ) → list_all test (range_with_len a n) ≡ true → a ≤ i → i < a + n → test i ≡ true
+range_passes test a zero i all low high = absurd (omega arith)
+range_passes test a (suc n) i all low high = elim (cases_lt a i) [
+  | inl later ↦ range_passes test (a + 1) n i (and_parts _ _ all).1 (omega (arith, later)) (omega (arith, high))
+  | inr here ↦ let same : a ≡ i = omega arith in rw (sym same) (and_parts _ _ all).0
+]
+
+one_place : (i : ℕ) → i ≤ 360 → is_change square_wave i ≡ true → i % 20 ≡ 0
+one_place i h e = eqb-true (i % 20) 0 (by_change (is_change square_wave i) (i % 20 == 0) (range_passes is_at_place 0 361 i at_place (omega arith) (omega arith)) e)
+  where
+    by_change : (b c : Bool) → (not b || c) ≡ true → b ≡ true → c ≡ true
+    by_change true c all e = all
+    by_change false c all e = cc
+
+fifteenth_is_no_edge : is_edge square_wave 300 ≡ false
+unfolding xor
+fifteenth_is_no_edge = sixteenth square_wave 0 300 (λ i h e. one_place i (omega arith) e)
+
+sixteenth_is_edge : is_edge square_wave 320 ≡ true
+unfolding xor
+sixteenth_is_edge = sixteenth square_wave 0 320 (λ i h e. one_place i (omega arith) e)

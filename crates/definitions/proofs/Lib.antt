@@ -35,6 +35,7 @@ pub mod PrintedLemmas
 pub mod VerbLemmas
 pub mod PrintedVerbLemmas
 pub mod OnLemmas
+pub mod SixteenthLemmas
 pub mod FoundLemmas
 pub mod CellLemmas
 pub mod PageLemmas

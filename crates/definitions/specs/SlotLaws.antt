@@ -1,11 +1,12 @@
 -- What holds of the events of a slot. Each of these is promised by a function of the same name in this crate.
-use Rattle.std.specs.Prelude.{ℕ, zero, suc, ◌≡◌, ◌+◌, ◌-◌, ◌*◌, ◌/◌, ◌<◌, ◌≤◌, Bool, true, false, List, length, slice_get, take, Some, None}
+use Rattle.std.specs.Prelude.{ℕ, zero, suc, ◌≡◌, ◌+◌, ◌-◌, ◌*◌, ◌/◌, ◌%◌, ◌==◌, ◌&&◌, ℤ, ◌<◌, ◌≤◌, Bool, true, false, List, length, slice_get, take, Some, None}
 use Rattle.std.specs.Option.{option_map_or}
 use Rattle.definitions.specs.Samples.{Sample}
 use Rattle.definitions.specs.Oscillators.{Settings, code_cycle}
 use Rattle.definitions.specs.Correlation.{Phases, phases_after, counts_over}
 use Rattle.definitions.specs.Segments.{Channel, Dump, Segment, counts_of, dumps_of, phases_of, next_segment}
 use Rattle.definitions.specs.Acquisition.{Plan, cells_done}
+use Rattle.definitions.specs.BitEdge.{is_change, changes_at, is_edge}
 use Rattle.definitions.specs.Parity.{passes}
 use Rattle.definitions.specs.Frames.{subframe_at, word_at, prior_at}
 use Rattle.definitions.specs.Pages.{Page, page_of}
@@ -62,6 +63,13 @@ abbrev pub PagesPass : Type 0
 PagesPass = (bits : List Bool) (k : ℕ) (page : Page) → slice_get (pages_among bits) k ≡ Some page
     → (n : ℕ) × (2 ≤ n) × (n + 300 ≤ length bits) × (page_of (subframe_at bits n) ≡ Some page)
     × ((i : ℕ) → i < 10 → passes (word_at bits (n + 30 * i)) (prior_at bits (n + 30 * i)) ≡ true)
+
+-- ---- bits
+
+-- Where the sign of the pushes changes at one place modulo 20 alone, the edge is at the sixteenth change.
+abbrev pub EdgeIsSixteenthChange : Type 0
+EdgeIsSixteenthChange = (pushes : List ℤ) (place k : ℕ) → ((i : ℕ) → i ≤ k → is_change pushes i ≡ true → i % 20 ≡ place)
+    → is_edge pushes k ≡ (is_change pushes k && (changes_at pushes (k % 20) 0 k == 16))
 
 -- ---- lives
 

@@ -1,6 +1,6 @@
 //! Laws of what one slot tells.
 
-ghost use Rattle.definitions.specs.SlotLaws.{DumpsArePlainSums, CellsComeWithSamples, PagesPass, LifeIsOn};
+ghost use Rattle.definitions.specs.SlotLaws.{DumpsArePlainSums, CellsComeWithSamples, PagesPass, EdgeIsSixteenthChange, LifeIsOn};
 ghost use Rattle.definitions.specs.EventLaws.{EventsAreRight, CountsAreDumps, AcquisitionsNameTheGreatest, WordsToldPass, AlmanacSetsAgree, FoundCodeGoesOn};
 
 /// The dumps of a channel are the six plain sums over one run of the code after another.
@@ -16,6 +16,11 @@ pub fn cells_come_with_samples()
 /// Each page that is reported comes from ten words that all pass with the two bits before them.
 pub fn pages_pass()
     ensures { PagesPass }
+{}
+
+/// Where the sign of the pushes changes at one place modulo 20 alone, the edge is at the sixteenth change.
+pub fn edge_is_sixteenth_change()
+    ensures { EdgeIsSixteenthChange }
 {}
 
 /// The life that is on was begun by a command for which the slot was idle, no `stop` came behind it, and the samples haven't ended it.
