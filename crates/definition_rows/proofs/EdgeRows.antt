@@ -1,6 +1,7 @@
 -- Worked examples of pushes, of the bit edge and of the bits behind it.
 use Rattle.std.proofs.Common.{◌≡◌, List, [], ◌∷◌, ◌++◌, refl}
-use Rattle.std.specs.Prelude.{◌%◌, ◌==◌, ℤ, pos, negsuc, map, true, false, Some, replicate, ◌/◌, if◌then◌else◌}
+use Rattle.std.specs.Prelude.{◌%◌, ◌==◌, ℤ, pos, negsuc, map, true, false, Some, replicate, ◌/◌}
+use Rattle.std.specs.Prelude.{if◌then◌else◌}
 use Rattle.std.specs.List.{range_with_len}
 use Rattle.definitions.specs.Correlation.{Counts}
 use Rattle.definitions.specs.Events.{pushes_of, pushes_by}
@@ -18,7 +19,8 @@ use Rattle.definitions.proofs.SixteenthLemmas.{sixteenth}
 abbrev dump : ℤ → ℤ → Counts
 dump i q = record { ie = pos 0; qe = pos 0; ip = i; qp = q; il = pos 0; ql = pos 0 }
 
-pushes_behind_lock : pushes_of (replicate 219 (dump (pos 2) (pos 1)) ++ dump (pos 5) (pos 0) ∷ dump (negsuc 6) (pos 0) ∷ []) ≡ pos 5 ∷ negsuc 6 ∷ []
+pushes_behind_lock : pushes_of (replicate 219 (dump (pos 2) (pos 1))
+    ++ dump (pos 5) (pos 0) ∷ dump (negsuc 6) (pos 0) ∷ []) ≡ pos 5 ∷ negsuc 6 ∷ []
 unfolding pushes_of pushes_by is_locked
 pushes_behind_lock = refl
 
@@ -29,7 +31,8 @@ square_wave = map (λ i. if i / 20 % 2 == 0 then pos 1 else negsuc 0) (range_wit
 bits_behind_edge : bits_behind square_wave (Some 320) ≡ false ∷ true ∷ []
 bits_behind_edge = refl
 
--- the wave changes at place 0 modulo 20 alone: for the fifteenth time at push 300, for the sixteenth at push 320, which is the edge
+-- the wave changes at place 0 modulo 20 alone: for the fifteenth time at push 300, for the
+-- sixteenth at push 320, which is the edge
 changes_of_wave : map (changes_at square_wave 0 0) (300 ∷ 320 ∷ []) ≡ 15 ∷ 16 ∷ []
 unfolding xor
 changes_of_wave = refl
@@ -41,15 +44,19 @@ at_place : list_all is_at_place (range_with_len 0 361) ≡ true
 unfolding xor
 at_place = refl
 
-range_passes : (test : ℕ → Bool) (a n i : ℕ) → list_all test (range_with_len a n) ≡ true → a ≤ i → i < a + n → test i ≡ true
+range_passes : (test : ℕ → Bool) (a n i : ℕ) → list_all test (range_with_len a n) ≡ true → a ≤ i
+    → i < a + n → test i ≡ true
 range_passes test a zero i all low high = absurd (omega arith)
 range_passes test a (suc n) i all low high = elim (cases_lt a i) [
-  | inl later ↦ range_passes test (a + 1) n i (and_parts _ _ all).1 (omega (arith, later)) (omega (arith, high))
+  | inl later ↦ range_passes test (a + 1) n i (and_parts _ _ all).1 (omega (arith, later))
+      (omega (arith, high))
   | inr here ↦ let same : a ≡ i = omega arith in rw (sym same) (and_parts _ _ all).0
 ]
 
 one_place : (i : ℕ) → i ≤ 360 → is_change square_wave i ≡ true → i % 20 ≡ 0
-one_place i h e = eqb-true (i % 20) 0 (by_change (is_change square_wave i) (i % 20 == 0) (range_passes is_at_place 0 361 i at_place (omega arith) (omega arith)) e)
+one_place i h e = eqb-true (i % 20) 0
+    (by_change (is_change square_wave i) (i % 20 == 0)
+    (range_passes is_at_place 0 361 i at_place (omega arith) (omega arith)) e)
   where
     by_change : (b c : Bool) → (not b || c) ≡ true → b ≡ true → c ≡ true
     by_change true c all e = all

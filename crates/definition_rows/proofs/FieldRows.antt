@@ -1,18 +1,23 @@
 -- Worked examples of fields in two's complement and in two parts.
 use Rattle.std.proofs.Common.{◌≡◌, ℕ, List, [], ◌∷◌, refl}
-use Rattle.std.specs.Prelude.{ℤ, pos, neg_ℤ, map, Option, Some, find, codes, bytes_eq, replicate, option_and_then, option_map}
+use Rattle.std.specs.Prelude.{ℤ, pos, neg_ℤ, map, Option, Some, find, codes, bytes_eq, replicate}
+use Rattle.std.specs.Prelude.{option_and_then, option_map}
 use Rattle.definitions.specs.Frames.{Subframe}
-use Rattle.definitions.specs.Fields.{Field, clock_fields, eph2_fields, almanac_fields, field_of}
+use Rattle.std.specs.Prelude.{slice_get}
+use Rattle.definitions.specs.Fields.{Field, clock_fields, eph2_fields, eph3_fields, almanac_fields}
+use Rattle.definitions.specs.Fields.{field_of}
 use Rattle.definitions.specs.Pages.{Page, page_of}
 
 -- the field of a table by its name
 abbrev value_in : List Field → List ℕ → Subframe → Option ℤ
-value_in fields name s = option_and_then (field_of s) (find (λ (f : Field). bytes_eq f.name name) fields)
+value_in fields name s =
+    option_and_then (field_of s) (find (λ (f : Field). bytes_eq f.name name) fields)
 
 abbrev words : List ℕ → Subframe
 words data_words = record { words = map (λ w. Some w) data_words }
 
-tgd_of_clock : value_in clock_fields (codes "tgd") (words (0x8b0000 ∷ 0x84 ∷ 0 ∷ 0 ∷ 0 ∷ 0 ∷ 0x80 ∷ 0 ∷ 0 ∷ 0 ∷ [])) ≡ Some (neg_ℤ (pos 128))
+tgd_of_clock : value_in clock_fields (codes "tgd")
+    (words (0x8b0000 ∷ 0x84 ∷ 0 ∷ 0 ∷ 0 ∷ 0 ∷ 0x80 ∷ 0 ∷ 0 ∷ 0 ∷ [])) ≡ Some (neg_ℤ (pos 128))
 unfolding field_of
 tgd_of_clock = refl
 
@@ -30,7 +35,8 @@ eccentricity = refl
 abbrev almanac_subframe : Subframe
 almanac_subframe = words (0x8b0000 ∷ 0x94 ∷ 0 ∷ 0 ∷ 0 ∷ 0 ∷ 0 ∷ 0 ∷ 0 ∷ 0x800004 ∷ [])
 
-almanac_clock_offset : value_in almanac_fields (codes "af0") almanac_subframe ≡ Some (neg_ℤ (pos 1023))
+almanac_clock_offset : value_in almanac_fields (codes "af0") almanac_subframe
+    ≡ Some (neg_ℤ (pos 1023))
 unfolding field_of
 almanac_clock_offset = refl
 
@@ -39,7 +45,20 @@ unfolding field_of
 almanac_clock_drift = refl
 
 -- an almanac page of satellite 5 with time of applicability 7
-almanac_page : option_map (λ (p : Page). p.values) (page_of (words (0x8b0000 ∷ 0x94 ∷ 0x450000 ∷ 0x070000 ∷ 0 ∷ 0 ∷ 0 ∷ 0 ∷ 0 ∷ 0 ∷ [])))
+almanac_page : option_map (λ (p : Page). p.values)
+    (page_of (words (0x8b0000 ∷ 0x94 ∷ 0x450000 ∷ 0x070000 ∷ 0 ∷ 0 ∷ 0 ∷ 0 ∷ 0 ∷ 0 ∷ [])))
     ≡ Some (pos 1 ∷ pos 5 ∷ pos 0 ∷ pos 7 ∷ replicate 9 (pos 0))
 unfolding page_of
 almanac_page = refl
+
+-- the values that sets go by are those of these names
+abbrev name_at : List Field → ℕ → Option (List ℕ)
+name_at fields k = option_map (λ (f : Field). f.name) (slice_get fields k)
+
+issue_names : name_at clock_fields 4 ∷ name_at eph2_fields 0 ∷ name_at eph3_fields 7 ∷ []
+    ≡ Some (codes "iodc") ∷ Some (codes "iode") ∷ Some (codes "iode3") ∷ []
+issue_names = refl
+
+almanac_names : map (name_at almanac_fields) (1 ∷ 3 ∷ 6 ∷ [])
+    ≡ Some (codes "sv") ∷ Some (codes "toa") ∷ Some (codes "health") ∷ []
+almanac_names = refl

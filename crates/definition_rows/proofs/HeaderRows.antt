@@ -6,7 +6,8 @@ use Rattle.definitions.specs.Sums.{least_below}
 use Rattle.definitions.specs.Parity.{checked, passes, holds, data_of}
 use Rattle.std.specs.Int.{bit_at}
 use Rattle.std.specs.Option.{is_some}
-use Rattle.definitions.specs.Frames.{Subframe, Found, found_by, starts_of, starts_from, is_candidate, checked_at, subframe_at}
+use Rattle.definitions.specs.Frames.{Subframe, Found, found_by, starts_of, starts_from}
+use Rattle.definitions.specs.Frames.{is_candidate, checked_at, subframe_at}
 use Rattle.definitions.specs.DataSets.{reports_of, new_set, last_reported}
 use Rattle.definitions.specs.Events.{subframe, gap, bit_events, pages_among}
 use Rattle.definitions.specs.Pages.{page_of}
@@ -20,14 +21,19 @@ header = bits_of_word 0x22C00012 ++ bits_of_word 0x00002104
 abbrev whole : List Bool
 whole = header ++ replicate 240 false
 
--- a false header is taken as a start, and the true one inside its 300 bits is not; the subframe behind has a gap
-behind_false_header : option_and_then (λ (f : Found). f.gap) (found_by (false ∷ false ∷ header ++ replicate 90 false ++ whole ++ whole)) ≡ Some 150
-unfolding found_by starts_of starts_from is_candidate checked_at checked passes holds data_of least_below subframe_at
+-- a false header is taken as a start, and the true one inside its 300 bits is not; the subframe
+-- behind has a gap
+behind_false_header : option_and_then (λ (f : Found). f.gap)
+    (found_by (false ∷ false ∷ header ++ replicate 90 false ++ whole ++ whole)) ≡ Some 150
+unfolding found_by starts_of starts_from is_candidate checked_at checked passes holds data_of
+    least_below subframe_at
 behind_false_header = refl
 
 -- nothing is found with the last bit of the true one
-not_inside : is_some (found_by (false ∷ false ∷ header ++ replicate 90 false ++ header ++ replicate 240 false)) ≡ false
-unfolding found_by starts_of starts_from is_candidate checked_at checked passes holds data_of least_below subframe_at
+not_inside : is_some (found_by (false ∷ false ∷ header ++ replicate 90 false ++ header
+    ++ replicate 240 false)) ≡ false
+unfolding found_by starts_of starts_from is_candidate checked_at checked passes holds data_of
+    least_below subframe_at
 not_inside = refl
 
 abbrev words : List ℕ → Subframe
@@ -37,6 +43,8 @@ abbrev with_five_between : List Bool
 with_five_between = false ∷ false ∷ whole ++ replicate 5 false ++ whole
 
 -- the gap stands before its subframe
-gap_comes_first : bit_events with_five_between (found_by with_five_between) ≡ gap 5 ∷ subframe (words (0x8b0000 ∷ 0x84 ∷ replicate 8 0)) ∷ []
-unfolding found_by starts_of starts_from is_candidate checked_at checked passes holds data_of least_below subframe_at page_of pages_among reports_of new_set last_reported
+gap_comes_first : bit_events with_five_between (found_by with_five_between)
+    ≡ gap 5 ∷ subframe (words (0x8b0000 ∷ 0x84 ∷ replicate 8 0)) ∷ []
+unfolding found_by starts_of starts_from is_candidate checked_at checked passes holds data_of
+    least_below subframe_at page_of pages_among reports_of new_set last_reported
 gap_comes_first = refl

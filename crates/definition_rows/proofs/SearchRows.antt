@@ -6,7 +6,8 @@ use Rattle.definitions.specs.Samples.{Sample, real, real1}
 use Rattle.definitions.specs.Codes.{register_after, chip, chip_after}
 use Rattle.definitions.specs.Oscillators.{Settings, code_step, carrier_step}
 use Rattle.definitions.specs.Correlation.{in_phase_sum, quadrature_sum}
-use Rattle.definitions.specs.Acquisition.{Plan, due_time, cells_done, power_of, greatest_of, Cell, named_cell}
+use Rattle.definitions.specs.Acquisition.{Plan, due_time, cells_done, power_of, greatest_of, Cell}
+use Rattle.definitions.specs.Acquisition.{named_cell}
 use Rattle.definitions.specs.Lock.{news_of}
 use Rattle.definitions.specs.Commands.{begin, acquire, state}
 use Rattle.definitions.specs.Answers.{answer_at_end, view_of, shown, acquiring}
@@ -30,8 +31,13 @@ abbrev smallest : Plan
 smallest = record { prn = 1; centre = pos 0; bins = 0; dwell = 1; threshold = 10 }
 
 -- 2,050 samples behind the start the first cell of the smallest plan is done
-one_cell_done : answer_at_end usual (replicate 2050 (real (pos 1))) (record { time = 0; request = begin (acquire smallest) } ∷ []) state ≡ shown (acquiring 1 1 2046)
-unfolding answer_at_end life_now life_of is_over view_of dumps_of_life code_step carrier_step least_below news_of
+one_cell_done : answer_at_end usual (replicate 2050 (real (pos 1))) (record {
+  time = 0;
+  request =
+      begin (acquire smallest);
+} ∷ []) state ≡ shown (acquiring 1 1 2046)
+unfolding answer_at_end life_now life_of is_over view_of dumps_of_life code_step carrier_step
+    least_below news_of
 one_cell_done = refl
 
 abbrev slow : Settings
@@ -45,7 +51,8 @@ seven = map real (pos 1 ∷ negsuc 0 ∷ pos 1 ∷ pos 1 ∷ negsuc 0 ∷ negsuc
 
 -- the powers of four cells of two periods of three samples, as another program gives them
 powers : map (power_of slow small seven 1) (2046 ∷ 2049 ∷ 4095 ∷ 2045 ∷ []) ≡ 30 ∷ 34 ∷ 18 ∷ 18 ∷ []
-unfolding power_of in_phase_sum quadrature_sum total chip chip_after register_after code_step carrier_step
+unfolding power_of in_phase_sum quadrature_sum total chip chip_after register_after code_step
+    carrier_step
 powers = refl
 
 -- of equal cells the first
@@ -55,7 +62,14 @@ first_of_equals = refl
 
 -- with equal powers the cell is found at threshold 10, the mean itself, and not at 11
 abbrev equal_cells : ℕ → Cell
-equal_cells threshold = named_cell (record { prn = 1; centre = pos 0; bins = 0; dwell = 1; threshold = threshold }) (λ k. 20)
+equal_cells threshold =
+    named_cell (record {
+      prn = 1;
+      centre = pos 0;
+      bins = 0;
+      dwell = 1;
+      threshold = threshold;
+    }) (λ k. 20)
 
 found_at_ten : (equal_cells 10).found ≡ true
 unfolding named_cell

@@ -1,4 +1,5 @@
--- Worked examples of the tables: the carrier, the codes of all satellites, and the end of a segment.
+-- Worked examples of the tables: the carrier, the codes of all satellites, and the end of a
+-- segment.
 use Rattle.std.proofs.Common.{◌≡◌, [], ◌∷◌, refl}
 use Rattle.std.specs.Prelude.{◌%◌, pos, negsuc, map, Some, ◌*◌, ◌^◌}
 use Rattle.std.specs.List.{range_with_len}
@@ -11,21 +12,28 @@ use Rattle.std.specs.Int.Digits.{number_from_digits}
 use Rattle.definitions.specs.Segments.{end_by, is_through}
 
 -- cosines at the eight parts of a cycle
-cosine_table : map (λ i. cosine (i * 2 ^ 29)) (range_with_len 0 8) ≡ pos 2 ∷ pos 1 ∷ negsuc 0 ∷ negsuc 1 ∷ negsuc 1 ∷ negsuc 0 ∷ pos 1 ∷ pos 2 ∷ []
+cosine_table : map (λ i. cosine (i * 2 ^ 29)) (range_with_len 0 8)
+    ≡ pos 2 ∷ pos 1 ∷ negsuc 0 ∷ negsuc 1 ∷ negsuc 1 ∷ negsuc 0 ∷ pos 1 ∷ pos 2 ∷ []
 cosine_table = refl
 
 -- the first ten chips of each satellite, as a number
-first_chips : map (λ prn. number_from_digits 2 (map (chip prn) (range_with_len 0 10))) (range_with_len 1 32) ≡ 800 ∷ 912 ∷ 968 ∷ 996 ∷ 603 ∷ 813 ∷ 601 ∷ 812 ∷ 918 ∷ 836 ∷ 930 ∷ 1000 ∷ 1012 ∷ 1018 ∷ 1021 ∷ 1022 ∷ 622 ∷ 823 ∷ 923 ∷ 973 ∷ 998 ∷ 1011 ∷ 563 ∷ 966 ∷ 995 ∷ 1009 ∷ 1016 ∷ 1020 ∷ 599 ∷ 811 ∷ 917 ∷ 970 ∷ []
+first_chips : map (λ prn. number_from_digits 2 (map (chip prn) (range_with_len 0 10)))
+    (range_with_len 1 32)
+    ≡ 800 ∷ 912 ∷ 968 ∷ 996 ∷ 603 ∷ 813 ∷ 601 ∷ 812 ∷ 918 ∷ 836 ∷ 930 ∷ 1000 ∷ 1012 ∷ 1018 ∷ 1021
+    ∷ 1022 ∷ 622 ∷ 823 ∷ 923 ∷ 973 ∷ 998 ∷ 1011 ∷ 563 ∷ 966 ∷ 995 ∷ 1009 ∷ 1016 ∷ 1020 ∷ 599 ∷ 811
+    ∷ 917 ∷ 970 ∷ []
 unfolding chip chip_after register_after
 first_chips = refl
 
 -- chips 1021 to 1032 of satellite 1, across the end of the code
-window_of_one : map (chip 1) (range_with_len 1021 12) ≡ 0 ∷ 0 ∷ 1 ∷ 1 ∷ 0 ∷ 0 ∷ 1 ∷ 0 ∷ 0 ∷ 0 ∷ 0 ∷ 0 ∷ []
+window_of_one : map (chip 1) (range_with_len 1021 12)
+    ≡ 0 ∷ 0 ∷ 1 ∷ 1 ∷ 0 ∷ 0 ∷ 1 ∷ 0 ∷ 0 ∷ 0 ∷ 0 ∷ 0 ∷ []
 unfolding chip chip_after register_after
 window_of_one = refl
 
 -- four samples of a carrier that turns by a quarter with each: their sum is zero
-quarter_turns : in_phase_sum (λ j. real (pos 1)) (λ j. cosine (j * 0x40000000 % 2 ^ 32)) (λ j. sine (j * 0x40000000 % 2 ^ 32)) (λ j. pos 1) 0 4 ≡ pos 0
+quarter_turns : in_phase_sum (λ j. real (pos 1)) (λ j. cosine (j * 0x40000000 % 2 ^ 32))
+    (λ j. sine (j * 0x40000000 % 2 ^ 32)) (λ j. pos 1) 0 4 ≡ pos 0
 unfolding in_phase_sum total
 quarter_turns = refl
 

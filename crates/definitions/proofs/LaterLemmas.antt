@@ -6,7 +6,7 @@ use Rattle.definitions.specs.Samples.{Sample}
 use Rattle.definitions.specs.Oscillators.{Settings}
 use Rattle.definitions.specs.Texts.{for_client}
 use Rattle.definitions.specs.Receiver.{Profile, Client, timed, told, answered, told_at, answers_at, lines_at, for_each_client, body_lines}
-use Rattle.definitions.specs.Laws.{IsLaterThan, MoreSamplesTellLater}
+use Rattle.definitions.specs.TextLaws.{IsLaterThan, MoreSamplesTellLater}
 use Rattle.definitions.proofs.BodyLemmas.{body_lines-more}
 
 all-append : (P : List ℕ → Type 0) (xs ys : List (List ℕ)) → AllByRecursion P xs → AllByRecursion P ys → AllByRecursion P (xs ++ ys)

@@ -1,6 +1,7 @@
--- What many slots side by side tell, before it is text. A slot is named by its client, of those numbered from 1, and its number. (This
--- project's own.)
-use Rattle.std.specs.Prelude.{ℕ, ◌+◌, ◌/◌, ◌%◌, ◌==◌, ◌&&◌, if◌then◌else◌, List, [], ◌∷◌, ◌++◌, length, map, flat_map}
+-- What many slots side by side tell, before it is text. A slot is named by its client, of those
+-- numbered from 1, and its number. (This project's own.)
+use Rattle.std.specs.Prelude.{ℕ, ◌+◌, ◌/◌, ◌%◌, ◌==◌, ◌&&◌, if◌then◌else◌, List, [], ◌∷◌, ◌++◌}
+use Rattle.std.specs.Prelude.{length, map, flat_map}
 use Rattle.std.specs.List.{range_with_len}
 use Rattle.definitions.specs.Samples.{Sample}
 use Rattle.definitions.specs.Oscillators.{Settings}
@@ -21,16 +22,24 @@ line_of t = for_client t.client (at_time t.time (event_text t.slot t.event))
 
 -- events of one slot at a time
 abbrev pub slot_events : ℕ → ℕ → ℕ → List Event → List SlotEvent
-slot_events client slot time events = map (λ event. record { client = client; slot = slot; time = time; event = event }) events
+slot_events client slot time events =
+    map (λ event. record { client = client; slot = slot; time = time; event = event }) events
 
--- what the last sample makes these slots tell, in their order, each pair being a client and a slot; asked gives the commands of each
-unfoldable pub told_at_end : Settings → List (ℕ × ℕ) → (ℕ → ℕ → List TimedRequest) → List Sample → List SlotEvent
-told_at_end settings keys asked xs = flat_map (λ (k : ℕ × ℕ). slot_events k.0 k.1 (length xs) (events_at_end settings xs (asked k.0 k.1))) keys
+-- what the last sample makes these slots tell, in their order, each pair being a client and a slot;
+-- asked gives the commands of each
+unfoldable pub told_at_end : Settings → List (ℕ × ℕ) → (ℕ → ℕ → List TimedRequest) → List Sample
+    → List SlotEvent
+told_at_end settings keys asked xs =
+    flat_map (λ (k : ℕ × ℕ). slot_events k.0 k.1 (length xs)
+    (events_at_end settings xs (asked k.0 k.1))) keys
 
 -- so many slots, by client and then by slot, where each client has the same number of them
 abbrev pub layout : ℕ → ℕ → List (ℕ × ℕ)
 layout slots n = map (λ i. (i / slots + 1, i % slots)) (range_with_len 0 n)
 
 -- the commands, and one more to a client's slot
-abbrev pub with_command : (ℕ → ℕ → List TimedRequest) → ℕ → ℕ → ℕ → Request → ℕ → ℕ → List TimedRequest
-with_command asked client slot time request c s = if c == client && s == slot then asked c s ++ record { time = time; request = request } ∷ [] else asked c s
+abbrev pub with_command : (ℕ → ℕ → List TimedRequest) → ℕ → ℕ → ℕ → Request → ℕ → ℕ
+    → List TimedRequest
+with_command asked client slot time request c s =
+    if c == client && s == slot then asked c s ++ record { time = time; request = request } ∷ []
+    else asked c s

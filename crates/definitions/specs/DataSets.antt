@@ -1,6 +1,9 @@
--- Sets of pages over the pages since lock: clock and ephemeris of one issue of data (IS-GPS-200, sections 20.3.3.3.1.5, 20.3.3.4.1
--- and 20.3.4.4), and the almanacs of all satellites for one time (section 20.3.3.5.1.2).
-use Rattle.std.specs.Prelude.{ℕ, zero, suc, ◌+◌, ◌-◌, ◌*◌, ◌==◌, ◌&&◌, ◌||◌, Bool, false, if◌then◌else◌, ℤ, pos, List, [], ◌∷◌, ◌++◌, map, flat_map, length, get_or, take, filter, slice_get, Option, Some, None}
+-- Sets of pages over the pages since lock: clock and ephemeris of one issue of data (IS-GPS-200,
+-- sections 20.3.3.3.1.5, 20.3.3.4.1 and 20.3.4.4), and the almanacs of all satellites for one time
+-- (section 20.3.3.5.1.2).
+use Rattle.std.specs.Prelude.{ℕ, zero, suc, ◌+◌, ◌-◌, ◌*◌, ◌==◌, ◌&&◌, ◌||◌, Bool, false}
+use Rattle.std.specs.Prelude.{if◌then◌else◌, ℤ, pos, List, [], ◌∷◌, ◌++◌, map, flat_map, length}
+use Rattle.std.specs.Prelude.{get_or, take, filter, slice_get, Option, Some, None}
 use Rattle.std.specs.Prelude.{option_map, option_and_then}
 use Rattle.std.specs.List.{list_all, range_with_len}
 use Rattle.std.specs.Option.{option_map_or}
@@ -33,25 +36,47 @@ value_in page i = get_or page.values i (pos 0)
 
 -- ---- clock and ephemeris
 
--- the low eight bits of the clock page's issue of data (value 4) are the issue of data of the other two (their values 0 and 7)
+-- the issues of data: IODC of a clock page, IODE of a subframe 2 and of a subframe 3
+abbrev pub iodc : Page → ℤ
+iodc page = value_in page 4
+
+abbrev pub iode : Page → ℤ
+iode page = value_in page 0
+
+abbrev pub iode3 : Page → ℤ
+iode3 page = value_in page 7
+
+-- the low eight bits of the clock page's issue of data are the issue of data of the other two
 abbrev pub belong_together : Page → Page → Page → Bool
-belong_together c e2 e3 = int_eq (int_rem_euclid (value_in c 4) (pos 256)) (value_in e2 0) && int_eq (value_in e2 0) (value_in e3 7)
+belong_together c e2 e3 =
+    int_eq (int_rem_euclid (iodc c) (pos 256)) (iode e2) && int_eq (iode e2) (iode3 e3)
 
 abbrev pub joined : Option Page → Option Page → Option Page → Option (List ℤ)
-joined (Some c) (Some e2) (Some e3) = if belong_together c e2 e3 then Some (c.values ++ e2.values ++ e3.values) else None
+joined (Some c) (Some e2) (Some e3) =
+    if belong_together c e2 e3 then Some (c.values ++ e2.values ++ e3.values) else None
 joined (Some c) (Some e2) None = None
 joined (Some c) None third = None
 joined None second third = None
 
 -- the 31 values of the last page of each of the three kinds, where these belong together
 abbrev pub ephemeris_of : List Page → Option (List ℤ)
-ephemeris_of pages = joined (last_page (is_of clock) pages) (last_page (is_of eph2) pages) (last_page (is_of eph3) pages)
+ephemeris_of pages = joined (last_page (is_of clock) pages) (last_page (is_of eph2) pages)
+    (last_page (is_of eph3) pages)
 
 -- ---- almanacs
 
--- the SV ID of an almanac page is its value 1, the time of applicability its value 3, the health its value 6
+-- the SV ID of an almanac page, its time of applicability and its health
+abbrev pub almanac_sv : Page → ℤ
+almanac_sv page = value_in page 1
+
+abbrev pub toa_of : Page → ℤ
+toa_of page = value_in page 3
+
+abbrev pub health_of : Page → ℤ
+health_of page = value_in page 6
+
 abbrev pub is_almanac_of : ℕ → Page → Bool
-is_almanac_of sv page = is_of almanac page && int_eq (value_in page 1) (pos sv)
+is_almanac_of sv page = is_of almanac page && int_eq (almanac_sv page) (pos sv)
 
 -- the last almanac page of a satellite
 abbrev pub last_almanac : List Page → ℕ → Option Page
@@ -67,23 +92,24 @@ abbrev pub all_there : {A : Type 0} → List (Option A) → Option (List A)
 all_there [] = Some []
 all_there (o ∷ os) = with_first o (all_there os)
 
-abbrev pub toa_of : Page → ℤ
-toa_of page = value_in page 3
-
 abbrev pub have_one_toa : List Page → Bool
 have_one_toa [] = false
 have_one_toa (page ∷ pages) = list_all (λ (other : Page). int_eq (toa_of page) (toa_of other)) pages
 
 abbrev pub values_for_one_toa : List Page → Option (List ℤ)
-values_for_one_toa pages = if have_one_toa pages then Some (flat_map (λ (page : Page). page.values) pages) else None
+values_for_one_toa pages =
+    if have_one_toa pages then Some (flat_map (λ (page : Page). page.values) pages) else None
 
--- the 13 values of the last almanac of each of the satellites 1 to 32, where all are there for one time of applicability
+-- the 13 values of the last almanac of each of the satellites 1 to 32, where all are there for one
+-- time of applicability
 abbrev pub almanacs_of : List Page → Option (List ℤ)
-almanacs_of pages = option_and_then values_for_one_toa (all_there (map (last_almanac pages) (range_with_len 1 32)))
+almanacs_of pages = option_and_then values_for_one_toa
+    (all_there (map (last_almanac pages) (range_with_len 1 32)))
 
 -- ---- what is reported
 
--- a kind of set: the pages with which it is looked for, and its values among the pages so far, where it is there
+-- a kind of set: the pages with which it is looked for, and its values among the pages so far,
+-- where it is there
 pub record SetKind : Type 0 where
   pub is_looked_for : Page → Bool
   pub values_of : List Page → Option (List ℤ)
@@ -110,12 +136,14 @@ later before (Some now) = Some now
 -- the set that is reported with page number n, after the one that was reported last
 abbrev pub reported_with : SetKind → List Page → ℕ → Option (List ℤ) → Option (List ℤ)
 reported_with kind pages n before =
-    if option_map_or kind.is_looked_for (slice_get pages n) false then differing before (kind.values_of (take (n + 1) pages)) else None
+    if option_map_or kind.is_looked_for (slice_get pages n) false
+    then differing before (kind.values_of (take (n + 1) pages)) else None
 
 -- the set that was reported last with the first n pages
 unfoldable pub last_reported : SetKind → List Page → ℕ → Option (List ℤ)
 last_reported kind pages zero = None
-last_reported kind pages (suc n) = let before = last_reported kind pages n in later before (reported_with kind pages n before)
+last_reported kind pages (suc n) = let before =
+    last_reported kind pages n in later before (reported_with kind pages n before)
 
 -- and with all pages so far
 abbrev pub reported_so_far : SetKind → List Page → Option (List ℤ)
@@ -123,7 +151,8 @@ reported_so_far kind pages = last_reported kind pages (length pages)
 
 -- the set that is reported with the last page
 unfoldable pub new_set : SetKind → List Page → Option (List ℤ)
-new_set kind pages = let n = length pages - 1 in reported_with kind pages n (last_reported kind pages n)
+new_set kind pages = let n =
+    length pages - 1 in reported_with kind pages n (last_reported kind pages n)
 
 -- a report: the 31 values of a clock and ephemeris set, or a page
 pub data Report : Type 0 where
@@ -136,16 +165,23 @@ pub record AlmanacSet : Type 0 where
   pub health : List ℤ
 
 abbrev pub almanac_set : List ℤ → AlmanacSet
-almanac_set values = record { toa = get_or values 3 (pos 0); health = map (λ k. get_or values (13 * k + 6) (pos 0)) (range_with_len 0 32) }
+almanac_set values = record {
+  toa = get_or values 3 (pos 0);
+  health =
+      map (λ k. get_or values (13 * k + 6) (pos 0)) (range_with_len 0 32);
+}
 
 -- what a page makes reported: a report of its own, and behind it perhaps a set of almanacs
 pub record Reports : Type 0 where
   pub page : Option Report
   pub set : Option AlmanacSet
 
--- an almanac, UTC, message or health page is reported each time; a clock or ephemeris page only as the set that it completes
+-- an almanac, UTC, message or health page is reported each time; a clock or ephemeris page only as
+-- the set that it completes
 abbrev pub page_report : List Page → Page → Option Report
-page_report pages page = if is_ephemeris page then option_map ephemeris (new_set ephemerides pages) else Some (single page)
+page_report pages page =
+    if is_ephemeris page then option_map ephemeris (new_set ephemerides pages)
+    else Some (single page)
 
 -- what the last of the pages makes reported
 unfoldable pub reports_of : List Page → Reports

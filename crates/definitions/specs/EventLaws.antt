@@ -1,21 +1,26 @@
--- What holds of the events that a slot tells, by what the definitions make of the samples and commands so far. Each law is promised by
--- a function of the same name in this crate.
-use Rattle.std.specs.Prelude.{ℕ, ◌≡◌, ◌+◌, ◌-◌, ◌*◌, ◌^◌, ◌<◌, ◌≤◌, ◌↔◌, Bool, true, ℤ, pos, List, ◌++◌, map, sum, length, slice_get, get_or, Some, option_and_then}
+-- What holds of the events that a slot tells, by what the definitions make of the samples and
+-- commands so far. Each law is promised by a function of the same name in this crate.
+use Rattle.std.specs.Prelude.{ℕ, ◌≡◌, ◌+◌, ◌-◌, ◌*◌, ◌^◌, ◌<◌, ◌≤◌, ◌↔◌, Bool, true, ℤ, pos, List}
+use Rattle.std.specs.Prelude.{◌++◌, map, sum, length, slice_get, Some, option_and_then}
 use Rattle.std.specs.List.{range_with_len}
 use Rattle.definitions.specs.Samples.{Sample}
 use Rattle.definitions.specs.Oscillators.{Settings, code_step, code_phase_after}
 use Rattle.definitions.specs.Correlation.{Counts}
 use Rattle.definitions.specs.Segments.{Channel, counts_of, dumps_of}
 use Rattle.definitions.specs.Lock.{lock, unlock, lost, news_of}
-use Rattle.definitions.specs.Acquisition.{Plan, Cell, cell_count, bin_of, half_chip_of, power_of, bin_shift, result_of, due_time}
+use Rattle.definitions.specs.Acquisition.{Plan, Cell, cell_count, bin_of, half_chip_of, power_of}
+use Rattle.definitions.specs.Acquisition.{bin_shift, result_of, due_time}
 use Rattle.definitions.specs.BitEdge.{has_edge, bits_of}
 use Rattle.definitions.specs.Parity.{passes}
 use Rattle.definitions.specs.Frames.{Subframe, Found, found_by, subframe_at, word_at, prior_at}
 use Rattle.definitions.specs.Pages.{Page, page_of, clock, eph2, eph3}
-use Rattle.definitions.specs.DataSets.{Report, ephemeris, single, AlmanacSet, last_page, is_of, belong_together, last_almanac, toa_of, reports_of}
+use Rattle.definitions.specs.DataSets.{Report, ephemeris, single, AlmanacSet, last_page, is_of}
+use Rattle.definitions.specs.DataSets.{belong_together, last_almanac, toa_of, health_of, reports_of}
 use Rattle.definitions.specs.Commands.{TimedRequest, acquire}
 use Rattle.definitions.specs.Lives.{Life, acquired_channel, channel_of, dumps_of_life, life_now}
-use Rattle.definitions.specs.Events.{Event, acquired, count, locked, unlocked, signal_lost, edge, gap, subframe, reported, almanacs, events_at_end, front_of, pages_among, pushes_of, unprinted}
+use Rattle.definitions.specs.Events.{Event, acquired, count, locked, unlocked, signal_lost, edge}
+use Rattle.definitions.specs.Events.{gap, subframe, reported, almanacs, events_at_end, front_of}
+use Rattle.definitions.specs.Events.{pages_among, pushes_of, unprinted}
 use Rattle.definitions.specs.Laws.{IsFirstGreatest, IsChecked}
 use Rattle.definitions.specs.SlotLaws.{IsDump, time_behind, phases_behind}
 
@@ -31,28 +36,43 @@ pushes_so_far settings xs life = pushes_of (counts_by settings xs life)
 abbrev pub bits_so_far : Settings → List Sample → Life → List Bool
 bits_so_far settings xs life = bits_of (pushes_so_far settings xs life)
 
--- Dump number k of the channel that the life follows, ended by the last sample: the six plain sums over one run of the code. And not
--- all that were asked for had come before.
-pub record IsCount (settings : Settings) (xs : List Sample) (life : Life) (channel : Channel) (k : ℕ) (c : Counts) : Type 0 where
+-- Dump number k of the channel that the life follows, ended by the last sample: the six plain sums
+-- over one run of the code. And not all that were asked for had come before.
+pub record IsCount (settings : Settings) (xs : List Sample) (life : Life) (channel : Channel)
+    (k : ℕ) (c : Counts) : Type 0 where
   pub is_wanted : 0 < unprinted life (front_of (dumps_of_life settings xs life))
   pub is_followed : channel_of settings xs life.begun life.start ≡ Some channel
-  pub is_dump : slice_get (dumps_of settings channel xs) k ≡ Some (record { time = length xs; counts = c })
-  pub is_sum : IsDump channel xs (time_behind channel (dumps_of settings channel xs) k) (phases_behind settings channel (dumps_of settings channel xs) k) (record { time = length xs; counts = c })
+  pub is_dump : slice_get (dumps_of settings channel xs) k
+      ≡ Some (record { time = length xs; counts = c })
+  pub is_sum : IsDump channel xs (time_behind channel (dumps_of settings channel xs) k)
+      (phases_behind settings channel (dumps_of settings channel xs) k) (record {
+        time = length xs;
+        counts = c;
+      })
 
--- The first greatest of the plan's cells over the dwell behind a start, found exactly where it has the threshold or more.
-pub record IsNamed (settings : Settings) (xs : List Sample) (plan : Plan) (start named : ℕ) (cell : Cell) : Type 0 where
+-- The first greatest of the plan's cells over the dwell behind a start, found exactly where it has
+-- the threshold or more.
+pub record IsNamed (settings : Settings) (xs : List Sample) (plan : Plan) (start named : ℕ)
+    (cell : Cell) : Type 0 where
   pub is_greatest : IsFirstGreatest (power_of settings plan xs start) (cell_count plan) named
   pub bin : cell.bin ≡ bin_of plan named
   pub half_chip : cell.half_chip ≡ half_chip_of named
   pub power : cell.power ≡ power_of settings plan xs start named
-  pub found : (cell.found ≡ true) ↔ (plan.threshold * sum (map (power_of settings plan xs start) (range_with_len 0 (cell_count plan))) ≤ 10 * cell.power * cell_count plan)
+  pub found : (cell.found
+      ≡ true) ↔ (plan.threshold * sum
+      (map (power_of settings plan xs start) (range_with_len 0 (cell_count plan))) ≤ 10 * cell.power
+      * cell_count plan)
 
--- The life is an acquisition of the satellite, due with the last sample, and the cell is the one that it names.
+-- The life is an acquisition of the satellite, due with the last sample, and the cell is the one
+-- that it names.
 abbrev pub IsAcquisition : Settings → List Sample → Life → ℕ → Cell → Type 0
-IsAcquisition settings xs life prn cell = (plan : Plan) × (life.start ≡ acquire plan) × (plan.prn ≡ prn)
-    × (due_time settings plan life.begun ≡ length xs) × (named : ℕ) × IsNamed settings xs plan life.begun named cell
+IsAcquisition settings xs life prn cell =
+    (plan : Plan) × (life.start ≡ acquire plan) × (plan.prn ≡ prn)
+    × (due_time settings plan life.begun ≡ length xs) × (named : ℕ)
+    × IsNamed settings xs plan life.begun named cell
 
--- The subframe of the last 300 bits, of which each word that is shown passes with the two bits before it, and is shown as its data.
+-- The subframe of the last 300 bits, of which each word that is shown passes with the two bits
+-- before it, and is shown as its data.
 abbrev pub IsSubframe : List Bool → Subframe → Type 0
 IsSubframe bits s = (n : ℕ) × (2 ≤ n) × (n + 300 ≡ length bits) × (s ≡ subframe_at bits n)
     × ((i shown : ℕ) → i < 10 → slice_get s.words i ≡ Some (Some shown) → IsChecked bits n i shown)
@@ -63,28 +83,36 @@ IsGap bits n = option_and_then (λ (f : Found). f.gap) (found_by bits) ≡ Some 
 
 -- A page of ten words that all pass with the two bits before them.
 abbrev pub IsPage : List Bool → Page → Type 0
-IsPage bits page = (n : ℕ) × (2 ≤ n) × (n + 300 ≤ length bits) × (page_of (subframe_at bits n) ≡ Some page)
+IsPage bits page = (n : ℕ) × (2 ≤ n) × (n + 300 ≤ length bits)
+    × (page_of (subframe_at bits n) ≡ Some page)
     × ((i : ℕ) → i < 10 → passes (word_at bits (n + 30 * i)) (prior_at bits (n + 30 * i)) ≡ true)
 
--- The values of the last clock page and of the last two ephemeris pages, which are of one issue of data.
+-- The values of the last clock page and of the last two ephemeris pages, which are of one issue of
+-- data.
 abbrev pub IsEphemeris : List Page → List ℤ → Type 0
-IsEphemeris pages values = (c : Page) × (e2 : Page) × (e3 : Page) × (last_page (is_of clock) pages ≡ Some c) × (last_page (is_of eph2) pages ≡ Some e2)
-    × (last_page (is_of eph3) pages ≡ Some e3) × (belong_together c e2 e3 ≡ true) × (values ≡ c.values ++ e2.values ++ e3.values)
+IsEphemeris pages values =
+    (c : Page) × (e2 : Page) × (e3 : Page) × (last_page (is_of clock) pages ≡ Some c)
+    × (last_page (is_of eph2) pages ≡ Some e2)
+    × (last_page (is_of eph3) pages ≡ Some e3) × (belong_together c e2 e3 ≡ true)
+    × (values ≡ c.values ++ e2.values ++ e3.values)
 
 abbrev pub IsReport : List Bool → Report → Type 0
 IsReport bits (ephemeris values) = IsEphemeris (pages_among bits) values
 IsReport bits (single page) = IsPage bits page
 
--- The last almanac of each of the satellites 1 to 32, all of one time of applicability, and their health in this order.
+-- The last almanac of each of the satellites 1 to 32, all of one time of applicability, and their
+-- health in this order.
 pub record IsAlmanacSet (pages : List Page) (set : AlmanacSet) : Type 0 where
   pub health_of_all : length set.health ≡ 32
   pub each : (sv : ℕ) → 1 ≤ sv → sv ≤ 32
-      → (page : Page) × (last_almanac pages sv ≡ Some page) × (toa_of page ≡ set.toa) × (slice_get set.health (sv - 1) ≡ Some (get_or page.values 6 (pos 0)))
+      → (page : Page) × (last_almanac pages sv ≡ Some page) × (toa_of page ≡ set.toa)
+      × (slice_get set.health (sv - 1) ≡ Some (health_of page))
 
 -- what an event says of the life that is on, the last sample being the last of these
 abbrev pub IsOfLife : Settings → List Sample → Life → Event → Type 0
 IsOfLife settings xs life (acquired prn cell) = IsAcquisition settings xs life prn cell
-IsOfLife settings xs life (count c) = (channel : Channel) × (k : ℕ) × IsCount settings xs life channel k c
+IsOfLife settings xs life (count c) =
+    (channel : Channel) × (k : ℕ) × IsCount settings xs life channel k c
 IsOfLife settings xs life locked = news_of (counts_by settings xs life) ≡ lock
 IsOfLife settings xs life unlocked = news_of (counts_by settings xs life) ≡ unlock
 IsOfLife settings xs life signal_lost = news_of (counts_by settings xs life) ≡ lost
@@ -92,51 +120,72 @@ IsOfLife settings xs life edge = has_edge (pushes_so_far settings xs life) ≡ t
 IsOfLife settings xs life (gap n) = IsGap (bits_so_far settings xs life) n
 IsOfLife settings xs life (subframe s) = IsSubframe (bits_so_far settings xs life) s
 IsOfLife settings xs life (reported r) = IsReport (bits_so_far settings xs life) r
-IsOfLife settings xs life (almanacs set) = IsAlmanacSet (pages_among (bits_so_far settings xs life)) set
+IsOfLife settings xs life (almanacs set) =
+    IsAlmanacSet (pages_among (bits_so_far settings xs life)) set
 
 -- It says so of the life that the commands leave on just before the last sample.
 abbrev pub IsRight : Settings → List Sample → List TimedRequest → Event → Type 0
-IsRight settings xs commands event = (life : Life) × (life_now settings (front_of xs) commands ≡ Some life) × IsOfLife settings xs life event
+IsRight settings xs commands event =
+    (life : Life) × (life_now settings (front_of xs) commands ≡ Some life)
+    × IsOfLife settings xs life event
 
 -- the phase of the code at an acquisition's start, and its step, of the cell that is named
 abbrev pub found_phase : Settings → List Sample → Plan → ℕ → ℕ
 found_phase settings xs plan start = (result_of settings plan xs start).half_chip * 2 ^ 31
 
 abbrev pub found_step : Settings → List Sample → Plan → ℕ → ℕ
-found_step settings xs plan start = code_step settings (bin_shift plan (result_of settings plan xs start).bin).v (pos 0)
+found_step settings xs plan start =
+    code_step settings (bin_shift plan (result_of settings plan xs start).bin).v (pos 0)
 
 -- ---- laws
 
 -- Each event that a slot tells is right.
 abbrev pub EventsAreRight : Type 0
-EventsAreRight = (settings : Settings) (xs : List Sample) (commands : List TimedRequest) (i : ℕ) (event : Event)
-    → slice_get (events_at_end settings xs commands) i ≡ Some event → IsRight settings xs commands event
+EventsAreRight = (settings : Settings) (xs : List Sample) (commands : List TimedRequest) (i : ℕ)
+    (event : Event)
+    → slice_get (events_at_end settings xs commands) i ≡ Some event
+    → IsRight settings xs commands event
 
--- Of these, one by one: each count that is told is a dump of the channel that the slot follows, ended by the last sample.
+-- Of these, one by one: each count that is told is a dump of the channel that the slot follows,
+-- ended by the last sample.
 abbrev pub CountsAreDumps : Type 0
-CountsAreDumps = (settings : Settings) (xs : List Sample) (commands : List TimedRequest) (i : ℕ) (c : Counts)
+CountsAreDumps = (settings : Settings) (xs : List Sample) (commands : List TimedRequest) (i : ℕ)
+    (c : Counts)
     → slice_get (events_at_end settings xs commands) i ≡ Some (count c)
-    → (life : Life) × (life_now settings (front_of xs) commands ≡ Some life) × (channel : Channel) × (k : ℕ) × IsCount settings xs life channel k c
+    → (life : Life) × (life_now settings (front_of xs) commands ≡ Some life) × (channel : Channel)
+    × (k : ℕ) × IsCount settings xs life channel k c
 
--- Each acquisition that is told names the first greatest cell of its plan, over the dwell behind its start.
+-- Each acquisition that is told names the first greatest cell of its plan, over the dwell behind
+-- its start.
 abbrev pub AcquisitionsNameTheGreatest : Type 0
-AcquisitionsNameTheGreatest = (settings : Settings) (xs : List Sample) (commands : List TimedRequest) (i prn : ℕ) (cell : Cell)
+AcquisitionsNameTheGreatest =
+    (settings : Settings) (xs : List Sample) (commands : List TimedRequest) (i prn : ℕ)
+    (cell : Cell)
     → slice_get (events_at_end settings xs commands) i ≡ Some (acquired prn cell)
-    → (life : Life) × (life_now settings (front_of xs) commands ≡ Some life) × IsAcquisition settings xs life prn cell
+    → (life : Life) × (life_now settings (front_of xs) commands ≡ Some life)
+    × IsAcquisition settings xs life prn cell
 
 -- Each word that is shown of a subframe that is told passes.
 abbrev pub WordsToldPass : Type 0
-WordsToldPass = (settings : Settings) (xs : List Sample) (commands : List TimedRequest) (i : ℕ) (s : Subframe)
+WordsToldPass = (settings : Settings) (xs : List Sample) (commands : List TimedRequest) (i : ℕ)
+    (s : Subframe)
     → slice_get (events_at_end settings xs commands) i ≡ Some (subframe s)
-    → (life : Life) × (life_now settings (front_of xs) commands ≡ Some life) × IsSubframe (bits_so_far settings xs life) s
+    → (life : Life) × (life_now settings (front_of xs) commands ≡ Some life)
+    × IsSubframe (bits_so_far settings xs life) s
 
--- A set of almanacs that is reported has the last almanac of each satellite, all of one time of applicability.
+-- A set of almanacs that is reported has the last almanac of each satellite, all of one time of
+-- applicability.
 abbrev pub AlmanacSetsAgree : Type 0
-AlmanacSetsAgree = (bits : List Bool) (set : AlmanacSet) → (reports_of (pages_among bits)).set ≡ Some set → IsAlmanacSet (pages_among bits) set
+AlmanacSetsAgree = (bits : List Bool) (set : AlmanacSet)
+    → (reports_of (pages_among bits)).set ≡ Some set → IsAlmanacSet (pages_among bits) set
 
--- A found signal is tracked from the due time on, and its code goes on: j samples later it has come as far as the replica of the named
--- cell, which began with the acquisition, has by then.
+-- A found signal is tracked from the due time on, and its code goes on: j samples later it has come
+-- as far as the replica of the named cell, which began with the acquisition, has by then.
 abbrev pub FoundCodeGoesOn : Type 0
-FoundCodeGoesOn = (settings : Settings) (xs : List Sample) (plan : Plan) (start : ℕ) (channel : Channel) → acquired_channel settings xs plan start ≡ Some channel
-    → (channel.prn ≡ plan.prn) × (channel.start ≡ due_time settings plan start) × (due_time settings plan start ≤ length xs)
-    × ((j : ℕ) → code_phase_after channel.code (found_step settings xs plan start) j ≡ code_phase_after (found_phase settings xs plan start) (found_step settings xs plan start) (channel.start - start + j))
+FoundCodeGoesOn = (settings : Settings) (xs : List Sample) (plan : Plan) (start : ℕ)
+    (channel : Channel) → acquired_channel settings xs plan start ≡ Some channel
+    → (channel.prn ≡ plan.prn) × (channel.start ≡ due_time settings plan start)
+    × (due_time settings plan start ≤ length xs)
+    × ((j : ℕ) → code_phase_after channel.code (found_step settings xs plan start) j
+    ≡ code_phase_after (found_phase settings xs plan start) (found_step settings xs plan start)
+    (channel.start - start + j))

@@ -1,5 +1,12 @@
--- What the last sample makes one slot tell, behind the requests made to it before. (This project's own.)
-use Rattle.std.specs.Prelude.{ℕ, zero, suc, ◌+◌, ◌-◌, ◌==◌, ◌&&◌, not, Bool, nat_lt, nat_le, if◌then◌else◌, ℤ, List, [], ◌∷◌, ◌++◌, map, filter, length, take, drop, slice_get, filter_map, Option, Some, None}
+-- What the last sample makes one slot tell, behind the requests made to it before. (This project's
+-- own.)
+--
+-- Time is the number of samples so far: at time T samples 0 to T - 1 are known, and `xs` is always
+-- those. A command at time T acts before sample T; what the last sample causes comes before the
+-- commands of that time.
+use Rattle.std.specs.Prelude.{ℕ, zero, suc, ◌+◌, ◌-◌, ◌==◌, ◌&&◌, not, Bool, nat_lt, nat_le}
+use Rattle.std.specs.Prelude.{if◌then◌else◌, ℤ, List, [], ◌∷◌, ◌++◌, map, filter, length, take}
+use Rattle.std.specs.Prelude.{drop, slice_get, filter_map, Option, Some, None}
 use Rattle.definitions.specs.Samples.{Sample}
 use Rattle.definitions.specs.Oscillators.{Settings}
 use Rattle.definitions.specs.Correlation.{Counts}
@@ -33,9 +40,11 @@ abbrev pub events_of : {A : Type 0} → (A → Event) → Option A → List Even
 events_of f None = []
 events_of f (Some x) = f x ∷ []
 
--- behind such dumps, how many are still to be printed: as many as were asked for, less those that have come since
+-- behind such dumps, how many are still to be printed: as many as were asked for, less those that
+-- have come since
 unfoldable pub unprinted : Life → List Dump → ℕ
-unprinted life dumps = life.wanted - length (filter (λ (d : Dump). nat_lt life.wanted_from d.time) dumps)
+unprinted life dumps =
+    life.wanted - length (filter (λ (d : Dump). nat_lt life.wanted_from d.time) dumps)
 
 unfoldable pub last_of : {A : Type 0} → List A → Option A
 last_of xs = slice_get xs (length xs - 1)
@@ -49,8 +58,9 @@ news_events lock = locked ∷ []
 news_events unlock = unlocked ∷ []
 news_events lost = signal_lost ∷ []
 
--- of the first k dumps, the prompt sums of those behind the last that answered with a lock, where the loops are locked by then: a dump
--- is pushed where they are locked before it and behind it. Each lock begins a new list, and the dump that ends the lock is not among them
+-- of the first k dumps, the prompt sums of those behind the last that answered with a lock, where
+-- the loops are locked by then: a dump is pushed where they are locked before it and behind it.
+-- Each lock begins a new list, and the dump that ends the lock is not among them
 unfoldable pub pushes_by : List Counts → ℕ → List ℤ
 pushes_by dumps zero = []
 pushes_by dumps (suc k) = if is_locked (take k dumps) && is_locked (take (suc k) dumps)
@@ -62,7 +72,8 @@ pushes_of dumps = pushes_by dumps (length dumps)
 
 -- the pages of the subframes that the bits make whole
 unfoldable pub pages_among : List Bool → List Page
-pages_among bits = filter_map page_of (map (subframe_at bits) (filter (λ n. nat_le (n + 300) (length bits)) (starts_of bits)))
+pages_among bits = filter_map page_of
+    (map (subframe_at bits) (filter (λ n. nat_le (n + 300) (length bits)) (starts_of bits)))
 
 -- the page's own report, and then perhaps a set of almanacs
 abbrev pub report_events : Reports → List Event
@@ -76,13 +87,16 @@ page_events bits (Some last) = report_events (reports_of (pages_among bits))
 -- what the last of the bits tells
 abbrev pub bit_events : List Bool → Option Found → List Event
 bit_events bits None = []
-bit_events bits (Some found) = events_of gap found.gap ++ subframe found.subframe ∷ [] ++ page_events bits (page_of found.subframe)
+bit_events bits (Some found) =
+    events_of gap found.gap ++ subframe found.subframe ∷ []
+    ++ page_events bits (page_of found.subframe)
 
 -- what the last of the pushes tells: the edge, or a bit that is whole with it
 unfoldable pub push_events : List ℤ → List Event
 push_events pushes = let bits = bits_of pushes in
     when (has_edge pushes && not (has_edge (front_of pushes))) edge
-    ++ (if nat_lt (length (bits_of (front_of pushes))) (length bits) then bit_events bits (found_by bits) else [])
+    ++ (if nat_lt (length (bits_of (front_of pushes))) (length bits)
+    then bit_events bits (found_by bits) else [])
 
 -- what the last dump of a tracking slot tells beside its sums
 unfoldable pub steered_events : List Counts → List Event
@@ -101,14 +115,19 @@ last_dump_events life n dumps (Some d) = if d.time == n then dump_events life du
 abbrev pub due_events : Settings → List Sample → ℕ → Start → List Event
 due_events settings xs begun (hold prn doppler half_chip) = []
 due_events settings xs begun (track prn doppler half_chip) = []
-due_events settings xs begun (acquire plan) = when (due_time settings plan begun == length xs) (acquired plan.prn (result_of settings plan xs begun))
+due_events settings xs begun (acquire plan) =
+    when (due_time settings plan begun == length xs)
+    (acquired plan.prn (result_of settings plan xs begun))
 
 unfoldable pub life_events : Settings → List Sample → Option Life → List Event
 life_events settings xs None = []
 life_events settings xs (Some life) = let dumps = dumps_of_life settings xs life in
-    due_events settings xs life.begun life.start ++ last_dump_events life (length xs) dumps (last_of dumps)
+    due_events settings xs life.begun life.start
+    ++ last_dump_events life (length xs) dumps (last_of dumps)
 
--- what the last sample makes the slot tell, behind commands that all came before it. The life that is on just before that sample
--- tells it, its own end too; a life that is over by then tells nothing
+-- what the last sample makes the slot tell, behind commands that all came before it. The life that
+-- is on just before that sample tells it, its own end too; a life that is over by then tells
+-- nothing
 unfoldable pub events_at_end : Settings → List Sample → List TimedRequest → List Event
-events_at_end settings xs commands = life_events settings xs (life_now settings (front_of xs) commands)
+events_at_end settings xs commands =
+    life_events settings xs (life_now settings (front_of xs) commands)

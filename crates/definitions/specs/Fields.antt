@@ -1,11 +1,15 @@
--- The fields of subframes, IS-GPS-200, section 20.3.3. Bits are numbered from 1 within the subframe, parity places included. The
--- places are those of figure 20-1; which are signed, and their scale factors, stand in the tables that are named with each list.
-use Rattle.std.specs.Prelude.{ℕ, ◌+◌, ◌-◌, ◌*◌, ◌/◌, ◌%◌, ◌^◌, ◌==◌, ◌&&◌, Bool, true, false, if◌then◌else◌, ℤ, pos, ◌-ℤ◌, neg_ℤ, List, [], ◌∷◌, ◌++◌, map, flat_map, length, slice_index, Option, Some, None, codes, unwrap_or}
+-- The fields of subframes, IS-GPS-200, section 20.3.3. Bits are numbered from 1 within the
+-- subframe, parity places included. The places are those of figure 20-1; which are signed, and
+-- their scale factors, stand in the tables that are named with each list.
+use Rattle.std.specs.Prelude.{ℕ, ◌+◌, ◌-◌, ◌*◌, ◌/◌, ◌%◌, ◌^◌, ◌==◌, ◌&&◌, Bool, true, false}
+use Rattle.std.specs.Prelude.{if◌then◌else◌, ℤ, pos, ◌-ℤ◌, neg_ℤ, List, [], ◌∷◌, ◌++◌, map}
+use Rattle.std.specs.Prelude.{flat_map, length, slice_index, Option, Some, None, codes, unwrap_or}
 use Rattle.std.specs.Int.{bit_at}
 use Rattle.std.specs.Int.Digits.{number_from_digits}
 use Rattle.std.specs.List.{range_with_len, list_all}
 use Rattle.std.specs.Option.{is_some}
 use Rattle.std.specs.Fmt.{decimal}
+use Rattle.definitions.specs.Sums.{between}
 use Rattle.definitions.specs.Frames.{Subframe, word_of}
 
 -- bits first to last of a subframe
@@ -13,8 +17,8 @@ pub record Bits : Type 0 where
   pub first : ℕ
   pub last : ℕ
 
--- a field: its name, where it stands (its parts are joined in their order), whether it is in two's complement, and its scale factor's
--- power of two
+-- a field: its name, where it stands (its parts are joined in their order), whether it is in two's
+-- complement, and its scale factor's power of two
 pub record Field : Type 0 where
   pub name : List ℕ
   pub parts : List Bits
@@ -25,10 +29,12 @@ abbrev pub bits : ℕ → ℕ → Bits
 bits first last = record { first = first; last = last }
 
 abbrev pub unsigned : List ℕ → List Bits → ℤ → Field
-unsigned name parts exponent = record { name = name; parts = parts; is_signed = false; exponent = exponent }
+unsigned name parts exponent =
+    record { name = name; parts = parts; is_signed = false; exponent = exponent }
 
 abbrev pub signed : List ℕ → List Bits → ℤ → Field
-signed name parts exponent = record { name = name; parts = parts; is_signed = true; exponent = exponent }
+signed name parts exponent =
+    record { name = name; parts = parts; is_signed = true; exponent = exponent }
 
 abbrev pub minus : ℕ → ℤ
 minus n = neg_ℤ (pos n)
@@ -115,7 +121,8 @@ utc_fields = unsigned (codes "data") (bits 61 62 ∷ []) (pos 0)
     ∷ signed (codes "dtlsf") (bits 271 278 ∷ []) (pos 0)
     ∷ []
 
--- the health of satellites 1 to 24, six bits each, four in each of words 4 to 9: section 20.3.3.5.1.3
+-- the health of satellites 1 to 24, six bits each, four in each of words 4 to 9: section
+-- 20.3.3.5.1.3
 abbrev pub health_field : ℕ → Field
 health_field k = let first = 91 + 30 * (k / 4) + 6 * (k % 4) in
     unsigned (codes "h" ++ decimal (k + 1)) (bits first (first + 5) ∷ []) (pos 0)
@@ -127,20 +134,23 @@ health_fields = unsigned (codes "data") (bits 61 62 ∷ []) (pos 0)
     ∷ unsigned (codes "wna") (bits 77 84 ∷ []) (pos 0)
     ∷ map health_field (range_with_len 0 24)
 
--- the 22 characters of a special message, two in word 3, three in each of words 4 to 9, two in word 10: section 20.3.3.5.1.8
+-- the 22 characters of a special message, two in word 3, three in each of words 4 to 9, two in word
+-- 10: section 20.3.3.5.1.8
 abbrev pub character : ℕ → Field
 character first = unsigned [] (bits first (first + 7) ∷ []) (pos 0)
 
 abbrev pub characters_of_word : ℕ → List Field
-characters_of_word word = let first = 30 * (word - 1) + 1 in character first ∷ character (first + 8) ∷ character (first + 16) ∷ []
+characters_of_word word = let first =
+    30 * (word - 1) + 1 in character first ∷ character (first + 8) ∷ character (first + 16) ∷ []
 
 abbrev pub message_fields : List Field
-message_fields = character 69 ∷ character 77 ∷ flat_map characters_of_word (range_with_len 4 6) ++ character 271 ∷ character 279 ∷ []
+message_fields = character 69 ∷ character 77 ∷ flat_map characters_of_word (range_with_len 4 6)
+    ++ character 271 ∷ character 279 ∷ []
 
 -- ---- values
 
 abbrev pub places_of : Bits → List ℕ
-places_of b = range_with_len b.first (b.last + 1 - b.first)
+places_of b = between b.first (b.last + 1)
 
 abbrev pub all_places : Field → List ℕ
 all_places f = flat_map places_of f.parts
@@ -151,9 +161,12 @@ word_at_place s place = word_of s ((place - 1) / 30 + 1)
 abbrev pub bit_at_place : Subframe → ℕ → ℕ
 bit_at_place s place = bit_at (unwrap_or (word_at_place s place) 0) (23 - (place - 1) % 30)
 
--- the number that the digits 0 and 1 write. In two's complement it is less by 2 to the number of digits, where the first digit is 1
+-- the number that the digits 0 and 1 write. In two's complement it is less by 2 to the number of
+-- digits, where the first digit is 1
 abbrev pub number_of : Bool → List ℕ → ℤ
-number_of is_signed digits = pos (number_from_digits 2 digits) -ℤ (if is_signed && (slice_index digits 0 == 1) then pos (2 ^ length digits) else pos 0)
+number_of is_signed digits =
+    pos (number_from_digits 2 digits) -ℤ (if is_signed && (slice_index digits 0 == 1)
+    then pos (2 ^ length digits) else pos 0)
 
 abbrev pub value_of : Subframe → Field → ℤ
 value_of s f = number_of f.is_signed (map (bit_at_place s) (all_places f))

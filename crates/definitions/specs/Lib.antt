@@ -23,6 +23,7 @@ pub mod Texts
 pub mod Banks
 pub mod Receiver
 pub mod Runs
+pub mod TextLaws
 pub mod Laws
 pub mod SlotLaws
 pub mod EventLaws

@@ -1,6 +1,7 @@
--- What holds of the lines of the whole text, whatever the settings, the samples and the clients are. Each law is promised by a function
--- of the same name in this crate.
-use Rattle.std.specs.Prelude.{ℕ, ◌≡◌, ◌+◌, ◌<◌, ◌≤◌, ◌⊎◌, true, List, length, take, slice_get, Option, Some, codes}
+-- What holds of the lines of the whole text, whatever the settings, the samples and the clients
+-- are. Each law is promised by a function of the same name in this crate.
+use Rattle.std.specs.Prelude.{ℕ, ◌≡◌, ◌+◌, ◌<◌, ◌≤◌, ◌⊎◌, true, List, length, take, slice_get}
+use Rattle.std.specs.Prelude.{Option, Some, codes}
 use Rattle.definitions.specs.Samples.{Sample}
 use Rattle.definitions.specs.Oscillators.{Settings}
 use Rattle.definitions.specs.Correlation.{Counts}
@@ -10,48 +11,67 @@ use Rattle.definitions.specs.DataSets.{Report, AlmanacSet}
 use Rattle.definitions.specs.Commands.{TimedRequest}
 use Rattle.definitions.specs.Lines.{lines_of, words_of}
 use Rattle.definitions.specs.Scripts.{Entry}
-use Rattle.definitions.specs.Events.{Event, acquired, count, subframe, reported, almanacs, events_at_end}
+use Rattle.definitions.specs.Events.{Event, acquired, count, subframe, reported, almanacs}
+use Rattle.definitions.specs.Events.{events_at_end}
 use Rattle.definitions.specs.Texts.{event_text, at_time, for_client}
-use Rattle.definitions.specs.Receiver.{Client, Profile, entries_of, entries_before, commands_to, reply_text, end_line, full}
+use Rattle.definitions.specs.Receiver.{Client, Profile, entries_of, entries_before, commands_to}
+use Rattle.definitions.specs.Receiver.{reply_text, end_line, full}
 use Rattle.definitions.specs.EventLaws.{IsRight}
 
 -- ---- where a line comes from
 
 -- the commands to a client's slot before the last of the samples
 abbrev pub commands_before : Profile → Client → ℕ → List Sample → List TimedRequest
-commands_before profile client slot xs = commands_to slot (entries_before (length xs) (entries_of profile client))
+commands_before profile client slot xs =
+    commands_to slot (entries_before (length xs) (entries_of profile client))
 
--- The last of the samples makes a slot of client number 1 + k tell the event, the event is one that is printed, and it is right.
-pub record Tells (profile : Profile) (settings : Settings) (clients : List Client) (xs : List Sample) (k slot : ℕ) (client : Client) (event : Event) : Type 0 where
+-- The last of the samples makes a slot of client number 1 + k tell the event, the event is one that
+-- is printed, and it is right.
+pub record Tells (profile : Profile) (settings : Settings) (clients : List Client)
+    (xs : List Sample) (k slot : ℕ) (client : Client) (event : Event) : Type 0 where
   pub is_client : slice_get clients k ≡ Some client
   pub is_slot : slot < client.slots
   pub is_printed : profile.prints event ≡ true
-  pub is_told : (i : ℕ) × (slice_get (events_at_end settings xs (commands_before profile client slot xs)) i ≡ Some event)
+  pub is_told : (i : ℕ)
+      × (slice_get (events_at_end settings xs (commands_before profile client slot xs)) i
+      ≡ Some event)
   pub is_right : IsRight settings xs (commands_before profile client slot xs) event
 
 -- The line is that of an event, told at a time from 0 to the number of samples.
 abbrev pub IsLineOf : Profile → Settings → List Client → List Sample → List ℕ → Event → Type 0
-IsLineOf profile settings clients xs line event = (t : ℕ) × (k : ℕ) × (slot : ℕ) × (client : Client) × (t ≤ length xs)
-    × Tells profile settings clients (take t xs) k slot client event × (line ≡ for_client (1 + k) (at_time t (event_text slot event)))
+IsLineOf profile settings clients xs line event =
+    (t : ℕ) × (k : ℕ) × (slot : ℕ) × (client : Client) × (t ≤ length xs)
+    × Tells profile settings clients (take t xs) k slot client event
+    × (line ≡ for_client (1 + k) (at_time t (event_text slot event)))
 
 -- The line is the answer to an entry of a client's script, at the entry's time.
 abbrev pub IsAnswerLine : Profile → Settings → List Client → List Sample → List ℕ → Type 0
-IsAnswerLine profile settings clients xs line = (k : ℕ) × (i : ℕ) × (client : Client) × (entry : Entry)
-    × (slice_get clients k ≡ Some client) × (slice_get (entries_of profile client) i ≡ Some entry) × (entry.time ≤ length xs)
-    × (line ≡ for_client (1 + k) (at_time entry.time (reply_text settings (take entry.time xs) (take i (entries_of profile client)) entry.what)))
+IsAnswerLine profile settings clients xs line =
+    (k : ℕ) × (i : ℕ) × (client : Client) × (entry : Entry)
+    × (slice_get clients k ≡ Some client) × (slice_get (entries_of profile client) i ≡ Some entry)
+    × (entry.time ≤ length xs)
+    × (line ≡ for_client (1 + k)
+    (at_time entry.time (reply_text settings (take entry.time xs)
+    (take i (entries_of profile client)) entry.what)))
 
 -- The line is a client's end.
 abbrev pub IsEndLine : List Client → List Sample → List ℕ → Type 0
-IsEndLine clients xs line = (k : ℕ) × (k < length clients) × (line ≡ for_client (1 + k) (end_line xs))
+IsEndLine clients xs line =
+    (k : ℕ) × (k < length clients) × (line ≡ for_client (1 + k) (end_line xs))
 
 abbrev pub IsOneOf : Profile → Settings → List Client → List Sample → List ℕ → Type 0
-IsOneOf profile settings clients xs line = ((event : Event) × IsLineOf profile settings clients xs line event)
+IsOneOf profile settings clients xs line =
+    ((event : Event) × IsLineOf profile settings clients xs line event)
     ⊎ (IsAnswerLine profile settings clients xs line ⊎ IsEndLine clients xs line)
 
--- Each line of the whole text is that of an event that a slot tells, or that of an answer, or an end.
+-- Each line of the whole text is that of an event that a slot tells, or that of an answer, or an
+-- end.
 abbrev pub LinesComeFromEvents : Type 0
-LinesComeFromEvents = (profile : Profile) (settings : Settings) (clients : List Client) (xs : List Sample) (i : ℕ) (line : List ℕ)
-    → slice_get (lines_of (full profile settings xs clients)) i ≡ Some line → IsOneOf profile settings clients xs line
+LinesComeFromEvents =
+    (profile : Profile) (settings : Settings) (clients : List Client) (xs : List Sample) (i : ℕ)
+    (line : List ℕ)
+    → slice_get (lines_of (full profile settings xs clients)) i ≡ Some line
+    → IsOneOf profile settings clients xs line
 
 -- ---- lines by their verbs
 
@@ -61,31 +81,48 @@ verb_of line = slice_get (words_of line) 2
 
 -- a line of the whole text with such a verb
 abbrev pub IsPrinted : Profile → Settings → List Client → List Sample → List ℕ → List ℕ → Type 0
-IsPrinted profile settings clients xs line verb = ((i : ℕ) × (slice_get (lines_of (full profile settings xs clients)) i ≡ Some line)) × (verb_of line ≡ Some verb)
+IsPrinted profile settings clients xs line verb =
+    ((i : ℕ) × (slice_get (lines_of (full profile settings xs clients)) i ≡ Some line))
+    × (verb_of line ≡ Some verb)
 
 -- Each count that is printed is that of a dump, the plain sums over just its samples.
 abbrev pub PrintedCountsAreSums : Type 0
-PrintedCountsAreSums = (profile : Profile) (settings : Settings) (clients : List Client) (xs : List Sample) (line : List ℕ)
-    → IsPrinted profile settings clients xs line (codes "count") → (c : Counts) × IsLineOf profile settings clients xs line (count c)
+PrintedCountsAreSums =
+    (profile : Profile) (settings : Settings) (clients : List Client) (xs : List Sample)
+    (line : List ℕ)
+    → IsPrinted profile settings clients xs line (codes "count")
+    → (c : Counts) × IsLineOf profile settings clients xs line (count c)
 
 -- Each acquisition that is printed names the first greatest cell of its plan.
 abbrev pub PrintedAcquisitionsNameTheGreatest : Type 0
-PrintedAcquisitionsNameTheGreatest = (profile : Profile) (settings : Settings) (clients : List Client) (xs : List Sample) (line : List ℕ)
-    → IsPrinted profile settings clients xs line (codes "acq") → (prn : ℕ) × (cell : Cell) × IsLineOf profile settings clients xs line (acquired prn cell)
+PrintedAcquisitionsNameTheGreatest =
+    (profile : Profile) (settings : Settings) (clients : List Client) (xs : List Sample)
+    (line : List ℕ)
+    → IsPrinted profile settings clients xs line (codes "acq")
+    → (prn : ℕ) × (cell : Cell) × IsLineOf profile settings clients xs line (acquired prn cell)
 
 -- Each data word that is shown passes.
 abbrev pub PrintedWordsPass : Type 0
-PrintedWordsPass = (profile : Profile) (settings : Settings) (clients : List Client) (xs : List Sample) (line : List ℕ)
-    → IsPrinted profile settings clients xs line (codes "sub") → (s : Subframe) × IsLineOf profile settings clients xs line (subframe s)
+PrintedWordsPass = (profile : Profile) (settings : Settings) (clients : List Client)
+    (xs : List Sample) (line : List ℕ)
+    → IsPrinted profile settings clients xs line (codes "sub")
+    → (s : Subframe) × IsLineOf profile settings clients xs line (subframe s)
 
 -- Each page and each set that is printed is a right report.
 abbrev pub IsPageVerb : List ℕ → Type 0
-IsPageVerb verb = (verb ≡ codes "eph") ⊎ ((verb ≡ codes "alm") ⊎ ((verb ≡ codes "utc") ⊎ ((verb ≡ codes "hlt") ⊎ (verb ≡ codes "msg"))))
+IsPageVerb verb = (verb ≡ codes "eph")
+    ⊎ ((verb ≡ codes "alm")
+    ⊎ ((verb ≡ codes "utc") ⊎ ((verb ≡ codes "hlt") ⊎ (verb ≡ codes "msg"))))
 
 abbrev pub PrintedPagesPass : Type 0
-PrintedPagesPass = (profile : Profile) (settings : Settings) (clients : List Client) (xs : List Sample) (line verb : List ℕ) → IsPageVerb verb
-    → IsPrinted profile settings clients xs line verb → (r : Report) × IsLineOf profile settings clients xs line (reported r)
+PrintedPagesPass = (profile : Profile) (settings : Settings) (clients : List Client)
+    (xs : List Sample) (line verb : List ℕ) → IsPageVerb verb
+    → IsPrinted profile settings clients xs line verb
+    → (r : Report) × IsLineOf profile settings clients xs line (reported r)
 
 abbrev pub PrintedAlmanacsAgree : Type 0
-PrintedAlmanacsAgree = (profile : Profile) (settings : Settings) (clients : List Client) (xs : List Sample) (line : List ℕ)
-    → IsPrinted profile settings clients xs line (codes "als") → (set : AlmanacSet) × IsLineOf profile settings clients xs line (almanacs set)
+PrintedAlmanacsAgree =
+    (profile : Profile) (settings : Settings) (clients : List Client) (xs : List Sample)
+    (line : List ℕ)
+    → IsPrinted profile settings clients xs line (codes "als")
+    → (set : AlmanacSet) × IsLineOf profile settings clients xs line (almanacs set)

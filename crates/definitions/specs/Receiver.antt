@@ -1,5 +1,12 @@
--- What a receiver writes: for one client alone, and for several beside one another. (This project's own.)
-use Rattle.std.specs.Prelude.{ℕ, Bool, true, ◌+◌, ◌==◌, nat_lt, if◌then◌else◌, List, [], ◌∷◌, ◌++◌, map, flat_map, length, take, drop, filter, nat_eq, filter_map, Option, Some, None, Result, Ok, Err, codes}
+-- What a receiver writes: for one client alone, and for several beside one another. (This project's
+-- own.)
+--
+-- Time is the number of samples so far: at time T samples 0 to T - 1 are known, and `xs` is always
+-- those. A command at time T acts before sample T; what the last sample causes comes before the
+-- commands of that time.
+use Rattle.std.specs.Prelude.{ℕ, Bool, true, ◌+◌, ◌==◌, nat_lt, if◌then◌else◌, List, [], ◌∷◌, ◌++◌}
+use Rattle.std.specs.Prelude.{map, flat_map, length, take, drop, filter, nat_eq, filter_map, Option}
+use Rattle.std.specs.Prelude.{Some, None, Result, Ok, Err, codes}
 use Rattle.std.specs.List.{range_with_len, enumerate_from, starts_with}
 use Rattle.definitions.specs.Samples.{Sample}
 use Rattle.definitions.specs.Oscillators.{Settings}
@@ -29,7 +36,8 @@ entries_of profile client = script profile.verbs client.slots client.script
 
 -- the commands to one slot among the entries of a script
 abbrev pub command_to : ℕ → ℕ → Result Command ℕ → Option TimedRequest
-command_to slot time (Ok c) = if c.slot == slot then Some (record { time = time; request = c.request }) else None
+command_to slot time (Ok c) =
+    if c.slot == slot then Some (record { time = time; request = c.request }) else None
 command_to slot time (Err refusal) = None
 
 unfoldable pub commands_to : ℕ → List Entry → List TimedRequest
@@ -42,25 +50,35 @@ entries_before time entries = filter (λ (e : Entry). nat_lt e.time time) entrie
 -- what the last sample makes one slot tell
 abbrev pub told_by_slot : Profile → Settings → List Sample → List Entry → ℕ → List (List ℕ)
 told_by_slot profile settings xs entries slot =
-    map (event_text slot) (filter profile.prints (events_at_end settings xs (commands_to slot (entries_before (length xs) entries))))
+    map (event_text slot)
+    (filter profile.prints
+    (events_at_end settings xs (commands_to slot (entries_before (length xs) entries))))
 
 -- the texts of what the last sample makes a client's slots tell, slot by slot
 unfoldable pub told : Profile → Settings → Client → List Sample → List (List ℕ)
-told profile settings client xs = flat_map (told_by_slot profile settings xs (entries_of profile client)) (range_with_len 0 client.slots)
+told profile settings client xs =
+    flat_map (told_by_slot profile settings xs (entries_of profile client))
+    (range_with_len 0 client.slots)
 
 -- the answer to an entry, behind those before it
 abbrev pub reply_text : Settings → List Sample → List Entry → Result Command ℕ → List ℕ
-reply_text settings xs before (Ok c) = answer_text c.slot (answer_at_end settings xs (commands_to c.slot before) c.request)
+reply_text settings xs before (Ok c) =
+    answer_text c.slot (answer_at_end settings xs (commands_to c.slot before) c.request)
 reply_text settings xs before (Err refusal) = refusal_text refusal
 
 abbrev pub answered_by : Settings → List Sample → List Entry → ℕ × Entry → List (List ℕ)
-answered_by settings xs entries p = if (p.1).time == length xs then reply_text settings xs (take p.0 entries) (p.1).what ∷ [] else []
+answered_by settings xs entries p =
+    if (p.1).time == length xs then reply_text settings xs (take p.0 entries) (p.1).what ∷ []
+    else []
 
 -- the texts of the answers to a client's entries at the time of the last sample, in their order
 unfoldable pub answered : Profile → Settings → Client → List Sample → List (List ℕ)
-answered profile settings client xs = flat_map (answered_by settings xs (entries_of profile client)) (enumerate_from 0 (entries_of profile client))
+answered profile settings client xs =
+    flat_map (answered_by settings xs (entries_of profile client))
+    (enumerate_from 0 (entries_of profile client))
 
--- the lines of each time from 0 to the number of samples, each of them from the samples before that time alone
+-- the lines of each time from 0 to the number of samples, each of them from the samples before that
+-- time alone
 unfoldable pub at_each_time : (List Sample → List (List ℕ)) → List Sample → List (List ℕ)
 at_each_time lines xs = flat_map (λ t. lines (take t xs)) (range_with_len 0 (length xs + 1))
 
@@ -71,7 +89,8 @@ timed xs texts = map (at_time (length xs)) texts
 
 -- the lines at the last time: what the samples make the slots tell, and then the answers
 unfoldable pub lines_alone_at : Profile → Settings → Client → List Sample → List (List ℕ)
-lines_alone_at profile settings client xs = timed xs (told profile settings client xs) ++ timed xs (answered profile settings client xs)
+lines_alone_at profile settings client xs =
+    timed xs (told profile settings client xs) ++ timed xs (answered profile settings client xs)
 
 -- the lines of a client alone, time by time
 unfoldable pub alone : Profile → Settings → List Sample → Client → List (List ℕ)
@@ -88,22 +107,28 @@ alone_to_end profile settings xs client = alone profile settings xs client ++ en
 
 -- the lines of each client in turn, behind its number; clients are numbered from 1
 unfoldable pub for_each_client : (Client → List (List ℕ)) → List Client → List (List ℕ)
-for_each_client lines clients = flat_map (λ (p : ℕ × Client). map (for_client p.0) (lines p.1)) (enumerate_from 1 clients)
+for_each_client lines clients =
+    flat_map (λ (p : ℕ × Client). map (for_client p.0) (lines p.1)) (enumerate_from 1 clients)
 
 -- at the last time: what the samples tell each client
 unfoldable pub told_at : Profile → Settings → List Client → List Sample → List (List ℕ)
-told_at profile settings clients xs = for_each_client (λ client. timed xs (told profile settings client xs)) clients
+told_at profile settings clients xs =
+    for_each_client (λ client. timed xs (told profile settings client xs)) clients
 
 -- the answers to each
 unfoldable pub answers_at : Profile → Settings → List Client → List Sample → List (List ℕ)
-answers_at profile settings clients xs = for_each_client (λ client. timed xs (answered profile settings client xs)) clients
+answers_at profile settings clients xs =
+    for_each_client (λ client. timed xs (answered profile settings client xs)) clients
 
 -- what the samples tell, and then the answers
 unfoldable pub lines_at : Profile → Settings → List Client → List Sample → List (List ℕ)
-lines_at profile settings clients xs = told_at profile settings clients xs ++ answers_at profile settings clients xs
+lines_at profile settings clients xs =
+    told_at profile settings clients xs ++ answers_at profile settings clients xs
 
--- what each of the samples ys behind xs adds, time after time, where tells gives what the last sample tells
-unfoldable pub told_between : {A : Type 0} → (List Sample → List A) → List Sample → List Sample → List A
+-- what each of the samples ys behind xs adds, time after time, where tells gives what the last
+-- sample tells
+unfoldable pub told_between : {A : Type 0} → (List Sample → List A) → List Sample → List Sample
+    → List A
 told_between tells xs [] = []
 told_between tells xs (y ∷ ys) = tells (xs ++ y ∷ []) ++ told_between tells (xs ++ y ∷ []) ys
 
@@ -115,7 +140,8 @@ unfoldable pub end_lines : List Sample → List Client → List (List ℕ)
 end_lines xs clients = for_each_client (λ client. end_line xs ∷ []) clients
 
 unfoldable pub full_lines : Profile → Settings → List Sample → List Client → List (List ℕ)
-full_lines profile settings xs clients = body_lines profile settings xs clients ++ end_lines xs clients
+full_lines profile settings xs clients =
+    body_lines profile settings xs clients ++ end_lines xs clients
 
 -- the text of these lines
 unfoldable pub body : Profile → Settings → List Sample → List Client → List ℕ
@@ -132,4 +158,5 @@ is_of_client client line = starts_with nat_eq line (for_client client [])
 
 -- the client's lines, without its number
 unfoldable pub lines_of_client : ℕ → List (List ℕ) → List (List ℕ)
-lines_of_client client lines = map (drop (length (for_client client []))) (filter (is_of_client client) lines)
+lines_of_client client lines =
+    map (drop (length (for_client client []))) (filter (is_of_client client) lines)

@@ -1,5 +1,6 @@
 -- What a run answers, and what it has written by then. (This project's own.)
-use Rattle.std.specs.Prelude.{ℕ, ◌≡◌, ◌==◌, ◌&&◌, nat_le, nat_lt, if◌then◌else◌, Bool, true, false, List, [], ◌++◌, map, zip, length, take}
+use Rattle.std.specs.Prelude.{ℕ, ◌≡◌, ◌==◌, ◌&&◌, nat_le, nat_lt, if◌then◌else◌, Bool, true, false}
+use Rattle.std.specs.Prelude.{List, [], ◌++◌, map, zip, length, take}
 use Rattle.std.specs.List.{list_all}
 use Rattle.definitions.specs.Samples.{Sample, samples, sample_count}
 use Rattle.definitions.specs.Oscillators.{Settings}
@@ -25,10 +26,14 @@ pub record Task : Type 0 where
 
 -- the clients that the shares and the scripts make
 abbrev pub clients_of : Task → List Client
-clients_of task = map (λ (p : ℕ × List ℕ). record { slots = p.0; script = p.1 }) (zip task.shares task.scripts)
+clients_of task = map (λ (p : ℕ × List ℕ). record {
+  slots = p.0;
+  script =
+      p.1;
+}) (zip task.shares task.scripts)
 
--- how reading came to an end: a read into a buffer that isn't empty gave no bytes, or a read failed, or neither had come when the
--- run ended
+-- how reading came to an end: a read into a buffer that isn't empty gave no bytes, or a read
+-- failed, or neither had come when the run ended
 pub data InputEnd : Type 0 where
   exhausted : InputEnd
   failed : InputEnd
@@ -54,10 +59,15 @@ body_text task input = body task.profile task.settings (taken task input) (clien
 abbrev pub full_text : Task → Input → List ℕ
 full_text task input = full task.profile task.settings (taken task input) (clients_of task)
 
--- the text that is due for what came: without the ends behind a failed read and past the limit, with them otherwise
+-- the text that is due for what came: without the ends behind a failed read and past the limit,
+-- with them otherwise
 abbrev pub due_text : Task → Input → List ℕ
 due_text task input = if is_too_long task input then body_text task input
-    else elim input.end [ exhausted ↦ full_text task input | failed ↦ body_text task input | unfinished ↦ full_text task input ]
+    else elim input.end [
+      | exhausted ↦ full_text task input
+      | failed ↦ body_text task input
+      | unfinished ↦ full_text task input
+    ]
 
 -- a text begins with another one
 abbrev pub BeginsWith : List ℕ → List ℕ → Type 0
@@ -80,14 +90,21 @@ IsUntouched input written = (input.end ≡ unfinished) × (input.bytes ≡ []) �
 abbrev pub AreRight : Task → Type 0
 AreRight task = (are_clients task.scripts ≡ true) × (are_shares task.shares task.scripts ≡ true)
 
--- which answer goes with what came and what was written. The scripts are looked at first, then the shares; then memory is taken, all
--- before anything is read
+-- which answer goes with what came and what was written. The scripts are looked at first, then the
+-- shares; then memory is taken, all before anything is read
 unfoldable pub IsAnswer : Task → Input → List ℕ → RunAnswer → Type 0
-IsAnswer task input written wrong_clients = (are_clients task.scripts ≡ false) × IsUntouched input written
-IsAnswer task input written wrong_shares = (are_clients task.scripts ≡ true) × (are_shares task.shares task.scripts ≡ false) × IsUntouched input written
+IsAnswer task input written wrong_clients =
+    (are_clients task.scripts ≡ false) × IsUntouched input written
+IsAnswer task input written wrong_shares =
+    (are_clients task.scripts ≡ true) × (are_shares task.shares task.scripts ≡ false)
+    × IsUntouched input written
 IsAnswer task input written no_memory = AreRight task × IsUntouched input written
 IsAnswer task input written (finished n) =
-    AreRight task × (is_too_long task input ≡ false) × (input.end ≡ exhausted) × (n ≡ length (taken task input)) × (written ≡ full_text task input)
-IsAnswer task input written read_failed = AreRight task × (is_too_long task input ≡ false) × (input.end ≡ failed) × (written ≡ body_text task input)
-IsAnswer task input written too_long = AreRight task × (is_too_long task input ≡ true) × (written ≡ body_text task input)
+    AreRight task × (is_too_long task input ≡ false) × (input.end ≡ exhausted)
+    × (n ≡ length (taken task input)) × (written ≡ full_text task input)
+IsAnswer task input written read_failed =
+    AreRight task × (is_too_long task input ≡ false) × (input.end ≡ failed)
+    × (written ≡ body_text task input)
+IsAnswer task input written too_long =
+    AreRight task × (is_too_long task input ≡ true) × (written ≡ body_text task input)
 IsAnswer task input written write_failed = AreRight task × BeginsWith (due_text task input) written

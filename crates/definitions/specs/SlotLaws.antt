@@ -1,10 +1,13 @@
--- What holds of the events of a slot. Each of these is promised by a function of the same name in this crate.
-use Rattle.std.specs.Prelude.{ℕ, zero, suc, ◌≡◌, ◌+◌, ◌-◌, ◌*◌, ◌/◌, ◌%◌, ◌==◌, ◌&&◌, ℤ, ◌<◌, ◌≤◌, Bool, true, false, List, length, slice_get, take, Some, None}
+-- What holds of the events of a slot. Each of these is promised by a function of the same name in
+-- this crate.
+use Rattle.std.specs.Prelude.{ℕ, zero, suc, ◌≡◌, ◌+◌, ◌-◌, ◌*◌, ◌/◌, ◌%◌, ◌==◌, ◌&&◌, ℤ, ◌<◌, ◌≤◌}
+use Rattle.std.specs.Prelude.{Bool, true, false, List, length, slice_get, take, Some, None}
 use Rattle.std.specs.Option.{option_map_or}
 use Rattle.definitions.specs.Samples.{Sample}
 use Rattle.definitions.specs.Oscillators.{Settings, code_cycle}
 use Rattle.definitions.specs.Correlation.{Phases, phases_after, counts_over}
-use Rattle.definitions.specs.Segments.{Channel, Dump, Segment, counts_of, dumps_of, phases_of, next_segment}
+use Rattle.definitions.specs.Segments.{Channel, Dump, Segment, counts_of, dumps_of, phases_of}
+use Rattle.definitions.specs.Segments.{next_segment}
 use Rattle.definitions.specs.Acquisition.{Plan, cells_done}
 use Rattle.definitions.specs.BitEdge.{is_change, changes_at, is_edge}
 use Rattle.definitions.specs.Parity.{passes}
@@ -16,40 +19,51 @@ use Rattle.definitions.specs.Events.{pages_among}
 
 -- ---- the dumps of a channel
 
--- when the first k dumps are over: the first segment begins with the channel, each other one where the one before it ends
+-- when the first k dumps are over: the first segment begins with the channel, each other one where
+-- the one before it ends
 abbrev pub time_behind : Channel → List Dump → ℕ → ℕ
 time_behind channel dumps zero = channel.start
 time_behind channel dumps (suc k) = option_map_or (λ (d : Dump). d.time) (slice_get dumps k) 0
 
 -- the segment that begins there, with the phases that the one before it left
 unfoldable pub segment_behind : Settings → Channel → List Dump → ℕ → Segment
-segment_behind settings channel dumps zero = record { start = channel.start; code = channel.code; carrier = 0 }
+segment_behind settings channel dumps zero =
+    record { start = channel.start; code = channel.code; carrier = 0 }
 segment_behind settings channel dumps (suc k) =
     let s = segment_behind settings channel dumps k in
-    next_segment s (phases_of settings (channel.steering (counts_of (take k dumps))) s) (time_behind channel dumps (suc k))
+    next_segment s (phases_of settings (channel.steering (counts_of (take k dumps))) s)
+    (time_behind channel dumps (suc k))
 
 -- its phases, at the shift that the first k dumps ask for
 abbrev pub phases_behind : Settings → Channel → List Dump → ℕ → Phases
-phases_behind settings channel dumps k = phases_of settings (channel.steering (counts_of (take k dumps))) (segment_behind settings channel dumps k)
+phases_behind settings channel dumps k =
+    phases_of settings (channel.steering (counts_of (take k dumps)))
+    (segment_behind settings channel dumps k)
 
--- A dump of a segment with such phases at its start: it ends at the least time by which the code has run through, within the samples,
--- and is the six plain sums over just the samples between.
-pub record IsDump (channel : Channel) (xs : List Sample) (start : ℕ) (p : Phases) (d : Dump) : Type 0 where
+-- A dump of a segment with such phases at its start: it ends at the least time by which the code
+-- has run through, within the samples, and is the six plain sums over just the samples between.
+pub record IsDump (channel : Channel) (xs : List Sample) (start : ℕ) (p : Phases) (d : Dump) : Type
+    0 where
   pub later : start < d.time
   pub within : d.time ≤ length xs
   pub through : code_cycle ≤ (phases_after p (d.time - start)).code
   pub not_sooner : (e : ℕ) → start < e → e < d.time → (phases_after p (e - start)).code < code_cycle
   pub sums : d.counts ≡ counts_over channel.prn p xs start d.time
 
--- Each is the dump of the segment behind those before it, and behind the last of them no segment ends within the samples.
-pub record AreDumps (settings : Settings) (channel : Channel) (xs : List Sample) (dumps : List Dump) : Type 0 where
-  pub each : (k : ℕ) (d : Dump) → slice_get dumps k ≡ Some d → IsDump channel xs (time_behind channel dumps k) (phases_behind settings channel dumps k) d
+-- Each is the dump of the segment behind those before it, and behind the last of them no segment
+-- ends within the samples.
+pub record AreDumps (settings : Settings) (channel : Channel) (xs : List Sample) (dumps : List Dump)
+    : Type 0 where
+  pub each : (k : ℕ) (d : Dump) → slice_get dumps k ≡ Some d
+      → IsDump channel xs (time_behind channel dumps k) (phases_behind settings channel dumps k) d
   pub no_more : (e : ℕ) → time_behind channel dumps (length dumps) < e → e ≤ length xs
-      → (phases_after (phases_behind settings channel dumps (length dumps)) (e - time_behind channel dumps (length dumps))).code < code_cycle
+      → (phases_after (phases_behind settings channel dumps (length dumps))
+      (e - time_behind channel dumps (length dumps))).code < code_cycle
 
 -- The dumps of a channel are the plain sums over one run of the code after another.
 abbrev pub DumpsArePlainSums : Type 0
-DumpsArePlainSums = (settings : Settings) (channel : Channel) (xs : List Sample) → AreDumps settings channel xs (dumps_of settings channel xs)
+DumpsArePlainSums = (settings : Settings) (channel : Channel) (xs : List Sample)
+    → AreDumps settings channel xs (dumps_of settings channel xs)
 
 -- ---- acquisitions and pages
 
@@ -66,22 +80,29 @@ PagesPass = (bits : List Bool) (k : ℕ) (page : Page) → slice_get (pages_amon
 
 -- ---- bits
 
--- Where the sign of the pushes changes at one place modulo 20 alone, the edge is at the sixteenth change.
+-- Where the sign of the pushes changes at one place modulo 20 alone, the edge is at the sixteenth
+-- change.
 abbrev pub EdgeIsSixteenthChange : Type 0
-EdgeIsSixteenthChange = (pushes : List ℤ) (place k : ℕ) → ((i : ℕ) → i ≤ k → is_change pushes i ≡ true → i % 20 ≡ place)
+EdgeIsSixteenthChange =
+    (pushes : List ℤ) (place k : ℕ) → ((i : ℕ) → i ≤ k → is_change pushes i ≡ true → i % 20 ≡ place)
     → is_edge pushes k ≡ (is_change pushes k && (changes_at pushes (k % 20) 0 k == 16))
 
 -- ---- lives
 
 -- Command number i begins this life: it is a start, and the slot was idle for it.
-pub record Begins (settings : Settings) (xs : List Sample) (commands : List TimedRequest) (i : ℕ) (life : Life) : Type 0 where
-  pub command : slice_get commands i ≡ Some (record { time = life.begun; request = begin life.start })
-  pub was_idle : still_on settings (take life.begun xs) (life_of settings xs (take i commands)) ≡ None
+pub record Begins (settings : Settings) (xs : List Sample) (commands : List TimedRequest) (i : ℕ)
+    (life : Life) : Type 0 where
+  pub command : slice_get commands i
+      ≡ Some (record { time = life.begun; request = begin life.start })
+  pub was_idle : still_on settings (take life.begun xs) (life_of settings xs (take i commands))
+      ≡ None
 
--- The life that is on was begun by a command for which the slot was idle, no `stop` came behind that command, and the samples have not
--- ended it.
+-- The life that is on was begun by a command for which the slot was idle, no `stop` came behind
+-- that command, and the samples have not ended it.
 abbrev pub LifeIsOn : Type 0
-LifeIsOn = (settings : Settings) (xs : List Sample) (commands : List TimedRequest) (life : Life) → life_now settings xs commands ≡ Some life
+LifeIsOn = (settings : Settings) (xs : List Sample) (commands : List TimedRequest) (life : Life)
+    → life_now settings xs commands ≡ Some life
     → (i : ℕ) × Begins settings xs commands i life
-    × ((j : ℕ) (command : TimedRequest) → i < j → slice_get commands j ≡ Some command → command.request ≡ stop → ⊥)
+    × ((j : ℕ) (command : TimedRequest) → i < j → slice_get commands j ≡ Some command
+    → command.request ≡ stop → ⊥)
     × (is_over settings xs life ≡ false)

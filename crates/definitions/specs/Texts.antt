@@ -1,16 +1,20 @@
 -- The texts of printed lines. (This project's own.)
-use Rattle.std.specs.Prelude.{ℕ, ◌/◌, ◌%◌, false, if◌then◌else◌, ℤ, List, [], ◌∷◌, ◌++◌, map, flat_map, zip, Option, Some, None, codes}
+use Rattle.std.specs.Prelude.{ℕ, ◌/◌, ◌%◌, false, if◌then◌else◌, ℤ, List, [], ◌∷◌, ◌++◌, map}
+use Rattle.std.specs.Prelude.{flat_map, zip, Option, Some, None, codes}
 use Rattle.std.specs.List.{join_with_byte}
 use Rattle.std.specs.Fmt.{decimal, signed_decimal, digit_glyph}
 use Rattle.std.specs.Int.{bytes_high_first}
 use Rattle.definitions.specs.Sums.{natural}
 use Rattle.definitions.specs.Correlation.{Counts}
 use Rattle.definitions.specs.Frames.{id_of, tow_of}
-use Rattle.definitions.specs.Pages.{clock, eph2, eph3, almanac, utc, health, message, Page, fields_of}
+use Rattle.definitions.specs.Pages.{clock, eph2, eph3, almanac, utc, health, message, Page}
+use Rattle.definitions.specs.Pages.{fields_of}
 use Rattle.definitions.specs.Fields.{Field, clock_fields, eph2_fields, eph3_fields}
 use Rattle.definitions.specs.DataSets.{Report, ephemeris, single, AlmanacSet}
-use Rattle.definitions.specs.Events.{Event, acquired, count, locked, unlocked, signal_lost, edge, gap, subframe, reported, almanacs}
-use Rattle.definitions.specs.Answers.{View, idle, acquiring, holding, tracking, Answer, accepted, refused, shown}
+use Rattle.definitions.specs.Events.{Event, acquired, count, locked, unlocked, signal_lost, edge}
+use Rattle.definitions.specs.Events.{gap, subframe, reported, almanacs}
+use Rattle.definitions.specs.Answers.{View, idle, acquiring, holding, tracking, Answer, accepted}
+use Rattle.definitions.specs.Answers.{refused, shown}
 
 -- words with one space between each two
 abbrev pub spaced : List (List ℕ) → List ℕ
@@ -18,7 +22,8 @@ spaced words = join_with_byte 32 words
 
 -- two lower case hexadecimal digits for each byte
 abbrev pub hex_of_bytes : List ℕ → List ℕ
-hex_of_bytes bytes = flat_map (λ b. digit_glyph false (b / 16) ∷ digit_glyph false (b % 16) ∷ []) bytes
+hex_of_bytes bytes = flat_map (λ b. digit_glyph false (b / 16) ∷ digit_glyph false (b % 16)
+    ∷ []) bytes
 
 abbrev pub word_text : Option ℕ → List ℕ
 word_text None = codes "------"
@@ -26,7 +31,8 @@ word_text (Some word) = hex_of_bytes (bytes_high_first 3 word)
 
 -- a field: its name, its whole number and the power of two of its unit
 abbrev pub field_text : Field → ℤ → List ℕ
-field_text f value = f.name ++ codes "=" ++ signed_decimal value ++ codes ":" ++ signed_decimal f.exponent
+field_text f value = f.name ++ codes "=" ++ signed_decimal value ++ codes ":"
+    ++ signed_decimal f.exponent
 
 abbrev pub field_texts : List Field → List ℤ → List (List ℕ)
 field_texts fields values = map (λ (p : Field × ℤ). field_text p.0 p.1) (zip fields values)
@@ -46,31 +52,46 @@ page_text slot page = elim page.kind [
 ]
 
 abbrev pub report_text : ℕ → Report → List ℕ
-report_text slot (ephemeris values) = spaced (codes "eph" ∷ decimal slot ∷ field_texts (clock_fields ++ eph2_fields ++ eph3_fields) values)
+report_text slot (ephemeris values) =
+    spaced (codes "eph" ∷ decimal slot
+    ∷ field_texts (clock_fields ++ eph2_fields ++ eph3_fields) values)
 report_text slot (single page) = page_text slot page
 
--- a set of almanacs: the time of applicability, in units of 2 to the power of 12 seconds, and 32 health values
+-- a set of almanacs: the time of applicability, in units of 2 to the power of 12 seconds, and 32
+-- health values
 abbrev pub almanacs_text : ℕ → AlmanacSet → List ℕ
-almanacs_text slot set = spaced (codes "als" ∷ decimal slot ∷ (codes "toa=" ++ signed_decimal set.toa ++ codes ":12") ∷ map signed_decimal set.health)
+almanacs_text slot set =
+    spaced (codes "als" ∷ decimal slot ∷ (codes "toa=" ++ signed_decimal set.toa ++ codes ":12")
+    ∷ map signed_decimal set.health)
 
 -- what a slot tells
 unfoldable pub event_text : ℕ → Event → List ℕ
-event_text slot (acquired prn cell) = spaced (codes "acq" ∷ decimal slot ∷ decimal prn ∷ (if cell.found then codes "found" else codes "none") ∷ signed_decimal cell.bin ∷ decimal cell.half_chip ∷ decimal cell.power ∷ [])
+event_text slot (acquired prn cell) =
+    spaced (codes "acq" ∷ decimal slot ∷ decimal prn ∷ (if cell.found then codes "found"
+    else codes "none") ∷ signed_decimal cell.bin ∷ decimal cell.half_chip ∷ decimal cell.power ∷ [])
 event_text slot (count c) = spaced (codes "count" ∷ decimal slot ∷ counts_texts c)
 event_text slot locked = spaced (codes "lock" ∷ decimal slot ∷ [])
 event_text slot unlocked = spaced (codes "unlock" ∷ decimal slot ∷ [])
 event_text slot signal_lost = spaced (codes "lost" ∷ decimal slot ∷ [])
 event_text slot edge = spaced (codes "bits" ∷ decimal slot ∷ [])
 event_text slot (gap n) = spaced (codes "gap" ∷ decimal slot ∷ decimal n ∷ [])
-event_text slot (subframe s) = spaced (codes "sub" ∷ decimal slot ∷ decimal (id_of s) ∷ decimal (tow_of s) ∷ map word_text s.words)
+event_text slot (subframe s) =
+    spaced (codes "sub" ∷ decimal slot ∷ decimal (id_of s) ∷ decimal (tow_of s)
+    ∷ map word_text s.words)
 event_text slot (reported r) = report_text slot r
 event_text slot (almanacs set) = almanacs_text slot set
 
 abbrev pub view_text : ℕ → View → List ℕ
 view_text slot idle = spaced (codes "state" ∷ decimal slot ∷ codes "idle" ∷ [])
-view_text slot (acquiring prn done cells) = spaced (codes "state" ∷ decimal slot ∷ codes "acquire" ∷ decimal prn ∷ decimal done ∷ decimal cells ∷ [])
-view_text slot (holding prn dumps) = spaced (codes "state" ∷ decimal slot ∷ codes "hold" ∷ decimal prn ∷ decimal dumps ∷ [])
-view_text slot (tracking prn dumps shift is_locked has_edge) = spaced (codes "state" ∷ decimal slot ∷ codes "track" ∷ decimal prn ∷ decimal dumps ∷ signed_decimal shift.v ∷ signed_decimal shift.w ∷ (if has_edge then codes "bits" else if is_locked then codes "lock" else codes "open") ∷ [])
+view_text slot (acquiring prn done cells) =
+    spaced (codes "state" ∷ decimal slot ∷ codes "acquire" ∷ decimal prn ∷ decimal done
+    ∷ decimal cells ∷ [])
+view_text slot (holding prn dumps) =
+    spaced (codes "state" ∷ decimal slot ∷ codes "hold" ∷ decimal prn ∷ decimal dumps ∷ [])
+view_text slot (tracking prn dumps shift is_locked has_edge) =
+    spaced (codes "state" ∷ decimal slot ∷ codes "track" ∷ decimal prn ∷ decimal dumps
+    ∷ signed_decimal shift.v ∷ signed_decimal shift.w ∷ (if has_edge then codes "bits"
+    else if is_locked then codes "lock" else codes "open") ∷ [])
 
 abbrev pub refusal_text : ℕ → List ℕ
 refusal_text n = spaced (codes "err" ∷ decimal n ∷ [])

@@ -58,7 +58,7 @@ impl Kind {
         ensures { option_map kind_in result ≡ kind_of_page id sv }
     {
         match (id, sv) {
-            (_, 1..=32) => Some(Kind::Almanac),
+            (4 | 5, 1..=32) => Some(Kind::Almanac),
             (4, 55) => Some(Kind::Message),
             (4, 56) => Some(Kind::Utc),
             (5, 51) => Some(Kind::Health),
