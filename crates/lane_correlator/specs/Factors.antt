@@ -48,6 +48,13 @@ pub record IsMask (first end mask : ℕ) : Type 0 where
 unfoldable pub part_sum : (ℕ → ℤ) → (ℕ → ℤ) → (ℕ → ℤ) → ℕ → ℕ → ℤ
 part_sum x wave chip from to = sum_between (λ j. x j *ℤ wave j *ℤ chip j) from to
 
+-- a number is that sum over the places of a mask, whatever values the words stand for
+unfoldable pub IsSumOf : Factors → Factors → ℕ → ℕ → ℤ → Type 0
+IsSumOf part wave chips mask sum =
+    (x f chip : ℕ → ℤ) (base first end : ℕ) → IsMask first end mask
+    → ArePart x base end part → AreWave f base end wave → AreChips chip base end chips
+    → sum ≡ part_sum x f chip (base + first) (base + end)
+
 -- these sums for the chips of a replica, with one carrier in phase and another in quadrature
 abbrev pub part_sums : (ℕ → ℤ) → (ℕ → ℤ) → (ℕ → ℤ) → Replica → ℕ → ℕ → Counts
 part_sums x i q r from to = record {

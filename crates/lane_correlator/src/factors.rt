@@ -1,10 +1,10 @@
-ghost use Rattle.std.specs.Prelude.{◌≡◌, ◌-◌, ◌<◌, ℕ, false, IfSome, IfNone};
+ghost use Rattle.std.specs.Prelude.{◌≡◌, ◌-◌, ◌<◌, ◌≤◌, ℕ, pos, ◌-ℤ◌, unsigned_abs, false, IfSome, IfNone};
 ghost use Rattle.std.specs.Int.{bit_at};
 ghost use Rattle.sample_planes.specs.Signs.{IsWord, IsQuadratureWord, AreReal, AreOneBit};
-ghost use Rattle.std.specs.Prelude.{pos, ◌-ℤ◌};
 ghost use Rattle.oscillators.specs.Signs.{signed};
-ghost use Rattle.lane_correlator.specs.Factors.{IsCosine, IsSine, IsMinusSine, wave_bits};
+ghost use Rattle.lane_correlator.specs.Factors.{IsCosine, IsSine, IsMinusSine, IsSumOf, wave_bits};
 
+use crate::word::products;
 use oscillators::{CarrierPlanes, CarrierWord};
 use sample_planes::Planes;
 
@@ -99,4 +99,18 @@ impl Wave {
             },
         }
     }
+}
+
+/// The sum of the products of a part of the samples, a carrier and chips over the places of a mask.
+#[inline(always)]
+pub(crate) fn sum_of_part(part: Factors, wave: Factors, chips: u64, mask: u64) -> i32
+    ensures sum { IsSumOf part wave chips mask result }
+    ensures small { unsigned_abs result ≤ 384 }
+{
+    products(
+        part.negative ^ wave.negative ^ chips,
+        part.large,
+        wave.large,
+        mask,
+    )
 }

@@ -9,6 +9,8 @@
 
 mod counts;
 mod factors;
+mod pair;
+mod six;
 mod sums;
 #[cfg(test)]
 mod tests;

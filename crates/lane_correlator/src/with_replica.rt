@@ -9,7 +9,7 @@ ghost use Rattle.lane_correlator.specs.ReplicaWords.{AreOf, phases_of};
 
 use crate::counts::Counts;
 use crate::factors::{Factors, Wave};
-use crate::sums::six_of_part;
+use crate::six::six_of_part;
 use crate::word::places;
 use ca_codes::{CodeBook, Prn};
 use oscillators::{CarrierOsc, CarrierWord, ChipWord, CodeOsc};

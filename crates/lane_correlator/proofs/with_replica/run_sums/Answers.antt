@@ -54,8 +54,8 @@ loop-w-preserved c =
     let carrier = c.next_word-wave.ensures in
     let chips = c.next_word-chips.ensures in
     let of : AreOf r (64 * w) (c.min-in-loop-w.result - 64 * w) c.next_word-wave.result c.next_word-chips.result =
-        words_of_placed c.args.prn phases (from / 64) w (c.min-in-loop-w.result - 64 * w) c.loop-w.carrier.phase c.loop-w.code.phase c.next_word-wave.result c.next_word-chips.result i.from few i.carrier i.code
-        (rw i.carrier_step at carrier.word) (rw i.code_step at chips.word) in
+    words_of_placed c.args.prn phases (from / 64) w (c.min-in-loop-w.result - 64 * w) c.loop-w.carrier.phase c.loop-w.code.phase c.next_word-wave.result c.next_word-chips.result i.from few i.carrier i.code
+    (rw i.carrier_step at carrier.word) (rw i.code_step at chips.word) in
     record {
       from = omega (arith, i.from);
       carrier = carrier_word_on c.earlier-carrier.result.phase c.earlier-carrier.result.step (from / 64) w c.loop-w.carrier.phase _ i.from (ap (λ (o : Oscillation). o.phase) carrier.moved ∙ ap (λ (s : ℕ). carrier_phase_after c.loop-w.carrier.phase s 64) i.carrier_step) i.carrier;

@@ -1,12 +1,14 @@
 use Rattle.std.proofs.Common.{◌≡◌, ◌≤◌, lit<, refl, ℤ, to_z, of_z, w32}
 use Rattle.std.specs.Prelude.{unsigned_abs}
+use Rattle.lane_correlator.specs.Factors.{IsSumOf}
 use Rattle.lane_correlator.proofs.WordLemmas.{stored}
-use Rattle.lane_correlator.proofs.sums.six_of_part.Goals as goal
+use Rattle.lane_correlator.proofs.six.six_of_part.Goals as goal
 
 kept : (z : ℤ) → unsigned_abs z ≤ 384 → to_z w32 (of_z w32 z) ≡ z
 kept z small = stored z 384 small (lit< tt)
 
 pub returns-clause-sums : goal.returns-clause-sums
+unfolding IsSumOf
 returns-clause-sums c x f g r base first end mask part i q chips = rw (
   kept c.sum_of_part.result c.sum_of_part.ensures.small,
   kept c.sum_of_part-2.result c.sum_of_part-2.ensures.small,
