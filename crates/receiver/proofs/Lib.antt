@@ -9,3 +9,4 @@ pub mod SessionLemmas
 pub mod TellingLemmas
 pub mod EntryAnswers
 pub mod OpeningLemmas
+mod PrintedLemmas

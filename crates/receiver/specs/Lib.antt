@@ -5,3 +5,4 @@ pub mod Sessions
 pub mod Runs
 pub mod LineTexts
 pub mod Queues
+pub mod Printed

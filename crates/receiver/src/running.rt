@@ -5,6 +5,7 @@ ghost use Rattle.definitions.specs.Oscillators.{Settings as Recording};
 ghost use Rattle.definitions.specs.Samples.{samples_per_byte};
 ghost use Rattle.definitions.specs.Receiver.{Client};
 ghost use Rattle.receiver.specs.Offered.{client_with};
+ghost use Rattle.receiver.specs.Printed.{CountsAreSums, AcquisitionsNameTheGreatest, WordsPass, PagesPass, AlmanacsAgree};
 ghost use Rattle.receiver.specs.Runs.{seen, IsOpen, Ran, BrokeOff, IsRun, ServesEachAlone};
 ghost use Rattle.receiver.specs.Sessions.{packing_in, time_of};
 
@@ -50,7 +51,8 @@ fn run_session<R: Source, W: Sink>(
 
 /// Runs one to eight scripts over all samples that a reader gives, at most 2^40 of them: writes the lines of all clients, time by time,
 /// with an `end` for each behind the last, and answers the number of samples. However reads cut the bytes, and whatever the other
-/// clients ask, each client's lines are those of a receiver with that client alone.
+/// clients ask, each client's lines are those of a receiver with that client alone. Each count is the plain sum over its samples, each
+/// acquisition names a greatest cell, and each data word that is shown passes the parity of IS-GPS-200, section 20.3.5.
 pub fn run<R: Source, W: Sink>(
     alloc: Global,
     settings: Settings,
@@ -66,6 +68,21 @@ pub fn run<R: Source, W: Sink>(
         (seen (R.remaining reader.old) (R.has_failed reader.old) (W.contents writer.old) (W.has_failed writer.old))
         (seen (R.remaining reader.new) (R.has_failed reader.new) (W.contents writer.new) (W.has_failed writer.new)) result }
     ensures alone { IfOk result (λ _. ServesEachAlone settings (map (λ script. client_with script.now) scripts.now)
+        (seen (R.remaining reader.old) (R.has_failed reader.old) (W.contents writer.old) (W.has_failed writer.old))
+        (seen (R.remaining reader.new) (R.has_failed reader.new) (W.contents writer.new) (W.has_failed writer.new))) }
+    ensures counts { IfOk result (λ _. CountsAreSums settings (map (λ script. client_with script.now) scripts.now)
+        (seen (R.remaining reader.old) (R.has_failed reader.old) (W.contents writer.old) (W.has_failed writer.old))
+        (seen (R.remaining reader.new) (R.has_failed reader.new) (W.contents writer.new) (W.has_failed writer.new))) }
+    ensures acquisitions { IfOk result (λ _. AcquisitionsNameTheGreatest settings (map (λ script. client_with script.now) scripts.now)
+        (seen (R.remaining reader.old) (R.has_failed reader.old) (W.contents writer.old) (W.has_failed writer.old))
+        (seen (R.remaining reader.new) (R.has_failed reader.new) (W.contents writer.new) (W.has_failed writer.new))) }
+    ensures words { IfOk result (λ _. WordsPass settings (map (λ script. client_with script.now) scripts.now)
+        (seen (R.remaining reader.old) (R.has_failed reader.old) (W.contents writer.old) (W.has_failed writer.old))
+        (seen (R.remaining reader.new) (R.has_failed reader.new) (W.contents writer.new) (W.has_failed writer.new))) }
+    ensures pages { IfOk result (λ _. PagesPass settings (map (λ script. client_with script.now) scripts.now)
+        (seen (R.remaining reader.old) (R.has_failed reader.old) (W.contents writer.old) (W.has_failed writer.old))
+        (seen (R.remaining reader.new) (R.has_failed reader.new) (W.contents writer.new) (W.has_failed writer.new))) }
+    ensures almanacs { IfOk result (λ _. AlmanacsAgree settings (map (λ script. client_with script.now) scripts.now)
         (seen (R.remaining reader.old) (R.has_failed reader.old) (W.contents writer.old) (W.has_failed writer.old))
         (seen (R.remaining reader.new) (R.has_failed reader.new) (W.contents writer.new) (W.has_failed writer.new))) }
 {
@@ -91,6 +108,21 @@ pub fn run_to<R: Source, W: Sink>(
         (seen (R.remaining reader.old) (R.has_failed reader.old) (W.contents writer.old) (W.has_failed writer.old))
         (seen (R.remaining reader.new) (R.has_failed reader.new) (W.contents writer.new) (W.has_failed writer.new)) result }
     ensures alone { IfOk result (λ _. ServesEachAlone settings (map (λ script. client_with script.now) scripts.now)
+        (seen (R.remaining reader.old) (R.has_failed reader.old) (W.contents writer.old) (W.has_failed writer.old))
+        (seen (R.remaining reader.new) (R.has_failed reader.new) (W.contents writer.new) (W.has_failed writer.new))) }
+    ensures counts { IfOk result (λ _. CountsAreSums settings (map (λ script. client_with script.now) scripts.now)
+        (seen (R.remaining reader.old) (R.has_failed reader.old) (W.contents writer.old) (W.has_failed writer.old))
+        (seen (R.remaining reader.new) (R.has_failed reader.new) (W.contents writer.new) (W.has_failed writer.new))) }
+    ensures acquisitions { IfOk result (λ _. AcquisitionsNameTheGreatest settings (map (λ script. client_with script.now) scripts.now)
+        (seen (R.remaining reader.old) (R.has_failed reader.old) (W.contents writer.old) (W.has_failed writer.old))
+        (seen (R.remaining reader.new) (R.has_failed reader.new) (W.contents writer.new) (W.has_failed writer.new))) }
+    ensures words { IfOk result (λ _. WordsPass settings (map (λ script. client_with script.now) scripts.now)
+        (seen (R.remaining reader.old) (R.has_failed reader.old) (W.contents writer.old) (W.has_failed writer.old))
+        (seen (R.remaining reader.new) (R.has_failed reader.new) (W.contents writer.new) (W.has_failed writer.new))) }
+    ensures pages { IfOk result (λ _. PagesPass settings (map (λ script. client_with script.now) scripts.now)
+        (seen (R.remaining reader.old) (R.has_failed reader.old) (W.contents writer.old) (W.has_failed writer.old))
+        (seen (R.remaining reader.new) (R.has_failed reader.new) (W.contents writer.new) (W.has_failed writer.new))) }
+    ensures almanacs { IfOk result (λ _. AlmanacsAgree settings (map (λ script. client_with script.now) scripts.now)
         (seen (R.remaining reader.old) (R.has_failed reader.old) (W.contents writer.old) (W.has_failed writer.old))
         (seen (R.remaining reader.new) (R.has_failed reader.new) (W.contents writer.new) (W.has_failed writer.new))) }
 {
