@@ -23,7 +23,8 @@ pub trait Source {
     /// Whether there was a call behind one that had failed.
     ghost was_asked_again: { Self → Bool };
 
-    /// Reads some bytes into the front of the buffer, which has room for one, and answers how many: 0 only at the end.
+    /// Reads some bytes into the front of the buffer, which has room for one, and answers how many:
+    /// 0 only at the end.
     fn read(&mut self, buffer: &mut [u8]) -> Result<usize, DeviceFault>
         requires some { 0 < length buffer.old }
         ensures again { was_asked_again self.new ≡ was_asked_again self.old || has_failed self.old }

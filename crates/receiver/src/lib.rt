@@ -1,5 +1,6 @@
-//! The run of a receiver bank: the scripts of one to eight clients over the samples that a reader gives, and the lines that a writer
-//! takes. `run` is proved to write what is defined, for every client as if it were alone, whatever the reads cut.
+//! The run of a receiver bank: the scripts of one to eight clients over the samples that a reader
+//! gives, and the lines that a writer takes. `run` is proved to write what is defined, for every
+//! client as if it were alone, whatever the reads cut.
 //!
 //!     use oscillators::Settings;
 //!     use receiver::{Plain, run};

@@ -99,12 +99,16 @@ pub fn read_all<R: Source, W: Sink>(
     ensures packing { packing_in session.new ≡ packing_in session.old }
     ensures read { IfOk result (λ stop. (settings : Recording) (clients : List Client) (start : Option (List ℕ)) → IsWrittenTo settings clients start session.old (W.contents writer.old) [] →
         HasRead settings clients limit start session.new
-        (seen (R.remaining reader.old) (R.has_failed reader.old) (W.contents writer.old) (W.has_failed writer.old))
-        (seen (R.remaining reader.new) (R.has_failed reader.new) (W.contents writer.new) (W.has_failed writer.new)) stop) }
+        (seen (R.remaining reader.old) (R.has_failed reader.old)
+        (W.contents writer.old) (W.has_failed writer.old))
+        (seen (R.remaining reader.new) (R.has_failed reader.new)
+        (W.contents writer.new) (W.has_failed writer.new)) stop) }
     ensures broken { OnErr result ((settings : Recording) (clients : List Client) (start : Option (List ℕ)) → IsWrittenTo settings clients start session.old (W.contents writer.old) [] →
         BrokeOffReading settings clients limit start
-        (seen (R.remaining reader.old) (R.has_failed reader.old) (W.contents writer.old) (W.has_failed writer.old))
-        (seen (R.remaining reader.new) (R.has_failed reader.new) (W.contents writer.new) (W.has_failed writer.new))) }
+        (seen (R.remaining reader.old) (R.has_failed reader.old)
+        (W.contents writer.old) (W.has_failed writer.old))
+        (seen (R.remaining reader.new) (R.has_failed reader.new)
+        (W.contents writer.new) (W.has_failed writer.new))) }
     ensures failure { TellsFailure (W.has_failed writer.old) (W.has_failed writer.new) result }
 {
     let mut buffer = [0; 4096];

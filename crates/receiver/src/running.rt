@@ -5,7 +5,8 @@ ghost use Rattle.definitions.specs.Oscillators.{Settings as Recording};
 ghost use Rattle.definitions.specs.Samples.{samples_per_byte};
 ghost use Rattle.definitions.specs.Receiver.{Client};
 ghost use Rattle.receiver.specs.Offered.{client_with};
-ghost use Rattle.receiver.specs.Printed.{CountsAreSums, AcquisitionsNameTheGreatest, WordsPass, PagesPass, AlmanacsAgree};
+ghost use Rattle.receiver.specs.Printed.{CountsAreSums, AcquisitionsNameTheGreatest, WordsPass};
+ghost use Rattle.receiver.specs.Printed.{PagesPass, AlmanacsAgree};
 ghost use Rattle.receiver.specs.Runs.{seen, IsOpen, Ran, BrokeOff, IsRun, ServesEachAlone};
 ghost use Rattle.receiver.specs.Sessions.{packing_in, time_of};
 
@@ -36,12 +37,18 @@ fn run_session<R: Source, W: Sink>(
     requires start { time_of session.old ≡ 0 }
     ensures once { R.has_failed reader.old ≡ false
         → R.was_asked_again reader.new ≡ R.was_asked_again reader.old }
-    ensures ran { IfOk result (λ stop. (settings : Recording) (clients : List Client) → IsOpen settings clients session.old → Ran settings clients limit session.new
-        (seen (R.remaining reader.old) (R.has_failed reader.old) (W.contents writer.old) (W.has_failed writer.old))
-        (seen (R.remaining reader.new) (R.has_failed reader.new) (W.contents writer.new) (W.has_failed writer.new)) stop) }
-    ensures broken { OnErr result ((settings : Recording) (clients : List Client) → IsOpen settings clients session.old → BrokeOff settings clients limit
-        (seen (R.remaining reader.old) (R.has_failed reader.old) (W.contents writer.old) (W.has_failed writer.old))
-        (seen (R.remaining reader.new) (R.has_failed reader.new) (W.contents writer.new) (W.has_failed writer.new))) }
+    ensures ran { IfOk result (λ stop. (settings : Recording) (clients : List Client)
+        → IsOpen settings clients session.old → Ran settings clients limit session.new
+        (seen (R.remaining reader.old) (R.has_failed reader.old)
+        (W.contents writer.old) (W.has_failed writer.old))
+        (seen (R.remaining reader.new) (R.has_failed reader.new)
+        (W.contents writer.new) (W.has_failed writer.new)) stop) }
+    ensures broken { OnErr result ((settings : Recording) (clients : List Client)
+        → IsOpen settings clients session.old → BrokeOff settings clients limit
+        (seen (R.remaining reader.old) (R.has_failed reader.old)
+        (W.contents writer.old) (W.has_failed writer.old))
+        (seen (R.remaining reader.new) (R.has_failed reader.new)
+        (W.contents writer.new) (W.has_failed writer.new))) }
 {
     write_answers(session, writer)?;
     let stop = read_all(session, per_byte, limit, reader, writer)?;
@@ -49,10 +56,12 @@ fn run_session<R: Source, W: Sink>(
     Ok(stop)
 }
 
-/// Runs one to eight scripts over all samples that a reader gives, at most 2^40 of them: writes the lines of all clients, time by time,
-/// with an `end` for each behind the last, and answers the number of samples. However reads cut the bytes, and whatever the other
-/// clients ask, each client's lines are those of a receiver with that client alone. Each count is the plain sum over its samples, each
-/// acquisition names a greatest cell, and each data word that is shown passes the parity of IS-GPS-200, section 20.3.5.
+/// Runs one to eight scripts over all samples that a reader gives, at most 2^40 of them: writes the
+/// lines of all clients, time by time, with an `end` for each behind the last, and answers the
+/// number of samples. However reads cut the bytes, and whatever the other clients ask, each
+/// client's lines are those of a receiver with that client alone. Each count is the plain sum over
+/// its samples, each acquisition names a greatest cell, and each data word that is shown passes the
+/// parity of IS-GPS-200, section 20.3.5.
 pub fn run<R: Source, W: Sink>(
     alloc: Global,
     settings: Settings,
@@ -60,31 +69,53 @@ pub fn run<R: Source, W: Sink>(
     reader: &mut R,
     writer: &mut W,
 ) -> Result<u64, RunFault>
-    ensures clients { (result ≡ Err RunFault.Clients) ↔ ((length scripts.now ≡ 0) ⊎ (8 < length scripts.now)) }
-    ensures untouched { IsErrOf result RunFault.Clients ⊎ IsErrOf result RunFault.NoMemory → (reader.new ≡ reader.old) × (writer.new ≡ writer.old) }
+    ensures clients { (result ≡ Err RunFault.Clients)
+        ↔ ((length scripts.now ≡ 0) ⊎ (8 < length scripts.now)) }
+    ensures untouched { IsErrOf result RunFault.Clients ⊎ IsErrOf result RunFault.NoMemory
+        → (reader.new ≡ reader.old) × (writer.new ≡ writer.old) }
     ensures once { R.has_failed reader.old ≡ false
         → R.was_asked_again reader.new ≡ R.was_asked_again reader.old }
     ensures run { IsRun settings (map (λ script. client_with script.now) scripts.now) (2 ^ 40)
-        (seen (R.remaining reader.old) (R.has_failed reader.old) (W.contents writer.old) (W.has_failed writer.old))
-        (seen (R.remaining reader.new) (R.has_failed reader.new) (W.contents writer.new) (W.has_failed writer.new)) result }
-    ensures alone { IfOk result (λ _. ServesEachAlone settings (map (λ script. client_with script.now) scripts.now)
-        (seen (R.remaining reader.old) (R.has_failed reader.old) (W.contents writer.old) (W.has_failed writer.old))
-        (seen (R.remaining reader.new) (R.has_failed reader.new) (W.contents writer.new) (W.has_failed writer.new))) }
-    ensures counts { IfOk result (λ _. CountsAreSums settings (map (λ script. client_with script.now) scripts.now)
-        (seen (R.remaining reader.old) (R.has_failed reader.old) (W.contents writer.old) (W.has_failed writer.old))
-        (seen (R.remaining reader.new) (R.has_failed reader.new) (W.contents writer.new) (W.has_failed writer.new))) }
-    ensures acquisitions { IfOk result (λ _. AcquisitionsNameTheGreatest settings (map (λ script. client_with script.now) scripts.now)
-        (seen (R.remaining reader.old) (R.has_failed reader.old) (W.contents writer.old) (W.has_failed writer.old))
-        (seen (R.remaining reader.new) (R.has_failed reader.new) (W.contents writer.new) (W.has_failed writer.new))) }
-    ensures words { IfOk result (λ _. WordsPass settings (map (λ script. client_with script.now) scripts.now)
-        (seen (R.remaining reader.old) (R.has_failed reader.old) (W.contents writer.old) (W.has_failed writer.old))
-        (seen (R.remaining reader.new) (R.has_failed reader.new) (W.contents writer.new) (W.has_failed writer.new))) }
-    ensures pages { IfOk result (λ _. PagesPass settings (map (λ script. client_with script.now) scripts.now)
-        (seen (R.remaining reader.old) (R.has_failed reader.old) (W.contents writer.old) (W.has_failed writer.old))
-        (seen (R.remaining reader.new) (R.has_failed reader.new) (W.contents writer.new) (W.has_failed writer.new))) }
-    ensures almanacs { IfOk result (λ _. AlmanacsAgree settings (map (λ script. client_with script.now) scripts.now)
-        (seen (R.remaining reader.old) (R.has_failed reader.old) (W.contents writer.old) (W.has_failed writer.old))
-        (seen (R.remaining reader.new) (R.has_failed reader.new) (W.contents writer.new) (W.has_failed writer.new))) }
+        (seen (R.remaining reader.old) (R.has_failed reader.old)
+        (W.contents writer.old) (W.has_failed writer.old))
+        (seen (R.remaining reader.new) (R.has_failed reader.new)
+        (W.contents writer.new) (W.has_failed writer.new)) result }
+    ensures alone { IfOk result (λ _. ServesEachAlone settings
+        (map (λ script. client_with script.now) scripts.now)
+        (seen (R.remaining reader.old) (R.has_failed reader.old)
+        (W.contents writer.old) (W.has_failed writer.old))
+        (seen (R.remaining reader.new) (R.has_failed reader.new)
+        (W.contents writer.new) (W.has_failed writer.new))) }
+    ensures counts { IfOk result (λ _. CountsAreSums settings
+        (map (λ script. client_with script.now) scripts.now)
+        (seen (R.remaining reader.old) (R.has_failed reader.old)
+        (W.contents writer.old) (W.has_failed writer.old))
+        (seen (R.remaining reader.new) (R.has_failed reader.new)
+        (W.contents writer.new) (W.has_failed writer.new))) }
+    ensures acquisitions { IfOk result (λ _. AcquisitionsNameTheGreatest settings
+        (map (λ script. client_with script.now) scripts.now)
+        (seen (R.remaining reader.old) (R.has_failed reader.old)
+        (W.contents writer.old) (W.has_failed writer.old))
+        (seen (R.remaining reader.new) (R.has_failed reader.new)
+        (W.contents writer.new) (W.has_failed writer.new))) }
+    ensures words { IfOk result (λ _. WordsPass settings
+        (map (λ script. client_with script.now) scripts.now)
+        (seen (R.remaining reader.old) (R.has_failed reader.old)
+        (W.contents writer.old) (W.has_failed writer.old))
+        (seen (R.remaining reader.new) (R.has_failed reader.new)
+        (W.contents writer.new) (W.has_failed writer.new))) }
+    ensures pages { IfOk result (λ _. PagesPass settings
+        (map (λ script. client_with script.now) scripts.now)
+        (seen (R.remaining reader.old) (R.has_failed reader.old)
+        (W.contents writer.old) (W.has_failed writer.old))
+        (seen (R.remaining reader.new) (R.has_failed reader.new)
+        (W.contents writer.new) (W.has_failed writer.new))) }
+    ensures almanacs { IfOk result (λ _. AlmanacsAgree settings
+        (map (λ script. client_with script.now) scripts.now)
+        (seen (R.remaining reader.old) (R.has_failed reader.old)
+        (W.contents writer.old) (W.has_failed writer.old))
+        (seen (R.remaining reader.new) (R.has_failed reader.new)
+        (W.contents writer.new) (W.has_failed writer.new))) }
 {
     run_to(alloc, settings, scripts, MOST_SAMPLES, reader, writer)
 }
@@ -100,31 +131,53 @@ pub fn run_to<R: Source, W: Sink>(
 ) -> Result<u64, RunFault>
     requires limit { limit ≤ 2 ^ 40 }
     requires whole { limit % 8 ≡ 0 }
-    ensures clients { (result ≡ Err RunFault.Clients) ↔ ((length scripts.now ≡ 0) ⊎ (8 < length scripts.now)) }
-    ensures untouched { IsErrOf result RunFault.Clients ⊎ IsErrOf result RunFault.NoMemory → (reader.new ≡ reader.old) × (writer.new ≡ writer.old) }
+    ensures clients { (result ≡ Err RunFault.Clients)
+        ↔ ((length scripts.now ≡ 0) ⊎ (8 < length scripts.now)) }
+    ensures untouched { IsErrOf result RunFault.Clients ⊎ IsErrOf result RunFault.NoMemory
+        → (reader.new ≡ reader.old) × (writer.new ≡ writer.old) }
     ensures once { R.has_failed reader.old ≡ false
         → R.was_asked_again reader.new ≡ R.was_asked_again reader.old }
     ensures run { IsRun settings (map (λ script. client_with script.now) scripts.now) limit
-        (seen (R.remaining reader.old) (R.has_failed reader.old) (W.contents writer.old) (W.has_failed writer.old))
-        (seen (R.remaining reader.new) (R.has_failed reader.new) (W.contents writer.new) (W.has_failed writer.new)) result }
-    ensures alone { IfOk result (λ _. ServesEachAlone settings (map (λ script. client_with script.now) scripts.now)
-        (seen (R.remaining reader.old) (R.has_failed reader.old) (W.contents writer.old) (W.has_failed writer.old))
-        (seen (R.remaining reader.new) (R.has_failed reader.new) (W.contents writer.new) (W.has_failed writer.new))) }
-    ensures counts { IfOk result (λ _. CountsAreSums settings (map (λ script. client_with script.now) scripts.now)
-        (seen (R.remaining reader.old) (R.has_failed reader.old) (W.contents writer.old) (W.has_failed writer.old))
-        (seen (R.remaining reader.new) (R.has_failed reader.new) (W.contents writer.new) (W.has_failed writer.new))) }
-    ensures acquisitions { IfOk result (λ _. AcquisitionsNameTheGreatest settings (map (λ script. client_with script.now) scripts.now)
-        (seen (R.remaining reader.old) (R.has_failed reader.old) (W.contents writer.old) (W.has_failed writer.old))
-        (seen (R.remaining reader.new) (R.has_failed reader.new) (W.contents writer.new) (W.has_failed writer.new))) }
-    ensures words { IfOk result (λ _. WordsPass settings (map (λ script. client_with script.now) scripts.now)
-        (seen (R.remaining reader.old) (R.has_failed reader.old) (W.contents writer.old) (W.has_failed writer.old))
-        (seen (R.remaining reader.new) (R.has_failed reader.new) (W.contents writer.new) (W.has_failed writer.new))) }
-    ensures pages { IfOk result (λ _. PagesPass settings (map (λ script. client_with script.now) scripts.now)
-        (seen (R.remaining reader.old) (R.has_failed reader.old) (W.contents writer.old) (W.has_failed writer.old))
-        (seen (R.remaining reader.new) (R.has_failed reader.new) (W.contents writer.new) (W.has_failed writer.new))) }
-    ensures almanacs { IfOk result (λ _. AlmanacsAgree settings (map (λ script. client_with script.now) scripts.now)
-        (seen (R.remaining reader.old) (R.has_failed reader.old) (W.contents writer.old) (W.has_failed writer.old))
-        (seen (R.remaining reader.new) (R.has_failed reader.new) (W.contents writer.new) (W.has_failed writer.new))) }
+        (seen (R.remaining reader.old) (R.has_failed reader.old)
+        (W.contents writer.old) (W.has_failed writer.old))
+        (seen (R.remaining reader.new) (R.has_failed reader.new)
+        (W.contents writer.new) (W.has_failed writer.new)) result }
+    ensures alone { IfOk result (λ _. ServesEachAlone settings
+        (map (λ script. client_with script.now) scripts.now)
+        (seen (R.remaining reader.old) (R.has_failed reader.old)
+        (W.contents writer.old) (W.has_failed writer.old))
+        (seen (R.remaining reader.new) (R.has_failed reader.new)
+        (W.contents writer.new) (W.has_failed writer.new))) }
+    ensures counts { IfOk result (λ _. CountsAreSums settings
+        (map (λ script. client_with script.now) scripts.now)
+        (seen (R.remaining reader.old) (R.has_failed reader.old)
+        (W.contents writer.old) (W.has_failed writer.old))
+        (seen (R.remaining reader.new) (R.has_failed reader.new)
+        (W.contents writer.new) (W.has_failed writer.new))) }
+    ensures acquisitions { IfOk result (λ _. AcquisitionsNameTheGreatest settings
+        (map (λ script. client_with script.now) scripts.now)
+        (seen (R.remaining reader.old) (R.has_failed reader.old)
+        (W.contents writer.old) (W.has_failed writer.old))
+        (seen (R.remaining reader.new) (R.has_failed reader.new)
+        (W.contents writer.new) (W.has_failed writer.new))) }
+    ensures words { IfOk result (λ _. WordsPass settings
+        (map (λ script. client_with script.now) scripts.now)
+        (seen (R.remaining reader.old) (R.has_failed reader.old)
+        (W.contents writer.old) (W.has_failed writer.old))
+        (seen (R.remaining reader.new) (R.has_failed reader.new)
+        (W.contents writer.new) (W.has_failed writer.new))) }
+    ensures pages { IfOk result (λ _. PagesPass settings
+        (map (λ script. client_with script.now) scripts.now)
+        (seen (R.remaining reader.old) (R.has_failed reader.old)
+        (W.contents writer.old) (W.has_failed writer.old))
+        (seen (R.remaining reader.new) (R.has_failed reader.new)
+        (W.contents writer.new) (W.has_failed writer.new))) }
+    ensures almanacs { IfOk result (λ _. AlmanacsAgree settings
+        (map (λ script. client_with script.now) scripts.now)
+        (seen (R.remaining reader.old) (R.has_failed reader.old)
+        (W.contents writer.old) (W.has_failed writer.old))
+        (seen (R.remaining reader.new) (R.has_failed reader.new)
+        (W.contents writer.new) (W.has_failed writer.new))) }
 {
     let per_byte = settings.format().per_byte();
     let mut session = match Session::open(alloc, settings, scripts) {

@@ -1,5 +1,5 @@
 -- Script files and their texts.
-use Rattle.std.proofs.Common.{◌≡◌, ℕ, zero, suc, ◌+◌, ◌<◌, ◌≤◌, List, [], ◌∷◌, ◌++◌, length, take, get_or, map, refl, sym, ap, ◌∙◌, subst, arith, inl, inr}
+use Rattle.std.proofs.Common.{◌≡◌, ℕ, zero, suc, ◌+◌, ◌<◌, ◌≤◌, List, [], ◌∷◌, ◌++◌, length, take, get_or, map, ap, ◌∙◌, arith, inl, inr}
 use Rattle.std.specs.Prelude.{Option, Some, None, IfSome, option_map, min, Result, Ok, Err, IfErr, IsErrAnd, ◌⊎◌}
 use Rattle.receiver_cli.specs.declared.failure.Failure.{Failure}
 use Rattle.receiver_cli.specs.declared.failure.Failure.TheVariants.{NoMemory, Script}

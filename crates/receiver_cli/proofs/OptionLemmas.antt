@@ -1,6 +1,6 @@
 -- What the option parser reads of an option's text.
-use Rattle.std.proofs.Common.{◌≡◌, ℕ, ◌<◌, ◌^◌, List, [], ◌∷◌, length, refl, sym, ap, ◌∙◌, arith}
-use Rattle.std.specs.Prelude.{Bool, true, false, ◌&&◌, Option, Some, None, unwrap_or, Result, Ok, Err, nat_lt}
+use Rattle.std.proofs.Common.{◌≡◌, ℕ, ◌<◌, ◌^◌, List, [], ◌∷◌, length, refl}
+use Rattle.std.specs.Prelude.{Bool, true, false, Option, Some, None, unwrap_or, nat_lt}
 use Rattle.std.specs.Str.Parse.{IsNumeral, AllDigits, ParsesUnsigned, ExplainsUnsignedError, HasUnsignedDigitsIfOk, digits_value, without_leading_plus}
 use Rattle.std.specs.declared.num.ParseIntError.{ParseIntError}
 use Rattle.std.specs.Char.{digit_value}

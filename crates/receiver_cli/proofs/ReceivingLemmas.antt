@@ -1,5 +1,5 @@
 -- Runs of the texts that the program read.
-use Rattle.std.proofs.Common.{◌≡◌, ℕ, ◌+◌, ◌^◌, ◌<◌, List, [], ◌∷◌, ◌++◌, length, map, refl, sym, ap, ◌∙◌, subst, arith, inl, inr}
+use Rattle.std.proofs.Common.{◌≡◌, ℕ, ◌^◌, List, map, refl, ap, subst, inl, inr}
 use Rattle.std.specs.Prelude.{Option, Result, Ok, Err, IsErrAnd, ◌⊎◌}
 use Rattle.std.proofs.lemmas.Simd.{map-map}
 use Rattle.definitions.specs.Oscillators.{Settings as Recording}

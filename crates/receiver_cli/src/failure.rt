@@ -24,8 +24,8 @@ pub enum Failure {
     Run(RunFault),
 }
 
-/// The status of the program: 0 behind a run that came to its end, 2 where what was asked for is at fault, and 1 where the run or
-/// memory is.
+/// The status of the program: 0 behind a run that came to its end, 2 where what was asked for is at
+/// fault, and 1 where the run or memory is.
 pub fn status(ended: Result<u64, Failure>) -> u8
     ensures { result ≡ status_of ended }
 {

@@ -1,6 +1,7 @@
-//! A receiver bank for recorded GPS L1 C/A samples: scripts of timed commands in, lines of what the channels tell out. The crate
-//! `receiver` has the run; `receive` gives it the settings and the scripts that a command line names, in their order; this file has the
-//! standard devices, tells what went wrong, and gives the status.
+//! A receiver bank for recorded GPS L1 C/A samples: scripts of timed commands in, lines of what the
+//! channels tell out. The crate `receiver` has the run; `receive` gives it the settings and the
+//! scripts that a command line names, in their order; this file has the standard devices, tells
+//! what went wrong, and gives the status.
 #![tactic(auto)]
 
 ghost use Rattle.std.specs.Prelude.{◌≡◌, ◌≢◌};
@@ -45,7 +46,8 @@ fn main(rt: HostRuntime) -> ExitCode {
     }
 }
 
-/// Prints what the option parser says, and gives its status: 0 where help was asked for, and 2 where it refuses.
+/// Prints what the option parser says, and gives its status: 0 where help was asked for, and 2
+/// where it refuses.
 fn refuse<P: Print + Eprint>(rt: &P, error: &Error) -> ExitCode
     ensures help { kind_of error.now ≡ DisplayHelp → exit_status result ≡ 0 }
     ensures refused { kind_of error.now ≢ DisplayHelp → kind_of error.now ≢ DisplayVersion

@@ -93,11 +93,14 @@ fn format<'a>(alloc: Global) -> Arg<'a> {
 
 /// The settings that the options ask for.
 pub fn settings(matches: &ArgMatches) -> Result<Settings, SettingsFault>
-    ensures rate { (result ≡ Err SettingsFault.Rate) ↔ ¬ IsRate (asked_in (found_of matches.now)).rate }
-    ensures offset { (result ≡ Err SettingsFault.Offset) ↔ (IsRate (asked_in (found_of matches.now)).rate
+    ensures rate { (result ≡ Err SettingsFault.Rate)
+        ↔ ¬ IsRate (asked_in (found_of matches.now)).rate }
+    ensures offset { (result ≡ Err SettingsFault.Offset)
+        ↔ (IsRate (asked_in (found_of matches.now)).rate
         × ((asked_in (found_of matches.now)).rate < 2 * (asked_in (found_of matches.now)).offset)) }
     ensures allowed { IfOk result (λ _. IsAllowed (asked_in (found_of matches.now))) }
-    ensures same { IfOk result (λ settings. settings ≡ recording_of (asked_in (found_of matches.now))) }
+    ensures same { IfOk result (λ settings.
+        settings ≡ recording_of (asked_in (found_of matches.now))) }
 {
     settings_of(
         number(matches, "rate", 2_046_000),

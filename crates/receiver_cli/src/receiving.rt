@@ -13,7 +13,8 @@ use oscillators::Settings;
 use receiver::{Sink, Source, run};
 use std::alloc::Global;
 
-/// Runs the scripts that the options name, in their order, or an empty one where they name none, over a reader and a writer.
+/// Runs the scripts that the options name, in their order, or an empty one where they name none,
+/// over a reader and a writer.
 pub fn receive<S: ScriptFiles, R: Source, W: Sink>(
     alloc: Global,
     files: &S,
@@ -21,12 +22,15 @@ pub fn receive<S: ScriptFiles, R: Source, W: Sink>(
     reader: &mut R,
     writer: &mut W,
 ) -> Result<u64, Failure>
-    ensures untouched { IfErr result (λ failure. IsBeforeRun failure → (reader.new ≡ reader.old) × (writer.new ≡ writer.old)) }
+    ensures untouched { IfErr result (λ failure. IsBeforeRun failure
+        → (reader.new ≡ reader.old) × (writer.new ≡ writer.old)) }
     ensures receives { Receives
         (asked_in (found_of matches.now))
         (map (λ path. S.bytes_of files.now path) (paths_in (found_of matches.now)))
-        (seen (R.remaining reader.old) (R.has_failed reader.old) (W.contents writer.old) (W.has_failed writer.old))
-        (seen (R.remaining reader.new) (R.has_failed reader.new) (W.contents writer.new) (W.has_failed writer.new)) result }
+        (seen (R.remaining reader.old) (R.has_failed reader.old)
+        (W.contents writer.old) (W.has_failed writer.old))
+        (seen (R.remaining reader.new) (R.has_failed reader.new)
+        (W.contents writer.new) (W.has_failed writer.new)) result }
 {
     let settings = match options::settings(matches) {
         Ok(settings) => settings,
@@ -44,10 +48,13 @@ fn run_texts<R: Source, W: Sink>(
     reader: &mut R,
     writer: &mut W,
 ) -> Result<u64, Failure>
-    ensures untouched { IfErr result (λ failure. IsBeforeRun failure → (reader.new ≡ reader.old) × (writer.new ≡ writer.old)) }
+    ensures untouched { IfErr result (λ failure. IsBeforeRun failure
+        → (reader.new ≡ reader.old) × (writer.new ≡ writer.old)) }
     ensures runs { RunsTexts settings (map (λ text. text.items) texts.now)
-        (seen (R.remaining reader.old) (R.has_failed reader.old) (W.contents writer.old) (W.has_failed writer.old))
-        (seen (R.remaining reader.new) (R.has_failed reader.new) (W.contents writer.new) (W.has_failed writer.new)) result }
+        (seen (R.remaining reader.old) (R.has_failed reader.old)
+        (W.contents writer.old) (W.has_failed writer.old))
+        (seen (R.remaining reader.new) (R.has_failed reader.new)
+        (W.contents writer.new) (W.has_failed writer.new)) result }
 {
     let scripts = one_or_more(alloc, texts)?;
     match run(alloc, settings, &scripts, reader, writer) {

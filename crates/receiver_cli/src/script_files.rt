@@ -50,7 +50,8 @@ impl<F: Files> ScriptFiles for Stored<'_, F> {
 pub fn script_from<R: Read + Drop>(alloc: Global, reader: R) -> Result<Vec<u8>, Failure>
     ensures whole { IfOk result (λ bytes. IsTextOf (R.remaining reader) bytes.items) }
     ensures short { IfOk result (λ bytes. length bytes.items ≤ 16777216) }
-    ensures fault { IfErr result (λ failure. (failure ≡ Failure.NoMemory) ⊎ (failure ≡ Failure.Script)) }
+    ensures fault { IfErr result (λ failure.
+        (failure ≡ Failure.NoMemory) ⊎ (failure ≡ Failure.Script)) }
 {
     let mut bytes = Vec::new(alloc);
     // One byte more than the most shows that there are too many.

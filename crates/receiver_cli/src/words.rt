@@ -25,8 +25,9 @@ pub fn words<E: Env>(alloc: Global, env: &E) -> Result<Vec<String>, Failure> {
     Ok(words)
 }
 
-/// A word as text. One that isn't UTF-8 gets U+FFFD for what isn't, and a NUL at its end: the system passes no word with a NUL and has
-/// no file with one, so what stands there is no option's value and no script.
+/// A word as text. One that isn't UTF-8 gets U+FFFD for what isn't, and a NUL at its end: the
+/// system passes no word with a NUL and has no file with one, so what stands there is no option's
+/// value and no script.
 fn word(alloc: Global, bytes: &[u8]) -> Result<String, AllocError>
     ensures { IfOk result (λ word. IsUtf8 bytes.now → string_bytes word ≡ bytes.now) }
 {

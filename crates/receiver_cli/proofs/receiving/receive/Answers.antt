@@ -2,7 +2,7 @@ use Rattle.std.proofs.Common.{◌≡◌, ◌∙◌, ap, sym, subst, ℕ, List, m
 use Rattle.std.specs.Prelude.{Option}
 use Rattle.std.proofs.lemmas.Simd.{map-map}
 use Rattle.clap.specs.Matches.{found_of}
-use Rattle.receiver_cli.specs.Programs.{paths_in, AreTextsOf, RunsTexts, SomeMayBeRefused}
+use Rattle.receiver_cli.specs.Programs.{paths_in, AreTextsOf}
 use Rattle.receiver_cli.proofs.ReceivingLemmas.{failed-before, received, err-is}
 use Rattle.receiver_cli.proofs.receiving.receive.Goals as goal
 
