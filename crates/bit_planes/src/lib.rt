@@ -1,7 +1,9 @@
-//! Planes of bits, one bit for each of up to 1,024 samples, and the lanes that fill them sixteen samples at a time.
+//! Planes of bits, one bit for each of up to 1,024 samples, and the lanes that fill them sixteen
+//! samples at a time.
 //!
-//! A `Plane` stands for a bit at each place. `lookup` and `top_bits` give sixteen bits of a plane from sixteen bytes: lane k stands for
-//! place 15 - k of the sixteen, so that a bitmask of lanes has the first place in its top bit.
+//! A `Plane` stands for a bit at each place. `pick_bytes` looks up sixteen bytes of a table, and
+//! `top_bits` and its kin give sixteen bits of a plane from them: lane k stands for place 15 - k of
+//! the sixteen, so that a bitmask of lanes has the first place in its top bit.
 #![tactic(auto)]
 
 mod lanes;

@@ -51,7 +51,8 @@ turned x sin = grind (arith, ints)
 quadrature_parts : (i q cos sin c : ℤ) → IsSign c
     → (q *ℤ cos -ℤ i *ℤ sin) *ℤ c ≡ i *ℤ (pos 0 -ℤ sin) *ℤ c +ℤ q *ℤ cos *ℤ c
 quadrature_parts i q cos sin c is =
-    let parts : q *ℤ cos -ℤ i *ℤ sin ≡ i *ℤ (pos 0 -ℤ sin) +ℤ q *ℤ cos = rw (turned i sin) (omega (arith, ints)) in
+    let parts : q *ℤ cos -ℤ i *ℤ sin ≡ i *ℤ (pos 0 -ℤ sin) +ℤ q *ℤ cos =
+    rw (turned i sin) (omega (arith, ints)) in
     ap (λ (z : ℤ). z *ℤ c) parts ∙ times_sign (i *ℤ (pos 0 -ℤ sin)) (q *ℤ cos) c is
 
 -- ---- sums
@@ -64,7 +65,8 @@ total-add f g (suc n) = rw (total-add f g n) (omega (arith, ints))
 total-none : (g : ℕ → ℤ) (n : ℕ) → ((j : ℕ) → j < n → g j ≡ pos 0) → total g n ≡ pos 0
 unfolding total
 total-none g zero none = refl
-total-none g (suc n) none = rw (total-none g n (λ j h. none j (omega arith)), none n (omega arith)) refl
+total-none g (suc n) none = rw (total-none g n (λ j h. none j (omega arith)), none n (omega arith))
+    refl
 
 module _ (x : ℕ → Sample) (cos sin chip : ℕ → ℤ) (from to : ℕ) (signs : AreSigns chip from to) where
   i : ℕ → ℤ
@@ -77,29 +79,43 @@ module _ (x : ℕ → Sample) (cos sin chip : ℕ → ℤ) (from to : ℕ) (sign
   minus_sin j = pos 0 -ℤ sin j
 
   pub in_phase_by_parts : in_phase_sum x cos sin chip from to
-      ≡ part_sum (λ j. (x j).in_phase) cos chip from to +ℤ part_sum (λ j. (x j).quadrature) sin chip from to
+      ≡ part_sum (λ j. (x j).in_phase) cos chip from to
+      +ℤ part_sum (λ j. (x j).quadrature) sin chip from to
   unfolding in_phase_sum part_sum
   in_phase_by_parts =
-      total-same (λ j. wiped_in_phase (x (from + j)) (cos (from + j)) (sin (from + j)) *ℤ chip (from + j))
-      (λ j. (x (from + j)).in_phase *ℤ cos (from + j) *ℤ chip (from + j) +ℤ (x (from + j)).quadrature *ℤ sin (from + j) *ℤ chip (from + j)) (to - from)
-      (λ j h. times_sign ((x (from + j)).in_phase *ℤ cos (from + j)) ((x (from + j)).quadrature *ℤ sin (from + j)) (chip (from + j)) (signs (from + j) (omega arith) (omega arith)))
-      ∙ total-add (λ j. (x (from + j)).in_phase *ℤ cos (from + j) *ℤ chip (from + j)) (λ j. (x (from + j)).quadrature *ℤ sin (from + j) *ℤ chip (from + j)) (to - from)
+      total-same
+      (λ j. wiped_in_phase (x (from + j)) (cos (from + j)) (sin (from + j)) *ℤ chip (from + j))
+      (λ j. (x (from + j)).in_phase *ℤ cos (from + j) *ℤ chip (from + j)
+      +ℤ (x (from + j)).quadrature *ℤ sin (from + j) *ℤ chip (from + j)) (to - from)
+      (λ j h. times_sign ((x (from + j)).in_phase *ℤ cos (from + j))
+      ((x (from + j)).quadrature *ℤ sin (from + j)) (chip (from + j))
+      (signs (from + j) (omega arith) (omega arith)))
+      ∙ total-add (λ j. (x (from + j)).in_phase *ℤ cos (from + j) *ℤ chip (from + j))
+      (λ j. (x (from + j)).quadrature *ℤ sin (from + j) *ℤ chip (from + j)) (to - from)
 
   pub quadrature_by_parts : quadrature_sum x cos sin chip from to
-      ≡ part_sum (λ j. (x j).in_phase) (λ j. pos 0 -ℤ sin j) chip from to +ℤ part_sum (λ j. (x j).quadrature) cos chip from to
+      ≡ part_sum (λ j. (x j).in_phase) (λ j. pos 0 -ℤ sin j) chip from to
+      +ℤ part_sum (λ j. (x j).quadrature) cos chip from to
   unfolding quadrature_sum part_sum
   quadrature_by_parts =
-      total-same (λ j. wiped_quadrature (x (from + j)) (cos (from + j)) (sin (from + j)) *ℤ chip (from + j))
-      (λ j. (x (from + j)).in_phase *ℤ (pos 0 -ℤ sin (from + j)) *ℤ chip (from + j) +ℤ (x (from + j)).quadrature *ℤ cos (from + j) *ℤ chip (from + j)) (to - from)
-      (λ j h. quadrature_parts (x (from + j)).in_phase (x (from + j)).quadrature (cos (from + j)) (sin (from + j)) (chip (from + j)) (signs (from + j) (omega arith) (omega arith)))
-      ∙ total-add (λ j. (x (from + j)).in_phase *ℤ (pos 0 -ℤ sin (from + j)) *ℤ chip (from + j)) (λ j. (x (from + j)).quadrature *ℤ cos (from + j) *ℤ chip (from + j)) (to - from)
+      total-same
+      (λ j. wiped_quadrature (x (from + j)) (cos (from + j)) (sin (from + j))
+      *ℤ chip (from + j))
+      (λ j. (x (from + j)).in_phase *ℤ (pos 0 -ℤ sin (from + j)) *ℤ chip (from + j)
+      +ℤ (x (from + j)).quadrature *ℤ cos (from + j) *ℤ chip (from + j)) (to - from)
+      (λ j h. quadrature_parts (x (from + j)).in_phase (x (from + j)).quadrature (cos (from + j))
+      (sin (from + j)) (chip (from + j)) (signs (from + j) (omega arith) (omega arith)))
+      ∙ total-add (λ j. (x (from + j)).in_phase *ℤ (pos 0 -ℤ sin (from + j)) *ℤ chip (from + j))
+      (λ j. (x (from + j)).quadrature *ℤ cos (from + j) *ℤ chip (from + j)) (to - from)
 
 -- the sum over a part that is 0
-pub part_sum-none : (x f chip : ℕ → ℤ) (from to : ℕ) → ((j : ℕ) → from ≤ j → j < to → x j ≡ pos 0) → part_sum x f chip from to ≡ pos 0
+pub part_sum-none : (x f chip : ℕ → ℤ) (from to : ℕ) → ((j : ℕ) → from ≤ j → j < to → x j ≡ pos 0)
+    → part_sum x f chip from to ≡ pos 0
 unfolding part_sum
 part_sum-none x f chip from to none =
     total-none (λ j. x (from + j) *ℤ f (from + j) *ℤ chip (from + j)) (to - from) (λ j h.
-    rw (none (from + j) (omega arith) (omega arith)) (ap (λ (z : ℤ). z *ℤ chip (from + j)) (zero-*ℤ (f (from + j))) ∙ zero-*ℤ (chip (from + j))))
+    rw (none (from + j) (omega arith) (omega arith))
+    (ap (λ (z : ℤ). z *ℤ chip (from + j)) (zero-*ℤ (f (from + j))) ∙ zero-*ℤ (chip (from + j))))
 
 -- of real samples the part in phase is all
 abbrev pub AreRealIn : (ℕ → Sample) → ℕ → ℕ → Type 0
@@ -113,7 +129,8 @@ pub record HasSigns (r : Replica) (from to : ℕ) : Type 0 where
   pub late_signs : AreSigns r.late from to
 
 pub six_by_parts : (x : ℕ → Sample) (r : Replica) (from to : ℕ) → HasSigns r from to
-    → six_sums x r from to ≡ added (part_sums (λ j. (x j).in_phase) r.cos (λ j. pos 0 -ℤ r.sin j) r from to) (part_sums (λ j. (x j).quadrature) r.sin r.cos r from to)
+    → six_sums x r from to ≡ added (part_sums (λ j. (x j).in_phase) r.cos (λ j. pos 0 -ℤ r.sin j) r
+    from to) (part_sums (λ j. (x j).quadrature) r.sin r.cos r from to)
 unfolding six_sums
 six_by_parts x r from to s = rw (
   in_phase_by_parts x r.cos r.sin r.early from to s.early_signs,
@@ -124,7 +141,8 @@ six_by_parts x r from to s = rw (
   quadrature_by_parts x r.cos r.sin r.late from to s.late_signs,
 ) refl
 
-pub part_sums-none : (x f g : ℕ → ℤ) (r : Replica) (from to : ℕ) → ((j : ℕ) → from ≤ j → j < to → x j ≡ pos 0) → part_sums x f g r from to ≡ no_counts
+pub part_sums-none : (x f g : ℕ → ℤ) (r : Replica) (from to : ℕ)
+    → ((j : ℕ) → from ≤ j → j < to → x j ≡ pos 0) → part_sums x f g r from to ≡ no_counts
 part_sums-none x f g r from to none = rw (
   part_sum-none x f r.early from to none,
   part_sum-none x g r.early from to none,
@@ -157,43 +175,70 @@ abs_sign z c is = elim is [
 three_times : (x w : ℤ) → unsigned_abs x ≤ 3 → unsigned_abs (x *ℤ w) ≤ 3 * unsigned_abs w
 three_times x w h = rw (unsigned_abs-mul x w) (mul-le-mul_right (unsigned_abs w) h)
 
-in_phase_place : (i q cos sin c : ℤ) → unsigned_abs i ≤ 3 → unsigned_abs q ≤ 3 → unsigned_abs cos + unsigned_abs sin ≤ 3 → IsSign c
+in_phase_place : (i q cos sin c : ℤ) → unsigned_abs i ≤ 3 → unsigned_abs q ≤ 3
+    → unsigned_abs cos + unsigned_abs sin ≤ 3 → IsSign c
     → unsigned_abs ((i *ℤ cos +ℤ q *ℤ sin) *ℤ c) ≤ 9
 in_phase_place i q cos sin c hi hq hw is =
-    rw (abs_sign (i *ℤ cos +ℤ q *ℤ sin) c is) (omega (arith, abs_add (i *ℤ cos) (q *ℤ sin), three_times i cos hi, three_times q sin hq, hw))
+    rw (abs_sign (i *ℤ cos +ℤ q *ℤ sin) c is)
+    (omega (
+      arith,
+      abs_add (i *ℤ cos) (q *ℤ sin),
+      three_times i cos hi,
+      three_times q sin hq,
+      hw,
+    ))
 
-quadrature_place : (i q cos sin c : ℤ) → unsigned_abs i ≤ 3 → unsigned_abs q ≤ 3 → unsigned_abs cos + unsigned_abs sin ≤ 3 → IsSign c
+quadrature_place : (i q cos sin c : ℤ) → unsigned_abs i ≤ 3 → unsigned_abs q ≤ 3
+    → unsigned_abs cos + unsigned_abs sin ≤ 3 → IsSign c
     → unsigned_abs ((q *ℤ cos -ℤ i *ℤ sin) *ℤ c) ≤ 9
 quadrature_place i q cos sin c hi hq hw is =
-    rw (abs_sign (q *ℤ cos -ℤ i *ℤ sin) c is) (omega (arith, abs_less (q *ℤ cos) (i *ℤ sin), three_times q cos hq, three_times i sin hi, hw))
+    rw (abs_sign (q *ℤ cos -ℤ i *ℤ sin) c is)
+    (omega (
+      arith,
+      abs_less (q *ℤ cos) (i *ℤ sin),
+      three_times q cos hq,
+      three_times i sin hi,
+      hw,
+    ))
 
-pub in_phase-small : (x : ℕ → Sample) (cos sin chip : ℕ → ℤ) (from to : ℕ) → AreSmall x cos sin from to → AreSigns chip from to
+pub in_phase-small : (x : ℕ → Sample) (cos sin chip : ℕ → ℤ) (from to : ℕ)
+    → AreSmall x cos sin from to → AreSigns chip from to
     → unsigned_abs (in_phase_sum x cos sin chip from to) ≤ 9 * (to - from)
 unfolding in_phase_sum
 in_phase-small x cos sin chip from to s signs =
     omega (
       arith,
-      total-bound (λ j. wiped_in_phase (x (from + j)) (cos (from + j)) (sin (from + j)) *ℤ chip (from + j)) 9 (to - from) (λ j h.
+      total-bound
+          (λ j. wiped_in_phase (x (from + j)) (cos (from + j)) (sin (from + j)) *ℤ chip (from + j))
+          9 (to - from) (λ j h.
           let low : from ≤ from + j = omega arith in
           let high : from + j < to = omega arith in
-          in_phase_place (x (from + j)).in_phase (x (from + j)).quadrature (cos (from + j)) (sin (from + j)) (chip (from + j))
-          (s.in_phase (from + j) low high) (s.quadrature (from + j) low high) (s.wave (from + j) low high) (signs (from + j) low high)),
+          in_phase_place (x (from + j)).in_phase (x (from + j)).quadrature (cos (from + j))
+          (sin (from + j)) (chip (from + j))
+          (s.in_phase (from + j) low high) (s.quadrature (from + j) low high)
+          (s.wave (from + j) low high) (signs (from + j) low high)),
     )
 
-pub quadrature-small : (x : ℕ → Sample) (cos sin chip : ℕ → ℤ) (from to : ℕ) → AreSmall x cos sin from to → AreSigns chip from to
+pub quadrature-small : (x : ℕ → Sample) (cos sin chip : ℕ → ℤ) (from to : ℕ)
+    → AreSmall x cos sin from to → AreSigns chip from to
     → unsigned_abs (quadrature_sum x cos sin chip from to) ≤ 9 * (to - from)
 unfolding quadrature_sum
 quadrature-small x cos sin chip from to s signs =
     omega (
       arith,
-      total-bound (λ j. wiped_quadrature (x (from + j)) (cos (from + j)) (sin (from + j)) *ℤ chip (from + j)) 9 (to - from) (λ j h.
+      total-bound
+          (λ j. wiped_quadrature (x (from + j)) (cos (from + j)) (sin (from + j))
+          *ℤ chip (from + j)) 9 (to - from) (λ j h.
           let low : from ≤ from + j = omega arith in
           let high : from + j < to = omega arith in
-          quadrature_place (x (from + j)).in_phase (x (from + j)).quadrature (cos (from + j)) (sin (from + j)) (chip (from + j))
-          (s.in_phase (from + j) low high) (s.quadrature (from + j) low high) (s.wave (from + j) low high) (signs (from + j) low high)),
+          quadrature_place (x (from + j)).in_phase (x (from + j)).quadrature (cos (from + j))
+          (sin (from + j)) (chip (from + j))
+          (s.in_phase (from + j) low high) (s.quadrature (from + j) low high)
+          (s.wave (from + j) low high) (signs (from + j) low high)),
     )
 
-pub six-small : (x : ℕ → Sample) (r : Replica) (from to : ℕ) → AreSmall x r.cos r.sin from to → HasSigns r from to → AreWithin (9 * (to - from)) (six_sums x r from to)
+pub six-small : (x : ℕ → Sample) (r : Replica) (from to : ℕ) → AreSmall x r.cos r.sin from to
+    → HasSigns r from to → AreWithin (9 * (to - from)) (six_sums x r from to)
 unfolding six_sums
 six-small x r from to s signs = record {
   ie = in_phase-small x r.cos r.sin r.early from to s signs.early_signs;
@@ -207,21 +252,30 @@ six-small x r from to s signs = record {
 -- ---- by bits
 
 pub part_small : (s m : ℕ) → s < 2 → m < 2 → unsigned_abs (part_of s m) ≤ 3
-part_small s m hs hm = by_two (λ (s m : ℕ). unsigned_abs (part_of s m) ≤ 3) (lit≤ tt) (lit≤ tt) (lit≤ tt) (lit≤ tt) s m hs hm
+part_small s m hs hm = by_two (λ (s m : ℕ). unsigned_abs (part_of s m) ≤ 3) (lit≤ tt) (lit≤ tt)
+    (lit≤ tt) (lit≤ tt) s m hs hm
 
-pub wave_small : (c s z : ℕ) → c < 2 → s < 2 → z < 2 → unsigned_abs (signed c (1 - z)) + unsigned_abs (signed s z) ≤ 3
+pub wave_small : (c s z : ℕ) → c < 2 → s < 2 → z < 2
+    → unsigned_abs (signed c (1 - z)) + unsigned_abs (signed s z) ≤ 3
 wave_small c s z hc hs hz =
     by_bit (λ (z : ℕ). unsigned_abs (signed c (1 - z)) + unsigned_abs (signed s z) ≤ 3)
-    (by_two (λ (c s : ℕ). unsigned_abs (signed c 1) + unsigned_abs (signed s 0) ≤ 3) (lit≤ tt) (lit≤ tt) (lit≤ tt) (lit≤ tt) c s hc hs)
-    (by_two (λ (c s : ℕ). unsigned_abs (signed c 0) + unsigned_abs (signed s 1) ≤ 3) (lit≤ tt) (lit≤ tt) (lit≤ tt) (lit≤ tt) c s hc hs) z hz
+    (by_two (λ (c s : ℕ). unsigned_abs (signed c 1) + unsigned_abs (signed s 0) ≤ 3) (lit≤ tt)
+    (lit≤ tt) (lit≤ tt) (lit≤ tt) c s hc hs)
+    (by_two (λ (c s : ℕ). unsigned_abs (signed c 0) + unsigned_abs (signed s 1) ≤ 3) (lit≤ tt)
+    (lit≤ tt) (lit≤ tt) (lit≤ tt) c s hc hs) z hz
 
 -- a carrier turned about 0
 pub turned_bits : (n t : ℕ) → n < 2 → t < 2 → pos 0 -ℤ signed n t ≡ signed (1 - n) t
-turned_bits n t hn ht = by_two (λ (n t : ℕ). pos 0 -ℤ signed n t ≡ signed (1 - n) t) refl refl refl refl n t hn ht
+turned_bits n t hn ht = by_two (λ (n t : ℕ). pos 0 -ℤ signed n t ≡ signed (1 - n) t) refl refl refl
+    refl n t hn ht
 
 -- a part that is 1 at most in size has no size to be told
-pub flat_part : (x : ℤ) (s m i : ℕ) → s < 2 → m < 2 → x ≡ part_of s m → unsigned_abs x ≤ 1 → x ≡ part_of s (bit_at 0 i)
-flat_part x s m i hs hm is small = is ∙ ap (part_of s) (flat m s hm hs (rw is at small) ∙ sym (bit_at-zero i))
+pub flat_part : (x : ℤ) (s m i : ℕ) → s < 2 → m < 2 → x ≡ part_of s m → unsigned_abs x ≤ 1
+    → x ≡ part_of s (bit_at 0 i)
+flat_part x s m i hs hm is small = is ∙ ap (part_of s) (flat m s hm hs (rw is at small) ∙ sym
+    (bit_at-zero i))
   where
     flat : (m s : ℕ) → m < 2 → s < 2 → unsigned_abs (part_of s m) ≤ 1 → m ≡ 0
-    flat m s hm hs small = by_two (λ (m s : ℕ). unsigned_abs (part_of s m) ≤ 1 → m ≡ 0) (λ h. refl) (λ h. refl) (λ h. absurd (omega (arith, h))) (λ h. absurd (omega (arith, h))) m s hm hs small
+    flat m s hm hs small = by_two (λ (m s : ℕ). unsigned_abs (part_of s m) ≤ 1 → m ≡ 0) (λ h. refl)
+        (λ h. refl) (λ h. absurd (omega (arith, h))) (λ h. absurd (omega (arith, h))) m s hm hs
+        small

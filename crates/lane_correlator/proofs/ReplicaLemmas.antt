@@ -22,8 +22,10 @@ use Rattle.lane_correlator.proofs.PartLemmas.{AreSmall, HasSigns, chips_are_sign
 -- ---- a replica that words are of
 of_words : CarrierWord → ChipWord → ℕ → Replica
 of_words carrier chips base = record {
-  cos = λ i. signed (bit_at carrier.cos_sign (63 - (i - base))) (1 - bit_at carrier.sin_size (63 - (i - base)));
-  sin = λ i. signed (bit_at carrier.sin_sign (63 - (i - base))) (bit_at carrier.sin_size (63 - (i - base)));
+  cos = λ i. signed (bit_at carrier.cos_sign (63 - (i - base))) (1 - bit_at carrier.sin_size
+      (63 - (i - base)));
+  sin = λ i. signed (bit_at carrier.sin_sign (63 - (i - base))) (bit_at carrier.sin_size
+      (63 - (i - base)));
   early = λ i. sign_of (bit_at chips.early (63 - (i - base)));
   prompt = λ i. sign_of (bit_at chips.prompt (63 - (i - base)));
   late = λ i. sign_of (bit_at chips.late (63 - (i - base)));
@@ -33,20 +35,35 @@ pub record OwnReplica (base end : ℕ) (carrier : CarrierWord) (chips : ChipWord
   pub replica : Replica
   pub own : AreOf replica base end carrier chips
 
-pub own_replica : (base end : ℕ) (carrier : CarrierWord) (chips : ChipWord) → OwnReplica base end carrier chips
+pub own_replica : (base end : ℕ) (carrier : CarrierWord) (chips : ChipWord)
+    → OwnReplica base end carrier chips
 unfolding of_words
-own_replica base end carrier chips = record { replica = of_words carrier chips base; own = record { cos = λ j h. rw (back j) refl; sin = λ j h. rw (back j) refl; early = λ j h. rw (back j) refl; prompt = λ j h. rw (back j) refl; late = λ j h. rw (back j) refl } }
+own_replica base end carrier chips = record {
+  replica = of_words carrier chips base;
+  own =
+      record {
+        cos = λ j h. rw (back j) refl;
+        sin = λ j h. rw (back j) refl;
+        early =
+            λ j h. rw (back j) refl;
+        prompt = λ j h. rw (back j) refl;
+        late = λ j h. rw (back j) refl;
+      };
+}
   where
     back : (j : ℕ) → base + j - base ≡ j
     back j = omega arith
 
 -- its chips are signs, and with samples it is small
-pub chips_of_replica : (r : Replica) (base end : ℕ) (carrier : CarrierWord) (chips : ChipWord) → AreOf r base end carrier chips
+pub chips_of_replica : (r : Replica) (base end : ℕ) (carrier : CarrierWord) (chips : ChipWord)
+    → AreOf r base end carrier chips
     → AreThreeChips r base end (chips.early, chips.prompt, chips.late)
 unfolding AreFactors
-chips_of_replica r base end carrier chips of = record { early = of.early; prompt = of.prompt; late = of.late }
+chips_of_replica r base end carrier chips of =
+    record { early = of.early; prompt = of.prompt; late = of.late }
 
-pub signs_of_replica : (r : Replica) (base first end : ℕ) (carrier : CarrierWord) (chips : ChipWord) → AreOf r base end carrier chips
+pub signs_of_replica : (r : Replica) (base first end : ℕ) (carrier : CarrierWord) (chips : ChipWord)
+    → AreOf r base end carrier chips
     → HasSigns r (base + first) (base + end)
 signs_of_replica r base first end carrier chips of =
     let three = chips_of_replica r base end carrier chips of in
@@ -56,21 +73,29 @@ signs_of_replica r base first end carrier chips of =
       late_signs = chips_are_signs r.late base first end chips.late three.late;
     }
 
-pub small_of_replica : (samples : List Sample) (r : Replica) (w first end : ℕ) → end ≤ 64 → (i : Factors) (carrier : CarrierWord) (chips : ChipWord) → 64 * w + end ≤ length samples
-    → IsWord samples w i.negative i.large → ((j : ℕ) → j < end → unsigned_abs (sample_at samples (64 * w + j)).quadrature ≤ 3)
+pub small_of_replica : (samples : List Sample) (r : Replica) (w first end : ℕ) → end ≤ 64
+    → (i : Factors) (carrier : CarrierWord) (chips : ChipWord) → 64 * w + end ≤ length samples
+    → IsWord samples w i.negative i.large
+    → ((j : ℕ) → j < end → unsigned_abs (sample_at samples (64 * w + j)).quadrature ≤ 3)
     → AreOf r (64 * w) end carrier chips
     → AreSmall (sample_at samples) r.cos r.sin (64 * w + first) (64 * w + end)
 unfolding IsWord
 small_of_replica samples r w first end room i carrier chips long parts quadratures of = record {
   in_phase = on_word w first end (λ k. unsigned_abs (sample_at samples k).in_phase ≤ 3) (λ j h.
-      rw (parts j (omega arith) (omega arith)) (part_small (bit_at i.negative (63 - j)) (bit_at i.large (63 - j)) (bit_at-lt i.negative (63 - j)) (bit_at-lt i.large (63 - j))));
-  quadrature = on_word w first end (λ k. unsigned_abs (sample_at samples k).quadrature ≤ 3) quadratures;
+      rw (parts j (omega arith) (omega arith))
+      (part_small (bit_at i.negative (63 - j)) (bit_at i.large (63 - j))
+      (bit_at-lt i.negative (63 - j)) (bit_at-lt i.large (63 - j))));
+  quadrature = on_word w first end (λ k. unsigned_abs (sample_at samples k).quadrature ≤ 3)
+      quadratures;
   wave = on_word w first end (λ k. unsigned_abs (r.cos k) + unsigned_abs (r.sin k) ≤ 3) (λ j h.
       rw (of.cos j h, of.sin j h)
-      (wave_small (bit_at carrier.cos_sign (63 - j)) (bit_at carrier.sin_sign (63 - j)) (bit_at carrier.sin_size (63 - j)) (bit_at-lt carrier.cos_sign (63 - j)) (bit_at-lt carrier.sin_sign (63 - j)) (bit_at-lt carrier.sin_size (63 - j))));
+      (wave_small (bit_at carrier.cos_sign (63 - j)) (bit_at carrier.sin_sign (63 - j))
+      (bit_at carrier.sin_size (63 - j)) (bit_at-lt carrier.cos_sign (63 - j))
+      (bit_at-lt carrier.sin_sign (63 - j)) (bit_at-lt carrier.sin_size (63 - j))));
 }
   where
-    on_word : (w first end : ℕ) (P : ℕ → Type 0) → ((j : ℕ) → j < end → P (64 * w + j)) → (k : ℕ) → 64 * w + first ≤ k → k < 64 * w + end → P k
+    on_word : (w first end : ℕ) (P : ℕ → Type 0) → ((j : ℕ) → j < end → P (64 * w + j)) → (k : ℕ)
+        → 64 * w + first ≤ k → k < 64 * w + end → P k
     on_word w first end P each k from below =
         let place : 64 * w + (k - 64 * w) ≡ k = omega arith in
         rw place at (each (k - 64 * w) (omega arith))
@@ -86,9 +111,12 @@ placed prn p start = record {
 }
 
 -- the words at a word of the run are of it
-pub words_of_placed : (prn : ℕ) (p : Phases) (first w end carrier_at code_at : ℕ) (carrier : CarrierWord) (chips : ChipWord) → first ≤ w → end ≤ 64
-    → ((j : ℕ) → carrier_phase_after carrier_at p.carrier_step j ≡ carrier_phase_after p.carrier p.carrier_step (64 * (w - first) + j))
-    → ((j : ℕ) → code_phase_after code_at p.code_step j ≡ code_phase_after p.code p.code_step (64 * (w - first) + j))
+pub words_of_placed : (prn : ℕ) (p : Phases) (first w end carrier_at code_at : ℕ)
+    (carrier : CarrierWord) (chips : ChipWord) → first ≤ w → end ≤ 64
+    → ((j : ℕ) → carrier_phase_after carrier_at p.carrier_step j ≡ carrier_phase_after p.carrier
+    p.carrier_step (64 * (w - first) + j))
+    → ((j : ℕ) → code_phase_after code_at p.code_step j ≡ code_phase_after p.code p.code_step
+    (64 * (w - first) + j))
     → IsCarrier carrier_at p.carrier_step carrier → AreChips prn code_at p.code_step chips
     → AreOf (placed prn p (64 * first)) (64 * w) end carrier chips
 unfolding placed
@@ -103,23 +131,29 @@ words_of_placed prn p first w end carrier_at code_at carrier chips h few at at' 
     place : (j : ℕ) → 64 * (w - first) + j ≡ 64 * w + j - 64 * first
     place j = omega arith
 
-    on_carrier : (j : ℕ) → carrier_phase_after carrier_at p.carrier_step j ≡ carrier_phase_after p.carrier p.carrier_step (64 * w + j - 64 * first)
+    on_carrier : (j : ℕ) → carrier_phase_after carrier_at p.carrier_step j ≡ carrier_phase_after
+        p.carrier p.carrier_step (64 * w + j - 64 * first)
     on_carrier j = at j ∙ ap (carrier_phase_after p.carrier p.carrier_step) (place j)
 
-    on_code : (j : ℕ) → code_phase_after code_at p.code_step j ≡ code_phase_after p.code p.code_step (64 * w + j - 64 * first)
+    on_code : (j : ℕ) → code_phase_after code_at p.code_step j ≡ code_phase_after p.code p.code_step
+        (64 * w + j - 64 * first)
     on_code j = at' j ∙ ap (code_phase_after p.code p.code_step) (place j)
 
 -- a word further on
-pub carrier_word_on : (phase step first w at next : ℕ) → first ≤ w → next ≡ carrier_phase_after at step 64
-    → ((j : ℕ) → carrier_phase_after at step j ≡ carrier_phase_after phase step (64 * (w - first) + j))
-    → (j : ℕ) → carrier_phase_after next step j ≡ carrier_phase_after phase step (64 * (w + 1 - first) + j)
+pub carrier_word_on : (phase step first w at next : ℕ) → first ≤ w
+    → next ≡ carrier_phase_after at step 64
+    → ((j : ℕ) → carrier_phase_after at step j ≡ carrier_phase_after phase step
+    (64 * (w - first) + j))
+    → (j : ℕ) → carrier_phase_after next step j ≡ carrier_phase_after phase step
+    (64 * (w + 1 - first) + j)
 carrier_word_on phase step first w at next h is so j =
     let place : 64 * (w - first) + (64 + j) ≡ 64 * (w + 1 - first) + j = omega arith in
     carrier_behind at step 64 j next is ∙ so (64 + j) ∙ ap (carrier_phase_after phase step) place
 
 pub code_word_on : (phase step first w at next : ℕ) → first ≤ w → next ≡ code_phase_after at step 64
     → ((j : ℕ) → code_phase_after at step j ≡ code_phase_after phase step (64 * (w - first) + j))
-    → (j : ℕ) → code_phase_after next step j ≡ code_phase_after phase step (64 * (w + 1 - first) + j)
+    → (j : ℕ) → code_phase_after next step j ≡ code_phase_after phase step
+    (64 * (w + 1 - first) + j)
 code_word_on phase step first w at next h is so j =
     let place : 64 * (w - first) + (64 + j) ≡ 64 * (w + 1 - first) + j = omega arith in
     code_behind at step 64 j next is ∙ so (64 + j) ∙ ap (code_phase_after phase step) place
@@ -134,50 +168,74 @@ record AgreeFrom (from n : ℕ) (r s : Replica) : Type 0 where
   pub prompt : (j : ℕ) → j < n → r.prompt (from + j) ≡ s.prompt j
   pub late : (j : ℕ) → j < n → r.late (from + j) ≡ s.late j
 
-module _ (x : ℕ → Sample) (from to : ℕ) (r s : Replica) (agree : AgreeFrom from (to - from) r s) where
-  in_phase-moved : (c d : ℕ → ℤ) → ((j : ℕ) → j < to - from → c (from + j) ≡ d j) → in_phase_sum x r.cos r.sin c from to ≡ in_phase_sum (λ j. x (from + j)) s.cos s.sin d 0 (to - from)
-  unfolding in_phase_sum
-  in_phase-moved c d same =
-      let many : to - from - 0 ≡ to - from = omega arith in
-      rw many (total-same (λ j. wiped_in_phase (x (from + j)) (r.cos (from + j)) (r.sin (from + j)) *ℤ c (from + j)) (λ j. wiped_in_phase (x (from + (0 + j))) (s.cos (0 + j)) (s.sin (0 + j)) *ℤ d (0 + j)) (to - from)
-      (λ j h. let z : 0 + j ≡ j = omega arith in rw (z, agree.cos j h, agree.sin j h, same j h) refl))
+module _ (x : ℕ → Sample) (from to : ℕ) (r s : Replica) (agree : AgreeFrom from (to - from) r s)
+  where
+    in_phase-moved : (c d : ℕ → ℤ) → ((j : ℕ) → j < to - from → c (from + j) ≡ d j)
+        → in_phase_sum x r.cos r.sin c from to
+        ≡ in_phase_sum (λ j. x (from + j)) s.cos s.sin d 0 (to - from)
+    unfolding in_phase_sum
+    in_phase-moved c d same =
+        let many : to - from - 0 ≡ to - from = omega arith in
+        rw many (total-same
+        (λ j. wiped_in_phase (x (from + j)) (r.cos (from + j)) (r.sin (from + j)) *ℤ c (from + j))
+        (λ j. wiped_in_phase (x (from + (0 + j))) (s.cos (0 + j)) (s.sin (0 + j)) *ℤ d (0 + j))
+        (to - from)
+        (λ j h. let z : 0 + j ≡ j = omega arith in
+        rw (z, agree.cos j h, agree.sin j h, same j h) refl))
 
-  quadrature-moved : (c d : ℕ → ℤ) → ((j : ℕ) → j < to - from → c (from + j) ≡ d j) → quadrature_sum x r.cos r.sin c from to ≡ quadrature_sum (λ j. x (from + j)) s.cos s.sin d 0 (to - from)
-  unfolding quadrature_sum
-  quadrature-moved c d same =
-      let many : to - from - 0 ≡ to - from = omega arith in
-      rw many (total-same (λ j. wiped_quadrature (x (from + j)) (r.cos (from + j)) (r.sin (from + j)) *ℤ c (from + j)) (λ j. wiped_quadrature (x (from + (0 + j))) (s.cos (0 + j)) (s.sin (0 + j)) *ℤ d (0 + j)) (to - from)
-      (λ j h. let z : 0 + j ≡ j = omega arith in rw (z, agree.cos j h, agree.sin j h, same j h) refl))
+    quadrature-moved : (c d : ℕ → ℤ) → ((j : ℕ) → j < to - from → c (from + j) ≡ d j)
+        → quadrature_sum x r.cos r.sin c from to
+        ≡ quadrature_sum (λ j. x (from + j)) s.cos s.sin d 0 (to - from)
+    unfolding quadrature_sum
+    quadrature-moved c d same =
+        let many : to - from - 0 ≡ to - from = omega arith in
+        rw many (total-same
+        (λ j. wiped_quadrature (x (from + j)) (r.cos (from + j)) (r.sin (from + j))
+        *ℤ c (from + j))
+        (λ j. wiped_quadrature (x (from + (0 + j))) (s.cos (0 + j)) (s.sin (0 + j)) *ℤ d (0 + j))
+        (to - from)
+        (λ j h. let z : 0 + j ≡ j = omega arith in
+        rw (z, agree.cos j h, agree.sin j h, same j h) refl))
 
-  six_sums-moved : six_sums x r from to ≡ six_sums (λ j. x (from + j)) s 0 (to - from)
-  unfolding six_sums
-  six_sums-moved = rw (
-    in_phase-moved r.early s.early agree.early,
-    quadrature-moved r.early s.early agree.early,
-    in_phase-moved r.prompt s.prompt agree.prompt,
-    quadrature-moved r.prompt s.prompt agree.prompt,
-    in_phase-moved r.late s.late agree.late,
-    quadrature-moved r.late s.late agree.late,
-  ) refl
+    six_sums-moved : six_sums x r from to ≡ six_sums (λ j. x (from + j)) s 0 (to - from)
+    unfolding six_sums
+    six_sums-moved = rw (
+      in_phase-moved r.early s.early agree.early,
+      quadrature-moved r.early s.early agree.early,
+      in_phase-moved r.prompt s.prompt agree.prompt,
+      quadrature-moved r.prompt s.prompt agree.prompt,
+      in_phase-moved r.late s.late agree.late,
+      quadrature-moved r.late s.late agree.late,
+    ) refl
 
 -- the sums with the replica of a run are those with the replica of the sample that it begins at
-pub sums_from : (x : ℕ → Sample) (prn from to : ℕ) (p q : Phases) → q.carrier_step ≡ p.carrier_step → q.code_step ≡ p.code_step
-    → carrier_phase_after p.carrier p.carrier_step (from % 64) ≡ q.carrier → code_phase_after p.code p.code_step (from % 64) ≡ q.code
-    → six_sums x (placed prn p (64 * (from / 64))) from to ≡ six_sums (λ j. x (from + j)) (replica_of prn q) 0 (to - from)
+pub sums_from : (x : ℕ → Sample) (prn from to : ℕ) (p q : Phases) → q.carrier_step ≡ p.carrier_step
+    → q.code_step ≡ p.code_step
+    → carrier_phase_after p.carrier p.carrier_step (from % 64) ≡ q.carrier
+    → code_phase_after p.code p.code_step (from % 64) ≡ q.code
+    → six_sums x (placed prn p (64 * (from / 64))) from to
+    ≡ six_sums (λ j. x (from + j)) (replica_of prn q) 0 (to - from)
 unfolding placed
-sums_from x prn from to p q same same' at at' = six_sums-moved x from to (placed prn p (64 * (from / 64))) (replica_of prn q) (record {
-  cos = λ j h. ap cosine (on_carrier j);
-  sin = λ j h. ap sine (on_carrier j);
-  early = λ j h. ap (early_sign prn) (on_code j);
-  prompt = λ j h. ap (prompt_sign prn) (on_code j);
-  late = λ j h. ap (late_sign prn) (on_code j);
-})
+sums_from x prn from to p q same same' at at' =
+    six_sums-moved x from to (placed prn p (64 * (from / 64))) (replica_of prn q) (record {
+      cos = λ j h. ap cosine (on_carrier j);
+      sin = λ j h. ap sine (on_carrier j);
+      early = λ j h. ap (early_sign prn) (on_code j);
+      prompt = λ j h. ap (prompt_sign prn) (on_code j);
+      late = λ j h. ap (late_sign prn) (on_code j);
+    })
   where
     place : (j : ℕ) → from + j - 64 * (from / 64) ≡ from % 64 + j
     place j = omega arith
 
-    on_carrier : (j : ℕ) → carrier_phase_after p.carrier p.carrier_step (from + j - 64 * (from / 64)) ≡ carrier_phase_after q.carrier q.carrier_step j
-    on_carrier j = ap (carrier_phase_after p.carrier p.carrier_step) (place j) ∙ sym (ap (λ (s : ℕ). carrier_phase_after q.carrier s j) same ∙ carrier_behind p.carrier p.carrier_step (from % 64) j q.carrier (sym at))
+    on_carrier : (j : ℕ) → carrier_phase_after p.carrier p.carrier_step
+        (from + j - 64 * (from / 64)) ≡ carrier_phase_after q.carrier q.carrier_step j
+    on_carrier j = ap (carrier_phase_after p.carrier p.carrier_step) (place j)
+        ∙ sym (ap (λ (s : ℕ). carrier_phase_after q.carrier s j) same
+        ∙ carrier_behind p.carrier p.carrier_step (from % 64) j q.carrier (sym at))
 
-    on_code : (j : ℕ) → code_phase_after p.code p.code_step (from + j - 64 * (from / 64)) ≡ code_phase_after q.code q.code_step j
-    on_code j = ap (code_phase_after p.code p.code_step) (place j) ∙ sym (ap (λ (s : ℕ). code_phase_after q.code s j) same' ∙ code_behind p.code p.code_step (from % 64) j q.code (sym at'))
+    on_code : (j : ℕ) → code_phase_after p.code p.code_step (from + j - 64 * (from / 64))
+        ≡ code_phase_after q.code q.code_step j
+    on_code j = ap (code_phase_after p.code p.code_step) (place j)
+        ∙ sym (ap (λ (s : ℕ). code_phase_after q.code s j) same'
+        ∙ code_behind p.code p.code_step (from % 64) j q.code (sym at'))

@@ -8,8 +8,9 @@ use crate::word::products;
 use oscillators::{CarrierPlanes, CarrierWord};
 use sample_planes::Planes;
 
-/// Factors at 64 places, the first of them in the top bits: 1 in `negative` where a factor is below 0,
-/// and 1 in `large` where it is the greater of its two sizes, 3 or 1 for samples, 2 or 1 for carriers.
+/// Factors at 64 places, the first of them in the top bits: 1 in `negative` where a factor is below
+/// 0, and 1 in `large` where it is the greater of its two sizes, 3 or 1 for samples, 2 or 1 for
+/// carriers.
 #[derive(Clone, Copy, Debug)]
 pub(crate) struct Factors {
     pub(crate) negative: u64,
@@ -56,7 +57,8 @@ impl Wave {
         ensures cos { IsCosine carrier.now.cos w result.cos }
         ensures sin { IsSine carrier.now.sin w result.sin }
         ensures minus_sin { IsMinusSine carrier.now.sin w result.minus_sin }
-        ensures sizes { (j : ℕ) → j < 64 → bit_at result.cos.large (63 - j) ≡ 1 - bit_at result.sin.large (63 - j) }
+        ensures sizes { (j : ℕ) → j < 64
+            → bit_at result.cos.large (63 - j) ≡ 1 - bit_at result.sin.large (63 - j) }
     {
         let (cos, sin, sin_size) = carrier.word(w);
         Wave {

@@ -2,9 +2,9 @@
 //! the chips of a code.
 //!
 //! `six_sums` gives the sums with the early, prompt and late chips, in phase and in quadrature, and
-//! `pair_sum` those with the prompt chips alone. Both are proved to be the plain sums over every range
-//! of the run, for real and for complex samples. (IS-GPS-200 has the signal alone; how a receiver
-//! correlates with it is this project's own.)
+//! `pair_sum` those with the prompt chips alone. Both are proved to be the plain sums over every
+//! range of the run, for real and for complex samples. (IS-GPS-200 has the signal alone; how a
+//! receiver correlates with it is this project's own.)
 #![tactic(auto)]
 
 mod counts;

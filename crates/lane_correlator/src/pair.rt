@@ -53,8 +53,10 @@ fn pair_of_word(
     requires within { end ≤ 64 }
     requires long_enough { AreLongEnough (64 * w + end) samples.now carrier.now code.now }
     requires one_bit { has_sizes ≡ false → AreOneBit samples.now }
-    ensures in_phase { result.0 ≡ prompt_in_phase samples.now carrier.now code.now (64 * w + first) (64 * w + end) }
-    ensures quadrature { result.1 ≡ prompt_quadrature samples.now carrier.now code.now (64 * w + first) (64 * w + end) }
+    ensures in_phase { result.0
+        ≡ prompt_in_phase samples.now carrier.now code.now (64 * w + first) (64 * w + end) }
+    ensures quadrature { result.1
+        ≡ prompt_quadrature samples.now carrier.now code.now (64 * w + first) (64 * w + end) }
     ensures small_in_phase { unsigned_abs result.0 ≤ 9 * (end - first) }
     ensures small_quadrature { unsigned_abs result.1 ≤ 9 * (end - first) }
 {

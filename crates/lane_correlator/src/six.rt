@@ -25,7 +25,8 @@ pub(crate) fn six_of_run(
     requires ordered { from ≤ to }
     requires long_enough { AreLongEnough to samples.now carrier.now code.now }
     requires one_bit { has_sizes ≡ false → AreOneBit samples.now }
-    ensures sums { counts_in result ≡ six_sums (sample_at samples.now) (replica_in carrier.now code.now) from to }
+    ensures sums { counts_in result
+        ≡ six_sums (sample_at samples.now) (replica_in carrier.now code.now) from to }
     ensures small { AreWithin (9 * (to - from)) (counts_in result) }
 {
     let mut sums = Counts::NONE;
@@ -54,7 +55,9 @@ fn six_of_word(
     requires within { end ≤ 64 }
     requires long_enough { AreLongEnough (64 * w + end) samples.now carrier.now code.now }
     requires one_bit { has_sizes ≡ false → AreOneBit samples.now }
-    ensures sums { counts_in result ≡ six_sums (sample_at samples.now) (replica_in carrier.now code.now) (64 * w + first) (64 * w + end) }
+    ensures sums { counts_in result
+        ≡ six_sums (sample_at samples.now) (replica_in carrier.now code.now) (64 * w + first)
+        (64 * w + end) }
     ensures small { AreWithin (9 * (end - first)) (counts_in result) }
 {
     let mask = places(first, end);
@@ -79,7 +82,10 @@ pub(crate) fn six_of_part(
     chips: (u64, u64, u64),
     mask: u64,
 ) -> Counts
-    ensures sums { (x wave_i wave_q : ℕ → ℤ) (r : Replica) (base first end : ℕ) → IsMask first end mask → ArePart x base end part → AreWave wave_i base end i → AreWave wave_q base end q → AreThreeChips r base end chips → counts_in result ≡ part_sums x wave_i wave_q r (base + first) (base + end) }
+    ensures sums { (x wave_i wave_q : ℕ → ℤ) (r : Replica) (base first end : ℕ)
+        → IsMask first end mask → ArePart x base end part → AreWave wave_i base end i
+        → AreWave wave_q base end q → AreThreeChips r base end chips
+        → counts_in result ≡ part_sums x wave_i wave_q r (base + first) (base + end) }
     ensures small { AreWithin 384 (counts_in result) }
 {
     Counts {

@@ -15,9 +15,10 @@ use ca_codes::{CodeBook, Prn};
 use oscillators::{CarrierOsc, CarrierWord, ChipWord, CodeOsc};
 use sample_planes::Planes;
 
-/// The six sums over `count` samples of a run, from sample `from` on, in units of sample times carrier. They are those with a
-/// satellite's replica whose oscillators stand at sample `from`. A sum is at most nine times the number of samples in size. The book
-/// stands for the codes as before.
+/// The six sums over `count` samples of a run, from sample `from` on, in units of sample times
+/// carrier. They are those with a satellite's replica whose oscillators stand at sample `from`. A
+/// sum is at most nine times the number of samples in size. The book stands for the codes as
+/// before.
 pub fn replica_sums(
     samples: &Planes,
     from: usize,
@@ -76,7 +77,8 @@ fn run_sums(
     sums
 }
 
-/// The six sums over places `first` to `end` - 1 of the samples from `64 * w` on, with the words of a replica.
+/// The six sums over places `first` to `end` - 1 of the samples from `64 * w` on, with the words of
+/// a replica.
 #[inline(always)]
 fn word_sums(
     samples: &Planes,

@@ -23,11 +23,14 @@ impl Part {
     /// That which begins at bit `at` of each of `len` samples, from sample `start` of a byte on.
     pub(crate) fn unpack(format: Format, near: &[u8], at: usize, start: usize, len: usize) -> Part
         requires at { at < width_of (packing_of format) }
-        requires size { has_sizes (packing_of format) ≡ true → at + 1 < width_of (packing_of format) }
+        requires size { has_sizes (packing_of format) ≡ true
+            → at + 1 < width_of (packing_of format) }
         requires start { start < samples_per_byte (packing_of format) }
         requires short { len ≤ 1024 }
         requires long { 520 ≤ length near.now }
-        ensures parts { (i : ℕ) → i < len → part_at result i ≡ part_in (has_sizes (packing_of format)) near.now (width_of (packing_of format) * (start + i) + at) }
+        ensures parts { (i : ℕ) → i < len
+            → part_at result i ≡ part_in (has_sizes (packing_of format)) near.now (width_of
+            (packing_of format) * (start + i) + at) }
     {
         let width = format.width();
         let sign = Layout::new(width, at, start).plane(near, len);
@@ -52,7 +55,8 @@ impl Part {
     /// The signs and the sizes of the samples from `64 * w` on, the first of them in the top bits.
     pub(crate) fn word(&self, w: usize) -> (u64, u64)
         requires { w < 16 }
-        ensures { (j : ℕ) → j < 64 → part_of (bit_at result.0 (63 - j)) (bit_at result.1 (63 - j)) ≡ part_at self.now (64 * w + j) }
+        ensures { (j : ℕ) → j < 64 → part_of (bit_at result.0 (63 - j)) (bit_at result.1 (63 - j))
+            ≡ part_at self.now (64 * w + j) }
     {
         (self.sign.word(w), self.size.word(w))
     }

@@ -18,23 +18,33 @@ mask_is c = record {
   behind = c.places-mask.ensures.behind;
 }
 
-chips_are : (c : After-added) → AreChips (view_at c.args.code.now.prompt) (64 * c.args.w) c.args.end c.word-chips.result.1
-chips_are c = chips_of_run c.args.w c.args.end c.requires.within c.args.code.now.prompt c.word-chips.result.1 c.requires.long_enough.prompt_reaches c.word-chips.ensures.prompt
+chips_are : (c : After-added) → AreChips (view_at c.args.code.now.prompt) (64 * c.args.w) c.args.end
+    c.word-chips.result.1
+chips_are c = chips_of_run c.args.w c.args.end c.requires.within c.args.code.now.prompt
+    c.word-chips.result.1 c.requires.long_enough.prompt_reaches c.word-chips.ensures.prompt
 
-signs : (c : After-added) → AreSigns (view_at c.args.code.now.prompt) (64 * c.args.w + c.args.first) (64 * c.args.w + c.args.end)
-signs c = chips_are_signs (view_at c.args.code.now.prompt) (64 * c.args.w) c.args.first c.args.end c.word-chips.result.1 (chips_are c)
+signs : (c : After-added) → AreSigns (view_at c.args.code.now.prompt) (64 * c.args.w + c.args.first)
+    (64 * c.args.w + c.args.end)
+signs c = chips_are_signs (view_at c.args.code.now.prompt) (64 * c.args.w) c.args.first c.args.end
+    c.word-chips.result.1 (chips_are c)
 
-small : (c : After-added) → AreSmall (sample_at c.args.samples.now) (view_at c.args.carrier.now.cos) (view_at c.args.carrier.now.sin) (64 * c.args.w + c.args.first) (64 * c.args.w + c.args.end)
+small : (c : After-added) → AreSmall (sample_at c.args.samples.now) (view_at c.args.carrier.now.cos)
+    (view_at c.args.carrier.now.sin) (64 * c.args.w + c.args.first) (64 * c.args.w + c.args.end)
 small c =
     let long = c.requires.long_enough in
     let within = c.requires.within in
-    word_is_small c.args.samples.now c.args.carrier.now c.args.w c.args.first c.args.end within c.in_phase-part.result c.new-wave.result
-    long.samples_reach long.cos_reaches long.sin_reaches c.in_phase-part.ensures (elim c.match-quadrature.branch [
-      | in-Some w ↦ quadrature_small c.args.w c.args.end within c.args.samples.now w.in-Some.part long.samples_reach w.in-Some.ensures.word
-      | in-None w ↦ real_small c.args.w c.args.end within c.args.samples.now long.samples_reach w.in-None.ensures.real
+    word_is_small c.args.samples.now c.args.carrier.now c.args.w c.args.first c.args.end within
+    c.in_phase-part.result c.new-wave.result
+    long.samples_reach long.cos_reaches long.sin_reaches c.in_phase-part.ensures
+    (elim c.match-quadrature.branch [
+      | in-Some w ↦ quadrature_small c.args.w c.args.end within c.args.samples.now w.in-Some.part
+          long.samples_reach w.in-Some.ensures.word
+      | in-None w ↦ real_small c.args.w c.args.end within c.args.samples.now long.samples_reach
+          w.in-None.ensures.real
     ]) c.new-wave.ensures.cos c.new-wave.ensures.sin c.new-wave.ensures.sizes
 
-in_phase : (c : After-added) → c.added.result.0 ≡ prompt_in_phase c.args.samples.now c.args.carrier.now c.args.code.now (64 * c.args.w + c.args.first) (64 * c.args.w + c.args.end)
+in_phase : (c : After-added) → c.added.result.0 ≡ prompt_in_phase c.args.samples.now
+    c.args.carrier.now c.args.code.now (64 * c.args.w + c.args.first) (64 * c.args.w + c.args.end)
 unfolding IsSumOf
 in_phase c =
     let long = c.requires.long_enough in
@@ -45,18 +55,30 @@ in_phase c =
     let from : ℕ = 64 * c.args.w + c.args.first in
     let to : ℕ = 64 * c.args.w + c.args.end in
     c.added.ensures.in_phase ∙ ap₂ (λ (a b : ℤ). a +ℤ b)
-    (c.pair_of_part-in_phase.ensures.in_phase (λ j. (sample_at c.args.samples.now j).in_phase) cos chip (64 * c.args.w) c.args.first c.args.end (mask_is c)
-    (part_of_run c.args.w c.args.end within c.args.samples.now c.in_phase-part.result long.samples_reach c.in_phase-part.ensures)
-    (cos_of_run c.args.w c.args.end within c.args.carrier.now.cos c.new-wave.result.cos long.cos_reaches c.new-wave.ensures.cos) (chips_are c))
+    (c.pair_of_part-in_phase.ensures.in_phase (λ j. (sample_at c.args.samples.now j).in_phase) cos
+    chip (64 * c.args.w) c.args.first c.args.end (mask_is c)
+    (part_of_run c.args.w c.args.end within c.args.samples.now c.in_phase-part.result
+    long.samples_reach c.in_phase-part.ensures)
+    (cos_of_run c.args.w c.args.end within c.args.carrier.now.cos c.new-wave.result.cos
+    long.cos_reaches c.new-wave.ensures.cos) (chips_are c))
     (elim c.match-quadrature.branch [
-      | in-Some w ↦ rw w.quadrature-is (w.pair_of_part-quadrature.ensures.in_phase (λ j. (sample_at c.args.samples.now j).quadrature) sin chip (64 * c.args.w) c.args.first c.args.end (mask_is c)
-          (quadrature_of_run c.args.w c.args.end within c.args.samples.now w.in-Some.part long.samples_reach w.in-Some.ensures.word)
-          (sin_of_run c.args.w c.args.end within c.args.carrier.now.sin c.new-wave.result.sin long.sin_reaches c.new-wave.ensures.sin) (chips_are c))
-      | in-None w ↦ rw w.quadrature-is (sym (part_sum-none (λ j. (sample_at c.args.samples.now j).quadrature) sin chip from to (real_in_run c.args.w c.args.end within c.args.samples.now c.args.first long.samples_reach w.in-None.ensures.real)))
+      | in-Some w ↦ rw w.quadrature-is
+          (w.pair_of_part-quadrature.ensures.in_phase
+          (λ j. (sample_at c.args.samples.now j).quadrature) sin chip (64 * c.args.w) c.args.first
+          c.args.end (mask_is c)
+          (quadrature_of_run c.args.w c.args.end within c.args.samples.now w.in-Some.part
+          long.samples_reach w.in-Some.ensures.word)
+          (sin_of_run c.args.w c.args.end within c.args.carrier.now.sin c.new-wave.result.sin
+          long.sin_reaches c.new-wave.ensures.sin) (chips_are c))
+      | in-None w ↦ rw w.quadrature-is
+          (sym (part_sum-none (λ j. (sample_at c.args.samples.now j).quadrature) sin chip from to
+          (real_in_run c.args.w c.args.end within c.args.samples.now c.args.first long.samples_reach
+          w.in-None.ensures.real)))
     ])
     ∙ sym (in_phase_by_parts (sample_at c.args.samples.now) cos sin chip from to (signs c))
 
-quadrature : (c : After-added) → c.added.result.1 ≡ prompt_quadrature c.args.samples.now c.args.carrier.now c.args.code.now (64 * c.args.w + c.args.first) (64 * c.args.w + c.args.end)
+quadrature : (c : After-added) → c.added.result.1 ≡ prompt_quadrature c.args.samples.now
+    c.args.carrier.now c.args.code.now (64 * c.args.w + c.args.first) (64 * c.args.w + c.args.end)
 unfolding IsSumOf
 quadrature c =
     let long = c.requires.long_enough in
@@ -67,14 +89,25 @@ quadrature c =
     let from : ℕ = 64 * c.args.w + c.args.first in
     let to : ℕ = 64 * c.args.w + c.args.end in
     c.added.ensures.quadrature ∙ ap₂ (λ (a b : ℤ). a +ℤ b)
-    (c.pair_of_part-in_phase.ensures.quadrature (λ j. (sample_at c.args.samples.now j).in_phase) (λ j. pos 0 -ℤ sin j) chip (64 * c.args.w) c.args.first c.args.end (mask_is c)
-    (part_of_run c.args.w c.args.end within c.args.samples.now c.in_phase-part.result long.samples_reach c.in_phase-part.ensures)
-    (minus_sin_of_run c.args.w c.args.end within c.args.carrier.now.sin c.new-wave.result.minus_sin long.sin_reaches c.new-wave.ensures.minus_sin) (chips_are c))
+    (c.pair_of_part-in_phase.ensures.quadrature (λ j. (sample_at c.args.samples.now j).in_phase)
+    (λ j. pos 0 -ℤ sin j) chip (64 * c.args.w) c.args.first c.args.end (mask_is c)
+    (part_of_run c.args.w c.args.end within c.args.samples.now c.in_phase-part.result
+    long.samples_reach c.in_phase-part.ensures)
+    (minus_sin_of_run c.args.w c.args.end within c.args.carrier.now.sin c.new-wave.result.minus_sin
+    long.sin_reaches c.new-wave.ensures.minus_sin) (chips_are c))
     (elim c.match-quadrature.branch [
-      | in-Some w ↦ rw w.quadrature-is (w.pair_of_part-quadrature.ensures.quadrature (λ j. (sample_at c.args.samples.now j).quadrature) cos chip (64 * c.args.w) c.args.first c.args.end (mask_is c)
-          (quadrature_of_run c.args.w c.args.end within c.args.samples.now w.in-Some.part long.samples_reach w.in-Some.ensures.word)
-          (cos_of_run c.args.w c.args.end within c.args.carrier.now.cos c.new-wave.result.cos long.cos_reaches c.new-wave.ensures.cos) (chips_are c))
-      | in-None w ↦ rw w.quadrature-is (sym (part_sum-none (λ j. (sample_at c.args.samples.now j).quadrature) cos chip from to (real_in_run c.args.w c.args.end within c.args.samples.now c.args.first long.samples_reach w.in-None.ensures.real)))
+      | in-Some w ↦ rw w.quadrature-is
+          (w.pair_of_part-quadrature.ensures.quadrature
+          (λ j. (sample_at c.args.samples.now j).quadrature) cos chip (64 * c.args.w) c.args.first
+          c.args.end (mask_is c)
+          (quadrature_of_run c.args.w c.args.end within c.args.samples.now w.in-Some.part
+          long.samples_reach w.in-Some.ensures.word)
+          (cos_of_run c.args.w c.args.end within c.args.carrier.now.cos c.new-wave.result.cos
+          long.cos_reaches c.new-wave.ensures.cos) (chips_are c))
+      | in-None w ↦ rw w.quadrature-is
+          (sym (part_sum-none (λ j. (sample_at c.args.samples.now j).quadrature) cos chip from to
+          (real_in_run c.args.w c.args.end within c.args.samples.now c.args.first long.samples_reach
+          w.in-None.ensures.real)))
     ])
     ∙ sym (quadrature_by_parts (sample_at c.args.samples.now) cos sin chip from to (signs c))
 
@@ -86,10 +119,19 @@ returns-clause-quadrature c = quadrature c
 
 pub returns-clause-small_in_phase : goal.returns-clause-small_in_phase
 returns-clause-small_in_phase c =
-    let many : 64 * c.args.w + c.args.end - (64 * c.args.w + c.args.first) ≡ c.args.end - c.args.first = omega arith in
-    rw (in_phase c) (rw many at (in_phase-small (sample_at c.args.samples.now) (view_at c.args.carrier.now.cos) (view_at c.args.carrier.now.sin) (view_at c.args.code.now.prompt) (64 * c.args.w + c.args.first) (64 * c.args.w + c.args.end) (small c) (signs c)))
+    let many : 64 * c.args.w + c.args.end - (64 * c.args.w + c.args.first)
+    ≡ c.args.end - c.args.first = omega arith in
+    rw (in_phase c)
+    (rw many at (in_phase-small (sample_at c.args.samples.now) (view_at c.args.carrier.now.cos)
+    (view_at c.args.carrier.now.sin) (view_at c.args.code.now.prompt)
+    (64 * c.args.w + c.args.first) (64 * c.args.w + c.args.end) (small c) (signs c)))
 
 pub returns-clause-small_quadrature : goal.returns-clause-small_quadrature
 returns-clause-small_quadrature c =
-    let many : 64 * c.args.w + c.args.end - (64 * c.args.w + c.args.first) ≡ c.args.end - c.args.first = omega arith in
-    rw (quadrature c) (rw many at (quadrature-small (sample_at c.args.samples.now) (view_at c.args.carrier.now.cos) (view_at c.args.carrier.now.sin) (view_at c.args.code.now.prompt) (64 * c.args.w + c.args.first) (64 * c.args.w + c.args.end) (small c) (signs c)))
+    let many : 64 * c.args.w + c.args.end - (64 * c.args.w + c.args.first)
+    ≡ c.args.end - c.args.first = omega arith in
+    rw (quadrature c)
+    (rw many at (quadrature-small (sample_at c.args.samples.now)
+    (view_at c.args.carrier.now.cos) (view_at c.args.carrier.now.sin)
+    (view_at c.args.code.now.prompt) (64 * c.args.w + c.args.first) (64 * c.args.w + c.args.end)
+    (small c) (signs c)))

@@ -11,10 +11,15 @@ use Rattle.lane_correlator.proofs.with_replica.run_sums.Given as goal
 abbrev pub invariant-loop-w : goal.invariant-loop-w
 invariant-loop-w l = record {
   from : l.from / 64 ≤ l.w;
-  carrier : (j : ℕ) → carrier_phase_after l.carrier.phase l.initial.carrier.step j ≡ carrier_phase_after l.initial.carrier.phase l.initial.carrier.step (64 * (l.w - l.from / 64) + j);
+  carrier : (j : ℕ) → carrier_phase_after l.carrier.phase l.initial.carrier.step j
+      ≡ carrier_phase_after l.initial.carrier.phase l.initial.carrier.step
+      (64 * (l.w - l.from / 64) + j);
   carrier_step : l.carrier.step ≡ l.initial.carrier.step;
-  code : (j : ℕ) → code_phase_after l.code.phase l.initial.code.step j ≡ code_phase_after l.initial.code.phase l.initial.code.step (64 * (l.w - l.from / 64) + j);
+  code : (j : ℕ) → code_phase_after l.code.phase l.initial.code.step j ≡ code_phase_after
+      l.initial.code.phase l.initial.code.step (64 * (l.w - l.from / 64) + j);
   code_step : l.code.step ≡ l.initial.code.step;
-  sums : counts_in l.sums ≡ six_sums (sample_at l.samples) (placed l.prn (phases_of l.initial.carrier l.initial.code) (64 * (l.from / 64))) l.from (min l.to (max l.from (64 * l.w)));
+  sums : counts_in l.sums ≡ six_sums (sample_at l.samples) (placed l.prn
+      (phases_of l.initial.carrier l.initial.code) (64 * (l.from / 64))) l.from
+      (min l.to (max l.from (64 * l.w)));
   small : AreWithin (9 * (min l.to (max l.from (64 * l.w)) - l.from)) (counts_in l.sums);
 }

@@ -10,6 +10,8 @@ pub returns-else-has_sizes : goal.returns-else-has_sizes
 unfolding IsWord AreOneBit
 returns-else-has_sizes c j h inside =
     let i : ℕ = 63 - j in
-    flat_part (sample_at c.args.samples.now (64 * c.args.w + j)).in_phase (bit_at c.word-negative.result.0 i) (bit_at c.word-negative.result.1 i) i
-    (bit_at-lt c.word-negative.result.0 i) (bit_at-lt c.word-negative.result.1 i) (c.word-negative.ensures.word j h inside)
+    flat_part (sample_at c.args.samples.now (64 * c.args.w + j)).in_phase
+    (bit_at c.word-negative.result.0 i) (bit_at c.word-negative.result.1 i) i
+    (bit_at-lt c.word-negative.result.0 i) (bit_at-lt c.word-negative.result.1 i)
+    (c.word-negative.ensures.word j h inside)
     (c.requires.one_bit c.if-has_sizes.false (64 * c.args.w + j) inside).in_phase

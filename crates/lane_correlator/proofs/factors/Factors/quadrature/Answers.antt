@@ -10,6 +10,8 @@ pub returns-else-has_sizes-clause-word : goal.returns-else-has_sizes-clause-word
 unfolding IsQuadratureWord AreOneBit
 returns-else-has_sizes-clause-word c j h inside =
     let i : ℕ = 63 - j in
-    flat_part (sample_at c.args.samples.now (64 * c.args.w + j)).quadrature (bit_at c.in_ok-negative.negative i) (bit_at c.in_ok-negative.size i) i
-    (bit_at-lt c.in_ok-negative.negative i) (bit_at-lt c.in_ok-negative.size i) (c.in_ok-negative.ensures.word j h inside)
+    flat_part (sample_at c.args.samples.now (64 * c.args.w + j)).quadrature
+    (bit_at c.in_ok-negative.negative i) (bit_at c.in_ok-negative.size i) i
+    (bit_at-lt c.in_ok-negative.negative i) (bit_at-lt c.in_ok-negative.size i)
+    (c.in_ok-negative.ensures.word j h inside)
     (c.requires.one_bit c.if-has_sizes.false (64 * c.args.w + j) inside).quadrature

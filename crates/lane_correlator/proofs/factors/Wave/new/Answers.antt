@@ -11,7 +11,8 @@ pub returns-clause-cos : goal.returns-clause-cos
 unfolding IsCosine IsCosWord
 returns-clause-cos c j h inside =
     c.word-cos.ensures.cos j h inside
-    ∙ ap (signed (bit_at c.word-cos.result.0 (63 - j))) (sym (bit_at_not w64 c.word-cos.result.2 (63 - j) (search rules) (omega arith)))
+    ∙ ap (signed (bit_at c.word-cos.result.0 (63 - j)))
+    (sym (bit_at_not w64 c.word-cos.result.2 (63 - j) (search rules) (omega arith)))
 
 pub returns-clause-sin : goal.returns-clause-sin
 unfolding IsSine IsSinWord
@@ -22,8 +23,11 @@ unfolding IsMinusSine IsSinWord
 returns-clause-minus_sin c j h inside =
     let i : ℕ = 63 - j in
     ap (λ (z : ℤ). pos 0 -ℤ z) (c.word-cos.ensures.sin j h inside)
-    ∙ turned_bits (bit_at c.word-cos.result.1 i) (bit_at c.word-cos.result.2 i) (bit_at-lt c.word-cos.result.1 i) (bit_at-lt c.word-cos.result.2 i)
-    ∙ ap (λ (n : ℕ). signed n (bit_at c.word-cos.result.2 i)) (sym (bit_at_not w64 c.word-cos.result.1 i (search rules) (omega arith)))
+    ∙ turned_bits (bit_at c.word-cos.result.1 i) (bit_at c.word-cos.result.2 i)
+    (bit_at-lt c.word-cos.result.1 i) (bit_at-lt c.word-cos.result.2 i)
+    ∙ ap (λ (n : ℕ). signed n (bit_at c.word-cos.result.2 i))
+    (sym (bit_at_not w64 c.word-cos.result.1 i (search rules) (omega arith)))
 
 pub returns-clause-sizes : goal.returns-clause-sizes
-returns-clause-sizes c j h = bit_at_not w64 c.word-cos.result.2 (63 - j) (search rules) (omega arith)
+returns-clause-sizes c j h = bit_at_not w64 c.word-cos.result.2 (63 - j) (search rules) (omega
+    arith)

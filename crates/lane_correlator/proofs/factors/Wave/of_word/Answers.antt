@@ -6,10 +6,13 @@ use Rattle.lane_correlator.proofs.PartLemmas.{turned_bits}
 use Rattle.lane_correlator.proofs.factors.Wave.of_word.Goals as goal
 
 pub returns-clause-cos : goal.returns-clause-cos
-returns-clause-cos c j h = ap (signed (bit_at c.args.word.cos_sign (63 - j))) (bit_at_not w64 c.args.word.sin_size (63 - j) (search rules) (omega arith))
+returns-clause-cos c j h = ap (signed (bit_at c.args.word.cos_sign (63 - j))) (bit_at_not w64
+    c.args.word.sin_size (63 - j) (search rules) (omega arith))
 
 pub returns-clause-minus_sin : goal.returns-clause-minus_sin
 returns-clause-minus_sin c j h =
     let i : ℕ = 63 - j in
-    ap (λ (n : ℕ). signed n (bit_at c.args.word.sin_size i)) (bit_at_not w64 c.args.word.sin_sign i (search rules) (omega arith))
-    ∙ sym (turned_bits (bit_at c.args.word.sin_sign i) (bit_at c.args.word.sin_size i) (bit_at-lt c.args.word.sin_sign i) (bit_at-lt c.args.word.sin_size i))
+    ap (λ (n : ℕ). signed n (bit_at c.args.word.sin_size i))
+    (bit_at_not w64 c.args.word.sin_sign i (search rules) (omega arith))
+    ∙ sym (turned_bits (bit_at c.args.word.sin_sign i) (bit_at c.args.word.sin_size i)
+    (bit_at-lt c.args.word.sin_sign i) (bit_at-lt c.args.word.sin_size i))

@@ -6,7 +6,8 @@ pub loop-group-preserved : goal.loop-group-preserved
 loop-group-preserved c = record {
   drawn = λ at start l.
       let more : 16 * (c.loop-group.group + 1) ≡ 16 * c.loop-group.group + 16 = omega arith in
-      rw more (c.put.ensures (λ i. bit_in c.args.near.now (c.args.self.now.width * (start + i) + at))
+      rw more (c.put.ensures
+      (λ i. bit_in c.args.near.now (c.args.self.now.width * (start + i) + at))
       (c.loop-group.invariant.drawn at start l) (λ r h. c.sixteen.ensures.bits at start l r h));
 }
 

@@ -6,5 +6,6 @@ use Rattle.sample_planes.proofs.layout.Layout.plane.Given as goal
 
 abbrev pub invariant-loop-group : goal.invariant-loop-group
 invariant-loop-group l = record {
-  drawn : (at start : ℕ) → IsLayout at start l.self → IsDrawn (λ i. bit_in l.near (l.self.width * (start + i) + at)) (16 * l.group) l.plane;
+  drawn : (at start : ℕ) → IsLayout at start l.self
+      → IsDrawn (λ i. bit_in l.near (l.self.width * (start + i) + at)) (16 * l.group) l.plane;
 }
