@@ -36,6 +36,8 @@ pub mod VerbLemmas
 pub mod PrintedVerbLemmas
 pub mod OnLemmas
 pub mod SixteenthLemmas
+pub mod LockEndLemmas
+pub mod FewLemmas
 pub mod FoundLemmas
 pub mod CellLemmas
 pub mod PageLemmas

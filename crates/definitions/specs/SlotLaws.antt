@@ -15,7 +15,9 @@ use Rattle.definitions.specs.Frames.{subframe_at, word_at, prior_at}
 use Rattle.definitions.specs.Pages.{Page, page_of}
 use Rattle.definitions.specs.Commands.{TimedRequest, begin, stop}
 use Rattle.definitions.specs.Lives.{Life, is_over, still_on, life_of, life_now}
-use Rattle.definitions.specs.Events.{pages_among}
+use Rattle.definitions.specs.Events.{Event, acquired, count, locked, unlocked, signal_lost, edge}
+use Rattle.definitions.specs.Events.{gap, subframe, reported, almanacs, events_at_end, pages_among}
+use Rattle.std.specs.Prelude.{filter, not}
 
 -- ---- the dumps of a channel
 
@@ -106,3 +108,25 @@ LifeIsOn = (settings : Settings) (xs : List Sample) (commands : List TimedReques
     × ((j : ℕ) (command : TimedRequest) → i < j → slice_get commands j ≡ Some command
     → command.request ≡ stop → ⊥)
     × (is_over settings xs life ≡ false)
+
+-- ---- events
+
+-- A slot tells at most four events with one sample, and a set of almanacs beside them at most.
+abbrev pub is_set : Event → Bool
+is_set event = elim event [
+  | almanacs set ↦ true
+  | acquired prn cell ↦ false
+  | count c ↦ false
+  | locked ↦ false
+  | unlocked ↦ false
+  | signal_lost ↦ false
+  | edge ↦ false
+  | gap n ↦ false
+  | subframe s ↦ false
+  | reported r ↦ false
+]
+
+abbrev pub SlotTellsFew : Type 0
+SlotTellsFew = (settings : Settings) (xs : List Sample) (commands : List TimedRequest)
+    → (length (filter (λ e. not (is_set e)) (events_at_end settings xs commands)) ≤ 4)
+    × (length (filter is_set (events_at_end settings xs commands)) ≤ 1)

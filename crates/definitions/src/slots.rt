@@ -1,6 +1,6 @@
 //! Laws of what one slot tells.
 
-ghost use Rattle.definitions.specs.SlotLaws.{DumpsArePlainSums, CellsComeWithSamples, PagesPass, EdgeIsSixteenthChange, LifeIsOn};
+ghost use Rattle.definitions.specs.SlotLaws.{DumpsArePlainSums, CellsComeWithSamples, PagesPass, EdgeIsSixteenthChange, LifeIsOn, SlotTellsFew};
 ghost use Rattle.definitions.specs.EventLaws.{EventsAreRight, CountsAreDumps, AcquisitionsNameTheGreatest, WordsToldPass, AlmanacSetsAgree, FoundCodeGoesOn};
 
 /// The dumps of a channel are the six plain sums over one run of the code after another.
@@ -56,4 +56,9 @@ pub fn almanac_sets_agree()
 /// The code of a found signal is at the due time where the replica of the named cell has come by then, and goes on from there.
 pub fn found_code_goes_on()
     ensures { FoundCodeGoesOn }
+{}
+
+/// A slot tells at most four events with one sample, and beside them at most one set of almanacs.
+pub fn slot_tells_few()
+    ensures { SlotTellsFew }
 {}
