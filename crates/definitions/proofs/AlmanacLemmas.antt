@@ -17,11 +17,11 @@ use Rattle.definitions.proofs.FrameLemmas.{mapped}
 abbrev pub IsWhole : Page → Type 0
 IsWhole page = length page.values ≡ length (fields_of page.kind)
 
-length-map : {A B : Type 0} (f : A → B) (xs : List A) → length (map f xs) ≡ length xs
+pub length-map : {A B : Type 0} (f : A → B) (xs : List A) → length (map f xs) ≡ length xs
 length-map f [] = refl
 length-map f (x ∷ xs) = ap suc (length-map f xs)
 
-page_of-whole : (s : Subframe) (page : Page) → page_of s ≡ Some page → IsWhole page
+pub page_of-whole : (s : Subframe) (page : Page) → page_of s ≡ Some page → IsWhole page
 unfolding page_of
 page_of-whole s page e = by_test (is_complete s) (kind_of s) e
   where
@@ -45,7 +45,7 @@ unfolding pages_among
 pages_among-whole bits = pages-whole (map (subframe_at bits) (filter (λ n. nat_le (n + 300) (length bits)) (starts_of bits)))
 
 -- ---- the last page that passes a test
-filter-at : (P : Page → Type 0) (test : Page → Bool) (pages : List Page) → AllByRecursion P pages → (k : ℕ) (page : Page) → slice_get (filter test pages) k ≡ Some page → P page × (test page ≡ true)
+pub filter-at : (P : Page → Type 0) (test : Page → Bool) (pages : List Page) → AllByRecursion P pages → (k : ℕ) (page : Page) → slice_get (filter test pages) k ≡ Some page → P page × (test page ≡ true)
 filter-at P test [] all k page e = cc
 filter-at P test (p ∷ ps) all k page e = by_test (test p) refl k e (λ j h. filter-at P test ps all.1 j page h)
   where
@@ -139,12 +139,12 @@ record ArePages (pages ps : List Page) : Type 0 where
   each : (k : ℕ) (page : Page) → slice_get ps k ≡ Some page → (k < 32) × (last_almanac pages (1 + k) ≡ Some page)
   some : (k : ℕ) → k < 32 → (page : Page) × (slice_get ps k ≡ Some page)
 
-within : {A : Type 0} (xs : List A) (k : ℕ) (x : A) → slice_get xs k ≡ Some x → k < length xs
+pub within : {A : Type 0} (xs : List A) (k : ℕ) (x : A) → slice_get xs k ≡ Some x → k < length xs
 within [] k x e = cc
 within (y ∷ ys) zero x e = omega arith
 within (y ∷ ys) (suc k) x e = omega (arith, within ys k x e)
 
-reached : {A : Type 0} (xs : List A) (k : ℕ) → k < length xs → (x : A) × (slice_get xs k ≡ Some x)
+pub reached : {A : Type 0} (xs : List A) (k : ℕ) → k < length xs → (x : A) × (slice_get xs k ≡ Some x)
 reached [] k h = absurd (omega arith)
 reached (y ∷ ys) zero h = (y, refl)
 reached (y ∷ ys) (suc k) h = reached ys k (omega arith)

@@ -38,6 +38,9 @@ pub mod OnLemmas
 pub mod SixteenthLemmas
 pub mod LockEndLemmas
 pub mod FewLemmas
+pub mod LengthLemmas
+pub mod SmallLemmas
+pub mod ShortLemmas
 pub mod FoundLemmas
 pub mod CellLemmas
 pub mod PageLemmas

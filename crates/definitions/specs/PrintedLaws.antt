@@ -126,3 +126,9 @@ PrintedAlmanacsAgree =
     (line : List ℕ)
     → IsPrinted profile settings clients xs line (codes "als")
     → (set : AlmanacSet) × IsLineOf profile settings clients xs line (almanacs set)
+
+-- Each line has at most 1,024 bytes.
+abbrev pub LinesAreShort : Type 0
+LinesAreShort = (profile : Profile) (settings : Settings) (clients : List Client)
+    (xs : List Sample) (i : ℕ) (line : List ℕ)
+    → slice_get (lines_of (full profile settings xs clients)) i ≡ Some line → length line ≤ 1024

@@ -1,6 +1,6 @@
 //! Laws of what is printed: the lines of the whole text, whatever the settings, the samples and the clients are.
 
-ghost use Rattle.definitions.specs.PrintedLaws.{LinesComeFromEvents, PrintedCountsAreSums, PrintedAcquisitionsNameTheGreatest, PrintedWordsPass, PrintedPagesPass, PrintedAlmanacsAgree};
+ghost use Rattle.definitions.specs.PrintedLaws.{LinesComeFromEvents, PrintedCountsAreSums, PrintedAcquisitionsNameTheGreatest, PrintedWordsPass, PrintedPagesPass, PrintedAlmanacsAgree, LinesAreShort};
 
 /// Each line of the whole text is that of an event that a slot tells, or that of an answer, or an end.
 pub fn lines_come_from_events()
@@ -30,4 +30,9 @@ pub fn printed_pages_pass()
 /// Each set of almanacs that is printed has the last almanac of each satellite, all of one time of applicability.
 pub fn printed_almanacs_agree()
     ensures { PrintedAlmanacsAgree }
+{}
+
+/// Each line has at most 1,024 bytes.
+pub fn lines_are_short()
+    ensures { LinesAreShort }
 {}
