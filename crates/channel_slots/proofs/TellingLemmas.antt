@@ -113,18 +113,18 @@ goes-more left n ys zs time p q r before mid after g a is some within short =
       dumps = omega (arith, all, g.dumps, s.dumps, is, some);
       added = a.added ∙ ap (λ (l : List Reply). put_all time_in l a.replies) g.added ∙ sym (put_all-append time_in before g.replies a.replies);
       tells = λ settings xs commands now st.
-        let before_it = g.tells settings xs commands now st in
-        let one : length ((xs ++ ys) ++ zs) ≡ time + length ys + length zs = simp length-append (omega (arith, now)) in
-        let step = s.tells settings (xs ++ ys) commands one before_it.stands in
-        let f : List Sample → List SlotEvent = slot_tells settings p.client p.number commands in
-        let quiet : (j : ℕ) → 0 < j → j < length zs → f ((xs ++ ys) ++ take j zs) ≡ [] =
-        λ j first b. ap (λ (l : List Told). slot_events p.client p.number (length ((xs ++ ys) ++ take j zs)) l) (step.inside j first b) in
-        let last : told_between f (xs ++ ys) zs ≡ f ((xs ++ ys) ++ zs) = told_between-last f (xs ++ ys) zs (omega (arith, is, some)) quiet in
-        let own : AreTold a.replies (f ((xs ++ ys) ++ zs)) = rw (g.client, g.number) at step.told in
-        record {
-          told = rw (told_between-append f xs ys zs, last) (both_told g.replies a.replies (told_between f xs ys) _ before_it.told own);
-          stands = rw (sym (append_assoc xs ys zs)) step.stands;
-        };
+          let before_it = g.tells settings xs commands now st in
+          let one : length ((xs ++ ys) ++ zs) ≡ time + length ys + length zs = simp length-append (omega (arith, now)) in
+          let step = s.tells settings (xs ++ ys) commands one before_it.stands in
+          let f : List Sample → List SlotEvent = slot_tells settings p.client p.number commands in
+          let quiet : (j : ℕ) → 0 < j → j < length zs → f ((xs ++ ys) ++ take j zs) ≡ [] =
+          λ j first b. ap (λ (l : List Told). slot_events p.client p.number (length ((xs ++ ys) ++ take j zs)) l) (step.inside j first b) in
+          let last : told_between f (xs ++ ys) zs ≡ f ((xs ++ ys) ++ zs) = told_between-last f (xs ++ ys) zs (omega (arith, is, some)) quiet in
+          let own : AreTold a.replies (f ((xs ++ ys) ++ zs)) = rw (g.client, g.number) at step.told in
+          record {
+            told = rw (told_between-append f xs ys zs, last) (both_told g.replies a.replies (told_between f xs ys) _ before_it.told own);
+            stands = rw (sym (append_assoc xs ys zs)) step.stands;
+          };
     }
   where
     both_told : (rs ss : List Reply) (es fs : List SlotEvent) → AreTold rs es → AreTold ss fs → AreTold (rs ++ ss) (es ++ fs)

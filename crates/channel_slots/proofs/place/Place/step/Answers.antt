@@ -22,7 +22,7 @@ loop-event-preserved c =
     rw c.put_in_time.ensures (record {
       pushed = ap (λ (l : List Reply). put_in time_in reply l) c.loop-event.invariant.pushed
           ∙ sym (ap (λ (l : List Reply). put_all time_in c.args.replies.now.items l) (one_more_reply c.args.self.now c.args.time c.as_slice-event-items.result.now c.event-item.result c.loop-event.event-index c.loop-event-test.true c.event-item.is)
-            ∙ put_all-append time_in c.args.replies.now.items (replies_of c.args.self.now c.args.time (take c.loop-event.event-index c.as_slice-event-items.result.now)) (reply ∷ []));
+          ∙ put_all-append time_in c.args.replies.now.items (replies_of c.args.self.now c.args.time (take c.loop-event.event-index c.as_slice-event-items.result.now)) (reply ∷ []));
       many = put_in-length time_in reply c.loop-event.replies.items ∙ omega (arith, c.loop-event.invariant.many);
     })
 
@@ -31,7 +31,7 @@ returns c =
     let ys : List Sample = part c.args.run.now c.args.from c.args.count in
     let is : c.args.count ≡ length ys = sym (part-length c.args.run.now c.args.from c.args.count c.requires.within) in
     record {
-  replies = _;
-  steps = placed ys c.args.time c.args.self.now _ c.step-events.result.items refl refl (rw c.as_slice-event-items.ensures.value at c.as_slice-event-items.ensures.fits) c.step-events.ensures.dumps (rw is at c.step-events.ensures.chances) c.step-events.ensures.tells;
-  added = rw (take_all c.loop-event.event-index c.as_slice-event-items.result.now c.loop-event-test.false, c.as_slice-event-items.ensures.value) at c.loop-event.invariant.pushed;
-}
+      replies = _;
+      steps = placed ys c.args.time c.args.self.now _ c.step-events.result.items refl refl (rw c.as_slice-event-items.ensures.value at c.as_slice-event-items.ensures.fits) c.step-events.ensures.dumps (rw is at c.step-events.ensures.chances) c.step-events.ensures.tells;
+      added = rw (take_all c.loop-event.event-index c.as_slice-event-items.result.now c.loop-event-test.false, c.as_slice-event-items.ensures.value) at c.loop-event.invariant.pushed;
+    }
