@@ -1,4 +1,4 @@
-use Rattle.std.proofs.Common.{◌≡◌, ◌≤◌, ◌∙◌, ◌+◌, ◌-◌, ◌*◌, ◌/◌, ◌%◌, sym, ap, arith, refl, ℕ}
+use Rattle.std.proofs.Common.{◌≡◌, ◌≤◌, ◌∙◌, ◌+◌, ◌-◌, ◌*◌, ◌/◌, sym, ap, arith, refl, ℕ}
 use Rattle.std.specs.Prelude.{min, max}
 use Rattle.std.proofs.Math.Path.{ap₂}
 use Rattle.definitions.specs.Samples.{sample_at}

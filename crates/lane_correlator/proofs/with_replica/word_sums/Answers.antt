@@ -1,12 +1,11 @@
-use Rattle.std.proofs.Common.{◌≡◌, ℕ, ℤ, ◌+◌, ◌-◌, ◌*◌, ◌<◌, ◌≤◌, ◌∙◌, sym, ap, arith}
-use Rattle.std.specs.Prelude.{pos, ◌-ℤ◌, unsigned_abs}
+use Rattle.std.proofs.Common.{◌≡◌, ℤ, ◌+◌, ◌-◌, ◌*◌, ◌∙◌, sym, ap, arith}
+use Rattle.std.specs.Prelude.{pos, ◌-ℤ◌}
 use Rattle.std.proofs.Math.Path.{ap₂}
-use Rattle.std.specs.Int.{bit_at}
 use Rattle.definitions.specs.Samples.{sample_at}
 use Rattle.definitions.specs.Correlation.{Replica, six_sums, added}
 use Rattle.lane_correlator.specs.Counting.{counts_in}
 use Rattle.lane_correlator.specs.ReplicaWords.{AreOf}
-use Rattle.lane_correlator.specs.Factors.{IsMask, AreThreeChips, AreChips, AreWave, part_sums}
+use Rattle.lane_correlator.specs.Factors.{IsMask, AreThreeChips, AreWave, part_sums}
 use Rattle.lane_correlator.proofs.PartLemmas.{HasSigns, AreSmall, six_by_parts, part_sums-none, six-small}
 use Rattle.lane_correlator.proofs.RunLemmas.{part_of_run, quadrature_of_run, real_in_run, quadrature_small, real_small}
 use Rattle.lane_correlator.proofs.ReplicaLemmas.{own_replica, chips_of_replica, signs_of_replica, small_of_replica}
