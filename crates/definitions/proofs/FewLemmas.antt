@@ -1,7 +1,7 @@
 -- A slot tells few events with one sample.
-use Rattle.std.proofs.Common.{inl, inr, ◌≡◌, ℕ, suc, ◌+◌, ◌-◌, ◌<◌, ◌≤◌, List, [], ◌∷◌, ◌++◌, length, refl, sym, ap, ◌∙◌, arith, length-append, append-nil}
-use Rattle.std.specs.Prelude.{Bool, true, false, ℤ, not, ◌&&◌, Option, Some, None, filter, nat_eq, nat_lt, is_some, ◌⊎◌, if◌then◌else◌}
-use Rattle.std.proofs.lemmas.Bool.{and_parts, eqb-true, lt-leb}
+use Rattle.std.proofs.Common.{inl, inr, ◌≡◌, ℕ, suc, ◌+◌, ◌≤◌, List, [], ◌∷◌, ◌++◌, length, refl, sym, ap, ◌∙◌, arith, length-append}
+use Rattle.std.specs.Prelude.{Bool, true, false, ℤ, not, ◌&&◌, Option, Some, None, filter, nat_eq, nat_lt, ◌⊎◌, if◌then◌else◌}
+use Rattle.std.proofs.lemmas.Bool.{eqb-true, lt-leb}
 use Rattle.std.proofs.lemmas.List.Elements.{filter-append}
 use Rattle.definitions.specs.Sums.{least_below}
 use Rattle.definitions.specs.Samples.{Sample}
@@ -10,7 +10,7 @@ use Rattle.definitions.specs.Correlation.{Counts}
 use Rattle.definitions.specs.Segments.{Dump, counts_of}
 use Rattle.definitions.specs.Lock.{News, nothing, lock, unlock, lost, news_of}
 use Rattle.definitions.specs.Acquisition.{Plan, result_of, due_time}
-use Rattle.definitions.specs.BitEdge.{has_edge, edge_of, is_edge, bits_of, bits_behind}
+use Rattle.definitions.specs.BitEdge.{has_edge, edge_of, bits_of}
 use Rattle.definitions.specs.Frames.{Found, found_by}
 use Rattle.definitions.specs.Pages.{Page, page_of}
 use Rattle.definitions.specs.DataSets.{reports_of}
@@ -18,11 +18,9 @@ use Rattle.definitions.specs.Commands.{Start, hold, track, acquire}
 use Rattle.definitions.specs.Lives.{Life, is_steered, dumps_of_life, life_now}
 use Rattle.definitions.specs.Events.{Event, acquired, count, locked, unlocked, signal_lost, edge, gap, subframe, reported, almanacs, when, events_of, unprinted, last_of, front_of, news_events, pushes_of, pages_among, page_events, bit_events, push_events, steered_events, dump_events, last_dump_events, due_events, life_events, events_at_end}
 use Rattle.definitions.specs.SlotLaws.{is_set, SlotTellsFew}
-use Rattle.definitions.proofs.SumsLemmas.{least_below-some, least_below-none}
-use Rattle.definitions.proofs.BitLemmas.{is_edge-append}
-use Rattle.definitions.proofs.LifeLemmas.{front_of-append}
 use Rattle.definitions.proofs.DueLemmas.{acquire-tells}
-use Rattle.definitions.proofs.LockEndLemmas.{snoc, IsNews, news-is, news-pushes}
+use Rattle.definitions.proofs.LockEndLemmas.{IsNews, news-is, news-pushes}
+use Rattle.definitions.proofs.EdgeLemmas.{edge-alone}
 
 -- at most a events that are no set, and at most b sets
 abbrev Few : ℕ → ℕ → List Event → Type 0
@@ -69,55 +67,6 @@ few-bits bits (Some found) =
     few-append 2 0 1 1 (events_of gap found.gap ++ (subframe found.subframe ∷ [])) (page_events bits (page_of found.subframe))
     (few-append 1 0 1 0 (events_of gap found.gap) (subframe found.subframe ∷ []) (few-option gap (λ n. refl) found.gap) (few-one (subframe found.subframe) refl))
     (few-page bits (page_of found.subframe))
-
--- ---- the edge comes with no bit
-front-push : (ps : List ℤ) (p : ℤ) → front_of (ps ++ p ∷ []) ≡ ps
-unfolding front_of
-front-push ps p = front_of-append ps (p ∷ []) (omega arith) ∙ one ps p
-  where
-    one : (ps : List ℤ) (p : ℤ) → ps ++ front_of (p ∷ []) ≡ ps
-    one ps p = append-nil ps
-
-length-bits : (pushes : List ℤ) (k : ℕ) → length pushes ≡ suc k → length (bits_behind pushes (Some k)) ≡ 0
-length-bits pushes k e = let one : length pushes - k ≡ 1 = omega (arith, e) in rw one refl
-
-clash : {b : Bool} → b ≡ true → b ≡ false → ⊥
-clash t f = cc
-
-edge-last : (ps : List ℤ) (p : ℤ) (k : ℕ) → edge_of (ps ++ p ∷ []) ≡ Some k → edge_of ps ≡ None → length (ps ++ p ∷ []) ≡ suc k
-unfolding edge_of
-edge-last ps p k some none =
-    let l = least_below-some (is_edge (ps ++ p ∷ [])) (length (ps ++ p ∷ [])) k some in
-    let long : length (ps ++ p ∷ []) ≡ suc (length ps) = simp length-append (omega arith) in
-    by_place (place k (length ps) (omega (arith, long, l.below))) l.passes long
-  where
-    place : (k n : ℕ) → k < suc n → (k < n) ⊎ (k ≡ n)
-    place k n h = grind arith
-
-    by_place : ((k < length ps) ⊎ (k ≡ length ps)) → is_edge (ps ++ p ∷ []) k ≡ true → length (ps ++ p ∷ []) ≡ suc (length ps) → length (ps ++ p ∷ []) ≡ suc k
-    by_place (inl before) passes long = absurd (clash (sym (is_edge-append ps (p ∷ []) k before) ∙ passes) (least_below-none (is_edge ps) (length ps) none k before))
-    by_place (inr last) passes long = long ∙ ap suc (sym last)
-
-edge-alone : (pushes : List ℤ) → (has_edge pushes && not (has_edge (front_of pushes))) ≡ true → length (bits_of pushes) ≡ 0
-unfolding bits_of edge_of least_below
-edge-alone pushes now = by_last (snoc pushes)
-  where
-    no_edge : (o : Option ℕ) → not (is_some o) ≡ true → o ≡ None
-    no_edge None e = refl
-    no_edge (Some k) e = cc
-
-    by_edge : (ps : List ℤ) (p : ℤ) → pushes ≡ ps ++ p ∷ [] → (o : Option ℕ) → edge_of pushes ≡ o → is_some o ≡ true → edge_of ps ≡ None → length (bits_behind pushes o) ≡ 0
-    by_edge ps p e None some is none = cc
-    by_edge ps p e (Some k) some is none = length-bits pushes k (ap length e ∙ edge-last ps p k (ap edge_of (sym e) ∙ some) none)
-
-    by_last : ((pushes ≡ []) ⊎ ((ps : List ℤ) × (p : ℤ) × (pushes ≡ ps ++ p ∷ []))) → length (bits_behind pushes (edge_of pushes)) ≡ 0
-    by_last (inl none) = absurd (clash (and_parts _ _ now).0 (ap has_edge none ∙ nothing_there))
-      where
-        nothing_there : has_edge [] ≡ false
-        nothing_there = refl
-    by_last (inr (ps, p, e)) =
-        let parts = and_parts (has_edge pushes) (not (has_edge (front_of pushes))) now in
-        by_edge ps p e (edge_of pushes) refl parts.0 (no_edge (edge_of ps) (ap (λ (l : List ℤ). not (has_edge l)) (sym (ap front_of e ∙ front-push ps p)) ∙ parts.1))
 
 few-pushes : (pushes : List ℤ) → Few 3 1 (push_events pushes)
 unfolding push_events

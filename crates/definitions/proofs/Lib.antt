@@ -37,9 +37,11 @@ pub mod PrintedVerbLemmas
 pub mod OnLemmas
 pub mod SixteenthLemmas
 pub mod LockEndLemmas
+pub mod EdgeLemmas
 pub mod FewLemmas
 pub mod LengthLemmas
 pub mod SmallLemmas
+pub mod PageTextLemmas
 pub mod ShortLemmas
 pub mod FoundLemmas
 pub mod CellLemmas

@@ -1,6 +1,6 @@
 -- The values of pages are numbers of 32 bits and a sign at most.
-use Rattle.std.proofs.Common.{◌≡◌, ℕ, zero, suc, ◌+◌, ◌-◌, ◌*◌, ◌^◌, ◌<◌, ◌≤◌, List, [], ◌∷◌, ◌++◌, length, map, refl, sym, ap, ◌∙◌, arith}
-use Rattle.std.specs.Prelude.{Bool, true, false, ℤ, pos, Option, Some, None, slice_get, slice_index, get_or, cond, unsigned_abs, nat_le, ◌==◌, ◌&&◌, ◌-ℤ◌, option_map, filter, filter_map, if◌then◌else◌}
+use Rattle.std.proofs.Common.{◌≡◌, ℕ, zero, suc, ◌+◌, ◌^◌, ◌<◌, ◌≤◌, List, [], ◌∷◌, length, map, refl, sym, arith}
+use Rattle.std.specs.Prelude.{Bool, true, false, ℤ, pos, Option, Some, None, slice_index, get_or, cond, unsigned_abs, nat_le, ◌==◌, ◌&&◌, ◌-ℤ◌, option_map, filter, filter_map, if◌then◌else◌}
 use Rattle.std.specs.List.{AllByRecursion, list_all, cons_option}
 use Rattle.std.specs.Int.Digits.{number_from_digits, AllBelowBase}
 use Rattle.std.proofs.lemmas.Int.Digits.{number_lt}
@@ -9,7 +9,7 @@ use Rattle.std.proofs.lemmas.Nat.Bits.{bit_at-lt}
 use Rattle.std.proofs.lemmas.Bool.{and_parts, leb-true}
 use Rattle.std.proofs.Math.Pow.{pow_mono}
 use Rattle.definitions.specs.Frames.{Subframe, subframe_at, starts_of, is_complete}
-use Rattle.definitions.specs.Fields.{Field, all_places, bit_at_place, number_of, value_of}
+use Rattle.definitions.specs.Fields.{Field, all_places, bit_at_place, value_of}
 use Rattle.definitions.specs.Pages.{Kind, clock, eph2, eph3, almanac, utc, health, message, Page, page_of, kind_of, fields_of}
 use Rattle.definitions.specs.Events.{pages_among}
 use Rattle.definitions.proofs.AlmanacLemmas.{length-map}
