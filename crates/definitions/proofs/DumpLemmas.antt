@@ -39,10 +39,10 @@ module _ (settings : Settings) (channel : Channel) where
   segment-append ds more zero h = refl
   segment-append ds more (suc k) h = rw (segment-append ds more k (omega arith), take-append-le k ds more (omega arith), slice_get-append ds more k (omega arith)) refl
 
-  phases-append : (ds more : List Dump) (k : ℕ) → k ≤ length ds → phases_behind settings channel (ds ++ more) k ≡ phases_behind settings channel ds k
+  pub phases-append : (ds more : List Dump) (k : ℕ) → k ≤ length ds → phases_behind settings channel (ds ++ more) k ≡ phases_behind settings channel ds k
   phases-append ds more k h = rw (segment-append ds more k h, take-append-le k ds more h) refl
 
-  time-append : (ds more : List Dump) (k : ℕ) → k ≤ length ds → time_behind channel (ds ++ more) k ≡ time_behind channel ds k
+  pub time-append : (ds more : List Dump) (k : ℕ) → k ≤ length ds → time_behind channel (ds ++ more) k ≡ time_behind channel ds k
   time-append ds more zero h = refl
   time-append ds more (suc k) h = rw (slice_get-append ds more k (omega arith)) refl
 

@@ -43,6 +43,7 @@ pub mod LengthLemmas
 pub mod SmallLemmas
 pub mod PageTextLemmas
 pub mod ShortLemmas
+pub mod OnlyDumpLemmas
 pub mod FoundLemmas
 pub mod CellLemmas
 pub mod PageLemmas

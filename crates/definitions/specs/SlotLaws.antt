@@ -67,6 +67,11 @@ abbrev pub DumpsArePlainSums : Type 0
 DumpsArePlainSums = (settings : Settings) (channel : Channel) (xs : List Sample)
     → AreDumps settings channel xs (dumps_of settings channel xs)
 
+-- No other list has dumps like these.
+abbrev pub NoOtherDumps : Type 0
+NoOtherDumps = (settings : Settings) (channel : Channel) (xs : List Sample) (dumps : List Dump)
+    → AreDumps settings channel xs dumps → dumps ≡ dumps_of settings channel xs
+
 -- ---- acquisitions and pages
 
 -- With m more samples at most m / 4 + 1 more cells are done.

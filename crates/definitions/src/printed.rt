@@ -1,8 +1,13 @@
-//! Laws of what is printed: the lines of the whole text, whatever the settings, the samples and the clients are.
+//! Laws of what is printed: the lines of the whole text, whatever the settings, the samples and the
+//! clients are.
 
-ghost use Rattle.definitions.specs.PrintedLaws.{LinesComeFromEvents, PrintedCountsAreSums, PrintedAcquisitionsNameTheGreatest, PrintedWordsPass, PrintedPagesPass, PrintedAlmanacsAgree, LinesAreShort};
+ghost use Rattle.definitions.specs.PrintedLaws.{LinesComeFromEvents, PrintedCountsAreSums};
+ghost use Rattle.definitions.specs.PrintedLaws.{PrintedAcquisitionsNameTheGreatest};
+ghost use Rattle.definitions.specs.PrintedLaws.{PrintedWordsPass, PrintedPagesPass};
+ghost use Rattle.definitions.specs.PrintedLaws.{PrintedAlmanacsAgree, LinesAreShort};
 
-/// Each line of the whole text is that of an event that a slot tells, or that of an answer, or an end.
+/// Each line of the whole text is that of an event that a slot tells, or that of an answer, or an
+/// end.
 pub fn lines_come_from_events()
     ensures { LinesComeFromEvents }
 {}
@@ -12,7 +17,8 @@ pub fn printed_counts_are_sums()
     ensures { PrintedCountsAreSums }
 {}
 
-/// Each acquisition that is printed names the first greatest cell of its plan, and is found exactly at the threshold.
+/// Each acquisition that is printed names the first greatest cell of its plan, and is found exactly
+/// at the threshold.
 pub fn printed_acquisitions_name_the_greatest()
     ensures { PrintedAcquisitionsNameTheGreatest }
 {}
@@ -22,12 +28,14 @@ pub fn printed_words_pass()
     ensures { PrintedWordsPass }
 {}
 
-/// Each page that is printed comes from ten words that all pass, and each set of clock and ephemeris is of one issue of data.
+/// Each page that is printed comes from ten words that all pass, and each set of clock and
+/// ephemeris is of one issue of data.
 pub fn printed_pages_pass()
     ensures { PrintedPagesPass }
 {}
 
-/// Each set of almanacs that is printed has the last almanac of each satellite, all of one time of applicability.
+/// Each set of almanacs that is printed has the last almanac of each satellite, all of one time of
+/// applicability.
 pub fn printed_almanacs_agree()
     ensures { PrintedAlmanacsAgree }
 {}

@@ -1,11 +1,19 @@
 //! Laws of what one slot tells.
 
-ghost use Rattle.definitions.specs.SlotLaws.{DumpsArePlainSums, CellsComeWithSamples, PagesPass, EdgeIsSixteenthChange, LifeIsOn, SlotTellsFew};
-ghost use Rattle.definitions.specs.EventLaws.{EventsAreRight, CountsAreDumps, AcquisitionsNameTheGreatest, WordsToldPass, AlmanacSetsAgree, FoundCodeGoesOn};
+ghost use Rattle.definitions.specs.SlotLaws.{DumpsArePlainSums, NoOtherDumps, CellsComeWithSamples, PagesPass};
+ghost use Rattle.definitions.specs.SlotLaws.{EdgeIsSixteenthChange, LifeIsOn, SlotTellsFew};
+ghost use Rattle.definitions.specs.EventLaws.{EventsAreRight, CountsAreDumps};
+ghost use Rattle.definitions.specs.EventLaws.{AcquisitionsNameTheGreatest, WordsToldPass};
+ghost use Rattle.definitions.specs.EventLaws.{AlmanacSetsAgree, FoundCodeGoesOn};
 
 /// The dumps of a channel are the six plain sums over one run of the code after another.
 pub fn dumps_are_plain_sums()
     ensures { DumpsArePlainSums }
+{}
+
+/// No other list has dumps like those of a channel.
+pub fn no_other_dumps()
+    ensures { NoOtherDumps }
 {}
 
 /// With m more samples at most m / 4 + 1 more cells of an acquisition are done.
@@ -18,12 +26,14 @@ pub fn pages_pass()
     ensures { PagesPass }
 {}
 
-/// Where the sign of the pushes changes at one place modulo 20 alone, the edge is at the sixteenth change.
+/// Where the sign of the pushes changes at one place modulo 20 alone, the edge is at the sixteenth
+/// change.
 pub fn edge_is_sixteenth_change()
     ensures { EdgeIsSixteenthChange }
 {}
 
-/// The life that is on was begun by a command for which the slot was idle, no `stop` came behind it, and the samples haven't ended it.
+/// The life that is on was begun by a command for which the slot was idle, no `stop` came behind
+/// it, and the samples haven't ended it.
 pub fn life_is_on()
     ensures { LifeIsOn }
 {}
@@ -33,12 +43,14 @@ pub fn events_are_right()
     ensures { EventsAreRight }
 {}
 
-/// Each count that is told is a dump of the channel that the slot follows, ended by the last sample.
+/// Each count that is told is a dump of the channel that the slot follows, ended by the last
+/// sample.
 pub fn counts_are_dumps()
     ensures { CountsAreDumps }
 {}
 
-/// Each acquisition that is told names the first greatest cell of its plan, and is found exactly at the threshold.
+/// Each acquisition that is told names the first greatest cell of its plan, and is found exactly at
+/// the threshold.
 pub fn acquisitions_name_the_greatest()
     ensures { AcquisitionsNameTheGreatest }
 {}
@@ -48,12 +60,14 @@ pub fn words_told_pass()
     ensures { WordsToldPass }
 {}
 
-/// A set of almanacs that is reported has the last almanac of each satellite, all of one time of applicability.
+/// A set of almanacs that is reported has the last almanac of each satellite, all of one time of
+/// applicability.
 pub fn almanac_sets_agree()
     ensures { AlmanacSetsAgree }
 {}
 
-/// The code of a found signal is at the due time where the replica of the named cell has come by then, and goes on from there.
+/// The code of a found signal is at the due time where the replica of the named cell has come by
+/// then, and goes on from there.
 pub fn found_code_goes_on()
     ensures { FoundCodeGoesOn }
 {}
