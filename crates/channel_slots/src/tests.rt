@@ -102,7 +102,8 @@ fn told(slot: &mut Slot, most: usize, len: usize) -> Option<Counts>
     if samples.len() != slot.room(most) {
         return None;
     }
-    counted(&slot.step(&samples, &mut CodeBook::new()))
+    let events = slot.step(&samples, 0, samples.len(), &mut CodeBook::new());
+    counted(&events)
 }
 
 /// The sums of the first of these events, where it is a dump.

@@ -50,16 +50,18 @@ fn next(slot: &mut Slot, place: usize) -> Result<(usize, Option<Counts>), Fail>
     if 3_392 <= place {
         return Err(Fail::new("the recording is at its end"));
     }
-    let room = slot.room((3_392 - place).min(1_024));
-    let samples = unpack(Format::Real1, &RECORDING, place, room);
-    if samples.len() != room {
+    // The run begins before the place, where it can.
+    let before = place.min(24);
+    let room = slot.room((3_392 - place).min(1_000));
+    let samples = unpack(Format::Real1, &RECORDING, place - before, before + room);
+    if samples.len() != before + room {
         return Err(Fail::new("samples are missing"));
     }
-    let told = counted(&slot.step(&samples, &mut CodeBook::new()));
+    let told = counted(&slot.step(&samples, before, room, &mut CodeBook::new()));
     Ok((place + room, told))
 }
 
-// The first segment begins at half chip 700 and ends with sample 1,345; the second is the next 2,046 samples. Each takes two runs.
+// The first segment begins at half chip 700 and ends with sample 1,345; it takes two runs. The second is the next 2,046 samples, in three.
 #[test]
 fn first_counts_of_a_recording(rt: HostRuntime) -> Result<(), Fail> {
     let settings = Settings::new(2_046_000, 511_500, Format::Real1)?;
@@ -81,6 +83,8 @@ fn first_counts_of_a_recording(rt: HostRuntime) -> Result<(), Fail> {
     let (place, told) = next(&mut slot, place)?;
     let dump = sums([-354, -50, -704, -12, -432, -42]);
     assert_eq!(rt; (place, told), (1_346, Some(dump)));
+    let (place, told) = next(&mut slot, place)?;
+    assert_eq!(rt; told, None);
     let (place, told) = next(&mut slot, place)?;
     assert_eq!(rt; told, None);
     let (place, told) = next(&mut slot, place)?;
