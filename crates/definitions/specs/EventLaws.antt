@@ -6,7 +6,7 @@ use Rattle.std.specs.List.{range_with_len}
 use Rattle.definitions.specs.Samples.{Sample}
 use Rattle.definitions.specs.Oscillators.{Settings, code_step, code_phase_after}
 use Rattle.definitions.specs.Correlation.{Counts}
-use Rattle.definitions.specs.Segments.{Channel, counts_of, dumps_of}
+use Rattle.definitions.specs.Segments.{Channel, Dump, counts_of, dumps_of}
 use Rattle.definitions.specs.Lock.{lock, unlock, lost, news_of}
 use Rattle.definitions.specs.Acquisition.{Plan, Cell, cell_count, bin_of, half_chip_of, power_of}
 use Rattle.definitions.specs.Acquisition.{bin_shift, result_of, due_time}
@@ -36,19 +36,24 @@ pushes_so_far settings xs life = pushes_of (counts_by settings xs life)
 abbrev pub bits_so_far : Settings → List Sample → Life → List Bool
 bits_so_far settings xs life = bits_of (pushes_so_far settings xs life)
 
+-- these sums, of a dump that the last sample ends
+abbrev pub dump_now : List Sample → Counts → Dump
+dump_now xs c = record { time = length xs; counts = c }
+
 -- Dump number k of the channel that the life follows, ended by the last sample: the six plain sums
 -- over one run of the code. And not all that were asked for had come before.
 pub record IsCount (settings : Settings) (xs : List Sample) (life : Life) (channel : Channel)
     (k : ℕ) (c : Counts) : Type 0 where
   pub is_wanted : 0 < unprinted life (front_of (dumps_of_life settings xs life))
   pub is_followed : channel_of settings xs life.begun life.start ≡ Some channel
-  pub is_dump : slice_get (dumps_of settings channel xs) k
-      ≡ Some (record { time = length xs; counts = c })
+  pub is_dump : slice_get (dumps_of settings channel xs) k ≡ Some (dump_now xs c)
   pub is_sum : IsDump channel xs (time_behind channel (dumps_of settings channel xs) k)
-      (phases_behind settings channel (dumps_of settings channel xs) k) (record {
-        time = length xs;
-        counts = c;
-      })
+      (phases_behind settings channel (dumps_of settings channel xs) k) (dump_now xs c)
+
+-- the powers of all cells, added up
+abbrev pub total_power : Settings → List Sample → Plan → ℕ → ℕ
+total_power settings xs plan start =
+    sum (map (power_of settings plan xs start) (range_with_len 0 (cell_count plan)))
 
 -- The first greatest of the plan's cells over the dwell behind a start, found exactly where it has
 -- the threshold or more.
@@ -58,10 +63,8 @@ pub record IsNamed (settings : Settings) (xs : List Sample) (plan : Plan) (start
   pub bin : cell.bin ≡ bin_of plan named
   pub half_chip : cell.half_chip ≡ half_chip_of named
   pub power : cell.power ≡ power_of settings plan xs start named
-  pub found : (cell.found
-      ≡ true) ↔ (plan.threshold * sum
-      (map (power_of settings plan xs start) (range_with_len 0 (cell_count plan))) ≤ 10 * cell.power
-      * cell_count plan)
+  pub found : (cell.found ≡ true)
+      ↔ (plan.threshold * total_power settings xs plan start ≤ 10 * cell.power * cell_count plan)
 
 -- The life is an acquisition of the satellite, due with the last sample, and the cell is the one
 -- that it names.

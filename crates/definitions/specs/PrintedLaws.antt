@@ -25,6 +25,10 @@ abbrev pub commands_before : Profile → Client → ℕ → List Sample → List
 commands_before profile client slot xs =
     commands_to slot (entries_before (length xs) (entries_of profile client))
 
+-- an element of a list
+abbrev pub IsAmong : {A : Type 0} → List A → A → Type 0
+IsAmong xs x = (i : ℕ) × (slice_get xs i ≡ Some x)
+
 -- The last of the samples makes a slot of client number 1 + k tell the event, the event is one that
 -- is printed, and it is right.
 pub record Tells (profile : Profile) (settings : Settings) (clients : List Client)
@@ -32,9 +36,7 @@ pub record Tells (profile : Profile) (settings : Settings) (clients : List Clien
   pub is_client : slice_get clients k ≡ Some client
   pub is_slot : slot < client.slots
   pub is_printed : profile.prints event ≡ true
-  pub is_told : (i : ℕ)
-      × (slice_get (events_at_end settings xs (commands_before profile client slot xs)) i
-      ≡ Some event)
+  pub is_told : IsAmong (events_at_end settings xs (commands_before profile client slot xs)) event
   pub is_right : IsRight settings xs (commands_before profile client slot xs) event
 
 -- The line is that of an event, told at a time from 0 to the number of samples.
@@ -44,15 +46,18 @@ IsLineOf profile settings clients xs line event =
     × Tells profile settings clients (take t xs) k slot client event
     × (line ≡ for_client (1 + k) (at_time t (event_text slot event)))
 
+-- the text of the answer to an entry of a client's script, behind the i entries before it
+abbrev pub reply_to : Profile → Settings → Client → List Sample → ℕ → Entry → List ℕ
+reply_to profile settings client xs i entry =
+    reply_text settings (take entry.time xs) (take i (entries_of profile client)) entry.what
+
 -- The line is the answer to an entry of a client's script, at the entry's time.
 abbrev pub IsAnswerLine : Profile → Settings → List Client → List Sample → List ℕ → Type 0
 IsAnswerLine profile settings clients xs line =
     (k : ℕ) × (i : ℕ) × (client : Client) × (entry : Entry)
     × (slice_get clients k ≡ Some client) × (slice_get (entries_of profile client) i ≡ Some entry)
     × (entry.time ≤ length xs)
-    × (line ≡ for_client (1 + k)
-    (at_time entry.time (reply_text settings (take entry.time xs)
-    (take i (entries_of profile client)) entry.what)))
+    × (line ≡ for_client (1 + k) (at_time entry.time (reply_to profile settings client xs i entry)))
 
 -- The line is a client's end.
 abbrev pub IsEndLine : List Client → List Sample → List ℕ → Type 0
@@ -82,8 +87,7 @@ verb_of line = slice_get (words_of line) 2
 -- a line of the whole text with such a verb
 abbrev pub IsPrinted : Profile → Settings → List Client → List Sample → List ℕ → List ℕ → Type 0
 IsPrinted profile settings clients xs line verb =
-    ((i : ℕ) × (slice_get (lines_of (full profile settings xs clients)) i ≡ Some line))
-    × (verb_of line ≡ Some verb)
+    IsAmong (lines_of (full profile settings xs clients)) line × (verb_of line ≡ Some verb)
 
 -- Each count that is printed is that of a dump, the plain sums over just its samples.
 abbrev pub PrintedCountsAreSums : Type 0

@@ -42,14 +42,18 @@ phases_behind settings channel dumps k =
     phases_of settings (channel.steering (counts_of (take k dumps)))
     (segment_behind settings channel dumps k)
 
+-- the code's phase n samples on, not taken back by a cycle
+abbrev pub code_by : Phases → ℕ → ℕ
+code_by p n = (phases_after p n).code
+
 -- A dump of a segment with such phases at its start: it ends at the least time by which the code
 -- has run through, within the samples, and is the six plain sums over just the samples between.
-pub record IsDump (channel : Channel) (xs : List Sample) (start : ℕ) (p : Phases) (d : Dump) : Type
-    0 where
+pub record IsDump (channel : Channel) (xs : List Sample) (start : ℕ) (p : Phases) (d : Dump)
+    : Type 0 where
   pub later : start < d.time
   pub within : d.time ≤ length xs
-  pub through : code_cycle ≤ (phases_after p (d.time - start)).code
-  pub not_sooner : (e : ℕ) → start < e → e < d.time → (phases_after p (e - start)).code < code_cycle
+  pub through : code_cycle ≤ code_by p (d.time - start)
+  pub not_sooner : (e : ℕ) → start < e → e < d.time → code_by p (e - start) < code_cycle
   pub sums : d.counts ≡ counts_over channel.prn p xs start d.time
 
 -- Each is the dump of the segment behind those before it, and behind the last of them no segment
@@ -59,8 +63,8 @@ pub record AreDumps (settings : Settings) (channel : Channel) (xs : List Sample)
   pub each : (k : ℕ) (d : Dump) → slice_get dumps k ≡ Some d
       → IsDump channel xs (time_behind channel dumps k) (phases_behind settings channel dumps k) d
   pub no_more : (e : ℕ) → time_behind channel dumps (length dumps) < e → e ≤ length xs
-      → (phases_after (phases_behind settings channel dumps (length dumps))
-      (e - time_behind channel dumps (length dumps))).code < code_cycle
+      → code_by (phases_behind settings channel dumps (length dumps))
+      (e - time_behind channel dumps (length dumps)) < code_cycle
 
 -- The dumps of a channel are the plain sums over one run of the code after another.
 abbrev pub DumpsArePlainSums : Type 0
