@@ -38,6 +38,7 @@ pub mod OnLemmas
 pub mod SixteenthLemmas
 pub mod LockEndLemmas
 pub mod EdgeLemmas
+pub mod BehindLockLemmas
 pub mod FewLemmas
 pub mod LengthLemmas
 pub mod SmallLemmas

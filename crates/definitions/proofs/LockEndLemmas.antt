@@ -52,11 +52,11 @@ window-append ds es j h = let n : 219 + 20 * j - (199 + 20 * j) ≡ 20 = omega a
 good-append : (ds es : List Counts) (j : ℕ) → 219 + 20 * j ≤ length ds → is_good (ds ++ es) j ≡ is_good ds j
 good-append ds es j h = rw (window-append ds es j h) refl
 
-any_good-append : (ds es : List Counts) (k n : ℕ) → 199 + 20 * n ≤ length ds → any_good (ds ++ es) k n ≡ any_good ds k n
+pub any_good-append : (ds es : List Counts) (k n : ℕ) → 199 + 20 * n ≤ length ds → any_good (ds ++ es) k n ≡ any_good ds k n
 any_good-append ds es k n h = any-same (is_good (ds ++ es)) (is_good ds) (n - k) (n - (n - k)) (λ j below. good-append ds es j (omega (arith, below, h)))
 
 -- none of the last fifty is good, so none of the last ten
-lost-unlocked : (ds : List Counts) (n : ℕ) → is_lost_after ds n ≡ true → is_locked_after ds n ≡ false
+pub lost-unlocked : (ds : List Counts) (n : ℕ) → is_lost_after ds n ≡ true → is_locked_after ds n ≡ false
 lost-unlocked ds n e =
     let parts = and_parts (nat_le 50 n) (not (any_good ds 50 n)) e in
     let enough : 50 ≤ n = leb-true 50 n parts.0 in

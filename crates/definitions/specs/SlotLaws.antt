@@ -5,7 +5,7 @@ use Rattle.std.specs.Prelude.{Bool, true, false, List, length, slice_get, take, 
 use Rattle.std.specs.Option.{option_map_or}
 use Rattle.definitions.specs.Samples.{Sample}
 use Rattle.definitions.specs.Oscillators.{Settings, code_cycle}
-use Rattle.definitions.specs.Correlation.{Phases, phases_after, counts_over}
+use Rattle.definitions.specs.Correlation.{Counts, Phases, phases_after, counts_over}
 use Rattle.definitions.specs.Segments.{Channel, Dump, Segment, counts_of, dumps_of, phases_of}
 use Rattle.definitions.specs.Segments.{next_segment}
 use Rattle.definitions.specs.Acquisition.{Plan, cells_done}
@@ -16,8 +16,9 @@ use Rattle.definitions.specs.Pages.{Page, page_of}
 use Rattle.definitions.specs.Commands.{TimedRequest, begin, stop}
 use Rattle.definitions.specs.Lives.{Life, is_over, still_on, life_of, life_now}
 use Rattle.definitions.specs.Events.{Event, acquired, count, locked, unlocked, signal_lost, edge}
-use Rattle.definitions.specs.Events.{gap, subframe, reported, almanacs, events_at_end, pages_among}
-use Rattle.std.specs.Prelude.{filter, not}
+use Rattle.definitions.specs.Events.{gap, subframe, reported, almanacs, events_at_end, pages_among, pushes_of}
+use Rattle.std.specs.Prelude.{filter, not, map, drop, [], Option, if◌then◌else◌}
+use Rattle.definitions.specs.Lock.{News, nothing, lock, unlock, lost, news_of, is_locked}
 
 -- ---- the dumps of a channel
 
@@ -97,6 +98,29 @@ abbrev pub EdgeIsSixteenthChange : Type 0
 EdgeIsSixteenthChange =
     (pushes : List ℤ) (place k : ℕ) → ((i : ℕ) → i ≤ k → is_change pushes i ≡ true → i % 20 ≡ place)
     → is_edge pushes k ≡ (is_change pushes k && (changes_at pushes (k % 20) 0 k == 16))
+
+-- how many dumps there were, of the first k, when the loops last answered with a lock
+abbrev pub is_lock : News → Bool
+is_lock news = elim news [ lock ↦ true | nothing ↦ false | unlock ↦ false | lost ↦ false ]
+
+unfoldable pub last_lock : List Counts → ℕ → Option ℕ
+last_lock dumps zero = None
+last_lock dumps (suc k) =
+    if is_lock (news_of (take (suc k) dumps)) then Some (suc k) else last_lock dumps k
+
+abbrev pub prompt_sums : List Counts → List ℤ
+prompt_sums dumps = map (λ (d : Counts). d.ip) dumps
+
+abbrev pub sums_behind : List Counts → Option ℕ → List ℤ
+sums_behind dumps None = []
+sums_behind dumps (Some k) = prompt_sums (drop k dumps)
+
+-- While the loops are locked, the prompt sums of the dumps behind the one with which they last
+-- answered with a lock are pushed, and otherwise none.
+abbrev pub PushesAreBehindLock : Type 0
+PushesAreBehindLock = (dumps : List Counts)
+    → pushes_of dumps
+    ≡ (if is_locked dumps then sums_behind dumps (last_lock dumps (length dumps)) else [])
 
 -- ---- lives
 

@@ -1,5 +1,6 @@
 //! Laws of what one slot tells.
 
+ghost use Rattle.definitions.specs.SlotLaws.{PushesAreBehindLock};
 ghost use Rattle.definitions.specs.SlotLaws.{DumpsArePlainSums, NoOtherDumps, CellsComeWithSamples, PagesPass};
 ghost use Rattle.definitions.specs.SlotLaws.{EdgeIsSixteenthChange, LifeIsOn, SlotTellsFew};
 ghost use Rattle.definitions.specs.EventLaws.{EventsAreRight, CountsAreDumps};
@@ -24,6 +25,11 @@ pub fn cells_come_with_samples()
 /// Each page that is reported comes from ten words that all pass with the two bits before them.
 pub fn pages_pass()
     ensures { PagesPass }
+{}
+
+/// While the loops are locked, the prompt sums behind the last dump that brought a lock are pushed.
+pub fn pushes_are_behind_lock()
+    ensures { PushesAreBehindLock }
 {}
 
 /// Where the sign of the pushes changes at one place modulo 20 alone, the edge is at the sixteenth
