@@ -1,7 +1,8 @@
 //! Laws of what one slot tells.
 
 ghost use Rattle.definitions.specs.SlotLaws.{PushesAreBehindLock};
-ghost use Rattle.definitions.specs.SlotLaws.{DumpsArePlainSums, NoOtherDumps, CellsComeWithSamples, PagesPass};
+ghost use Rattle.definitions.specs.SlotLaws.{DumpsArePlainSums, NoOtherDumps, CellsComeWithSamples};
+ghost use Rattle.definitions.specs.SlotLaws.{PagesPass};
 ghost use Rattle.definitions.specs.SlotLaws.{EdgeIsSixteenthChange, LifeIsOn, SlotTellsFew};
 ghost use Rattle.definitions.specs.EventLaws.{EventsAreRight, CountsAreDumps};
 ghost use Rattle.definitions.specs.EventLaws.{AcquisitionsNameTheGreatest, WordsToldPass};
