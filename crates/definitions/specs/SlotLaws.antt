@@ -16,7 +16,8 @@ use Rattle.definitions.specs.Pages.{Page, page_of}
 use Rattle.definitions.specs.Commands.{TimedRequest, begin, stop}
 use Rattle.definitions.specs.Lives.{Life, is_over, still_on, life_of, life_now}
 use Rattle.definitions.specs.Events.{Event, acquired, count, locked, unlocked, signal_lost, edge}
-use Rattle.definitions.specs.Events.{gap, subframe, reported, almanacs, events_at_end, pages_among, pushes_of}
+use Rattle.definitions.specs.Events.{gap, subframe, reported, almanacs, events_at_end, pages_among}
+use Rattle.definitions.specs.Events.{pushes_of}
 use Rattle.std.specs.Prelude.{filter, not, map, drop, [], Option, if◌then◌else◌}
 use Rattle.definitions.specs.Lock.{News, nothing, lock, unlock, lost, news_of, is_locked}
 
