@@ -30,7 +30,8 @@ impl<'a> Queue<'a> {
 
     /// Takes the entry that is next, where it stands at this time or before it.
     pub fn take_due(&mut self, now: u64) -> Option<Timed>
-        ensures some { IfSome result (λ timed. left_of self.old ≡ entry_in timed ∷ left_of self.new) }
+        ensures some { IfSome result (λ timed. left_of self.old
+            ≡ entry_in timed ∷ left_of self.new) }
         ensures due { IfSome result (λ timed. timed.time ≤ now) }
         ensures none { IsNone result → NoneDue now (left_of self.old) }
         ensures kept { IsNone result → self.new ≡ self.old }

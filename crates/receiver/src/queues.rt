@@ -14,7 +14,8 @@ use arrayvec::ArrayVec;
 /// All entries of each script.
 pub fn queues_of<'a>(scripts: &'a [&'a [u8]]) -> ArrayVec<Queue<'a>, MOST_CLIENTS>
     requires { length scripts.now ≤ 8 }
-    ensures { map left_of result.items ≡ map (λ script. entries_of offered (client_with script.now)) scripts.now }
+    ensures { map left_of result.items
+        ≡ map (λ script. entries_of offered (client_with script.now)) scripts.now }
 {
     let mut queues = ArrayVec::new();
     for script in scripts {
@@ -38,7 +39,8 @@ pub fn least_gap(queues: &[Queue], now: u64) -> u64
 pub fn take_due(queues: &mut [Queue], now: u64) -> Option<Due>
     requires { length queues.old ≤ 8 }
     ensures some { IfSome result (λ due. TakesDue now 1 queues.old queues.new due) }
-    ensures none { IsNone result → AllByRecursion (λ queue. NoneDue now (left_of queue)) queues.old }
+    ensures none { IsNone result
+        → AllByRecursion (λ queue. NoneDue now (left_of queue)) queues.old }
     ensures kept { IsNone result → queues.new ≡ queues.old }
 {
     for index in 0..queues.len() {

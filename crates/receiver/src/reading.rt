@@ -36,10 +36,16 @@ fn take_samples<W: Sink>(
     ensures packing { packing_in session.new ≡ packing_in session.old }
     ensures time { time_of session.new ≡ time_of session.old + len }
     ensures ready { OnOk result (0 < until_next session.new) }
-    ensures ok { OnOk result ((settings : Recording) (clients : List Client) (start : Option (List ℕ)) (xs : List Sample) → IsWrittenTo settings clients start session.old (W.contents writer.old) xs →
-        IsWrittenTo settings clients start session.new (W.contents writer.new) (xs ++ samples_from settings.packing bytes.now first len)) }
-    ensures err { OnErr result ((settings : Recording) (clients : List Client) (start : Option (List ℕ)) (xs : List Sample) → IsWrittenTo settings clients start session.old (W.contents writer.old) xs →
-        AppendsPart start (W.contents writer.new) (body offered settings (xs ++ samples_from settings.packing bytes.now first len) clients)) }
+    ensures ok { OnOk result ((settings : Recording) (clients : List Client)
+        (start : Option (List ℕ)) (xs : List Sample)
+        → IsWrittenTo settings clients start session.old (W.contents writer.old) xs →
+        IsWrittenTo settings clients start session.new (W.contents writer.new)
+        (xs ++ samples_from settings.packing bytes.now first len)) }
+    ensures err { OnErr result ((settings : Recording) (clients : List Client)
+        (start : Option (List ℕ)) (xs : List Sample)
+        → IsWrittenTo settings clients start session.old (W.contents writer.old) xs →
+        AppendsPart start (W.contents writer.new) (body offered settings
+        (xs ++ samples_from settings.packing bytes.now first len) clients)) }
     ensures failure { TellsFailure (W.has_failed writer.old) (W.has_failed writer.new) result }
 {
     session.feed(bytes, first, len, replies);
@@ -63,12 +69,19 @@ fn take_piece<W: Sink>(
     requires ready { 0 < until_next session.old }
     ensures empty { OnOk result (replies.new.items ≡ []) }
     ensures packing { packing_in session.new ≡ packing_in session.old }
-    ensures time { OnOk result (time_of session.new ≡ time_of session.old + sample_count (packing_in session.old) bytes.now) }
+    ensures time { OnOk result (time_of session.new
+        ≡ time_of session.old + sample_count (packing_in session.old) bytes.now) }
     ensures ready { OnOk result (0 < until_next session.new) }
-    ensures ok { OnOk result ((settings : Recording) (clients : List Client) (start : Option (List ℕ)) (xs : List Sample) → IsWrittenTo settings clients start session.old (W.contents writer.old) xs →
-        IsWrittenTo settings clients start session.new (W.contents writer.new) (xs ++ samples settings.packing bytes.now)) }
-    ensures err { OnErr result ((settings : Recording) (clients : List Client) (start : Option (List ℕ)) (xs : List Sample) → IsWrittenTo settings clients start session.old (W.contents writer.old) xs →
-        AppendsPart start (W.contents writer.new) (body offered settings (xs ++ samples settings.packing bytes.now) clients)) }
+    ensures ok { OnOk result ((settings : Recording) (clients : List Client)
+        (start : Option (List ℕ)) (xs : List Sample)
+        → IsWrittenTo settings clients start session.old (W.contents writer.old) xs →
+        IsWrittenTo settings clients start session.new (W.contents writer.new)
+        (xs ++ samples settings.packing bytes.now)) }
+    ensures err { OnErr result ((settings : Recording) (clients : List Client)
+        (start : Option (List ℕ)) (xs : List Sample)
+        → IsWrittenTo settings clients start session.old (W.contents writer.old) xs →
+        AppendsPart start (W.contents writer.new) (body offered settings
+        (xs ++ samples settings.packing bytes.now) clients)) }
     ensures failure { TellsFailure (W.has_failed writer.old) (W.has_failed writer.new) result }
 {
     let count = bytes.len() * per_byte;
@@ -97,13 +110,16 @@ pub fn read_all<R: Source, W: Sink>(
     ensures once { R.has_failed reader.old ≡ false
         → R.was_asked_again reader.new ≡ R.was_asked_again reader.old }
     ensures packing { packing_in session.new ≡ packing_in session.old }
-    ensures read { IfOk result (λ stop. (settings : Recording) (clients : List Client) (start : Option (List ℕ)) → IsWrittenTo settings clients start session.old (W.contents writer.old) [] →
+    ensures read { IfOk result (λ stop. (settings : Recording) (clients : List Client)
+        (start : Option (List ℕ))
+        → IsWrittenTo settings clients start session.old (W.contents writer.old) [] →
         HasRead settings clients limit start session.new
         (seen (R.remaining reader.old) (R.has_failed reader.old)
         (W.contents writer.old) (W.has_failed writer.old))
         (seen (R.remaining reader.new) (R.has_failed reader.new)
         (W.contents writer.new) (W.has_failed writer.new)) stop) }
-    ensures broken { OnErr result ((settings : Recording) (clients : List Client) (start : Option (List ℕ)) → IsWrittenTo settings clients start session.old (W.contents writer.old) [] →
+    ensures broken { OnErr result ((settings : Recording) (clients : List Client)
+        (start : Option (List ℕ)) → IsWrittenTo settings clients start session.old (W.contents writer.old) [] →
         BrokeOffReading settings clients limit start
         (seen (R.remaining reader.old) (R.has_failed reader.old)
         (W.contents writer.old) (W.has_failed writer.old))

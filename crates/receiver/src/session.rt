@@ -39,10 +39,13 @@ impl<'a> Session<'a> {
         settings: Settings,
         scripts: &'a [&'a [u8]],
     ) -> Result<Session<'a>, OpenFault>
-        ensures clients { (result ≡ Err OpenFault.Clients) ↔ ((length scripts.now ≡ 0) ⊎ (8 < length scripts.now)) }
+        ensures clients { (result ≡ Err OpenFault.Clients) ↔ ((length scripts.now
+            ≡ 0) ⊎ (8 < length scripts.now)) }
         ensures packing { IfOk result (λ session. packing_in session ≡ settings.packing) }
         ensures time { IfOk result (λ session. time_of session ≡ 0) }
-        ensures stands { IfOk result (λ session. StandsFor settings (map (λ script. client_with script.now) scripts.now) session [] (answers_at offered settings (map (λ script. client_with script.now) scripts.now) [])) }
+        ensures stands { IfOk result (λ session. StandsFor settings (map
+            (λ script. client_with script.now) scripts.now) session []
+            (answers_at offered settings (map (λ script. client_with script.now) scripts.now) [])) }
     {
         let clients = scripts.len().min(MOST_CLIENTS + 1);
         let bank = Bank::open(alloc, settings, clients as u8)?;
@@ -91,11 +94,18 @@ impl<'a> Session<'a> {
         requires empty { replies.old.items ≡ [] }
         ensures packing { packing_in self.new ≡ packing_in self.old }
         ensures time { time_of self.new ≡ time_of self.old + len }
-        ensures stands { (settings : Recording) (clients : List Client) (xs : List Sample) → StandsFor settings clients self.old xs []
-            → StandsFor settings clients self.new (xs ++ samples_from settings.packing bytes.now first len) (answers_at offered settings clients (xs ++ samples_from settings.packing bytes.now first len)) }
-        ensures told { (settings : Recording) (clients : List Client) (xs : List Sample) → StandsFor settings clients self.old xs []
-            → body_lines offered settings (xs ++ samples_from settings.packing bytes.now first len) clients
-            ≡ body_lines offered settings xs clients ++ map line_of replies.new.items ++ answers_at offered settings clients (xs ++ samples_from settings.packing bytes.now first len) }
+        ensures stands { (settings : Recording) (clients : List Client) (xs : List Sample)
+            → StandsFor settings clients self.old xs []
+            → StandsFor settings clients self.new
+            (xs ++ samples_from settings.packing bytes.now first len)
+            (answers_at offered settings clients
+            (xs ++ samples_from settings.packing bytes.now first len)) }
+        ensures told { (settings : Recording) (clients : List Client) (xs : List Sample)
+            → StandsFor settings clients self.old xs []
+            → body_lines offered settings
+            (xs ++ samples_from settings.packing bytes.now first len) clients
+            ≡ body_lines offered settings xs clients ++ map line_of replies.new.items ++ answers_at
+            offered settings clients (xs ++ samples_from settings.packing bytes.now first len) }
     {
         self.bank.feed_into(bytes, first, len, replies);
     }
@@ -107,9 +117,14 @@ impl<'a> Session<'a> {
         ensures time { time_of self.new ≡ time_of self.old }
         ensures ready { IsNone result → 0 < until_next self.new }
         ensures fewer { IfSome result (λ _. lines_left self.new < lines_left self.old) }
-        ensures some { IfSome result (λ reply. (settings : Recording) (clients : List Client) (xs : List Sample) (waiting : List (List ℕ)) → StandsFor settings clients self.old xs waiting
-            → (rest : List (List ℕ)) × (waiting ≡ line_of reply ∷ rest) × StandsFor settings clients self.new xs rest) }
-        ensures none { IsNone result → (settings : Recording) (clients : List Client) (xs : List Sample) (waiting : List (List ℕ)) → StandsFor settings clients self.old xs waiting
+        ensures some { IfSome result (λ reply. (settings : Recording) (clients : List Client)
+            (xs : List Sample) (waiting : List (List ℕ))
+            → StandsFor settings clients self.old xs waiting
+            → (rest : List (List ℕ)) × (waiting ≡ line_of reply ∷ rest)
+            × StandsFor settings clients self.new xs rest) }
+        ensures none { IsNone result
+            → (settings : Recording) (clients : List Client) (xs : List Sample) (waiting : List
+            (List ℕ)) → StandsFor settings clients self.old xs waiting
             → (waiting ≡ []) × StandsFor settings clients self.new xs [] }
     {
         let now = self.bank.time();

@@ -22,8 +22,10 @@ use channel_slots::Reply;
 
 /// Writes the lines of replies.
 pub fn write_replies<W: Sink>(replies: &[Reply], writer: &mut W) -> Result<(), DeviceFault>
-    ensures ok { OnOk result (Appends (W.contents writer.old) (W.contents writer.new) (as_bytes (map line_of replies.now))) }
-    ensures err { OnErr result (AppendsPart (W.contents writer.old) (W.contents writer.new) (as_bytes (map line_of replies.now))) }
+    ensures ok { OnOk result (Appends (W.contents writer.old) (W.contents writer.new) (as_bytes
+        (map line_of replies.now))) }
+    ensures err { OnErr result (AppendsPart (W.contents writer.old) (W.contents writer.new)
+        (as_bytes (map line_of replies.now))) }
     ensures failure { TellsFailure (W.has_failed writer.old) (W.has_failed writer.new) result }
 {
     for reply in replies {
@@ -37,9 +39,12 @@ pub fn write_answers<W: Sink>(session: &mut Session, writer: &mut W) -> Result<(
     ensures packing { packing_in session.new ≡ packing_in session.old }
     ensures time { time_of session.new ≡ time_of session.old }
     ensures ready { OnOk result (0 < until_next session.new) }
-    ensures ok { OnOk result ((settings : Recording) (clients : List Client) (xs : List Sample) (waiting : List (List ℕ)) → StandsFor settings clients session.old xs waiting →
-        Appends (W.contents writer.old) (W.contents writer.new) (as_bytes waiting) × StandsFor settings clients session.new xs []) }
-    ensures err { OnErr result ((settings : Recording) (clients : List Client) (xs : List Sample) (waiting : List (List ℕ)) → StandsFor settings clients session.old xs waiting →
+    ensures ok { OnOk result ((settings : Recording) (clients : List Client) (xs : List Sample)
+        (waiting : List (List ℕ)) → StandsFor settings clients session.old xs waiting →
+        Appends (W.contents writer.old) (W.contents writer.new) (as_bytes waiting)
+        × StandsFor settings clients session.new xs []) }
+    ensures err { OnErr result ((settings : Recording) (clients : List Client) (xs : List Sample)
+        (waiting : List (List ℕ)) → StandsFor settings clients session.old xs waiting →
         AppendsPart (W.contents writer.old) (W.contents writer.new) (as_bytes waiting)) }
     ensures failure { TellsFailure (W.has_failed writer.old) (W.has_failed writer.new) result }
 {
@@ -51,9 +56,13 @@ pub fn write_answers<W: Sink>(session: &mut Session, writer: &mut W) -> Result<(
 
 /// Writes `end` for each client, behind all lines.
 fn write_ends<W: Sink>(session: &Session, writer: &mut W) -> Result<(), DeviceFault>
-    ensures ok { OnOk result ((settings : Recording) (clients : List Client) (start : Option (List ℕ)) (xs : List Sample) → IsWrittenTo settings clients start session.now (W.contents writer.old) xs →
+    ensures ok { OnOk result ((settings : Recording) (clients : List Client)
+        (start : Option (List ℕ)) (xs : List Sample)
+        → IsWrittenTo settings clients start session.now (W.contents writer.old) xs →
         Appends start (W.contents writer.new) (full offered settings xs clients)) }
-    ensures err { OnErr result ((settings : Recording) (clients : List Client) (start : Option (List ℕ)) (xs : List Sample) → IsWrittenTo settings clients start session.now (W.contents writer.old) xs →
+    ensures err { OnErr result ((settings : Recording) (clients : List Client)
+        (start : Option (List ℕ)) (xs : List Sample)
+        → IsWrittenTo settings clients start session.now (W.contents writer.old) xs →
         AppendsPart start (W.contents writer.new) (full offered settings xs clients)) }
     ensures failure { TellsFailure (W.has_failed writer.old) (W.has_failed writer.new) result }
 {
@@ -65,9 +74,13 @@ fn write_ends<W: Sink>(session: &Session, writer: &mut W) -> Result<(), DeviceFa
 
 /// Writes what comes last for a stop, and flushes.
 pub fn finish<W: Sink>(session: &Session, stop: Stop, writer: &mut W) -> Result<(), DeviceFault>
-    ensures ok { OnOk result ((settings : Recording) (clients : List Client) (start : Option (List ℕ)) (xs : List Sample) → IsWrittenTo settings clients start session.now (W.contents writer.old) xs →
+    ensures ok { OnOk result ((settings : Recording) (clients : List Client)
+        (start : Option (List ℕ)) (xs : List Sample)
+        → IsWrittenTo settings clients start session.now (W.contents writer.old) xs →
         Appends start (W.contents writer.new) (text_for stop settings xs clients)) }
-    ensures err { OnErr result ((settings : Recording) (clients : List Client) (start : Option (List ℕ)) (xs : List Sample) → IsWrittenTo settings clients start session.now (W.contents writer.old) xs →
+    ensures err { OnErr result ((settings : Recording) (clients : List Client)
+        (start : Option (List ℕ)) (xs : List Sample)
+        → IsWrittenTo settings clients start session.now (W.contents writer.old) xs →
         AppendsPart start (W.contents writer.new) (text_for stop settings xs clients)) }
     ensures failure { TellsFailure (W.has_failed writer.old) (W.has_failed writer.new) result }
 {

@@ -30,7 +30,10 @@ pub struct Stored<'a, F> {
 }
 
 impl<'a, F> Stored<'a, F> {
-    pub fn new(files: &'a F) -> Self {
+    /// These files.
+    pub fn new(files: &'a F) -> Self
+        ensures { result.files.now ≡ files.now }
+    {
         Stored { files }
     }
 }
