@@ -35,7 +35,7 @@ module _ (settings : Settings) (channel : Channel) (xs ys : List Sample) (f : Fo
   none_by m low e b = rw (← s.code_step) (quiet-through (progress settings channel xs).open_segment f.code.step (length xs) m f.code.phase s.at.opened s.at.code low e b)
 
   inside : 0 < length ys → f.code.phase + (length ys - 1) * f.code.step < 1023 * 2 ^ 32 → QuietInside settings channel xs ys
-  inside some low j b = progress-quiet settings channel xs (take j ys) s.at.begun (none_by (length (take j ys)) (omega (arith, low, length-take j ys, mul-le-mul_right f.code.step (short j b))))
+  inside some low j b = progress-quiet settings channel xs (take j ys) (none_by (length (take j ys)) (omega (arith, low, length-take j ys, mul-le-mul_right f.code.step (short j b))))
     where
       short : (j : ℕ) → j < length ys → length (take j ys) ≤ length ys - 1
       short j b = omega (arith, length-take j ys)
@@ -72,7 +72,7 @@ module _ (settings : Settings) (channel : Channel) (xs ys : List Sample) (f : Fo
     stays some low g prn code carrier code_step carrier_step sums =
         let before : f.code.phase + length ys * f.code.step < 1023 * 2 ^ 32 = omega (arith, m.code, low) in
         let less : (length ys - 1) * f.code.step ≤ length ys * f.code.step = mul-le-mul_right f.code.step (omega arith) in
-        let same : progress settings channel (xs ++ ys) ≡ progress settings channel xs = progress-quiet settings channel xs ys s.at.begun (none_by (length ys) before) in
+        let same : progress settings channel (xs ++ ys) ≡ progress settings channel xs = progress-quiet settings channel xs ys (none_by (length ys) before) in
         record {
           inside = inside some (omega (arith, before, less));
           same = same;
@@ -109,7 +109,7 @@ module _ (settings : Settings) (channel : Channel) (xs ys : List Sample) (f : Fo
         let last : is_through (progress settings channel xs).open_segment (open_phases settings channel (progress settings channel xs)).code_step (length xs + length ys) ≡ true =
         rw (← s.code_step) (last-through (progress settings channel xs).open_segment f.code.step (length xs) (length ys) f.code.phase s.at.opened some s.at.code (omega (arith, m.code, high))) in
         let ends : progress settings channel (xs ++ ys) ≡ closed =
-        progress-closes settings channel xs ys s.at.begun some (λ e b. none_by (length ys - 1) before e (omega arith)) last ∙ closed_is in
+        progress-closes settings channel xs ys some (λ e b. none_by (length ys - 1) before e (omega arith)) last ∙ closed_is in
         let zero : length (xs ++ ys) - length (xs ++ ys) ≡ 0 = omega arith in
         record {
           inside = inside some before;

@@ -7,10 +7,10 @@ use Rattle.std.proofs.Math.Seq.{take-length}
 use Rattle.definitions.specs.Samples.{Sample}
 use Rattle.definitions.specs.Oscillators.{Settings, code_cycle}
 use Rattle.definitions.specs.Correlation.{Phases, phases_after, counts_over}
-use Rattle.definitions.specs.Segments.{Channel, Dump, Segment, Progress, open_phases, is_through, end_by, next_end, closed_at, progress, followed, begun, next_segment}
+use Rattle.definitions.specs.Segments.{Channel, Dump, Segment, Progress, open_phases, is_through, end_by, next_end, closed_at, progress, behind_segments, closed_if_ended, begun, next_segment}
 use Rattle.definitions.specs.SlotLaws.{time_behind, segment_behind, phases_behind, IsDump, DumpsArePlainSums}
 use Rattle.definitions.proofs.SumsLemmas.{IsLeast, least_below-some, least_below-none}
-use Rattle.definitions.proofs.SegmentsLemmas.{followed-preserves, followed-none, followed-some, followed-zero, end_by-at_start, end_by-above, is_through-is}
+use Rattle.definitions.proofs.SegmentsLemmas.{segments-preserve, closed-none, closed-some, end_by-at_start, end_by-above, is_through-is}
 
 -- ---- lists
 pub slice_get-append : {A : Type 0} (xs ys : List A) (n : ℕ) → n < length xs → slice_get (xs ++ ys) n ≡ slice_get xs n
@@ -127,26 +127,34 @@ module _ (settings : Settings) (channel : Channel) (xs : List Sample) where
 
   stands-progress : Stands (progress settings channel xs)
   unfolding progress
-  stands-progress = followed-preserves settings channel xs Stands stands-closed (length xs) (begun channel) stands-begun
+  stands-progress = segments-preserve settings channel xs Stands stands-begun stands-closed (length xs - channel.start)
 
-  -- behind as many segments as there are samples no other ends
-  done : (k : ℕ) (p : Progress) → length xs ≤ k + p.open_segment.start → next_end settings channel xs (followed settings channel xs k p) ≡ None
+  later : (p : Progress) (e : ℕ) → next_end settings channel xs p ≡ Some e → p.open_segment.start < (closed_at settings channel xs p e).open_segment.start
   unfolding next_end closed_at
-  done zero p h = rw (followed-zero settings channel xs p) (end_by-at_start p.open_segment (open_phases settings channel p).code_step (length xs) (omega arith))
-  done (suc k) p h = by_end (next_end settings channel xs p) refl (λ q far. done k q far)
+  later p e some = (end_by-above p.open_segment (open_phases settings channel p).code_step (length xs) e some).0
+
+  -- behind k segments either no other ends, or k samples at least have passed since the start
+  passed : (k : ℕ) → (next_end settings channel xs (behind_segments settings channel xs k) ≡ None) ⊎ (k + channel.start ≤ (behind_segments settings channel xs k).open_segment.start)
+  unfolding behind_segments
+  passed zero = inr (omega arith)
+  passed (suc k) = by_end (behind_segments settings channel xs k) (next_end settings channel xs (behind_segments settings channel xs k)) refl (passed k)
     where
-      later : (e : ℕ) → next_end settings channel xs p ≡ Some e → length xs ≤ k + (closed_at settings channel xs p e).open_segment.start
-      later e some = omega (arith, h, (end_by-above p.open_segment (open_phases settings channel p).code_step (length xs) e some).0)
+      by_end : (p : Progress) (o : Option ℕ) → next_end settings channel xs p ≡ o → (next_end settings channel xs p ≡ None) ⊎ (k + channel.start ≤ p.open_segment.start)
+          → (next_end settings channel xs (closed_if_ended settings channel xs p) ≡ None) ⊎ (suc k + channel.start ≤ (closed_if_ended settings channel xs p).open_segment.start)
+      by_end p None none before = inl (rw (closed-none settings channel xs p none) none)
+      by_end p (Some e) some (inl none) = absurd (neither none some)
+        where
+          neither : {o : Option ℕ} → o ≡ None → o ≡ Some e → ⊥
+          neither f g = cc
+      by_end p (Some e) some (inr far) = inr (rw (closed-some settings channel xs p e some) (omega (arith, far, later p e some)))
 
-      by_end : (o : Option ℕ) → next_end settings channel xs p ≡ o
-          → ((q : Progress) → length xs ≤ k + q.open_segment.start → next_end settings channel xs (followed settings channel xs k q) ≡ None)
-          → next_end settings channel xs (followed settings channel xs (suc k) p) ≡ None
-      by_end None none next = rw (followed-none settings channel xs (suc k) p none) none
-      by_end (Some e) some next = rw (followed-some settings channel xs k p e some) (next (closed_at settings channel xs p e) (later e some))
-
+  -- behind as many segments as there are samples since the start no other ends
   progress-done : next_end settings channel xs (progress settings channel xs) ≡ None
-  unfolding progress
-  progress-done = done (length xs) (begun channel) (omega arith)
+  unfolding progress next_end
+  progress-done = elim (passed (length xs - channel.start)) [
+    | inl none ↦ none
+    | inr far ↦ end_by-at_start (progress settings channel xs).open_segment (open_phases settings channel (progress settings channel xs)).code_step (length xs) (omega (arith, far))
+  ]
 
   not-through : (s : Segment) (step e : ℕ) → end_by s step (length xs) ≡ None → s.start < e → e ≤ length xs → s.code + (e - s.start) * step < code_cycle
   unfolding end_by

@@ -8,14 +8,14 @@ use Rattle.definitions.specs.Sums.{least_below}
 use Rattle.definitions.specs.Samples.{Sample}
 use Rattle.definitions.specs.Oscillators.{Settings, code_step, code_phase_after}
 use Rattle.definitions.specs.Correlation.{Counts, counts_over}
-use Rattle.definitions.specs.Segments.{Channel, Progress, Dump, progress, followed, next_end, closed_at, open_phases, dumps_of, counts_of}
+use Rattle.definitions.specs.Segments.{Channel, Progress, Dump, progress, closed_if_ended, next_end, closed_at, open_phases, dumps_of, counts_of}
 use Rattle.definitions.specs.Lock.{news_of, lost, nothing, lock, unlock}
 use Rattle.definitions.specs.Acquisition.{Plan, Cell, result_of, due_time}
 use Rattle.definitions.specs.Loops.{shift_after}
 use Rattle.definitions.specs.Commands.{Start, hold, track, acquire}
 use Rattle.definitions.specs.Lives.{Life, doppler_shift, dumps_of_life, is_over, is_lost_with, lost_after, until_lost}
 use Rattle.definitions.proofs.SumsLemmas.{least_below-some, least_below-is, least_below-more}
-use Rattle.definitions.proofs.SegmentsLemmas.{followed-none, followed-some, followed-zero, progress-more}
+use Rattle.definitions.proofs.SegmentsLemmas.{closed-none, closed-some, progress-more}
 use Rattle.definitions.proofs.AcquisitionLemmas.{result_of-append}
 
 closed-dumps : (settings : Settings) (channel : Channel) (xs : List Sample) (p : Progress) (e : ℕ)
@@ -24,26 +24,25 @@ unfolding closed_at
 closed-dumps settings channel xs p e = refl
 
 -- one more segment
-one-dump : (settings : Settings) (channel : Channel) (xs : List Sample) (p : Progress) → (rest : List Dump) × ((followed settings channel xs 1 p).dumps ≡ p.dumps ++ rest)
+one-dump : (settings : Settings) (channel : Channel) (xs : List Sample) (p : Progress) → (rest : List Dump) × ((closed_if_ended settings channel xs p).dumps ≡ p.dumps ++ rest)
 one-dump settings channel xs p = by_end (next_end settings channel xs p) refl
   where
-    by_end : (o : Option ℕ) → next_end settings channel xs p ≡ o → (rest : List Dump) × ((followed settings channel xs 1 p).dumps ≡ p.dumps ++ rest)
-    by_end None e = ([], ap (λ (q : Progress). q.dumps) (followed-none settings channel xs 1 p e) ∙ sym (append-nil p.dumps))
+    by_end : (o : Option ℕ) → next_end settings channel xs p ≡ o → (rest : List Dump) × ((closed_if_ended settings channel xs p).dumps ≡ p.dumps ++ rest)
+    by_end None e = ([], ap (λ (q : Progress). q.dumps) (closed-none settings channel xs p e) ∙ sym (append-nil p.dumps))
     by_end (Some t) e = (
       record { time = t; counts = counts_over channel.prn (open_phases settings channel p) xs p.open_segment.start t } ∷ [],
-      ap (λ (q : Progress). q.dumps) (followed-some settings channel xs 0 p t e ∙ followed-zero settings channel xs (closed_at settings channel xs p t)) ∙ closed-dumps settings channel xs p t,
+      ap (λ (q : Progress). q.dumps) (closed-some settings channel xs p t e) ∙ closed-dumps settings channel xs p t,
     )
 
 -- the dumps of more samples begin with those of fewer
-pub dumps_of-append : (settings : Settings) (channel : Channel) (xs ys : List Sample) → channel.start ≤ length xs
+pub dumps_of-append : (settings : Settings) (channel : Channel) (xs ys : List Sample)
     → (rest : List Dump) × (dumps_of settings channel (xs ++ ys) ≡ dumps_of settings channel xs ++ rest)
-dumps_of-append settings channel xs [] h = ([], ap (dumps_of settings channel) (append-nil xs) ∙ sym (append-nil (dumps_of settings channel xs)))
-dumps_of-append settings channel xs (y ∷ ys) h =
-    let longer : length (xs ++ y ∷ []) ≡ suc (length xs) = simp length-append (omega arith) in
-    let later = dumps_of-append settings channel (xs ++ y ∷ []) ys (omega (arith, longer)) in
+dumps_of-append settings channel xs [] = ([], ap (dumps_of settings channel) (append-nil xs) ∙ sym (append-nil (dumps_of settings channel xs)))
+dumps_of-append settings channel xs (y ∷ ys) =
+    let later = dumps_of-append settings channel (xs ++ y ∷ []) ys in
     let one = one-dump settings channel (xs ++ y ∷ []) (progress settings channel xs) in
     let e : xs ++ y ∷ ys ≡ (xs ++ y ∷ []) ++ ys = sym (append_assoc xs (y ∷ []) ys) in
-    let f : dumps_of settings channel (xs ++ y ∷ []) ≡ dumps_of settings channel xs ++ one.0 = ap (λ (q : Progress). q.dumps) (progress-more settings channel xs y h) ∙ one.1 in
+    let f : dumps_of settings channel (xs ++ y ∷ []) ≡ dumps_of settings channel xs ++ one.0 = ap (λ (q : Progress). q.dumps) (progress-more settings channel xs y) ∙ one.1 in
     (one.0 ++ later.0, ap (dumps_of settings channel) e ∙ later.1 ∙ ap (λ ds. ds ++ later.0) f ∙ append_assoc (dumps_of settings channel xs) one.0 later.0)
 
 -- ---- lost
@@ -148,7 +147,7 @@ module _ (settings : Settings) (plan : Plan) (begun : ℕ) (wanted wanted_from :
           by_found false g = is_over-not_found (xs ++ ys) longer_due (ap (λ (c : Cell). c.found) same ∙ g)
           by_found true g =
               let c : Channel = tracked_from (result_of settings plan xs begun) in
-              let more = dumps_of-append settings c xs ys is_due in
+              let more = dumps_of-append settings c xs ys in
               let was : lost_dumps (until_lost (dumps_of settings c xs)) ≡ true = sym (is_over-tracked xs due g) ∙ over in
               is_over-tracked (xs ++ ys) longer_due (ap (λ (c : Cell). c.found) same ∙ g)
               ∙ ap (λ (cell : Cell). lost_dumps (until_lost (dumps_of settings (tracked_from cell) (xs ++ ys)))) same
@@ -156,19 +155,13 @@ module _ (settings : Settings) (plan : Plan) (begun : ℕ) (wanted wanted_from :
               ∙ ap lost_dumps (lost-stays (dumps_of settings c xs) more.0 was)
               ∙ was
 
--- an acquisition that isn't due is on
-pub not_due-not_over : (settings : Settings) (xs : List Sample) (plan : Plan) (begun wanted wanted_from : ℕ) → nat_le (due_time settings plan begun) (length xs) ≡ false
-    → is_over settings xs (record { begun = begun; start = acquire plan; wanted = wanted; wanted_from = wanted_from }) ≡ false
-unfolding acquiring_life
-not_due-not_over settings xs plan begun wanted wanted_from due = is_over-not_due settings plan begun wanted wanted_from xs due
-
 -- what samples have ended stays ended, whatever samples follow
-pub is_over-append : (settings : Settings) (xs ys : List Sample) (begun : ℕ) (start : Start) (wanted wanted_from : ℕ) → begun ≤ length xs
+pub is_over-append : (settings : Settings) (xs ys : List Sample) (begun : ℕ) (start : Start) (wanted wanted_from : ℕ)
     → is_over settings xs (record { begun = begun; start = start; wanted = wanted; wanted_from = wanted_from }) ≡ true → is_over settings (xs ++ ys) (record { begun = begun; start = start; wanted = wanted; wanted_from = wanted_from }) ≡ true
 unfolding is_over dumps_of_life acquiring_life
-is_over-append settings xs ys begun (hold prn doppler half_chip) wanted wanted_from h over = absurd (clash refl over)
-is_over-append settings xs ys begun (track prn doppler half_chip) wanted wanted_from h over =
+is_over-append settings xs ys begun (hold prn doppler half_chip) wanted wanted_from over = absurd (clash refl over)
+is_over-append settings xs ys begun (track prn doppler half_chip) wanted wanted_from over =
     let c : Channel = record { prn = prn; start = begun; code = half_chip * 2 ^ 31; steering = shift_after (doppler_shift doppler) } in
-    let more = dumps_of-append settings c xs ys h in
+    let more = dumps_of-append settings c xs ys in
     ap (λ (ds : List Dump). is_some (lost_after (counts_of (until_lost ds)))) more.1 ∙ ap (λ (ds : List Dump). is_some (lost_after (counts_of ds))) (lost-stays (dumps_of settings c xs) more.0 over) ∙ over
-is_over-append settings xs ys begun (acquire plan) wanted wanted_from h over = acquiring-append settings plan begun wanted wanted_from xs ys over
+is_over-append settings xs ys begun (acquire plan) wanted wanted_from over = acquiring-append settings plan begun wanted wanted_from xs ys over

@@ -11,7 +11,7 @@ use Rattle.definitions.specs.Segments.{counts_of, Channel, Progress, Dump, progr
 use Rattle.definitions.specs.Commands.{Start, hold, TimedRequest, Request}
 use Rattle.definitions.specs.Events.{due_events, dump_events, steered_events, last_of, front_of, unprinted, life_events, last_dump_events, when, count, events_at_end}
 use Rattle.definitions.specs.Lives.{is_steered, found_nothing, is_over, lost_after, Life, dumps_of_life, life_of, life_now, life_with, still_on, held}
-use Rattle.definitions.proofs.SegmentsLemmas.{next_end-within, followed-preserves}
+use Rattle.definitions.proofs.SegmentsLemmas.{next_end-within, segments-preserve}
 use Rattle.definitions.proofs.BodyLemmas.{life_of-append, life_of-more}
 
 last_of-push : {A : Type 0} (xs : List A) (x : A) → last_of (xs ++ x ∷ []) ≡ Some x
@@ -66,7 +66,7 @@ LastEnds-closed settings channel xs p e l found = let h = next_end-within settin
 LastEnds-progress : (settings : Settings) (channel : Channel) (xs : List Sample) → channel.start ≤ length xs → LastEnds (progress settings channel xs) (length xs)
 unfolding progress
 LastEnds-progress settings channel xs h =
-    followed-preserves settings channel xs (λ p. LastEnds p (length xs)) (LastEnds-closed settings channel xs) (length xs) (begun channel) (record { within = h; last = λ d e. no_dump d channel.start e; all = tt })
+    segments-preserve settings channel xs (λ p. LastEnds p (length xs)) (record { within = h; last = λ d e. no_dump d channel.start e; all = tt }) (LastEnds-closed settings channel xs) (length xs - channel.start)
 
 -- ---- what a channel's dumps tell
 same : (n : ℕ) → nat_eq n n ≡ true

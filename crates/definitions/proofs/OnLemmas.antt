@@ -1,23 +1,15 @@
 -- The life that is on.
-use Rattle.std.proofs.Common.{inl, inr, ◌≡◌, ℕ, ◌<◌, List, [], ◌∷◌, ◌++◌, length, take, drop, refl, sym, ap, ◌∙◌, arith, append_assoc, append-nil, length-append, ◌*◌, ◌^◌}
+use Rattle.std.proofs.Common.{inl, inr, ◌≡◌, ℕ, ◌<◌, List, [], ◌∷◌, ◌++◌, length, take, drop, refl, sym, ap, ◌∙◌, arith, append_assoc, append-nil, length-append}
 use Rattle.std.specs.Prelude.{Bool, true, false, Option, Some, None, slice_get, cond, ◌⊎◌}
-use Rattle.std.proofs.lemmas.Bool.{cases_lt, lt-leb}
-use Rattle.std.specs.Option.{is_some}
 use Rattle.std.proofs.lemmas.List.{take-append-le}
 use Rattle.std.proofs.Math.Seq.{take-append_seam}
 use Rattle.std.proofs.lemmas.List.{take-append-drop}
 use Rattle.definitions.specs.Samples.{Sample}
 use Rattle.definitions.specs.Oscillators.{Settings}
-use Rattle.definitions.specs.Commands.{Start, Request, TimedRequest, hold, track, acquire, begin, counts, state, stop}
-use Rattle.definitions.specs.Lives.{Life, dumps_of_life, doppler_shift, lost_after, until_lost, is_over, still_on, life_with, life_of, life_now, wanting}
+use Rattle.definitions.specs.Commands.{Start, Request, TimedRequest, begin, counts, state, stop}
+use Rattle.definitions.specs.Lives.{Life, dumps_of_life, is_over, still_on, life_with, life_of, life_now, wanting}
 use Rattle.definitions.specs.SlotLaws.{Begins, LifeIsOn}
-use Rattle.definitions.specs.Segments.{Channel, Progress, counts_of}
-use Rattle.definitions.specs.Sums.{least_below}
-use Rattle.definitions.specs.Lock.{news_of}
-use Rattle.definitions.specs.Loops.{shift_after}
-use Rattle.definitions.specs.Acquisition.{due_time}
-use Rattle.definitions.proofs.EndLemmas.{is_over-append, not_due-not_over}
-use Rattle.definitions.proofs.BlockLemmas.{progress-begun}
+use Rattle.definitions.proofs.EndLemmas.{is_over-append}
 use Rattle.definitions.proofs.BodyLemmas.{life_of-more}
 use Rattle.definitions.proofs.DumpLemmas.{slice_get-append, slice_get-last, pushed-at}
 
@@ -42,29 +34,12 @@ wanting-over : (settings : Settings) (xs : List Sample) (life : Life) (time n : 
 unfolding is_over dumps_of_life
 wanting-over settings xs life time n = refl
 
--- a life that has not begun isn't over
-early-not_over : (settings : Settings) (xs : List Sample) (begun : ℕ) (start : Start) (wanted wanted_from : ℕ) → length xs < begun
-    → is_over settings xs (record { begun = begun; start = start; wanted = wanted; wanted_from = wanted_from }) ≡ false
-unfolding is_over dumps_of_life least_below news_of
-early-not_over settings xs begun (hold prn doppler half_chip) wanted wanted_from h = refl
-early-not_over settings xs begun (track prn doppler half_chip) wanted wanted_from h =
-    let c : Channel = record { prn = prn; start = begun; code = half_chip * 2 ^ 31; steering = shift_after (doppler_shift doppler) } in
-    ap (λ (p : Progress). is_some (lost_after (counts_of (until_lost p.dumps)))) (progress-begun settings c xs (omega (arith, h))) ∙ none
-  where
-    none : is_some (lost_after (counts_of (until_lost []))) ≡ false
-    none = refl
-early-not_over settings xs begun (acquire plan) wanted wanted_from h =
-    not_due-not_over settings xs plan begun wanted wanted_from (lt-leb (due_time settings plan begun) (length xs) (omega (arith, h)))
-
 clash : {b : Bool} → b ≡ false → b ≡ true → ⊥
 clash f t = cc
 
 -- what is over by a time is over by the last
 over-stays : (settings : Settings) (xs : List Sample) (t : ℕ) (life : Life) → is_over settings (take t xs) life ≡ true → is_over settings xs life ≡ true
-over-stays settings xs t life over = elim (cases_lt (length (take t xs)) life.begun) [
-  | inl early ↦ absurd (clash (early-not_over settings (take t xs) life.begun life.start life.wanted life.wanted_from early) over)
-  | inr late ↦ ap (λ zs. is_over settings zs life) (sym (take-append-drop t xs)) ∙ is_over-append settings (take t xs) (drop t xs) life.begun life.start life.wanted life.wanted_from late over
-]
+over-stays settings xs t life over = ap (λ zs. is_over settings zs life) (sym (take-append-drop t xs)) ∙ is_over-append settings (take t xs) (drop t xs) life.begun life.start life.wanted life.wanted_from over
 
 module _ (settings : Settings) (xs : List Sample) where
   -- a command began the life, and where a `stop` stands behind it the life was over

@@ -7,7 +7,7 @@ use Rattle.definitions.specs.Sums.{sum_between}
 use Rattle.definitions.specs.Samples.{Sample, real}
 use Rattle.definitions.specs.Oscillators.{Settings}
 use Rattle.definitions.specs.Correlation.{Replica, in_phase_sum, quadrature_sum, six_sums, added}
-use Rattle.definitions.specs.Segments.{Channel, Dump, dumps_of, progress, followed}
+use Rattle.definitions.specs.Segments.{Channel, Dump, dumps_of, progress, closed_if_ended}
 use Rattle.definitions.specs.Acquisition.{Plan, cell_count, bin_of, half_chip_of, named_cell}
 use Rattle.definitions.specs.Acquisition.{dwell_end, result_of}
 use Rattle.definitions.specs.BitEdge.{edge_of}
@@ -28,7 +28,7 @@ LivesStay = (settings : Settings) (xs ys : List Sample) (commands : List TimedRe
 -- What samples have ended stays ended, whatever samples follow.
 abbrev pub EndsStay : Type 0
 EndsStay = (settings : Settings) (xs ys : List Sample) (begun : ℕ) (start : Start)
-    (wanted wanted_from : ℕ) → begun ≤ length xs
+    (wanted wanted_from : ℕ)
     → is_over settings xs (record {
       begun = begun;
       start = start;
@@ -66,7 +66,6 @@ NamedCellIsGreatest = (plan : Plan) (power : ℕ → ℕ)
 -- The dumps of more samples begin with those of fewer.
 abbrev pub DumpsStay : Type 0
 DumpsStay = (settings : Settings) (channel : Channel) (xs ys : List Sample)
-    → channel.start ≤ length xs
     → (rest : List Dump)
     × (dumps_of settings channel (xs ++ ys) ≡ dumps_of settings channel xs ++ rest)
 
@@ -90,9 +89,8 @@ RefusedIsLeftOut = (settings : Settings) (xs ys : List Sample) (before after : L
 -- With one more sample the open segment ends with it, or stays open.
 abbrev pub SegmentsGrowByOne : Type 0
 SegmentsGrowByOne = (settings : Settings) (channel : Channel) (xs : List Sample) (x : Sample)
-    → channel.start ≤ length xs
     → progress settings channel (xs ++ x ∷ [])
-    ≡ followed settings channel (xs ++ x ∷ []) 1 (progress settings channel xs)
+    ≡ closed_if_ended settings channel (xs ++ x ∷ []) (progress settings channel xs)
 
 -- ---- sums
 
