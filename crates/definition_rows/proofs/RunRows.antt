@@ -1,5 +1,5 @@
 -- Worked examples of whole runs, from the bytes of samples and scripts to the bytes that are written.
-use Rattle.std.proofs.Common.{◌≡◌, ℕ, List, [], ◌∷◌, ◌++◌, refl}
+use Rattle.std.proofs.Common.{◌≡◌, ℕ, List, [], ◌∷◌, ◌++◌, drop, refl, ap}
 use Rattle.std.specs.Prelude.{codes, pos, replicate, false}
 use Rattle.std.specs.Fmt.{digits}
 use Rattle.definitions.specs.Sums.{total, least_below}
@@ -17,7 +17,7 @@ use Rattle.definitions.specs.Events.{steered_events, push_events, last_of, front
 use Rattle.definitions.specs.Lives.{is_over, life_of, dumps_of_life, life_now}
 use Rattle.definitions.specs.Answers.{answer_at_end, view_of}
 use Rattle.definitions.specs.Texts.{event_text, answer_text}
-use Rattle.definitions.specs.Runs.{Task, Input, InputEnd, exhausted, failed, unfinished, taken, due_text, are_shares, are_clients}
+use Rattle.definitions.specs.Runs.{Task, Input, InputEnd, exhausted, failed, unfinished, taken, due_text, are_shares, are_clients, IsAnswer, write_failed}
 use Rattle.definitions.specs.Receiver.{body, Client, full_profile, entries_of, commands_to, body_lines, end_lines, full_lines, at_each_time, lines_at, told_at, answers_at, for_each_client, told, answered, full}
 
 -- lines of text, each ended
@@ -132,6 +132,28 @@ failed_read = refl
 limit_zero : due_text (task 0 (codes "0 state 0" ∷ codes "1 state 0" ∷ [])) (input (0 ∷ []) unfinished) ≡ text (codes "1 0 state 0 idle" ∷ [])
 unfolding body taken full full_lines body_lines end_lines at_each_time lines_at told_at answers_at for_each_client told answered entries_of commands_to script entry_of entries_after pieces_ended_by values_in as_bytes digits events_at_end life_now life_of life_events is_over answer_at_end view_of event_text answer_text sample samples_from
 limit_zero = refl
+
+-- a writer that fails while reading goes on: no end is due
+broken_off : due_text (task 64 (codes "8 state 0" ∷ codes "9 state 0" ∷ [])) (input (0 ∷ []) unfinished) ≡ text (codes "1 8 state 0 idle" ∷ [])
+unfolding body taken full full_lines body_lines end_lines at_each_time lines_at told_at answers_at for_each_client told answered entries_of commands_to script entry_of entries_after pieces_ended_by values_in as_bytes digits events_at_end life_now life_of life_events is_over answer_at_end view_of event_text answer_text sample samples_from
+broken_off = refl
+
+-- it may have taken a part of a line, of an end too where reading had come to its end
+part_of_line : IsAnswer (task 64 (codes "8 state 0" ∷ [])) (input (0 ∷ []) unfinished) (codes "1 8 sta") write_failed
+unfolding body taken full full_lines body_lines end_lines at_each_time lines_at told_at answers_at for_each_client told answered entries_of commands_to script entry_of entries_after pieces_ended_by values_in as_bytes digits events_at_end life_now life_of life_events is_over answer_at_end view_of event_text answer_text sample samples_from IsAnswer
+part_of_line = ((refl, refl), (codes "te 0 idle" ++ 10 ∷ [], refl))
+
+part_of_end : IsAnswer (task 64 (codes "8 state 0" ∷ [])) (input (0 ∷ []) exhausted) (text (codes "1 8 state 0 idle" ∷ []) ++ codes "1 8 e") write_failed
+unfolding body taken full full_lines body_lines end_lines at_each_time lines_at told_at answers_at for_each_client told answered entries_of commands_to script entry_of entries_after pieces_ended_by values_in as_bytes digits events_at_end life_now life_of life_events is_over answer_at_end view_of event_text answer_text sample samples_from IsAnswer
+part_of_end = ((refl, refl), (codes "nd" ++ 10 ∷ [], refl))
+
+-- and of an end it has taken nothing before
+no_end_yet : IsAnswer (task 64 (codes "8 state 0" ∷ [])) (input (0 ∷ []) unfinished) (text (codes "1 8 state 0 idle" ∷ []) ++ codes "1 8 e") write_failed → ⊥
+unfolding body taken full full_lines body_lines end_lines at_each_time lines_at told_at answers_at for_each_client told answered entries_of commands_to script entry_of entries_after pieces_ended_by values_in as_bytes digits events_at_end life_now life_of life_events is_over answer_at_end view_of event_text answer_text sample samples_from IsAnswer
+no_end_yet (right, (rest, due)) = ended (ap (drop 17) due)
+  where
+    ended : {b : ℕ} {bytes : List ℕ} → [] ≡ b ∷ bytes → ⊥
+    ended e = cc
 
 fewer_shares : are_shares (4 ∷ []) ([] ∷ [] ∷ []) ≡ false
 fewer_shares = refl

@@ -59,14 +59,14 @@ body_text task input = body task.profile task.settings (taken task input) (clien
 abbrev pub full_text : Task → Input → List ℕ
 full_text task input = full task.profile task.settings (taken task input) (clients_of task)
 
--- the text that is due for what came: without the ends behind a failed read and past the limit,
--- with them otherwise
+-- the text that is due for what came: with the ends where reading came to its end within the limit,
+-- and without them behind a failed read, past the limit, and while reading goes on
 abbrev pub due_text : Task → Input → List ℕ
 due_text task input = if is_too_long task input then body_text task input
     else elim input.end [
       | exhausted ↦ full_text task input
       | failed ↦ body_text task input
-      | unfinished ↦ full_text task input
+      | unfinished ↦ body_text task input
     ]
 
 -- a text begins with another one
