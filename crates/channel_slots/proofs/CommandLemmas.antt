@@ -9,8 +9,9 @@ use Rattle.channel_slots.specs.declared.place.Place.{Place}
 use Rattle.channel_slots.specs.Slots.{StandsFor, dumps_of}
 use Rattle.channel_slots.specs.Banks.{keys_of, BankStands, AllFew, most_dumps}
 use Rattle.definitions.specs.Samples.{Sample}
-use Rattle.definitions.specs.Banks.{with_command, layout}
+use Rattle.definitions.specs.Banks.{with_command}
 use Rattle.channel_slots.proofs.BankLemmas.{few-from_most, most-from_few}
+use Rattle.channel_slots.proofs.LayoutLemmas.{by_fours}
 
 pub each-at : {A : Type 0} (P : A → Type 0) (xs : List A) (i : ℕ) (d : A) → i < length xs → AllByRecursion P xs → P (get_or xs i d)
 each-at P [] i d h all = absurd (omega arith)
@@ -18,7 +19,7 @@ each-at P (x ∷ xs) zero d h all = all.0
 each-at P (x ∷ xs) (suc i) d h all = each-at P xs i d (omega arith) all.1
 
 AreFrom : ℕ → List Place → Type 0
-AreFrom n ps = keys_of ps ≡ map (λ i. (i / 4 + 1, i % 4)) (range_with_len n (length ps))
+AreFrom n ps = keys_of ps ≡ by_fours n (length ps)
 
 heads : (p : Place) (ps : List Place) (n : ℕ) → AreFrom n (p ∷ ps) → (p.client ≡ n / 4 + 1) × (p.number ≡ n % 4) × AreFrom (n + 1) ps
 unfolding AreFrom
@@ -73,7 +74,7 @@ pub record IsPlace (ps : List Place) (client number : ℕ) (p : Place) : Type 0 
   pub client_is : p.client ≡ client
   pub number_is : p.number ≡ number
 
-pub found : (ps : List Place) (client number : ℕ) (p : Place) → 1 ≤ client → 4 * client ≤ length ps → number < 4 → keys_of ps ≡ layout 4 (length ps) → p ≡ get_or ps ((client - 1) * 4 + number) p → IsPlace ps client number p
+pub found : (ps : List Place) (client number : ℕ) (p : Place) → 1 ≤ client → 4 * client ≤ length ps → number < 4 → keys_of ps ≡ by_fours 0 (length ps) → p ≡ get_or ps ((client - 1) * 4 + number) p → IsPlace ps client number p
 unfolding AreFrom
 found ps client number p first last small keys is =
     let b : (client - 1) * 4 + number < length ps = omega arith in
@@ -81,7 +82,7 @@ found ps client number p first last small keys is =
     record { within = b; client_is = ap (λ (x : Place). x.client) is ∙ k.0 ∙ (omega arith); number_is = ap (λ (x : Place). x.number) is ∙ k.1 ∙ (omega arith) }
 
 module _ (settings : Settings) (xs : List Sample) (asked : ℕ → ℕ → List TimedRequest) (ps : List Place) (client number time : ℕ) (p q : Place) (first : 1 ≤ client) (last : 4 * client ≤ length ps) (small : number < 4)
-    (keys : keys_of ps ≡ layout 4 (length ps)) (is : p ≡ get_or ps ((client - 1) * 4 + number) p) where
+    (keys : keys_of ps ≡ by_fours 0 (length ps)) (is : p ≡ get_or ps ((client - 1) * 4 + number) p) where
   pub stands-at : BankStands settings xs asked time ps → StandsFor settings xs (asked client number) p.slot
   stands-at stands =
       let f = found ps client number p first last small keys is in

@@ -3,6 +3,7 @@ pub mod ChanceLemmas
 pub mod CommandLemmas
 pub mod FollowingLemmas
 pub mod HoldingLemmas
+pub mod LayoutLemmas
 pub mod MoveLemmas
 mod PartLemmas
 pub mod OrderLemmas

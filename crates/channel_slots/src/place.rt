@@ -1,4 +1,4 @@
-ghost use Rattle.std.specs.Prelude.{◌≡◌, ◌≤◌, ◌<◌, ◌+◌, ◌*◌, ◌^◌, ℕ, length, [], IfOk};
+ghost use Rattle.std.specs.Prelude.{◌≡◌, ◌≤◌, ◌<◌, ◌+◌, ◌*◌, ◌^◌, ℕ, length, replicate, [], IfOk};
 ghost use Rattle.std.specs.List.{AllByRecursion};
 ghost use Rattle.definitions.specs.Oscillators.{Settings as Recording};
 ghost use Rattle.definitions.specs.Banks.{layout};
@@ -110,7 +110,7 @@ impl Place {
 /// Idle slots for each of so many clients, by client and then by slot.
 pub fn idle_places(alloc: Global, clients: u8) -> Result<Vec<Place>, AllocError>
     requires { clients ≤ 8 }
-    ensures keys { IfOk result (λ places. keys_of places.items ≡ layout 4 (4 * clients)) }
+    ensures keys { IfOk result (λ places. keys_of places.items ≡ layout (replicate clients 4)) }
     ensures few { IfOk result (λ places. AllFew 0 places.items) }
     ensures stand { IfOk result (λ places. (settings : Recording) → AllByRecursion (λ p. StandsFor settings [] [] p.slot) places.items) }
 {

@@ -1,8 +1,7 @@
 -- What slots side by side tell is, line by line, what the receiver writes of them.
-use Rattle.std.proofs.Common.{◌≡◌, ℕ, zero, suc, ◌+◌, ◌*◌, ◌/◌, ◌%◌, ◌<◌, ◌≤◌, List, [], ◌∷◌, ◌++◌, length, take, refl, sym, ap, ◌∙◌, append_assoc, arith}
-use Rattle.std.specs.Prelude.{Bool, true, false, map, filter, flat_map, Some, slice_get}
+use Rattle.std.proofs.Common.{◌≡◌, ℕ, suc, ◌+◌, ◌<◌, ◌≤◌, List, [], ◌∷◌, ◌++◌, length, take, refl, sym, ap, ◌∙◌, append_assoc, arith}
+use Rattle.std.specs.Prelude.{Bool, true, false, map, filter, flat_map, replicate, Some, slice_get}
 use Rattle.std.specs.List.{range_with_len, enumerate_from, AllByRecursion}
-use Rattle.std.proofs.lemmas.Nat.{div-mul-add, mod-mul-add}
 use Rattle.std.proofs.lemmas.List.{map-append}
 use Rattle.std.proofs.lemmas.List.Elements.{filter-append}
 use Rattle.std.proofs.lemmas.Grind.{flat_map-append}
@@ -13,7 +12,6 @@ use Rattle.definitions.specs.Events.{Event, events_at_end}
 use Rattle.definitions.specs.Texts.{event_text, at_time, for_client}
 use Rattle.definitions.specs.Receiver.{Client, Profile, entries_of, entries_before, commands_to, told, told_by_slot, told_at, told_between, timed, for_each_client}
 use Rattle.definitions.specs.Banks.{SlotEvent, line_of, slot_events, told_at_end, layout}
-use Rattle.definitions.proofs.SampleLemmas.{range-split}
 
 -- the lines of those that are printed
 abbrev pub printed : Profile → List SlotEvent → List (List ℕ)
@@ -23,6 +21,14 @@ pub printed-append : (profile : Profile) (ts us : List SlotEvent) → printed pr
 printed-append profile ts us =
     ap (λ (l : List SlotEvent). map line_of l) (filter-append (λ (t : SlotEvent). profile.prints t.event) ts us)
     ∙ map-append line_of (filter (λ (t : SlotEvent). profile.prints t.event) ts) (filter (λ (t : SlotEvent). profile.prints t.event) us)
+
+-- the clients' shares of the slots
+abbrev pub shares_of : List Client → List ℕ
+shares_of clients = map (λ (client : Client). client.slots) clients
+
+pub shares-equal : (slots : ℕ) (clients : List Client) → AllByRecursion (λ (client : Client). client.slots ≡ slots) clients → shares_of clients ≡ replicate (length clients) slots
+shares-equal slots [] all = refl
+shares-equal slots (client ∷ clients) all = rw (all.0, shares-equal slots clients all.1) refl
 
 -- a client's slots, one after another
 abbrev slots_of : ℕ → List ℕ → List (ℕ × ℕ)
@@ -54,73 +60,42 @@ module _ (profile : Profile) (settings : Settings) (xs : List Sample) (asked : �
       ∙ ap (λ r. map (for_client number) (timed xs here) ++ r) (one_client number client slots own)
       ∙ sym (ap (λ ls. map (for_client number) ls) (map-append (at_time (length xs)) here behind) ∙ map-append (for_client number) (timed xs here) (timed xs behind))
 
-  all_clients : (slots b : ℕ) (clients : List Client) → AllByRecursion (λ (client : Client). client.slots ≡ slots) clients
+  all_clients : (b : ℕ) (clients : List Client)
       → ((k : ℕ) (client : Client) → slice_get clients k ≡ Some client → (s : ℕ) → asked (b + k) s ≡ commands_to s (entries_before (length xs) (entries_of profile client)))
-      → printed profile (flat_map tell (flat_map (λ c. slots_of c (range_with_len 0 slots)) (range_with_len b (length clients))))
+      → printed profile (flat_map tell (flat_map (λ (p : ℕ × ℕ). slots_of p.0 (range_with_len 0 p.1)) (enumerate_from b (shares_of clients))))
       ≡ flat_map (λ (p : ℕ × Client). map (for_client p.0) (timed xs (told profile settings p.1 xs))) (enumerate_from b clients)
   unfolding told
-  all_clients slots b [] all own = refl
-  all_clients slots b (client ∷ clients) all own =
+  all_clients b [] own = refl
+  all_clients b (client ∷ clients) own =
       let none : b + 0 ≡ b = omega arith in
-      let first : List (ℕ × ℕ) = slots_of b (range_with_len 0 slots) in
-      let others : List (ℕ × ℕ) = flat_map (λ c. slots_of c (range_with_len 0 slots)) (range_with_len (b + 1) (length clients)) in
+      let first : List (ℕ × ℕ) = slots_of b (range_with_len 0 client.slots) in
+      let others : List (ℕ × ℕ) = flat_map (λ (p : ℕ × ℕ). slots_of p.0 (range_with_len 0 p.1)) (enumerate_from (b + 1) (shares_of clients)) in
       ap (printed profile) (flat_map-append tell first others)
       ∙ printed-append profile (flat_map tell first) (flat_map tell others)
-      ∙ ap (λ r. r ++ printed profile (flat_map tell others))
-      (one_client b client (range_with_len 0 slots) (λ s. rw none at (own 0 client refl s)) ∙ ap (λ n. map (for_client b) (timed xs (flat_map (told_by_slot profile settings xs (entries_of profile client)) (range_with_len 0 n)))) (sym all.0))
-      ∙ ap (λ r. map (for_client b) (timed xs (told profile settings client xs)) ++ r) (all_clients slots (b + 1) clients all.1 (λ k c found s. let e : b + 1 + k ≡ b + suc k = omega arith in rw e (own (suc k) c found s)))
-
--- the slots, client by client
-place : (slots b i : ℕ) → i < slots → {A : Type 0} (f : ℕ → ℕ → A) → f ((b * slots + i) / slots + 1) ((b * slots + i) % slots) ≡ f (b + 1) i
-place slots b i h f = rw (div-mul-add b slots i h, mod-mul-add b slots i h) refl
-
-one_row : (slots b i n : ℕ) → i + n ≤ slots → map (λ j. (j / slots + 1, j % slots)) (range_with_len (b * slots + i) n) ≡ slots_of (b + 1) (range_with_len i n)
-one_row slots b i zero h = refl
-one_row slots b i (suc n) h =
-    let e : b * slots + i + 1 ≡ b * slots + (i + 1) = omega arith in
-    rw e (ap (λ (p : ℕ × ℕ). p ∷ map (λ j. (j / slots + 1, j % slots)) (range_with_len (b * slots + (i + 1)) n)) (place slots b i (omega (arith, h)) (λ (c s : ℕ). (c, s)))
-    ∙ ap (λ (r : List (ℕ × ℕ)). (b + 1, i) ∷ r) (one_row slots b (i + 1) n (omega (arith, h))))
-
-rows : (slots b m : ℕ) → map (λ j. (j / slots + 1, j % slots)) (range_with_len (b * slots) (m * slots)) ≡ flat_map (λ c. slots_of c (range_with_len 0 slots)) (range_with_len (b + 1) m)
-rows slots b zero = let e : 0 * slots ≡ 0 = omega arith in rw e refl
-rows slots b (suc m) =
-    let f : ℕ → ℕ × ℕ = λ j. (j / slots + 1, j % slots) in
-    let e : suc m * slots ≡ slots + m * slots = omega arith in
-    let g : b * slots + slots ≡ (b + 1) * slots = omega arith in
-    let z : b * slots ≡ b * slots + 0 = omega arith in
-    ap (λ n. map f (range_with_len (b * slots) n)) e
-    ∙ ap (map f) (range-split (b * slots) slots (m * slots))
-    ∙ map-append f (range_with_len (b * slots) slots) (range_with_len (b * slots + slots) (m * slots))
-    ∙ ap (λ n. map f (range_with_len n slots) ++ map f (range_with_len (b * slots + slots) (m * slots))) z
-    ∙ ap (λ (r : List (ℕ × ℕ)). r ++ map f (range_with_len (b * slots + slots) (m * slots))) (one_row slots b 0 slots (omega arith))
-    ∙ ap (λ n. slots_of (b + 1) (range_with_len 0 slots) ++ map f (range_with_len n (m * slots))) g
-    ∙ ap (λ (r : List (ℕ × ℕ)). slots_of (b + 1) (range_with_len 0 slots) ++ r) (rows slots (b + 1) m)
+      ∙ ap (λ r. r ++ printed profile (flat_map tell others)) (one_client b client (range_with_len 0 client.slots) (λ s. rw none at (own 0 client refl s)))
+      ∙ ap (λ r. map (for_client b) (timed xs (told profile settings client xs)) ++ r) (all_clients (b + 1) clients (λ k c found s. let e : b + 1 + k ≡ b + suc k = omega arith in rw e (own (suc k) c found s)))
 
 -- what the last sample makes the slots tell, those of it that are printed, are the receiver's lines, where asked gives each slot the
 -- commands that its client's script has for it before the last sample
-pub told-lines : (profile : Profile) (settings : Settings) (xs : List Sample) (asked : ℕ → ℕ → List TimedRequest) (slots : ℕ) (clients : List Client) → AllByRecursion (λ (client : Client). client.slots ≡ slots) clients
+pub told-lines : (profile : Profile) (settings : Settings) (xs : List Sample) (asked : ℕ → ℕ → List TimedRequest) (clients : List Client)
     → ((k : ℕ) (client : Client) → slice_get clients k ≡ Some client → (s : ℕ) → asked (1 + k) s ≡ commands_to s (entries_before (length xs) (entries_of profile client)))
-    → printed profile (told_at_end settings (layout slots (length clients * slots)) asked xs) ≡ told_at profile settings clients xs
+    → printed profile (told_at_end settings (layout (shares_of clients)) asked xs) ≡ told_at profile settings clients xs
 unfolding told_at_end told_at for_each_client tell
-told-lines profile settings xs asked slots clients all own =
-    let z : 0 ≡ 0 * slots = omega arith in
-    ap (λ n. printed profile (flat_map (tell profile settings xs asked) (map (λ j. (j / slots + 1, j % slots)) (range_with_len n (length clients * slots))))) z
-    ∙ ap (λ (k : List (ℕ × ℕ)). printed profile (flat_map (tell profile settings xs asked) k)) (rows slots 0 (length clients))
-    ∙ all_clients profile settings xs asked slots 1 clients all own
+told-lines profile settings xs asked clients own = all_clients profile settings xs asked 1 clients own
 
 -- the commands of each slot are those that its client's script has before the last sample
 abbrev pub AreAsked : Profile → List Client → (ℕ → ℕ → List TimedRequest) → List Sample → Type 0
 AreAsked profile clients asked xs = (k : ℕ) (client : Client) → slice_get clients k ≡ Some client → (s : ℕ) → asked (1 + k) s ≡ commands_to s (entries_before (length xs) (entries_of profile client))
 
 -- the same for what many samples tell, one after another
-pub told_between-lines : (profile : Profile) (settings : Settings) (asked : ℕ → ℕ → List TimedRequest) (slots : ℕ) (clients : List Client) (xs ys : List Sample) → AllByRecursion (λ (client : Client). client.slots ≡ slots) clients
+pub told_between-lines : (profile : Profile) (settings : Settings) (asked : ℕ → ℕ → List TimedRequest) (clients : List Client) (xs ys : List Sample)
     → ((j : ℕ) → 0 < j → j ≤ length ys → AreAsked profile clients asked (xs ++ take j ys))
-    → printed profile (told_between (told_at_end settings (layout slots (length clients * slots)) asked) xs ys) ≡ told_between (told_at profile settings clients) xs ys
+    → printed profile (told_between (told_at_end settings (layout (shares_of clients)) asked) xs ys) ≡ told_between (told_at profile settings clients) xs ys
 unfolding told_between
-told_between-lines profile settings asked slots clients xs [] all own = refl
-told_between-lines profile settings asked slots clients xs (y ∷ ys) all own =
-    let tells : List Sample → List SlotEvent = told_at_end settings (layout slots (length clients * slots)) asked in
+told_between-lines profile settings asked clients xs [] own = refl
+told_between-lines profile settings asked clients xs (y ∷ ys) own =
+    let tells : List Sample → List SlotEvent = told_at_end settings (layout (shares_of clients)) asked in
     printed-append profile (tells (xs ++ y ∷ [])) (told_between tells (xs ++ y ∷ []) ys)
-    ∙ ap (λ r. r ++ printed profile (told_between tells (xs ++ y ∷ []) ys)) (told-lines profile settings (xs ++ y ∷ []) asked slots clients all (own 1 (omega arith) (omega arith)))
+    ∙ ap (λ r. r ++ printed profile (told_between tells (xs ++ y ∷ []) ys)) (told-lines profile settings (xs ++ y ∷ []) asked clients (own 1 (omega arith) (omega arith)))
     ∙ ap (λ r. told_at profile settings clients (xs ++ y ∷ []) ++ r)
-    (told_between-lines profile settings asked slots clients (xs ++ y ∷ []) ys all (λ j some within. rw (append_assoc xs (y ∷ []) (take j ys)) (own (suc j) (omega arith) (omega (arith, within)))))
+    (told_between-lines profile settings asked clients (xs ++ y ∷ []) ys (λ j some within. rw (append_assoc xs (y ∷ []) (take j ys)) (own (suc j) (omega arith) (omega (arith, within)))))

@@ -1,8 +1,8 @@
 -- What many slots side by side tell, before it is text. A slot is named by its client, of those
 -- numbered from 1, and its number. (This project's own.)
-use Rattle.std.specs.Prelude.{ℕ, ◌+◌, ◌/◌, ◌%◌, ◌==◌, ◌&&◌, if◌then◌else◌, List, [], ◌∷◌, ◌++◌}
+use Rattle.std.specs.Prelude.{ℕ, ◌==◌, ◌&&◌, if◌then◌else◌, List, [], ◌∷◌, ◌++◌}
 use Rattle.std.specs.Prelude.{length, map, flat_map}
-use Rattle.std.specs.List.{range_with_len}
+use Rattle.std.specs.List.{range_with_len, enumerate_from}
 use Rattle.definitions.specs.Samples.{Sample}
 use Rattle.definitions.specs.Oscillators.{Settings}
 use Rattle.definitions.specs.Commands.{TimedRequest, Request}
@@ -33,9 +33,11 @@ told_at_end settings keys asked xs =
     flat_map (λ (k : ℕ × ℕ). slot_events k.0 k.1 (length xs)
     (events_at_end settings xs (asked k.0 k.1))) keys
 
--- so many slots, by client and then by slot, where each client has the same number of them
-abbrev pub layout : ℕ → ℕ → List (ℕ × ℕ)
-layout slots n = map (λ i. (i / slots + 1, i % slots)) (range_with_len 0 n)
+-- the slots of clients that have these shares of them, by client and then by slot
+abbrev pub layout : List ℕ → List (ℕ × ℕ)
+layout shares =
+    flat_map (λ (p : ℕ × ℕ). map (λ slot. (p.0, slot)) (range_with_len 0 p.1))
+    (enumerate_from 1 shares)
 
 -- the commands, and one more to a client's slot
 abbrev pub with_command : (ℕ → ℕ → List TimedRequest) → ℕ → ℕ → ℕ → Request → ℕ → ℕ

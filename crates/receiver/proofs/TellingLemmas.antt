@@ -11,7 +11,7 @@ use Rattle.definitions.specs.Answers.{Answer}
 use Rattle.definitions.specs.Banks.{SlotEvent, line_of as line_of_event, told_at_end, layout}
 use Rattle.definitions.specs.Receiver.{Client, body_lines, lines_at, told_at, answers_at, told_between}
 use Rattle.definitions.proofs.BodyLemmas.{body_lines-more}
-use Rattle.definitions.proofs.TellLemmas.{printed, told_between-lines}
+use Rattle.definitions.proofs.TellLemmas.{printed, shares_of, told_between-lines}
 use Rattle.channel_slots.specs.declared.reply.Reply.{Reply}
 use Rattle.channel_slots.specs.declared.reply.Event.{Event}
 use Rattle.channel_slots.specs.declared.reply.Event.TheVariants.{Accepted, Refused, Count, State}
@@ -21,7 +21,7 @@ use Rattle.receiver.specs.Offered.{offered}
 use Rattle.receiver.specs.declared.queue.Queue.{Queue}
 use Rattle.receiver.specs.Queues.{least_gap_of}
 use Rattle.receiver.specs.Sessions.{AreQueues, asked_of}
-use Rattle.receiver.proofs.SessionLemmas.{some-is, none-some, quiet, asked-each, slots-each}
+use Rattle.receiver.proofs.SessionLemmas.{some-is, none-some, quiet, asked-each}
 
 -- a reply's text is that of the event that it tells
 text-told : (slot : ℕ) (event : Event) (t : ToldEvent) → event_in event ≡ Some t → text_of slot event ≡ event_text slot t
@@ -86,13 +86,13 @@ stretch settings cs xs (y ∷ z ∷ ys) some quiet =
     ∙ ap (λ (l : List Sample). body_lines offered settings xs cs ++ (told ++ tells) ++ answers_at offered settings cs l) whole
 
 pub told-stretch : (settings : Settings) (cs : List Client) (qs : List Queue) (done : ℕ → List Entry) (xs ys : List Sample) (replies : List Reply) → 0 < length ys → AreQueues xs done 1 cs qs → length ys ≤ least_gap_of (length xs) qs
-    → AreTold replies (told_between (told_at_end settings (layout 4 (length cs * 4)) (asked_of done)) xs ys)
+    → AreTold replies (told_between (told_at_end settings (layout (shares_of cs)) (asked_of done)) xs ys)
     → body_lines offered settings (xs ++ ys) cs ≡ body_lines offered settings xs cs ++ map line_of replies ++ answers_at offered settings cs (xs ++ ys)
 told-stretch settings cs qs done xs ys replies some all free told =
-    let events : List SlotEvent = told_between (told_at_end settings (layout 4 (length cs * 4)) (asked_of done)) xs ys in
+    let events : List SlotEvent = told_between (told_at_end settings (layout (shares_of cs)) (asked_of done)) xs ys in
     let lines : map line_of replies ≡ told_between (told_at offered settings cs) xs ys =
     lines-told replies events told ∙ sym (all-printed events)
-    ∙ told_between-lines offered settings (asked_of done) 4 cs xs ys (slots-each xs done 1 cs qs all)
+    ∙ told_between-lines offered settings (asked_of done) cs xs ys
     (λ j more within k client found s. asked-each settings xs ys done some (take j ys) (omega (arith, length-take j ys)) (omega (arith, length-take j ys)) 1 cs qs all free k client found s) in
     stretch settings cs xs ys some (λ j f b. quiet settings xs ys done some (take j ys) (omega (arith, length-take j ys)) (omega (arith, length-take j ys)) cs qs all free)
     ∙ ap (λ (l : List (List ℕ)). body_lines offered settings xs cs ++ l ++ answers_at offered settings cs (xs ++ ys)) (sym lines)

@@ -1,4 +1,5 @@
 use Rattle.std.proofs.Common.{◌≡◌, ◌≤◌, ◌+◌, ◌-◌, ◌*◌, ◌^◌, arith, ℕ, List, [], ◌++◌, length, refl, sym, ap, subst, ◌∙◌}
+use Rattle.std.specs.Prelude.{replicate}
 use Rattle.definitions.specs.Samples.{Sample, Packing, samples_from}
 use Rattle.definitions.specs.Receiver.{told_between}
 use Rattle.definitions.specs.Banks.{layout, told_at_end}
@@ -10,7 +11,7 @@ use Rattle.channel_slots.specs.Banks.{RunsAll, keys_of, AreTold, BankStands}
 use Rattle.channel_slots.proofs.BankLemmas.{refilled, few-from_most, most-from_few, few-more, keys-same, slots-four, run-tells, run-stands}
 use Rattle.channel_slots.proofs.bank.Bank.feed_start.Goals as goal
 
-few_slots : (clients : ℕ) (places : List Place) → clients ≤ 8 → keys_of places ≡ layout 4 (4 * clients) → length places ≤ 32
+few_slots : (clients : ℕ) (places : List Place) → clients ≤ 8 → keys_of places ≡ layout (replicate clients 4) → length places ≤ 32
 few_slots clients places few keys = omega (arith, few, slots-four clients places keys)
 
 count_is : (packing : Packing) (bytes : List ℕ) (first n : ℕ) (ys : List Sample) → ys ≡ samples_from packing bytes first n → length ys ≡ n
@@ -47,7 +48,7 @@ returns-clause-told c settings xs asked s =
     let packing : packing_of c.format.result ≡ settings.packing = c.format.ensures ∙ ap (λ (s : Settings). s.packing) s.recorded in
     let ys : List Sample = samples_from settings.packing c.args.bytes.now c.args.first c.args.len in
     let runs : RunsAll ys c.args.self.now.time c.args.self.now.places.items c.run_all.new.places [] c.run_all.new.replies.items = rw (c.deref_mut.ensures.value, c.requires.empty, c.unpack-run.ensures, packing) at c.run_all.ensures in
-    run-tells settings asked xs ys c.args.self.now.time (sym s.now) c.args.self.now.places.items c.run_all.new.places c.run_all.new.replies.items (layout 4 (4 * c.args.self.now.clients)) c.args.self.now.keys runs s.slots
+    run-tells settings asked xs ys c.args.self.now.time (sym s.now) c.args.self.now.places.items c.run_all.new.places c.run_all.new.replies.items (layout (replicate c.args.self.now.clients 4)) c.args.self.now.keys runs s.slots
 
 pub returns-clause-stands : goal.returns-clause-stands
 returns-clause-stands c settings xs asked s =

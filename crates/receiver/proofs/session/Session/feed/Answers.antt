@@ -1,13 +1,15 @@
-use Rattle.std.proofs.Common.{◌≡◌, ◌≤◌, ◌<◌, ◌*◌, ℕ, List, length, subst, arith}
+use Rattle.std.proofs.Common.{◌≡◌, ◌≤◌, ◌<◌, ℕ, List, length, subst, sym, ap, ◌∙◌, arith}
+use Rattle.std.specs.Prelude.{replicate}
 use Rattle.definitions.specs.Samples.{Sample, samples_from}
 use Rattle.definitions.specs.Banks.{told_at_end, layout}
 use Rattle.definitions.specs.Receiver.{told_between}
 use Rattle.definitions.proofs.SampleLemmas.{samples_from-length}
+use Rattle.definitions.proofs.TellLemmas.{shares_of, shares-equal}
 use Rattle.channel_slots.specs.Banks.{AreTold}
 use Rattle.receiver.specs.declared.queue.Queue.{Queue}
 use Rattle.receiver.specs.Queues.{least_gap_of}
 use Rattle.receiver.specs.Sessions.{until_next, asked_of}
-use Rattle.receiver.proofs.SessionLemmas.{queues-later, waiting-later, same-number}
+use Rattle.receiver.proofs.SessionLemmas.{queues-later, waiting-later, same-number, slots-each}
 use Rattle.receiver.proofs.TellingLemmas.{told-stretch}
 use Rattle.receiver.proofs.session.Session.feed.Goals as goal
 
@@ -38,6 +40,7 @@ returns-clause-told c settings clients xs s =
     let queues : List Queue = c.args.self.now.queues.items in
     let free = before-next queues c.args.self.now.bank.time c.args.len (length xs) (length ys) c.requires.quiet s.bank.now many in
     let some : 0 < length ys = omega (arith, many, c.requires.some) in
-    let number : 4 * c.args.self.now.bank.clients ≡ length clients * 4 = omega (arith, same-number xs s.done 1 clients queues s.queues, c.args.self.now.clients) in
+    let number : c.args.self.now.bank.clients ≡ length clients = omega (arith, same-number xs s.done 1 clients queues s.queues, c.args.self.now.clients) in
+    let shares : replicate c.args.self.now.bank.clients 4 ≡ shares_of clients = ap (λ n. replicate n 4) number ∙ sym (shares-equal 4 clients (slots-each xs s.done 1 clients queues s.queues)) in
     told-stretch settings clients queues s.done xs ys c.feed_into.new.replies.items some s.queues free
-    (subst (λ (n : ℕ). AreTold c.feed_into.new.replies.items (told_between (told_at_end settings (layout 4 n) (asked_of s.done)) xs ys)) number (c.feed_into.ensures.told settings xs (asked_of s.done) s.bank))
+    (subst (λ (l : List ℕ). AreTold c.feed_into.new.replies.items (told_between (told_at_end settings (layout l) (asked_of s.done)) xs ys)) shares (c.feed_into.ensures.told settings xs (asked_of s.done) s.bank))
