@@ -1,5 +1,5 @@
 -- The sums of an open segment fit, and go on fitting.
-use Rattle.std.proofs.Common.{◌≡◌, ◌≤◌, ◌<◌, ◌+◌, ◌-◌, ◌*◌, ℤ, ℕ, ap, arith, unsigned_abs, ◌+ℤ◌, FitsSigned, w32}
+use Rattle.std.proofs.Common.{◌≡◌, ◌≤◌, ◌<◌, ◌+◌, ◌*◌, ℤ, ℕ, ap, arith, unsigned_abs, ◌+ℤ◌, FitsSigned, w32}
 use Rattle.std.proofs.lemmas.Int.{ints, fits_signed_from_abs}
 use Rattle.std.proofs.Math.Nat.{mul-le-mul_right}
 use Rattle.definitions.specs.Oscillators.{code_cycle}

@@ -5,16 +5,14 @@ use Rattle.channel_slots.specs.declared.slot.Slot.{Slot}
 use Rattle.channel_slots.specs.declared.slot.Slot.TheVariants.{Idle, Holds}
 use Rattle.definitions.specs.Oscillators.{code_cycle}
 use Rattle.std.proofs.lemmas.Bool.{cases_lt, lt-ltb, le-ltb}
-use Rattle.std.proofs.lemmas.List.{map-append, length-take-le, length-drop}
+use Rattle.std.proofs.lemmas.List.{map-append}
 use Rattle.definitions.specs.Samples.{Sample}
-use Rattle.definitions.specs.Oscillators.{Settings}
-use Rattle.definitions.specs.Commands.{TimedRequest}
-use Rattle.definitions.specs.Events.{Event as Told, events_at_end}
+use Rattle.definitions.specs.Events.{Event as Told}
 use Rattle.definitions.specs.Banks.{SlotEvent, slot_events}
 use Rattle.definitions.specs.Receiver.{told_between}
 use Rattle.channel_slots.specs.declared.reply.Reply.{Reply}
 use Rattle.channel_slots.specs.declared.place.Place.{Place}
-use Rattle.channel_slots.specs.Slots.{StandsFor, chances, dumps_of}
+use Rattle.channel_slots.specs.Slots.{chances}
 use Rattle.channel_slots.specs.Orders.{put_in, put_all}
 use Rattle.channel_slots.specs.Replies.{told_in, told_with, event_in, time_in, time_at}
 use Rattle.channel_slots.specs.Banks.{AreTold, PlaceAdds, PlaceGoes, slot_tells}

@@ -17,6 +17,7 @@ use Rattle.definitions.specs.Events.{steered_events, push_events, last_of, front
 use Rattle.definitions.specs.Lives.{is_over, life_of, dumps_of_life, life_now}
 use Rattle.definitions.specs.Answers.{answer_at_end, view_of}
 use Rattle.definitions.specs.Texts.{event_text, answer_text}
+use Rattle.definitions.specs.Banks.{layout}
 use Rattle.definitions.specs.Runs.{Task, Input, InputEnd, exhausted, failed, unfinished, taken, due_text, are_shares, are_clients, IsAnswer, write_failed}
 use Rattle.definitions.specs.Receiver.{body, Client, full_profile, entries_of, commands_to, body_lines, end_lines, full_lines, at_each_time, lines_at, told_at, answers_at, for_each_client, told, answered, full}
 
@@ -86,6 +87,10 @@ unequal_states : run usual [] (client 8 (codes "0 state 7" ∷ []) ∷ client 1 
     ≡ text (codes "1 0 state 7 idle" ∷ codes "2 0 err 8" ∷ codes "1 0 end" ∷ codes "2 0 end" ∷ [])
 unfolding full full_lines body_lines end_lines at_each_time lines_at told_at answers_at for_each_client told answered entries_of commands_to script entry_of entries_after pieces_ended_by values_in as_bytes digits events_at_end life_now life_of life_events is_over answer_at_end view_of event_text answer_text sample samples_from
 unequal_states = refl
+
+-- the slots of shares of three and of one
+unequal_layout : layout (3 ∷ 1 ∷ []) ≡ (1, 0) ∷ (1, 1) ∷ (1, 2) ∷ (2, 0) ∷ []
+unequal_layout = refl
 
 -- two clients: samples come before commands, and at one time the first client before the second
 two_clients : run usual (0 ∷ []) (client 4 (codes "0 hold 0 1 0 2045" ∷ codes "0 counts 0 2" ∷ codes "1 state 0" ∷ []) ∷ client 4 (codes "1 state 3" ∷ codes "0 state 0" ∷ codes "3 hold 2 7 -1000 2045" ∷ codes "3 counts 2 1" ∷ codes "4 state 2" ∷ codes "5 stop 2" ∷ codes "5 stop 2" ∷ []) ∷ [])

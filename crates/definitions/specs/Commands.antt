@@ -1,4 +1,4 @@
--- What a client may ask of a slot.
+-- What a client may ask of a slot. (This project's own.)
 use Rattle.std.specs.Prelude.{ℕ, ℤ}
 use Rattle.definitions.specs.Acquisition.{Plan}
 

@@ -1,5 +1,6 @@
 -- What holds of the events that a slot tells, by what the definitions make of the samples and
--- commands so far. Each law is promised by a function of the same name in this crate.
+-- commands so far. Each law is promised by a function of the same name in this crate. (This
+-- project's own.)
 use Rattle.std.specs.Prelude.{ℕ, ◌≡◌, ◌+◌, ◌-◌, ◌*◌, ◌^◌, ◌<◌, ◌≤◌, ◌↔◌, Bool, true, ℤ, pos, List}
 use Rattle.std.specs.Prelude.{◌++◌, map, sum, length, slice_get, Some, option_and_then}
 use Rattle.std.specs.List.{range_with_len}

@@ -1,5 +1,5 @@
 -- What holds of the definitions. Each of these is promised by a function of the same name in this
--- crate.
+-- crate. (This project's own.)
 use Rattle.std.specs.Prelude.{ℕ, ◌≡◌, ◌+◌, ◌*◌, ◌<◌, ◌≤◌, Bool, true, ℤ, neg_ℤ, ◌*ℤ◌, List, [], ◌∷◌}
 use Rattle.std.specs.Prelude.{◌++◌, length, slice_get, Some}
 use Rattle.std.specs.List.{AllByRecursion}

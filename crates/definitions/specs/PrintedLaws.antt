@@ -1,5 +1,5 @@
 -- What holds of the lines of the whole text, whatever the settings, the samples and the clients
--- are. Each law is promised by a function of the same name in this crate.
+-- are. Each law is promised by a function of the same name in this crate. (This project's own.)
 use Rattle.std.specs.Prelude.{ℕ, ◌≡◌, ◌+◌, ◌<◌, ◌≤◌, ◌⊎◌, true, List, length, take, slice_get}
 use Rattle.std.specs.Prelude.{Option, Some, codes}
 use Rattle.definitions.specs.Samples.{Sample}

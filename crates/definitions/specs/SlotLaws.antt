@@ -1,5 +1,5 @@
 -- What holds of the events of a slot. Each of these is promised by a function of the same name in
--- this crate.
+-- this crate. (This project's own.)
 use Rattle.std.specs.Prelude.{ℕ, zero, suc, ◌≡◌, ◌+◌, ◌-◌, ◌*◌, ◌/◌, ◌%◌, ◌==◌, ◌&&◌, ℤ, ◌<◌, ◌≤◌}
 use Rattle.std.specs.Prelude.{Bool, true, false, List, length, slice_get, take, Some, None}
 use Rattle.std.specs.Option.{option_map_or}

@@ -1,5 +1,5 @@
 -- What holds of the text of a receiver. Each of these is promised by a function of the same name in
--- this crate.
+-- this crate. (This project's own.)
 use Rattle.std.specs.Prelude.{ℕ, ◌≡◌, ◌+◌, ◌<◌, ◌≤◌, List, [], ◌∷◌}
 use Rattle.std.specs.Prelude.{◌++◌, length, map, slice_get, Some}
 use Rattle.std.specs.List.{AllByRecursion}

@@ -1,13 +1,12 @@
-use Rattle.std.proofs.Common.{◌≡◌, ◌≤◌, ◌+◌, ◌-◌, ◌*◌, ◌^◌, arith, ℕ, List, [], ◌++◌, length, refl, sym, ap, subst, ◌∙◌}
+use Rattle.std.proofs.Common.{◌≡◌, ◌≤◌, ◌+◌, ◌^◌, arith, ℕ, List, [], ◌++◌, length, sym, ap, ◌∙◌}
 use Rattle.std.specs.Prelude.{replicate}
 use Rattle.definitions.specs.Samples.{Sample, Packing, samples_from}
-use Rattle.definitions.specs.Receiver.{told_between}
-use Rattle.definitions.specs.Banks.{layout, told_at_end}
+use Rattle.definitions.specs.Banks.{layout}
 use Rattle.definitions.specs.Oscillators.{Settings}
 use Rattle.definitions.proofs.SampleLemmas.{samples_from-length}
 use Rattle.sample_planes.specs.Packings.{packing_of}
 use Rattle.channel_slots.specs.declared.place.Place.{Place}
-use Rattle.channel_slots.specs.Banks.{RunsAll, keys_of, AreTold, BankStands}
+use Rattle.channel_slots.specs.Banks.{RunsAll, keys_of, BankStands}
 use Rattle.channel_slots.proofs.BankLemmas.{refilled, few-from_most, most-from_few, few-more, keys-same, slots-four, run-tells, run-stands}
 use Rattle.channel_slots.proofs.bank.Bank.feed_start.Goals as goal
 
