@@ -1,15 +1,17 @@
 -- Among the lines of all clients, those of one are what that client gets alone.
-use Rattle.std.proofs.Common.{◌≡◌, ℕ, zero, suc, ◌+◌, ◌<◌, ◌≤◌, List, [], ◌∷◌, ◌++◌, length, take, drop, refl, ap, ◌∙◌, sym, arith, true, false}
+use Rattle.std.proofs.Common.{◌≡◌, ℕ, zero, suc, ◌+◌, ◌^◌, ◌<◌, ◌≤◌, List, [], ◌∷◌, ◌++◌, length, take, drop, refl, ap, ◌∙◌, sym, arith, true, false}
 use Rattle.std.specs.Prelude.{flat_map, map, nat_eq, Some, slice_get}
-use Rattle.std.specs.List.{range_with_len, enumerate_from}
-use Rattle.std.proofs.lemmas.Fmt.{decimal_digit}
+use Rattle.std.specs.List.{AllByRecursion, range_with_len, enumerate_from, starts_with}
+use Rattle.std.specs.Fmt.{decimal}
+use Rattle.std.proofs.lemmas.Fmt.{decimal_injective}
 use Rattle.std.proofs.lemmas.List.Elements.{filter-append}
 use Rattle.std.proofs.lemmas.List.{append-nil}
-use Rattle.std.proofs.lemmas.Bool.{ne_eqb, true_from_ne_false, eqb-false}
+use Rattle.std.proofs.lemmas.Bool.{and_parts, true_from_ne_false, false_from_ne_true, eqb-true, eqb-false}
 use Rattle.definitions.specs.Oscillators.{Settings}
 use Rattle.definitions.specs.Samples.{Sample}
 use Rattle.definitions.specs.Texts.{for_client}
 use Rattle.definitions.specs.Receiver.{Client, Profile, lines_of_client, is_of_client, for_each_client, lines_at, told_at, answers_at, lines_alone_at, body_lines, end_lines, full_lines, end_line, alone, alone_to_end, at_each_time, timed, told, answered}
+use Rattle.definitions.proofs.VerbLemmas.{NoSpace, decimal-word}
 
 same : (n : ℕ) → nat_eq n n ≡ true
 same n = true_from_ne_false (nat_eq n n) (λ e. eqb-false n n e refl)
@@ -27,24 +29,42 @@ unfolding lines_of_client
 of_client-flat_map c f [] = refl
 of_client-flat_map c f (t ∷ ts) = of_client-append c (f t) (flat_map f ts) ∙ ap (λ r. lines_of_client c (f t) ++ r) (of_client-flat_map c f ts)
 
+-- a word and a space, in front of a line
+begins-own : (w line : List ℕ) → starts_with nat_eq (w ++ 32 ∷ line) (w ++ 32 ∷ []) ≡ true
+begins-own [] line = refl
+begins-own (b ∷ w) line = rw (same b) (begins-own w line)
+
+drop-own : (w line : List ℕ) → drop (length (w ++ 32 ∷ [])) (w ++ 32 ∷ line) ≡ line
+drop-own [] line = refl
+drop-own (b ∷ w) line = drop-own w line
+
+begins-other : (w v line : List ℕ) → AllByRecursion NoSpace w → AllByRecursion NoSpace v → starts_with nat_eq (v ++ 32 ∷ line) (w ++ 32 ∷ []) ≡ true → w ≡ v
+unfolding NoSpace
+begins-other [] [] line hw hv e = refl
+begins-other [] (b ∷ v) line hw hv e = absurd (spaced (eqb-true 32 b (and_parts (nat_eq 32 b) _ e).0) hv.0)
+  where
+    spaced : 32 ≡ b → nat_eq b 32 ≡ false → ⊥
+    spaced is not = eqb-false b 32 not (sym is)
+begins-other (a ∷ w) [] line hw hv e = absurd (eqb-false a 32 hw.0 (eqb-true a 32 (and_parts (nat_eq a 32) _ e).0))
+begins-other (a ∷ w) (b ∷ v) line hw hv e =
+    let both = and_parts (nat_eq a b) _ e in
+    ap (λ c. c ∷ w) (eqb-true a b both.0) ∙ ap (λ r. b ∷ r) (begins-other w v line hw.1 hv.1 both.1)
+
 -- a client's own line, and another's
-own_line : (c : ℕ) (line : List ℕ) → c < 10 → is_of_client c (for_client c line) ≡ true
+own_line : (c : ℕ) (line : List ℕ) → is_of_client c (for_client c line) ≡ true
 unfolding is_of_client
-own_line c line h = rw (decimal_digit c h, same (48 + c)) refl
+own_line c line = begins-own (decimal c) line
 
-other_line : (c d : ℕ) (line : List ℕ) → c < 10 → d < 10 → (c ≡ d → ⊥) → is_of_client c (for_client d line) ≡ false
+other_line : (c d : ℕ) (line : List ℕ) → c < 2 ^ 64 → d < 2 ^ 64 → (c ≡ d → ⊥) → is_of_client c (for_client d line) ≡ false
 unfolding is_of_client
-other_line c d line h k ne = rw (decimal_digit c h, decimal_digit d k, ne_eqb (48 + c) (48 + d) (λ e. ne (omega (arith, e)))) refl
+other_line c d line h k ne = false_from_ne_true _ (λ yes. ne (decimal_injective c d h k (begins-other (decimal c) (decimal d) line (decimal-word c).whole (decimal-word d).whole yes)))
 
-dropped : (c : ℕ) (line : List ℕ) → c < 10 → drop (length (for_client c [])) (for_client c line) ≡ line
-dropped c line h = rw (decimal_digit c h) refl
-
-own_lines : (c : ℕ) (ls : List (List ℕ)) → c < 10 → lines_of_client c (map (for_client c) ls) ≡ ls
+own_lines : (c : ℕ) (ls : List (List ℕ)) → lines_of_client c (map (for_client c) ls) ≡ ls
 unfolding lines_of_client
-own_lines c [] h = refl
-own_lines c (l ∷ ls) h = rw (own_line c l h, dropped c l h) (ap (λ r. l ∷ r) (own_lines c ls h))
+own_lines c [] = refl
+own_lines c (l ∷ ls) = rw (own_line c l, drop-own (decimal c) l) (ap (λ r. l ∷ r) (own_lines c ls))
 
-other_lines : (c d : ℕ) (ls : List (List ℕ)) → c < 10 → d < 10 → (c ≡ d → ⊥) → lines_of_client c (map (for_client d) ls) ≡ []
+other_lines : (c d : ℕ) (ls : List (List ℕ)) → c < 2 ^ 64 → d < 2 ^ 64 → (c ≡ d → ⊥) → lines_of_client c (map (for_client d) ls) ≡ []
 unfolding lines_of_client
 other_lines c d [] h k ne = refl
 other_lines c d (l ∷ ls) h k ne = rw (other_line c d l h k ne) (other_lines c d ls h k ne)
@@ -53,7 +73,7 @@ other_lines c d (l ∷ ls) h k ne = rw (other_line c d l h k ne) (other_lines c 
 numbered : (Client → List (List ℕ)) → ℕ → List Client → List (List ℕ)
 numbered lines b clients = flat_map (λ (p : ℕ × Client). map (for_client p.0) (lines p.1)) (enumerate_from b clients)
 
-none_of_later : (lines : Client → List (List ℕ)) (c b : ℕ) (clients : List Client) → c < b → b + length clients ≤ 10 → lines_of_client c (numbered lines b clients) ≡ []
+none_of_later : (lines : Client → List (List ℕ)) (c b : ℕ) (clients : List Client) → c < b → b + length clients ≤ 2 ^ 64 → lines_of_client c (numbered lines b clients) ≡ []
 unfolding numbered lines_of_client
 none_of_later lines c b [] h few = refl
 none_of_later lines c b (s ∷ ss) h few =
@@ -61,7 +81,7 @@ none_of_later lines c b (s ∷ ss) h few =
     ∙ ap (λ r. r ++ lines_of_client c (numbered lines (b + 1) ss)) (other_lines c b (lines s) (omega (arith, few)) (omega (arith, few)) (λ e. omega (arith, e, h)))
     ∙ none_of_later lines c (b + 1) ss (omega arith) (omega (arith, few))
 
-of_client-numbered : (lines : Client → List (List ℕ)) (b k : ℕ) (clients : List Client) (client : Client) → slice_get clients k ≡ Some client → b + length clients ≤ 10
+of_client-numbered : (lines : Client → List (List ℕ)) (b k : ℕ) (clients : List Client) (client : Client) → slice_get clients k ≡ Some client → b + length clients ≤ 2 ^ 64
     → lines_of_client (b + k) (numbered lines b clients) ≡ lines client
 unfolding numbered
 of_client-numbered lines b k [] client found few = cc
@@ -69,7 +89,7 @@ of_client-numbered lines b zero (s ∷ ss) client found few =
     let e : b + 0 ≡ b = omega arith in
     let it : s ≡ client = cc in
     rw e (of_client-append b (map (for_client b) (lines s)) (numbered lines (b + 1) ss)
-    ∙ ap (λ r. r ++ lines_of_client b (numbered lines (b + 1) ss)) (own_lines b (lines s) (omega (arith, few)))
+    ∙ ap (λ r. r ++ lines_of_client b (numbered lines (b + 1) ss)) (own_lines b (lines s))
     ∙ ap (λ r. lines s ++ r) (none_of_later lines b (b + 1) ss (omega arith) (omega (arith, few)))
     ∙ append-nil (lines s) ∙ ap lines it)
 of_client-numbered lines b (suc k) (s ∷ ss) client found few =
@@ -78,16 +98,16 @@ of_client-numbered lines b (suc k) (s ∷ ss) client found few =
     ∙ ap (λ r. r ++ lines_of_client (b + 1 + k) (numbered lines (b + 1) ss)) (other_lines (b + 1 + k) b (lines s) (below ss k client found (b + 1) (omega (arith, few))) (omega (arith, few)) (λ h. omega (arith, h)))
     ∙ of_client-numbered lines (b + 1) k ss client found (omega (arith, few)))
   where
-    below : (ss : List Client) (k : ℕ) (client : Client) → slice_get ss k ≡ Some client → (b : ℕ) → b + length ss ≤ 10 → b + k < 10
+    below : (ss : List Client) (k : ℕ) (client : Client) → slice_get ss k ≡ Some client → (b : ℕ) → b + length ss ≤ 2 ^ 64 → b + k < 2 ^ 64
     below [] k client found b h = cc
     below (s ∷ ss) zero client found b h = omega (arith, h)
     below (s ∷ ss) (suc k) client found b h = omega (arith, below ss k client found (b + 1) (omega (arith, h)))
 
-of_client-each : (lines : Client → List (List ℕ)) (k : ℕ) (clients : List Client) (client : Client) → slice_get clients k ≡ Some client → length clients ≤ 8 → lines_of_client (1 + k) (for_each_client lines clients) ≡ lines client
+of_client-each : (lines : Client → List (List ℕ)) (k : ℕ) (clients : List Client) (client : Client) → slice_get clients k ≡ Some client → length clients < 2 ^ 64 → lines_of_client (1 + k) (for_each_client lines clients) ≡ lines client
 unfolding for_each_client numbered
 of_client-each lines k clients client found few = of_client-numbered lines 1 k clients client found (omega (arith, few))
 
-of_client-at : (profile : Profile) (settings : Settings) (k : ℕ) (clients : List Client) (client : Client) → slice_get clients k ≡ Some client → length clients ≤ 8 → (xs : List Sample)
+of_client-at : (profile : Profile) (settings : Settings) (k : ℕ) (clients : List Client) (client : Client) → slice_get clients k ≡ Some client → length clients < 2 ^ 64 → (xs : List Sample)
     → lines_of_client (1 + k) (lines_at profile settings clients xs) ≡ lines_alone_at profile settings client xs
 unfolding lines_at told_at answers_at lines_alone_at
 of_client-at profile settings k clients client found few xs =
@@ -100,7 +120,7 @@ flat_map-same f g [] e = refl
 flat_map-same f g (x ∷ xs) e = rw (e x, flat_map-same f g xs e)
 
 -- among the lines of all clients, those of client k + 1 are what it gets alone
-pub lines_of_client-body : (profile : Profile) (settings : Settings) (xs : List Sample) (clients : List Client) (k : ℕ) (client : Client) → slice_get clients k ≡ Some client → length clients ≤ 8
+pub lines_of_client-body : (profile : Profile) (settings : Settings) (xs : List Sample) (clients : List Client) (k : ℕ) (client : Client) → slice_get clients k ≡ Some client → length clients < 2 ^ 64
     → lines_of_client (1 + k) (body_lines profile settings xs clients) ≡ alone profile settings xs client
 unfolding body_lines alone at_each_time
 lines_of_client-body profile settings xs clients k client found few =
@@ -108,7 +128,7 @@ lines_of_client-body profile settings xs clients k client found few =
     ∙ flat_map-same (λ t. lines_of_client (1 + k) (lines_at profile settings clients (take t xs))) (λ t. lines_alone_at profile settings client (take t xs)) (range_with_len 0 (length xs + 1)) (λ t. of_client-at profile settings k clients client found few (take t xs))
 
 -- the same with the ends
-pub lines_of_client-full : (profile : Profile) (settings : Settings) (xs : List Sample) (clients : List Client) (k : ℕ) (client : Client) → slice_get clients k ≡ Some client → length clients ≤ 8
+pub lines_of_client-full : (profile : Profile) (settings : Settings) (xs : List Sample) (clients : List Client) (k : ℕ) (client : Client) → slice_get clients k ≡ Some client → length clients < 2 ^ 64
     → lines_of_client (1 + k) (full_lines profile settings xs clients) ≡ alone_to_end profile settings xs client
 unfolding full_lines end_lines alone_to_end
 lines_of_client-full profile settings xs clients k client found few =

@@ -1,5 +1,5 @@
 -- The laws of the text, from those of its lines.
-use Rattle.std.proofs.Common.{◌≡◌, ℕ, ◌+◌, ◌≤◌, List, length, ap, ◌∙◌, sym}
+use Rattle.std.proofs.Common.{◌≡◌, ℕ, ◌+◌, ◌^◌, ◌<◌, List, length, ap, ◌∙◌, sym}
 use Rattle.std.specs.Prelude.{Some, slice_get, map, ◌∷◌, []}
 use Rattle.definitions.specs.Samples.{Sample}
 use Rattle.definitions.specs.Oscillators.{Settings}
@@ -19,16 +19,16 @@ pub lines_of-body : (profile : Profile) (settings : Settings) (xs : List Sample)
 unfolding body
 lines_of-body profile settings xs clients = lines-as_bytes (body_lines profile settings xs clients) (body-lines profile settings xs clients)
 
-pub client-alone : (profile : Profile) (settings : Settings) (xs : List Sample) (clients : List Client) (k : ℕ) (client : Client) → slice_get clients k ≡ Some client → length clients ≤ 8
+pub client-alone : (profile : Profile) (settings : Settings) (xs : List Sample) (clients : List Client) (k : ℕ) (client : Client) → slice_get clients k ≡ Some client → length clients < 2 ^ 64
     → lines_of_client (1 + k) (lines_of (full profile settings xs clients)) ≡ alone_to_end profile settings xs client
 client-alone profile settings xs clients k client found few = ap (lines_of_client (1 + k)) (lines_of-full profile settings xs clients) ∙ lines_of_client-full profile settings xs clients k client found few
 
-pub client-alone_in_body : (profile : Profile) (settings : Settings) (xs : List Sample) (clients : List Client) (k : ℕ) (client : Client) → slice_get clients k ≡ Some client → length clients ≤ 8
+pub client-alone_in_body : (profile : Profile) (settings : Settings) (xs : List Sample) (clients : List Client) (k : ℕ) (client : Client) → slice_get clients k ≡ Some client → length clients < 2 ^ 64
     → lines_of_client (1 + k) (lines_of (body profile settings xs clients)) ≡ alone profile settings xs client
 client-alone_in_body profile settings xs clients k client found few = ap (lines_of_client (1 + k)) (lines_of-body profile settings xs clients) ∙ lines_of_client-body profile settings xs clients k client found few
 
 pub two_worlds : (profile : Profile) (settings : Settings) (xs : List Sample) (clients others : List Client) (k j : ℕ) (client : Client)
-    → slice_get clients k ≡ Some client → length clients ≤ 8 → slice_get others j ≡ Some client → length others ≤ 8
+    → slice_get clients k ≡ Some client → length clients < 2 ^ 64 → slice_get others j ≡ Some client → length others < 2 ^ 64
     → lines_of_client (1 + k) (lines_of (full profile settings xs clients)) ≡ lines_of_client (1 + j) (lines_of (full profile settings xs others))
 two_worlds profile settings xs clients others k j client found few there small = client-alone profile settings xs clients k client found few ∙ sym (client-alone profile settings xs others j client there small)
 

@@ -19,13 +19,13 @@ use Rattle.definitions.specs.PrintedLaws.{verb_of}
 
 -- ---- words
 
-NoSpace : ℕ → Type 0
+unfoldable pub NoSpace : ℕ → Type 0
 NoSpace b = nat_eq b 32 ≡ false
 
 -- a word: one byte or more, none of them a space
-record IsWord (w : List ℕ) : Type 0 where
-  some : nat_eq (length w) 0 ≡ false
-  whole : AllByRecursion NoSpace w
+pub record IsWord (w : List ℕ) : Type 0 where
+  pub some : nat_eq (length w) 0 ≡ false
+  pub whole : AllByRecursion NoSpace w
 
 abbrev is_word : List ℕ → Bool
 is_word w = list_all (λ b. not (nat_eq b 32)) w
@@ -80,7 +80,7 @@ onto-word (suc k) n acc is =
     let more : IsWord (digit_glyph false (n % 10) ∷ acc) = some-cons (digit_glyph false (n % 10)) acc (glyph (n % 10), is.whole) in
     by_if (nat_eq (n / 10) 0) (digit_glyph false (n % 10) ∷ acc) (digits_onto k 10 false (n / 10) (digit_glyph false (n % 10) ∷ acc)) more (onto-word k (n / 10) (digit_glyph false (n % 10) ∷ acc) more)
 
-decimal-word : (n : ℕ) → IsWord (decimal n)
+pub decimal-word : (n : ℕ) → IsWord (decimal n)
 unfolding digits
 decimal-word n =
     let first : IsWord (digit_glyph false (n % 10) ∷ []) = some-cons (digit_glyph false (n % 10)) [] (glyph (n % 10), tt) in

@@ -1,6 +1,6 @@
 -- What holds of the text of a receiver. Each of these is promised by a function of the same name in
 -- this crate. (This project's own.)
-use Rattle.std.specs.Prelude.{ℕ, ◌≡◌, ◌+◌, ◌<◌, ◌≤◌, List, [], ◌∷◌}
+use Rattle.std.specs.Prelude.{ℕ, ◌≡◌, ◌+◌, ◌^◌, ◌<◌, List, [], ◌∷◌}
 use Rattle.std.specs.Prelude.{◌++◌, length, map, slice_get, Some}
 use Rattle.std.specs.List.{AllByRecursion}
 use Rattle.definitions.specs.Samples.{Sample}
@@ -12,11 +12,12 @@ use Rattle.definitions.specs.Receiver.{lines_at, body_lines, body, full, lines_o
 use Rattle.definitions.specs.Runs.{Task, Input, RunAnswer, IsAnswer, due_text, BeginsWith}
 
 -- Among the lines of the whole text, those that begin with a client's number and a space, without
--- these, are what that client gets alone, and then its end.
+-- these, are what that client gets alone, and then its end. (Numbers that fill more than 64 bits
+-- are left out: `decimal` is of 64 digits at most.)
 abbrev pub ClientsAreAlone : Type 0
 ClientsAreAlone = (profile : Profile) (settings : Settings) (xs : List Sample)
     (clients : List Client) (k : ℕ) (client : Client)
-    → slice_get clients k ≡ Some client → length clients ≤ 8
+    → slice_get clients k ≡ Some client → length clients < 2 ^ 64
     → lines_of_client (1 + k) (lines_of (full profile settings xs clients))
     ≡ alone_to_end profile settings xs client
 
@@ -25,7 +26,7 @@ abbrev pub ClientsAreAloneInBody : Type 0
 ClientsAreAloneInBody =
     (profile : Profile) (settings : Settings) (xs : List Sample) (clients : List Client) (k : ℕ)
     (client : Client)
-    → slice_get clients k ≡ Some client → length clients ≤ 8
+    → slice_get clients k ≡ Some client → length clients < 2 ^ 64
     → lines_of_client (1 + k) (lines_of (body profile settings xs clients))
     ≡ alone profile settings xs client
 
@@ -42,8 +43,8 @@ OneClientRuns = (profile : Profile) (settings : Settings) (xs : List Sample) (cl
 abbrev pub TwoWorldsAgree : Type 0
 TwoWorldsAgree = (profile : Profile) (settings : Settings) (xs : List Sample)
     (clients others : List Client) (k j : ℕ) (client : Client)
-    → slice_get clients k ≡ Some client → length clients ≤ 8 → slice_get others j ≡ Some client
-    → length others ≤ 8
+    → slice_get clients k ≡ Some client → length clients < 2 ^ 64
+    → slice_get others j ≡ Some client → length others < 2 ^ 64
     → lines_of_client (1 + k) (lines_of (full profile settings xs clients))
     ≡ lines_of_client (1 + j) (lines_of (full profile settings xs others))
 

@@ -103,6 +103,6 @@ served-alone settings clients limit session old new r few = record {
   consumed = r.consumed;
   written = r.completes.written;
   alone = λ k client found.
-      client-alone offered settings (samples_read settings limit r.read) clients k client found few
+      client-alone offered settings (samples_read settings limit r.read) clients k client found (omega (arith, few))
       ∙ ap (λ (xs : List Sample). alone_to_end offered settings xs client) (take_all limit (samples settings.packing r.read) r.completes.why.1);
 }
