@@ -30,13 +30,13 @@ slot_events client slot time events =
 unfoldable pub told_at_end : Settings → List (ℕ × ℕ) → (ℕ → ℕ → List TimedRequest) → List Sample
     → List SlotEvent
 told_at_end settings keys asked xs =
-    flat_map (λ (k : ℕ × ℕ). slot_events k.0 k.1 (length xs)
-    (events_at_end settings xs (asked k.0 k.1))) keys
+    flat_map (λ (client, slot). slot_events client slot (length xs)
+    (events_at_end settings xs (asked client slot))) keys
 
 -- the slots of clients that have these shares of them, by client and then by slot
 abbrev pub layout : List ℕ → List (ℕ × ℕ)
 layout shares =
-    flat_map (λ (p : ℕ × ℕ). map (λ slot. (p.0, slot)) (range_with_len 0 p.1))
+    flat_map (λ (client, share). map (λ slot. (client, slot)) (range_with_len 0 share))
     (enumerate_from 1 shares)
 
 -- the commands, and one more to a client's slot

@@ -64,17 +64,21 @@ held begun prn doppler half_chip =
       steering = λ _. record { v = doppler_shift doppler; w = pos 0 };
     }
 
+-- the channel that a tracking slot follows from a time on
+abbrev pub tracked_channel : ℕ → ℕ → ℤ → ℕ → Channel
+tracked_channel begun prn doppler half_chip =
+    record {
+      prn = prn;
+      start = begun;
+      code = half_chip * 2 ^ 31;
+      steering = shift_after (doppler_shift doppler);
+    }
+
 -- the channel that a start gives: at once, or where an acquisition has found the signal
 abbrev pub channel_of : Settings → List Sample → ℕ → Start → Option Channel
 channel_of settings xs begun (hold prn doppler half_chip) = Some (held begun prn doppler half_chip)
 channel_of settings xs begun (track prn doppler half_chip) =
-    Some (record {
-      prn = prn;
-      start = begun;
-      code = half_chip * 2 ^ 31;
-      steering =
-          shift_after (doppler_shift doppler);
-    })
+    Some (tracked_channel begun prn doppler half_chip)
 channel_of settings xs begun (acquire plan) = acquired_channel settings xs plan begun
 
 abbrev pub is_steered : Start → Bool

@@ -66,9 +66,10 @@ reply_text settings xs before (Ok c) =
     answer_text c.slot (answer_at_end settings xs (commands_to c.slot before) c.request)
 reply_text settings xs before (Err refusal) = refusal_text refusal
 
+-- the answer to an entry, which is number i of these, where it is of the time of the last sample
 abbrev pub answered_by : Settings → List Sample → List Entry → ℕ × Entry → List (List ℕ)
-answered_by settings xs entries p =
-    if (p.1).time == length xs then reply_text settings xs (take p.0 entries) (p.1).what ∷ []
+answered_by settings xs entries (i, entry) =
+    if entry.time == length xs then reply_text settings xs (take i entries) entry.what ∷ []
     else []
 
 -- the texts of the answers to a client's entries at the time of the last sample, in their order
@@ -108,7 +109,7 @@ alone_to_end profile settings xs client = alone profile settings xs client ++ en
 -- the lines of each client in turn, behind its number; clients are numbered from 1
 unfoldable pub for_each_client : (Client → List (List ℕ)) → List Client → List (List ℕ)
 for_each_client lines clients =
-    flat_map (λ (p : ℕ × Client). map (for_client p.0) (lines p.1)) (enumerate_from 1 clients)
+    flat_map (λ (number, client). map (for_client number) (lines client)) (enumerate_from 1 clients)
 
 -- at the last time: what the samples tell each client
 unfoldable pub told_at : Profile → Settings → List Client → List Sample → List (List ℕ)

@@ -26,11 +26,9 @@ pub record Task : Type 0 where
 
 -- the clients that the shares and the scripts make
 abbrev pub clients_of : Task → List Client
-clients_of task = map (λ (p : ℕ × List ℕ). record {
-  slots = p.0;
-  script =
-      p.1;
-}) (zip task.shares task.scripts)
+clients_of task =
+    map (λ (slots, script). record { slots = slots; script = script })
+    (zip task.shares task.scripts)
 
 -- how reading came to an end: a read into a buffer that isn't empty gave no bytes, or a read
 -- failed, or neither had come when the run ended

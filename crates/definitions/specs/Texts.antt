@@ -35,7 +35,7 @@ field_text f value = f.name ++ codes "=" ++ signed_decimal value ++ codes ":"
     ++ signed_decimal f.exponent
 
 abbrev pub field_texts : List Field → List ℤ → List (List ℕ)
-field_texts fields values = map (λ (p : Field × ℤ). field_text p.0 p.1) (zip fields values)
+field_texts fields values = map (λ (field, value). field_text field value) (zip fields values)
 
 abbrev pub counts_texts : Counts → List (List ℕ)
 counts_texts c = map signed_decimal (c.ie ∷ c.qe ∷ c.ip ∷ c.qp ∷ c.il ∷ c.ql ∷ [])
