@@ -9,7 +9,7 @@ use Rattle.definitions.specs.Correlation.{Counts, Phases, counts_over, six_sums,
 use Rattle.definitions.specs.Segments.{Channel, Progress, progress, open_phases, is_through, closed_at, begun}
 use Rattle.definitions.proofs.BlockLemmas.{progress-begun, progress-quiet, progress-closes, quiet-through, last-through, phase-split}
 use Rattle.definitions.proofs.SplitLemmas.{counts_over-more, counts_over-none, carrier_on}
-use Rattle.definitions.specs.Lives.{held, doppler_shift}
+use Rattle.definitions.specs.Lives.{held_channel, doppler_shift}
 use Rattle.channel_slots.specs.declared.follower.Follower.{Follower}
 use Rattle.lane_correlator.specs.Counting.{counts_in}
 use Rattle.channel_slots.specs.Following.{IsAt, Follows, Stays, Closes, QuietInside}
@@ -130,9 +130,9 @@ module _ (settings : Settings) (channel : Channel) (xs ys : List Sample) (f : Fo
 -- a follower that starts at the next sample
 pub started : (settings : Settings) (xs : List Sample) (prn : ℕ) (doppler : ℤ) (half_chip : ℕ) (f : Follower) → f.prn ≡ prn → f.code.phase ≡ half_chip * 2 ^ 31 → f.carrier.phase ≡ 0
     → f.code.step ≡ code_step settings (doppler_shift doppler) (pos 0) → f.carrier.step ≡ carrier_step settings (doppler_shift doppler) → counts_in f.sums ≡ no_counts
-    → Follows settings (held (length xs) prn doppler half_chip) xs f
+    → Follows settings (held_channel (length xs) prn doppler half_chip) xs f
 started settings xs prn doppler half_chip f p code carrier a b sums =
-    let none : progress settings (held (length xs) prn doppler half_chip) xs ≡ begun (held (length xs) prn doppler half_chip) = progress-begun settings (held (length xs) prn doppler half_chip) xs (omega arith) in
+    let none : progress settings (held_channel (length xs) prn doppler half_chip) xs ≡ begun (held_channel (length xs) prn doppler half_chip) = progress-begun settings (held_channel (length xs) prn doppler half_chip) xs (omega arith) in
     let zero : length xs - length xs ≡ 0 = omega arith in
     record {
       at = rw none (record {

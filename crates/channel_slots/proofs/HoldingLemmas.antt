@@ -7,7 +7,7 @@ use Rattle.definitions.specs.Oscillators.{Settings}
 use Rattle.definitions.specs.Segments.{Channel, Dump, progress, begun}
 use Rattle.definitions.specs.Commands.{hold, state}
 use Rattle.definitions.specs.Answers.{shown, holding, answer_with, view_of}
-use Rattle.definitions.specs.Lives.{dumps_of_life, Life, held}
+use Rattle.definitions.specs.Lives.{dumps_of_life, Life, held_channel}
 use Rattle.definitions.specs.Events.{count, life_events, when}
 use Rattle.definitions.proofs.BlockLemmas.{progress-begun}
 use Rattle.definitions.proofs.LifeLemmas.{hold-quiet, hold-tells, unprinted-more, unprinted-all, dumps-within}
@@ -17,10 +17,10 @@ use Rattle.lane_correlator.specs.Counting.{counts_in}
 use Rattle.channel_slots.specs.Following.{Follows, Stays, Closes, QuietInside}
 use Rattle.channel_slots.specs.Holdings.{HoldsFor, HoldSteps, events_in}
 
-pub begins : (settings : Settings) (xs : List Sample) (prn : ℕ) (doppler : ℤ) (half_chip : ℕ) (h : Holding) → Follows settings (held (length xs) prn doppler half_chip) xs h.follower → h.dumps ≡ 0 → h.left ≡ 0
+pub begins : (settings : Settings) (xs : List Sample) (prn : ℕ) (doppler : ℤ) (half_chip : ℕ) (h : Holding) → Follows settings (held_channel (length xs) prn doppler half_chip) xs h.follower → h.dumps ≡ 0 → h.left ≡ 0
     → HoldsFor settings xs (record { begun = length xs; start = hold prn doppler half_chip; wanted = 0; wanted_from = length xs }) h
 begins settings xs prn doppler half_chip h follows dumps left =
-    let none : progress settings (held (length xs) prn doppler half_chip) xs ≡ begun (held (length xs) prn doppler half_chip) = progress-begun settings (held (length xs) prn doppler half_chip) xs (omega arith) in
+    let none : progress settings (held_channel (length xs) prn doppler half_chip) xs ≡ begun (held_channel (length xs) prn doppler half_chip) = progress-begun settings (held_channel (length xs) prn doppler half_chip) xs (omega arith) in
     record {
       prn = prn;
       doppler = doppler;
@@ -28,7 +28,7 @@ begins settings xs prn doppler half_chip h follows dumps left =
       start = refl;
       follows = follows;
       dumps = rw none dumps;
-      left = left ∙ sym (unprinted-all (record { begun = length xs; start = hold prn doppler half_chip; wanted = 0; wanted_from = length xs }) _ (dumps-within settings (held (length xs) prn doppler half_chip) xs (omega arith)));
+      left = left ∙ sym (unprinted-all (record { begun = length xs; start = hold prn doppler half_chip; wanted = 0; wanted_from = length xs }) _ (dumps-within settings (held_channel (length xs) prn doppler half_chip) xs (omega arith)));
       asked = omega arith;
     }
 
@@ -41,13 +41,13 @@ prints settings xs life n h g s follower dumps left = record {
   start = s.start;
   follows = rw follower s.follows;
   dumps = dumps ∙ s.dumps;
-  left = left ∙ sym (unprinted-all (record { begun = life.begun; start = life.start; wanted = n; wanted_from = length xs }) _ (dumps-within settings (held life.begun s.prn s.doppler s.half_chip) xs s.follows.at.begun));
+  left = left ∙ sym (unprinted-all (record { begun = life.begun; start = life.start; wanted = n; wanted_from = length xs }) _ (dumps-within settings (held_channel life.begun s.prn s.doppler s.half_chip) xs s.follows.at.begun));
   asked = omega arith;
 }
 
 module _ (settings : Settings) (xs ys : List Sample) (life : Life) (h : Holding) (s : HoldsFor settings xs life h) (some : 0 < length ys) where
   abbrev channel : Channel
-  channel = held life.begun s.prn s.doppler s.half_chip
+  channel = held_channel life.begun s.prn s.doppler s.half_chip
 
   both : length (xs ++ ys) ≡ length xs + length ys
   both = simp length-append (omega arith)

@@ -9,7 +9,7 @@ use Rattle.std.proofs.lemmas.List.{map-append}
 use Rattle.definitions.specs.Samples.{Sample}
 use Rattle.definitions.specs.Events.{Event as Told}
 use Rattle.definitions.specs.Banks.{SlotEvent, slot_events}
-use Rattle.definitions.specs.Receiver.{told_between}
+use Rattle.definitions.specs.Receiver.{at_each_sample}
 use Rattle.channel_slots.specs.declared.reply.Reply.{Reply}
 use Rattle.channel_slots.specs.declared.place.Place.{Place}
 use Rattle.channel_slots.specs.Slots.{chances}
@@ -19,24 +19,24 @@ use Rattle.channel_slots.specs.Banks.{AreTold, PlaceAdds, PlaceGoes, slot_tells}
 use Rattle.channel_slots.proofs.OrderLemmas.{put_all-append}
 
 module _ {A : Type 0} (tells : List Sample → List A) where
-  pub told_between-append : (xs ys zs : List Sample) → told_between tells xs (ys ++ zs) ≡ told_between tells xs ys ++ told_between tells (xs ++ ys) zs
-  unfolding told_between
-  told_between-append xs [] zs = rw (append-nil xs)
-  told_between-append xs (y ∷ ys) zs =
+  pub at_each_sample-append : (xs ys zs : List Sample) → at_each_sample tells xs (ys ++ zs) ≡ at_each_sample tells xs ys ++ at_each_sample tells (xs ++ ys) zs
+  unfolding at_each_sample
+  at_each_sample-append xs [] zs = rw (append-nil xs)
+  at_each_sample-append xs (y ∷ ys) zs =
       let split : (xs ++ y ∷ []) ++ ys ≡ xs ++ (y ∷ ys) = append_assoc xs (y ∷ []) ys in
-      let rest : told_between tells (xs ++ y ∷ []) (ys ++ zs) ≡ told_between tells (xs ++ y ∷ []) ys ++ told_between tells (xs ++ (y ∷ ys)) zs =
-      rw split at (told_between-append (xs ++ y ∷ []) ys zs) in
+      let rest : at_each_sample tells (xs ++ y ∷ []) (ys ++ zs) ≡ at_each_sample tells (xs ++ y ∷ []) ys ++ at_each_sample tells (xs ++ (y ∷ ys)) zs =
+      rw split at (at_each_sample-append (xs ++ y ∷ []) ys zs) in
       ap (λ r. tells (xs ++ y ∷ []) ++ r) rest
-      ∙ sym (append_assoc (tells (xs ++ y ∷ [])) (told_between tells (xs ++ y ∷ []) ys) (told_between tells (xs ++ (y ∷ ys)) zs))
+      ∙ sym (append_assoc (tells (xs ++ y ∷ [])) (at_each_sample tells (xs ++ y ∷ []) ys) (at_each_sample tells (xs ++ (y ∷ ys)) zs))
 
   -- where nothing is told before the last
-  pub told_between-last : (xs ys : List Sample) → 0 < length ys → ((j : ℕ) → 0 < j → j < length ys → tells (xs ++ take j ys) ≡ []) → told_between tells xs ys ≡ tells (xs ++ ys)
-  unfolding told_between
-  told_between-last xs [] some quiet = absurd (omega arith)
-  told_between-last xs (y ∷ []) some quiet = append-nil _
-  told_between-last xs (y ∷ z ∷ ys) some quiet =
+  pub at_each_sample-last : (xs ys : List Sample) → 0 < length ys → ((j : ℕ) → 0 < j → j < length ys → tells (xs ++ take j ys) ≡ []) → at_each_sample tells xs ys ≡ tells (xs ++ ys)
+  unfolding at_each_sample
+  at_each_sample-last xs [] some quiet = absurd (omega arith)
+  at_each_sample-last xs (y ∷ []) some quiet = append-nil _
+  at_each_sample-last xs (y ∷ z ∷ ys) some quiet =
       let first : tells (xs ++ y ∷ []) ≡ [] = quiet 1 (omega arith) (omega arith) in
-      let rest = told_between-last (xs ++ y ∷ []) (z ∷ ys) (omega arith) (λ j f b. rw (append_assoc xs (y ∷ []) (take j (z ∷ ys))) (quiet (suc j) (omega arith) (omega arith))) in
+      let rest = at_each_sample-last (xs ++ y ∷ []) (z ∷ ys) (omega arith) (λ j f b. rw (append_assoc xs (y ∷ []) (take j (z ∷ ys))) (quiet (suc j) (omega arith) (omega arith))) in
       rw first (rest ∙ ap tells (append_assoc xs (y ∷ []) (z ∷ ys)))
 
 -- ---- replies and events in step
@@ -85,7 +85,7 @@ take_part (x ∷ xs) (suc n) m = let e : suc n + m ≡ suc (n + m) = omega arith
 
 -- ---- a place through a run
 pub goes-begin : (left time : ℕ) (p : Place) (before : List Reply) → chances p.slot left ≤ 1 → PlaceGoes left [] time p p before before
-unfolding told_between put_all
+unfolding at_each_sample put_all
 goes-begin left time p before few = record {
   replies = [];
   client = refl;
@@ -117,10 +117,10 @@ goes-more left n ys zs time p q r before mid after g a is some within short =
           let f : List Sample → List SlotEvent = slot_tells settings p.client p.number commands in
           let quiet : (j : ℕ) → 0 < j → j < length zs → f ((xs ++ ys) ++ take j zs) ≡ [] =
           λ j first b. ap (λ (l : List Told). slot_events p.client p.number (length ((xs ++ ys) ++ take j zs)) l) (step.inside j first b) in
-          let last : told_between f (xs ++ ys) zs ≡ f ((xs ++ ys) ++ zs) = told_between-last f (xs ++ ys) zs (omega (arith, is, some)) quiet in
+          let last : at_each_sample f (xs ++ ys) zs ≡ f ((xs ++ ys) ++ zs) = at_each_sample-last f (xs ++ ys) zs (omega (arith, is, some)) quiet in
           let own : AreTold a.replies (f ((xs ++ ys) ++ zs)) = rw (g.client, g.number) at step.told in
           record {
-            told = rw (told_between-append f xs ys zs, last) (both_told g.replies a.replies (told_between f xs ys) _ before_it.told own);
+            told = rw (at_each_sample-append f xs ys zs, last) (both_told g.replies a.replies (at_each_sample f xs ys) _ before_it.told own);
             stands = rw (sym (append_assoc xs ys zs)) step.stands;
           };
     }

@@ -1,8 +1,8 @@
 -- What a bank stands for.
 use Rattle.std.specs.Prelude.{◌≡◌, ◌++◌, ℕ, List, length, replicate}
 use Rattle.definitions.specs.Samples.{Sample, Packing}
-use Rattle.definitions.specs.Receiver.{told_between}
-use Rattle.definitions.specs.Banks.{told_at_end, layout}
+use Rattle.definitions.specs.Receiver.{at_each_sample}
+use Rattle.definitions.specs.Banks.{bank_events_at_end, layout}
 use Rattle.definitions.specs.Oscillators.{Settings}
 use Rattle.definitions.specs.Commands.{TimedRequest}
 use Rattle.channel_slots.specs.declared.bank.Bank.{Bank}
@@ -30,7 +30,7 @@ pub record StandsFor (settings : Settings) (xs : List Sample) (asked : ℕ → �
 -- whatever a bank stood for: what its slots tell over a run of samples, which it knows by its packing, are these replies
 abbrev pub Tells : Bank → (Packing → List Sample) → List Reply → Type 0
 Tells old run replies = (settings : Settings) (xs : List Sample) (asked : ℕ → ℕ → List TimedRequest) → StandsFor settings xs asked old
-    → AreTold replies (told_between (told_at_end settings (layout (replicate (clients_of old) 4)) asked) xs (run settings.packing))
+    → AreTold replies (at_each_sample (bank_events_at_end settings (layout (replicate (clients_of old) 4)) asked) xs (run settings.packing))
 
 -- and behind the run it stands for the same with these samples
 abbrev pub Takes : Bank → (Packing → List Sample) → Bank → Type 0

@@ -4,7 +4,7 @@ use Rattle.definitions.specs.Samples.{Sample}
 use Rattle.definitions.specs.Oscillators.{Settings, code_cycle}
 use Rattle.definitions.specs.Segments.{progress}
 use Rattle.definitions.specs.Commands.{hold}
-use Rattle.definitions.specs.Lives.{Life, held}
+use Rattle.definitions.specs.Lives.{Life, held_channel}
 use Rattle.definitions.specs.Events.{Event, unprinted, count, life_events}
 use Rattle.lane_correlator.specs.declared.counts.Counts.{Counts}
 use Rattle.channel_slots.specs.declared.holding.Holding.{Holding}
@@ -16,9 +16,9 @@ pub record HoldsFor (settings : Settings) (xs : List Sample) (life : Life) (h : 
   pub doppler : ℤ
   pub half_chip : ℕ
   pub start : life.start ≡ hold prn doppler half_chip
-  pub follows : Follows settings (held life.begun prn doppler half_chip) xs h.follower
-  pub dumps : h.dumps ≡ length (progress settings (held life.begun prn doppler half_chip) xs).dumps
-  pub left : h.left ≡ unprinted life (progress settings (held life.begun prn doppler half_chip) xs).dumps
+  pub follows : Follows settings (held_channel life.begun prn doppler half_chip) xs h.follower
+  pub dumps : h.dumps ≡ length (progress settings (held_channel life.begun prn doppler half_chip) xs).dumps
+  pub left : h.left ≡ unprinted life (progress settings (held_channel life.begun prn doppler half_chip) xs).dumps
   pub asked : life.wanted_from ≤ length xs
 
 -- how many dumps may come within so many samples, of which there are at most 1,024

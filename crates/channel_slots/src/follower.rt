@@ -25,14 +25,14 @@ impl Follower {
     ghost use Rattle.definitions.specs.Samples.{Sample};
     ghost use Rattle.definitions.specs.Oscillators.{Settings as Recording};
     ghost use Rattle.definitions.specs.Segments.{Channel};
-    ghost use Rattle.definitions.specs.Lives.{held};
+    ghost use Rattle.definitions.specs.Lives.{held_channel};
     ghost use Rattle.lane_correlator.specs.Counting.{counts_in};
     ghost use Rattle.channel_slots.specs.Following.{Follows, Stays, Closes};
     ghost use Rattle.channel_slots.specs.Parts.{part};
 
     /// Begins at the next sample, with the code at a half chip.
     pub(crate) fn start(settings: &Settings, prn: Prn, doppler: Doppler, half: HalfChip) -> Follower
-        ensures { (xs : List Sample) → Follows settings.now (held (length xs) prn doppler half) xs result }
+        ensures { (xs : List Sample) → Follows settings.now (held_channel (length xs) prn doppler half) xs result }
     {
         let v = i64::from(doppler.get()) * 65_536;
         Follower {

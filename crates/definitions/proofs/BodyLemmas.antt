@@ -11,7 +11,7 @@ use Rattle.std.proofs.Common.{append-nil}
 use Rattle.definitions.specs.Samples.{Sample}
 use Rattle.definitions.specs.Oscillators.{Settings}
 use Rattle.definitions.specs.Commands.{TimedRequest}
-use Rattle.definitions.specs.Lines.{as_bytes, ended}
+use Rattle.definitions.specs.Lines.{as_bytes, ended_line}
 use Rattle.definitions.specs.Lives.{Life, life_of, life_after}
 use Rattle.definitions.specs.Receiver.{alone, lines_alone_at, Client, Profile, body_lines, body, lines_at, at_each_time}
 
@@ -53,7 +53,7 @@ alone-more profile settings xs x client = at_each_time-more (lines_alone_at prof
 
 pub as_bytes-append : (ls ms : List (List ℕ)) → as_bytes (ls ++ ms) ≡ as_bytes ls ++ as_bytes ms
 unfolding as_bytes
-as_bytes-append ls ms = flat_map-append ended ls ms
+as_bytes-append ls ms = flat_map-append ended_line ls ms
 
 -- the lines at the times of further samples
 pub body_lines-append : (profile : Profile) (settings : Settings) (clients : List Client) (xs ys : List Sample)

@@ -10,7 +10,7 @@ use Rattle.std.proofs.lemmas.Bool.{and_parts, true_from_ne_false, false_from_ne_
 use Rattle.definitions.specs.Oscillators.{Settings}
 use Rattle.definitions.specs.Samples.{Sample}
 use Rattle.definitions.specs.Texts.{for_client}
-use Rattle.definitions.specs.Receiver.{Client, Profile, lines_of_client, is_of_client, for_each_client, lines_at, told_at, answers_at, lines_alone_at, body_lines, end_lines, full_lines, end_line, alone, alone_to_end, at_each_time, timed, told, answered}
+use Rattle.definitions.specs.Receiver.{Client, Profile, lines_of_client, is_of_client, for_each_client, lines_at, event_lines, answer_lines, lines_alone_at, body_lines, end_lines, full_lines, end_line, alone, alone_to_end, at_each_time, timed_texts, event_texts, answer_texts}
 use Rattle.definitions.proofs.VerbLemmas.{NoSpace, decimal-word}
 
 same : (n : ℕ) → nat_eq n n ≡ true
@@ -109,11 +109,11 @@ of_client-each lines k clients client found few = of_client-numbered lines 1 k c
 
 of_client-at : (profile : Profile) (settings : Settings) (k : ℕ) (clients : List Client) (client : Client) → slice_get clients k ≡ Some client → length clients < 2 ^ 64 → (xs : List Sample)
     → lines_of_client (1 + k) (lines_at profile settings clients xs) ≡ lines_alone_at profile settings client xs
-unfolding lines_at told_at answers_at lines_alone_at
+unfolding lines_at event_lines answer_lines lines_alone_at
 of_client-at profile settings k clients client found few xs =
-    of_client-append (1 + k) (for_each_client (λ c. timed xs (told profile settings c xs)) clients) (for_each_client (λ c. timed xs (answered profile settings c xs)) clients)
-    ∙ ap (λ r. r ++ lines_of_client (1 + k) (for_each_client (λ c. timed xs (answered profile settings c xs)) clients)) (of_client-each (λ c. timed xs (told profile settings c xs)) k clients client found few)
-    ∙ ap (λ r. timed xs (told profile settings client xs) ++ r) (of_client-each (λ c. timed xs (answered profile settings c xs)) k clients client found few)
+    of_client-append (1 + k) (for_each_client (λ c. timed_texts xs (event_texts profile settings c xs)) clients) (for_each_client (λ c. timed_texts xs (answer_texts profile settings c xs)) clients)
+    ∙ ap (λ r. r ++ lines_of_client (1 + k) (for_each_client (λ c. timed_texts xs (answer_texts profile settings c xs)) clients)) (of_client-each (λ c. timed_texts xs (event_texts profile settings c xs)) k clients client found few)
+    ∙ ap (λ r. timed_texts xs (event_texts profile settings client xs) ++ r) (of_client-each (λ c. timed_texts xs (answer_texts profile settings c xs)) k clients client found few)
 
 flat_map-same : {A B : Type 0} (f g : A → List B) (xs : List A) → ((x : A) → f x ≡ g x) → flat_map f xs ≡ flat_map g xs
 flat_map-same f g [] e = refl
@@ -146,11 +146,11 @@ map-flat_map g f [] = refl
 map-flat_map g f (t ∷ ts) = map-append g (f t) (flat_map f ts) ∙ ap (λ r. map g (f t) ++ r) (map-flat_map g f ts)
 
 single-at : (profile : Profile) (settings : Settings) (client : Client) (xs : List Sample) → lines_at profile settings (client ∷ []) xs ≡ map (for_client 1) (lines_alone_at profile settings client xs)
-unfolding lines_at told_at answers_at lines_alone_at
+unfolding lines_at event_lines answer_lines lines_alone_at
 single-at profile settings client xs =
-    ap (λ r. r ++ for_each_client (λ c. timed xs (answered profile settings c xs)) (client ∷ [])) (single (λ c. timed xs (told profile settings c xs)) client)
-    ∙ ap (λ r. map (for_client 1) (timed xs (told profile settings client xs)) ++ r) (single (λ c. timed xs (answered profile settings c xs)) client)
-    ∙ sym (map-append (for_client 1) (timed xs (told profile settings client xs)) (timed xs (answered profile settings client xs)))
+    ap (λ r. r ++ for_each_client (λ c. timed_texts xs (answer_texts profile settings c xs)) (client ∷ [])) (single (λ c. timed_texts xs (event_texts profile settings c xs)) client)
+    ∙ ap (λ r. map (for_client 1) (timed_texts xs (event_texts profile settings client xs)) ++ r) (single (λ c. timed_texts xs (answer_texts profile settings c xs)) client)
+    ∙ sym (map-append (for_client 1) (timed_texts xs (event_texts profile settings client xs)) (timed_texts xs (answer_texts profile settings client xs)))
 
 -- a run with one client writes what that client gets alone
 pub full_lines-single : (profile : Profile) (settings : Settings) (xs : List Sample) (client : Client) → full_lines profile settings xs (client ∷ []) ≡ map (for_client 1) (alone_to_end profile settings xs client)

@@ -9,7 +9,7 @@ use Rattle.definitions.specs.Oscillators.{Settings}
 use Rattle.definitions.specs.Commands.{Command}
 use Rattle.definitions.specs.Lines.{words_of, lines_of}
 use Rattle.definitions.specs.Scripts.{Verb, Entry, entry_at, entry_of, entry_of_words, entries_after, last_time, script, time_in, is_printable, command_in}
-use Rattle.definitions.specs.Receiver.{Client, Profile, entries_of, answered, answered_by, reply_text}
+use Rattle.definitions.specs.Receiver.{Client, Profile, entries_of, answer_texts, entry_answer_texts, reply_text}
 
 -- ---- by time
 
@@ -93,14 +93,14 @@ entries_of-by_time profile client = (entries_after-later profile.verbs client.sl
 
 -- the answers at the last time to the entries that are left, where those before them have been answered
 unfoldable pub answers_left : Settings → List Sample → List Entry → List Entry → List (List ℕ)
-answers_left settings xs done left = flat_map (answered_by settings xs (done ++ left)) (enumerate_from (length done) left)
+answers_left settings xs done left = flat_map (entry_answer_texts settings xs (done ++ left)) (enumerate_from (length done) left)
 
-pub answered-left : (profile : Profile) (settings : Settings) (client : Client) (xs : List Sample) → answered profile settings client xs ≡ answers_left settings xs [] (entries_of profile client)
-unfolding answered answers_left
+pub answered-left : (profile : Profile) (settings : Settings) (client : Client) (xs : List Sample) → answer_texts profile settings client xs ≡ answers_left settings xs [] (entries_of profile client)
+unfolding answer_texts answers_left
 answered-left profile settings client xs = refl
 
 at_its_time : (settings : Settings) (xs : List Sample) (entries : List Entry) (k : ℕ) (e : Entry) (b : Bool) → nat_eq e.time (length xs) ≡ b
-    → answered_by settings xs entries (k, e) ≡ cond b (reply_text settings xs (take k entries) e.what ∷ []) []
+    → entry_answer_texts settings xs entries (k, e) ≡ cond b (reply_text settings xs (take k entries) e.what ∷ []) []
 at_its_time settings xs entries k e b is = rw is refl
 
 -- one at this time is answered, and has then been
@@ -112,9 +112,9 @@ answers_left-now settings xs done e left now =
     let same : done ++ e ∷ left ≡ (done ++ e ∷ []) ++ left = sym (append_assoc done (e ∷ []) left) in
     let long : length done + 1 ≡ length (done ++ e ∷ []) = sym (length-append done (e ∷ [])) in
     let front : take (length done) all ≡ done = take-append_seam done (e ∷ left) in
-    ap (λ (r : List (List ℕ)). r ++ flat_map (answered_by settings xs all) (enumerate_from (length done + 1) left)) (at_its_time settings xs all (length done) e true now ∙ ap (λ (es : List Entry). reply_text settings xs es e.what ∷ []) front)
-    ∙ ap (λ (es : List Entry). reply_text settings xs done e.what ∷ flat_map (answered_by settings xs es) (enumerate_from (length done + 1) left)) same
-    ∙ ap (λ k. reply_text settings xs done e.what ∷ flat_map (answered_by settings xs ((done ++ e ∷ []) ++ left)) (enumerate_from k left)) long
+    ap (λ (r : List (List ℕ)). r ++ flat_map (entry_answer_texts settings xs all) (enumerate_from (length done + 1) left)) (at_its_time settings xs all (length done) e true now ∙ ap (λ (es : List Entry). reply_text settings xs es e.what ∷ []) front)
+    ∙ ap (λ (es : List Entry). reply_text settings xs done e.what ∷ flat_map (entry_answer_texts settings xs es) (enumerate_from (length done + 1) left)) same
+    ∙ ap (λ k. reply_text settings xs done e.what ∷ flat_map (entry_answer_texts settings xs ((done ++ e ∷ []) ++ left)) (enumerate_from k left)) long
 
 -- one at another time is passed over
 pub answers_left-other : (settings : Settings) (xs : List Sample) (done : List Entry) (e : Entry) (left : List Entry) → nat_eq e.time (length xs) ≡ false
@@ -124,9 +124,9 @@ answers_left-other settings xs done e left other =
     let all : List Entry = done ++ e ∷ left in
     let same : done ++ e ∷ left ≡ (done ++ e ∷ []) ++ left = sym (append_assoc done (e ∷ []) left) in
     let long : length done + 1 ≡ length (done ++ e ∷ []) = sym (length-append done (e ∷ [])) in
-    ap (λ (r : List (List ℕ)). r ++ flat_map (answered_by settings xs all) (enumerate_from (length done + 1) left)) (at_its_time settings xs all (length done) e false other)
-    ∙ ap (λ (es : List Entry). flat_map (answered_by settings xs es) (enumerate_from (length done + 1) left)) same
-    ∙ ap (λ k. flat_map (answered_by settings xs ((done ++ e ∷ []) ++ left)) (enumerate_from k left)) long
+    ap (λ (r : List (List ℕ)). r ++ flat_map (entry_answer_texts settings xs all) (enumerate_from (length done + 1) left)) (at_its_time settings xs all (length done) e false other)
+    ∙ ap (λ (es : List Entry). flat_map (entry_answer_texts settings xs es) (enumerate_from (length done + 1) left)) same
+    ∙ ap (λ k. flat_map (entry_answer_texts settings xs ((done ++ e ∷ []) ++ left)) (enumerate_from k left)) long
 
 -- nothing is answered where all that are left stand at other times
 pub answers_left-none : (settings : Settings) (xs : List Sample) (done left : List Entry) → AllByRecursion (λ (e : Entry). nat_eq e.time (length xs) ≡ false) left → answers_left settings xs done left ≡ []

@@ -5,7 +5,7 @@ use Rattle.std.specs.List.{AllByRecursion, enumerate_from}
 use Rattle.definitions.specs.Samples.{Sample}
 use Rattle.definitions.specs.Oscillators.{Settings}
 use Rattle.definitions.specs.Texts.{for_client}
-use Rattle.definitions.specs.Receiver.{Profile, Client, timed, told, answered, told_at, answers_at, lines_at, for_each_client, body_lines}
+use Rattle.definitions.specs.Receiver.{Profile, Client, timed_texts, event_texts, answer_texts, event_lines, answer_lines, lines_at, for_each_client, body_lines}
 use Rattle.definitions.specs.TextLaws.{IsLaterThan, MoreSamplesTellLater}
 use Rattle.definitions.proofs.BodyLemmas.{body_lines-more}
 
@@ -14,23 +14,23 @@ all-append P [] ys hx hy = hy
 all-append P (x ∷ xs) ys hx hy = (hx.0, all-append P xs ys hx.1 hy)
 
 -- texts at the last time, behind a client's number
-texts-later : (t client : ℕ) (xs : List Sample) → t < length xs → (texts : List (List ℕ)) → AllByRecursion (IsLaterThan t) (map (for_client client) (timed xs texts))
+texts-later : (t client : ℕ) (xs : List Sample) → t < length xs → (texts : List (List ℕ)) → AllByRecursion (IsLaterThan t) (map (for_client client) (timed_texts xs texts))
 texts-later t client xs h [] = tt
 texts-later t client xs h (text ∷ texts) = ((client, length xs, text, h, refl), texts-later t client xs h texts)
 
 clients-later : (t : ℕ) (xs : List Sample) → t < length xs → (texts : Client → List (List ℕ)) (k : ℕ) (clients : List Client)
-    → AllByRecursion (IsLaterThan t) (flat_map (λ (p : ℕ × Client). map (for_client p.0) (timed xs (texts p.1))) (enumerate_from k clients))
+    → AllByRecursion (IsLaterThan t) (flat_map (λ (p : ℕ × Client). map (for_client p.0) (timed_texts xs (texts p.1))) (enumerate_from k clients))
 clients-later t xs h texts k [] = tt
 clients-later t xs h texts k (client ∷ clients) =
-    all-append (IsLaterThan t) (map (for_client k) (timed xs (texts client))) (flat_map (λ (p : ℕ × Client). map (for_client p.0) (timed xs (texts p.1))) (enumerate_from (k + 1) clients))
+    all-append (IsLaterThan t) (map (for_client k) (timed_texts xs (texts client))) (flat_map (λ (p : ℕ × Client). map (for_client p.0) (timed_texts xs (texts p.1))) (enumerate_from (k + 1) clients))
     (texts-later t k xs h (texts client)) (clients-later t xs h texts (k + 1) clients)
 
 lines_at-later : (profile : Profile) (settings : Settings) (clients : List Client) (t : ℕ) (xs : List Sample) → t < length xs → AllByRecursion (IsLaterThan t) (lines_at profile settings clients xs)
-unfolding lines_at told_at answers_at for_each_client
+unfolding lines_at event_lines answer_lines for_each_client
 lines_at-later profile settings clients t xs h =
-    all-append (IsLaterThan t) (told_at profile settings clients xs) (answers_at profile settings clients xs)
-    (clients-later t xs h (λ client. told profile settings client xs) 1 clients)
-    (clients-later t xs h (λ client. answered profile settings client xs) 1 clients)
+    all-append (IsLaterThan t) (event_lines profile settings clients xs) (answer_lines profile settings clients xs)
+    (clients-later t xs h (λ client. event_texts profile settings client xs) 1 clients)
+    (clients-later t xs h (λ client. answer_texts profile settings client xs) 1 clients)
 
 -- all of the lines that further samples add
 added-later : (profile : Profile) (settings : Settings) (clients : List Client) (t : ℕ) (xs ys : List Sample) → t < suc (length xs)

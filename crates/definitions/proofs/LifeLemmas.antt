@@ -10,7 +10,7 @@ use Rattle.definitions.specs.Oscillators.{Settings}
 use Rattle.definitions.specs.Segments.{counts_of, Channel, Progress, Dump, progress, next_end, closed_at, begun}
 use Rattle.definitions.specs.Commands.{Start, hold, TimedRequest, Request}
 use Rattle.definitions.specs.Events.{due_events, dump_events, steered_events, last_of, front_of, unprinted, life_events, last_dump_events, when, count, events_at_end}
-use Rattle.definitions.specs.Lives.{is_steered, found_nothing, is_over, lost_after, Life, dumps_of_life, life_of, life_now, life_with, still_on, held}
+use Rattle.definitions.specs.Lives.{is_steered, found_nothing, is_over, lost_after, Life, dumps_of_life, life_of, life_now, life_with, still_on, held_channel}
 use Rattle.definitions.proofs.SegmentsLemmas.{next_end-within, segments-preserve}
 use Rattle.definitions.proofs.BodyLemmas.{life_of-append, life_of-more}
 
@@ -84,7 +84,7 @@ abbrev pub IsHold : Life → ℕ → ℤ → ℕ → Type 0
 IsHold life prn doppler half_chip = life.start ≡ hold prn doppler half_chip
 
 held_dumps : (settings : Settings) (xs : List Sample) (life : Life) (prn : ℕ) (doppler : ℤ) (half_chip : ℕ) → life.start ≡ hold prn doppler half_chip
-    → dumps_of_life settings xs life ≡ (progress settings (held life.begun prn doppler half_chip) xs).dumps
+    → dumps_of_life settings xs life ≡ (progress settings (held_channel life.begun prn doppler half_chip) xs).dumps
 unfolding dumps_of_life
 held_dumps settings xs life prn doppler half_chip e = rw e
 
@@ -105,24 +105,24 @@ dump_events-hold life prn doppler half_chip dumps d e = by_start life.start e
     by_start start e = rw e (append-nil _)
 
 pub hold-quiet : (settings : Settings) (xs ys : List Sample) (life : Life) (prn : ℕ) (doppler : ℤ) (half_chip : ℕ) → life.start ≡ hold prn doppler half_chip → life.begun ≤ length xs → 0 < length ys
-    → progress settings (held life.begun prn doppler half_chip) (xs ++ ys) ≡ progress settings (held life.begun prn doppler half_chip) xs
+    → progress settings (held_channel life.begun prn doppler half_chip) (xs ++ ys) ≡ progress settings (held_channel life.begun prn doppler half_chip) xs
     → life_events settings (xs ++ ys) (Some life) ≡ []
 hold-quiet settings xs ys life prn doppler half_chip is h some stays =
-    let l = LastEnds-progress settings (held life.begun prn doppler half_chip) xs h in
+    let l = LastEnds-progress settings (held_channel life.begun prn doppler half_chip) xs h in
     let e : length (xs ++ ys) ≡ length xs + length ys = simp length-append (omega arith) in
     life_events-hold settings (xs ++ ys) life prn doppler half_chip is
-    ∙ rw (held_dumps settings (xs ++ ys) life prn doppler half_chip is, stays, e) (quiet life (length xs) (length xs + length ys) (progress settings (held life.begun prn doppler half_chip) xs) l (omega arith))
+    ∙ rw (held_dumps settings (xs ++ ys) life prn doppler half_chip is, stays, e) (quiet life (length xs) (length xs + length ys) (progress settings (held_channel life.begun prn doppler half_chip) xs) l (omega arith))
 
-told_at : (life : Life) (n : ℕ) (dumps : List Dump) (d : Dump) → d.time ≡ n → last_dump_events life n dumps (Some d) ≡ dump_events life dumps d
-told_at life n dumps d e = let t : nat_eq d.time n ≡ true = eq-eqb d.time n e in rw t
+event_lines : (life : Life) (n : ℕ) (dumps : List Dump) (d : Dump) → d.time ≡ n → last_dump_events life n dumps (Some d) ≡ dump_events life dumps d
+event_lines life n dumps d e = let t : nat_eq d.time n ≡ true = eq-eqb d.time n e in rw t
 
 -- a segment ends with it: its sums are told, where they are wanted
 pub hold-tells : (settings : Settings) (xs : List Sample) (life : Life) (prn : ℕ) (doppler : ℤ) (half_chip : ℕ) → life.start ≡ hold prn doppler half_chip → (dumps : List Dump) (d : Dump)
-    → (progress settings (held life.begun prn doppler half_chip) xs).dumps ≡ dumps ++ d ∷ [] → d.time ≡ length xs
+    → (progress settings (held_channel life.begun prn doppler half_chip) xs).dumps ≡ dumps ++ d ∷ [] → d.time ≡ length xs
     → life_events settings xs (Some life) ≡ when (nat_lt 0 (unprinted life dumps)) (count d.counts)
 hold-tells settings xs life prn doppler half_chip is dumps d ends time =
     life_events-hold settings xs life prn doppler half_chip is
-    ∙ rw (held_dumps settings xs life prn doppler half_chip is, ends, last_of-push dumps d) (told_at life (length xs) (dumps ++ d ∷ []) d time)
+    ∙ rw (held_dumps settings xs life prn doppler half_chip is, ends, last_of-push dumps d) (event_lines life (length xs) (dumps ++ d ∷ []) d time)
     ∙ (dump_events-hold life prn doppler half_chip (dumps ++ d ∷ []) d is)
     ∙ ap (λ (ds : List Dump). when (nat_lt 0 (unprinted life ds)) (count d.counts)) (front_of-push dumps d)
 

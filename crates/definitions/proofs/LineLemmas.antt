@@ -14,12 +14,12 @@ use Rattle.definitions.specs.Fields.{Field, clock_fields, eph2_fields, eph3_fiel
 use Rattle.definitions.specs.Pages.{Kind, clock, eph2, eph3, almanac, utc, health, message, fields_of}
 use Rattle.definitions.specs.DataSets.{Report, ephemeris, single, AlmanacSet}
 use Rattle.definitions.specs.Commands.{Command}
-use Rattle.definitions.specs.Lines.{pieces_ended_by, lines_of, as_bytes, ended}
+use Rattle.definitions.specs.Lines.{pieces_ended_by, lines_of, as_bytes, ended_line}
 use Rattle.definitions.specs.Scripts.{Entry}
 use Rattle.definitions.specs.Events.{Event, acquired, count, locked, unlocked, signal_lost, edge, gap, subframe, reported, almanacs}
 use Rattle.definitions.specs.Answers.{View, idle, acquiring, holding, tracking, Answer, accepted, refused, shown, answer_at_end}
 use Rattle.definitions.specs.Texts.{spaced, hex_of_bytes, word_text, field_text, field_texts, counts_texts, page_text, report_text, almanacs_text, event_text, view_text, refusal_text, answer_text, at_time, for_client}
-use Rattle.definitions.specs.Receiver.{Client, Profile, entries_of, told, told_by_slot, answered, answered_by, reply_text, at_each_time, timed, for_each_client, lines_at, told_at, answers_at, body_lines, end_lines, full_lines, end_line}
+use Rattle.definitions.specs.Receiver.{Client, Profile, entries_of, event_texts, slot_event_texts, answer_texts, entry_answer_texts, reply_text, at_each_time, timed_texts, for_each_client, lines_at, event_lines, answer_lines, body_lines, end_lines, full_lines, end_line}
 
 -- ---- lists
 
@@ -195,16 +195,16 @@ reply-line : (settings : Settings) (xs : List Sample) (before : List Entry) (wha
 reply-line settings xs before (Ok c) = answer-line c.slot (answer_at_end settings xs _ c.request)
 reply-line settings xs before (Err refusal) = refusal-line refusal
 
-told-lines : (profile : Profile) (settings : Settings) (client : Client) (xs : List Sample) → OneLines (told profile settings client xs)
-unfolding told OneLines
-told-lines profile settings client xs = all-flat_map OneLine (told_by_slot profile settings xs (entries_of profile client)) (range_with_len 0 client.slots) (λ slot. all-map OneLine (event_text slot) _ (event-line slot))
+told-lines : (profile : Profile) (settings : Settings) (client : Client) (xs : List Sample) → OneLines (event_texts profile settings client xs)
+unfolding event_texts OneLines
+told-lines profile settings client xs = all-flat_map OneLine (slot_event_texts profile settings xs (entries_of profile client)) (range_with_len 0 client.slots) (λ slot. all-map OneLine (event_text slot) _ (event-line slot))
 
-answered-lines : (profile : Profile) (settings : Settings) (client : Client) (xs : List Sample) → OneLines (answered profile settings client xs)
-unfolding answered OneLines
-answered-lines profile settings client xs = all-flat_map OneLine (answered_by settings xs (entries_of profile client)) (enumerate_from 0 (entries_of profile client))
+answered-lines : (profile : Profile) (settings : Settings) (client : Client) (xs : List Sample) → OneLines (answer_texts profile settings client xs)
+unfolding answer_texts OneLines
+answered-lines profile settings client xs = all-flat_map OneLine (entry_answer_texts settings xs (entries_of profile client)) (enumerate_from 0 (entries_of profile client))
     (λ (p : ℕ × Entry). by_if OneLines (nat_eq (p.1).time (length xs)) (reply_text settings xs (take p.0 (entries_of profile client)) (p.1).what ∷ []) [] (reply-line settings xs (take p.0 (entries_of profile client)) (p.1).what, tt) tt)
 
-timed-lines : (xs : List Sample) (texts : List (List ℕ)) → OneLines texts → OneLines (timed xs texts)
+timed-lines : (xs : List Sample) (texts : List (List ℕ)) → OneLines texts → OneLines (timed_texts xs texts)
 timed-lines xs texts h = map-lines (at_time (length xs)) texts (timed-line (length xs)) h
 
 each-lines : (lines : Client → List (List ℕ)) (clients : List Client) → ((client : Client) → OneLines (lines client)) → OneLines (for_each_client lines clients)
@@ -212,11 +212,11 @@ unfolding for_each_client OneLines
 each-lines lines clients h = all-flat_map OneLine (λ (p : ℕ × Client). map (for_client p.0) (lines p.1)) (enumerate_from 1 clients) (λ (p : ℕ × Client). map-lines (for_client p.0) (lines p.1) (client-line p.0) (h p.1))
 
 pub body-lines : (profile : Profile) (settings : Settings) (xs : List Sample) (clients : List Client) → OneLines (body_lines profile settings xs clients)
-unfolding body_lines at_each_time lines_at told_at answers_at OneLines
+unfolding body_lines at_each_time lines_at event_lines answer_lines OneLines
 body-lines profile settings xs clients = all-flat_map OneLine (λ t. lines_at profile settings clients (take t xs)) (range_with_len 0 (length xs + 1))
-    (λ t. all-append OneLine (for_each_client (λ client. timed (take t xs) (told profile settings client (take t xs))) clients) (for_each_client (λ client. timed (take t xs) (answered profile settings client (take t xs))) clients)
-    (each-lines (λ client. timed (take t xs) (told profile settings client (take t xs))) clients (λ client. timed-lines (take t xs) (told profile settings client (take t xs)) (told-lines profile settings client (take t xs))))
-    (each-lines (λ client. timed (take t xs) (answered profile settings client (take t xs))) clients (λ client. timed-lines (take t xs) (answered profile settings client (take t xs)) (answered-lines profile settings client (take t xs)))))
+    (λ t. all-append OneLine (for_each_client (λ client. timed_texts (take t xs) (event_texts profile settings client (take t xs))) clients) (for_each_client (λ client. timed_texts (take t xs) (answer_texts profile settings client (take t xs))) clients)
+    (each-lines (λ client. timed_texts (take t xs) (event_texts profile settings client (take t xs))) clients (λ client. timed-lines (take t xs) (event_texts profile settings client (take t xs)) (told-lines profile settings client (take t xs))))
+    (each-lines (λ client. timed_texts (take t xs) (answer_texts profile settings client (take t xs))) clients (λ client. timed-lines (take t xs) (answer_texts profile settings client (take t xs)) (answered-lines profile settings client (take t xs)))))
 
 pub full-lines : (profile : Profile) (settings : Settings) (xs : List Sample) (clients : List Client) → OneLines (full_lines profile settings xs clients)
 unfolding full_lines end_lines OneLines
@@ -234,4 +234,4 @@ first-line (b ∷ line) rest h = rw (h.0, first-line line rest h.1) refl
 pub lines-as_bytes : (lines : List (List ℕ)) → OneLines lines → lines_of (as_bytes lines) ≡ lines
 unfolding as_bytes OneLines pieces_ended_by
 lines-as_bytes [] h = refl
-lines-as_bytes (l ∷ ls) h = ap lines_of (append_assoc l (10 ∷ []) (flat_map ended ls)) ∙ first-line l (flat_map ended ls) h.0 ∙ ap (λ r. l ∷ r) (lines-as_bytes ls h.1)
+lines-as_bytes (l ∷ ls) h = ap lines_of (append_assoc l (10 ∷ []) (flat_map ended_line ls)) ∙ first-line l (flat_map ended_line ls) h.0 ∙ ap (λ r. l ∷ r) (lines-as_bytes ls h.1)

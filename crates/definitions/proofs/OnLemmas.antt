@@ -7,7 +7,7 @@ use Rattle.std.proofs.lemmas.List.{take-append-drop}
 use Rattle.definitions.specs.Samples.{Sample}
 use Rattle.definitions.specs.Oscillators.{Settings}
 use Rattle.definitions.specs.Commands.{Start, Request, TimedRequest, begin, counts, state, stop}
-use Rattle.definitions.specs.Lives.{Life, dumps_of_life, is_over, still_on, life_with, life_of, life_now, wanting}
+use Rattle.definitions.specs.Lives.{Life, dumps_of_life, is_over, still_on, life_with, life_of, life_now, life_wanting}
 use Rattle.definitions.specs.SlotLaws.{Begins, LifeIsOn}
 use Rattle.definitions.proofs.EndLemmas.{is_over-append}
 use Rattle.definitions.proofs.BodyLemmas.{life_of-more}
@@ -30,9 +30,9 @@ off-is settings xs life e = by_test (is_over settings xs life) refl e
     by_test false is e = cc
 
 -- the counts that are wanted don't matter for a life's end
-wanting-over : (settings : Settings) (xs : List Sample) (life : Life) (time n : ℕ) → is_over settings xs (wanting life time n) ≡ is_over settings xs life
+life_wanting-over : (settings : Settings) (xs : List Sample) (life : Life) (time n : ℕ) → is_over settings xs (life_wanting life time n) ≡ is_over settings xs life
 unfolding is_over dumps_of_life
-wanting-over settings xs life time n = refl
+life_wanting-over settings xs life time n = refl
 
 clash : {b : Bool} → b ≡ false → b ≡ true → ⊥
 clash f t = cc
@@ -83,10 +83,10 @@ module _ (settings : Settings) (xs : List Sample) where
       by_place j d after (inr last) = absurd (omega (arith, after, last.0))
 
   -- one that asks for counts
-  wants : (commands : List TimedRequest) (life : Life) (time n : ℕ) → Begun commands life → Begun commands (wanting life time n)
+  wants : (commands : List TimedRequest) (life : Life) (time n : ℕ) → Begun commands life → Begun commands (life_wanting life time n)
   unfolding Begun StoppedLate
   wants commands life time n (i, below, begins, stops) =
-      (i, below, record { command = begins.command; was_idle = begins.was_idle }, λ j d after there is. wanting-over settings xs life time n ∙ stops j d after there is)
+      (i, below, record { command = begins.command; was_idle = begins.was_idle }, λ j d after there is. life_wanting-over settings xs life time n ∙ stops j d after there is)
 
   Each : List TimedRequest → Type 0
   Each commands = (life : Life) → life_of settings xs commands ≡ Some life → Begun commands life
@@ -106,7 +106,7 @@ module _ (settings : Settings) (xs : List Sample) where
       by_request latest was (Some on) idle (begin start) asks e = kept before c life (no_stop (begin start) asks (λ f. cc)) (each life (was ∙ e))
       by_request latest was None idle (counts n) asks e = kept before c life (no_stop (counts n) asks (λ f. cc)) (each life (was ∙ e))
       by_request latest was (Some on) idle (counts n) asks e =
-          let it : wanting on c.time n ≡ life = cc in
+          let it : life_wanting on c.time n ≡ life = cc in
           let was_on = on-is settings (take c.time xs) (life_of settings xs before) on idle in
           rw (sym it) (wants (before ++ c ∷ []) on c.time n (kept before c on (λ now. absurd (other (sym asks ∙ now))) (each on was_on.0)))
         where

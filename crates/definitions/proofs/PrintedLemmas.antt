@@ -9,7 +9,7 @@ use Rattle.definitions.specs.Oscillators.{Settings}
 use Rattle.definitions.specs.Scripts.{Entry}
 use Rattle.definitions.specs.Events.{Event, events_at_end}
 use Rattle.definitions.specs.Texts.{event_text, at_time, for_client}
-use Rattle.definitions.specs.Receiver.{Client, Profile, entries_of, told, told_by_slot, answered, answered_by, reply_text, at_each_time, timed, for_each_client, lines_at, told_at, answers_at, body_lines, end_lines, end_line, full_lines}
+use Rattle.definitions.specs.Receiver.{Client, Profile, entries_of, event_texts, slot_event_texts, answer_texts, entry_answer_texts, reply_text, at_each_time, timed_texts, for_each_client, lines_at, event_lines, answer_lines, body_lines, end_lines, end_line, full_lines}
 use Rattle.definitions.specs.PrintedLaws.{commands_before, Tells, IsOneOf, LinesComeFromEvents}
 use Rattle.definitions.proofs.EventLemmas.{all-at, events-right}
 use Rattle.definitions.proofs.TextLemmas.{lines_of-full}
@@ -71,12 +71,12 @@ module _ (profile : Profile) (settings : Settings) (clients : List Client) (xs :
       inl (event, (now.0, k, slot, client, now.1, rw now.2 at tells, ap (λ n. for_client (1 + k) (at_time n (event_text slot event))) now.3))
 
   told-ones : (zs : List Sample) (k : ℕ) (client : Client) → Now zs → slice_get clients k ≡ Some client
-      → AllByRecursion One (map (for_client (1 + k)) (timed zs (told profile settings client zs)))
-  unfolding told
+      → AllByRecursion One (map (for_client (1 + k)) (timed_texts zs (event_texts profile settings client zs)))
+  unfolding event_texts
   told-ones zs k client now is_client =
-      all-map One (for_client (1 + k)) (timed zs (told profile settings client zs))
-      (all-map (λ l. One (for_client (1 + k) l)) (at_time (length zs)) (told profile settings client zs)
-      (all-range (λ l. One (for_client (1 + k) (at_time (length zs) l))) (told_by_slot profile settings zs (entries_of profile client)) 0 client.slots
+      all-map One (for_client (1 + k)) (timed_texts zs (event_texts profile settings client zs))
+      (all-map (λ l. One (for_client (1 + k) l)) (at_time (length zs)) (event_texts profile settings client zs)
+      (all-range (λ l. One (for_client (1 + k) (at_time (length zs) l))) (slot_event_texts profile settings zs (entries_of profile client)) 0 client.slots
       (λ slot below. all-map (λ l. One (for_client (1 + k) (at_time (length zs) l))) (event_text slot) _
       (all-filtered (λ e. One (for_client (1 + k) (at_time (length zs) (event_text slot e)))) profile.prints (events_at_end settings zs (commands_before profile client slot zs))
       (λ i e there prints. event-line zs k slot i client e now is_client (omega (arith, below)) there prints)))))
@@ -106,20 +106,20 @@ module _ (profile : Profile) (settings : Settings) (clients : List Client) (xs :
       )
 
   answered-ones : (zs : List Sample) (k : ℕ) (client : Client) → Now zs → slice_get clients k ≡ Some client
-      → AllByRecursion One (map (for_client (1 + k)) (timed zs (answered profile settings client zs)))
-  unfolding answered
+      → AllByRecursion One (map (for_client (1 + k)) (timed_texts zs (answer_texts profile settings client zs)))
+  unfolding answer_texts
   answered-ones zs k client now is_client =
-      all-map One (for_client (1 + k)) (timed zs (answered profile settings client zs))
-      (all-map (λ l. One (for_client (1 + k) l)) (at_time (length zs)) (answered profile settings client zs)
-      (all-numbered (λ l. One (for_client (1 + k) (at_time (length zs) l))) (answered_by settings zs (entries_of profile client)) 0 (entries_of profile client)
+      all-map One (for_client (1 + k)) (timed_texts zs (answer_texts profile settings client zs))
+      (all-map (λ l. One (for_client (1 + k) l)) (at_time (length zs)) (answer_texts profile settings client zs)
+      (all-numbered (λ l. One (for_client (1 + k) (at_time (length zs) l))) (entry_answer_texts settings zs (entries_of profile client)) 0 (entries_of profile client)
       (λ i entry there. let z : 0 + i ≡ i = omega arith in rw z (answer-line zs k i client entry now is_client there (nat_eq entry.time (length zs)) refl))))
 
   at-ones : (zs : List Sample) → Now zs → AllByRecursion One (lines_at profile settings clients zs)
-  unfolding lines_at told_at answers_at for_each_client
+  unfolding lines_at event_lines answer_lines for_each_client
   at-ones zs now =
-      all-append One (told_at profile settings clients zs) (answers_at profile settings clients zs)
-      (all-numbered One (λ (p : ℕ × Client). map (for_client p.0) (timed zs (told profile settings p.1 zs))) 1 clients (λ k client is_client. told-ones zs k client now is_client))
-      (all-numbered One (λ (p : ℕ × Client). map (for_client p.0) (timed zs (answered profile settings p.1 zs))) 1 clients (λ k client is_client. answered-ones zs k client now is_client))
+      all-append One (event_lines profile settings clients zs) (answer_lines profile settings clients zs)
+      (all-numbered One (λ (p : ℕ × Client). map (for_client p.0) (timed_texts zs (event_texts profile settings p.1 zs))) 1 clients (λ k client is_client. told-ones zs k client now is_client))
+      (all-numbered One (λ (p : ℕ × Client). map (for_client p.0) (timed_texts zs (answer_texts profile settings p.1 zs))) 1 clients (λ k client is_client. answered-ones zs k client now is_client))
 
   body-ones : AllByRecursion One (body_lines profile settings xs clients)
   unfolding body_lines at_each_time Now

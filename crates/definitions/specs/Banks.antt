@@ -27,9 +27,9 @@ slot_events client slot time events =
 
 -- what the last sample makes these slots tell, in their order, each pair being a client and a slot;
 -- asked gives the commands of each
-unfoldable pub told_at_end : Settings → List (ℕ × ℕ) → (ℕ → ℕ → List TimedRequest) → List Sample
-    → List SlotEvent
-told_at_end settings keys asked xs =
+unfoldable pub bank_events_at_end : Settings → List (ℕ × ℕ) → (ℕ → ℕ → List TimedRequest)
+    → List Sample → List SlotEvent
+bank_events_at_end settings keys asked xs =
     flat_map (λ (client, slot). slot_events client slot (length xs)
     (events_at_end settings xs (asked client slot))) keys
 

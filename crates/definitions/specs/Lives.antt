@@ -55,8 +55,8 @@ acquired_channel settings xs plan begun =
     then Some (found_channel settings plan begun cell) else None
 
 -- the channel that a holding slot follows from a time on
-abbrev pub held : ℕ → ℕ → ℤ → ℕ → Channel
-held begun prn doppler half_chip =
+abbrev pub held_channel : ℕ → ℕ → ℤ → ℕ → Channel
+held_channel begun prn doppler half_chip =
     record {
       prn = prn;
       start = begun;
@@ -76,7 +76,8 @@ tracked_channel begun prn doppler half_chip =
 
 -- the channel that a start gives: at once, or where an acquisition has found the signal
 abbrev pub channel_of : Settings → List Sample → ℕ → Start → Option Channel
-channel_of settings xs begun (hold prn doppler half_chip) = Some (held begun prn doppler half_chip)
+channel_of settings xs begun (hold prn doppler half_chip) =
+    Some (held_channel begun prn doppler half_chip)
 channel_of settings xs begun (track prn doppler half_chip) =
     Some (tracked_channel begun prn doppler half_chip)
 channel_of settings xs begun (acquire plan) = acquired_channel settings xs plan begun
@@ -133,8 +134,8 @@ abbrev pub still_on : Settings → List Sample → Option Life → Option Life
 still_on settings xs None = None
 still_on settings xs (Some life) = if is_over settings xs life then None else Some life
 
-abbrev pub wanting : Life → ℕ → ℕ → Life
-wanting life time n =
+abbrev pub life_wanting : Life → ℕ → ℕ → Life
+life_wanting life time n =
     record { begun = life.begun; start = life.start; wanted = n; wanted_from = time }
 
 -- what a command at a time makes of the latest life, where the second life is the one that is on at
@@ -145,7 +146,7 @@ life_with latest None time (begin start) =
     Some (record { begun = time; start = start; wanted = 0; wanted_from = time })
 life_with latest (Some on) time (begin start) = latest
 life_with latest None time (counts n) = latest
-life_with latest (Some on) time (counts n) = Some (wanting on time n)
+life_with latest (Some on) time (counts n) = Some (life_wanting on time n)
 life_with latest on time state = latest
 life_with latest None time stop = latest
 life_with latest (Some on) time stop = None

@@ -48,16 +48,16 @@ abbrev pub entries_before : ℕ → List Entry → List Entry
 entries_before time entries = filter (λ (e : Entry). nat_lt e.time time) entries
 
 -- what the last sample makes one slot tell
-abbrev pub told_by_slot : Profile → Settings → List Sample → List Entry → ℕ → List (List ℕ)
-told_by_slot profile settings xs entries slot =
+abbrev pub slot_event_texts : Profile → Settings → List Sample → List Entry → ℕ → List (List ℕ)
+slot_event_texts profile settings xs entries slot =
     map (event_text slot)
     (filter profile.prints
     (events_at_end settings xs (commands_to slot (entries_before (length xs) entries))))
 
 -- the texts of what the last sample makes a client's slots tell, slot by slot
-unfoldable pub told : Profile → Settings → Client → List Sample → List (List ℕ)
-told profile settings client xs =
-    flat_map (told_by_slot profile settings xs (entries_of profile client))
+unfoldable pub event_texts : Profile → Settings → Client → List Sample → List (List ℕ)
+event_texts profile settings client xs =
+    flat_map (slot_event_texts profile settings xs (entries_of profile client))
     (range_with_len 0 client.slots)
 
 -- the answer to an entry, behind those before it
@@ -67,15 +67,15 @@ reply_text settings xs before (Ok c) =
 reply_text settings xs before (Err refusal) = refusal_text refusal
 
 -- the answer to an entry, which is number i of these, where it is of the time of the last sample
-abbrev pub answered_by : Settings → List Sample → List Entry → ℕ × Entry → List (List ℕ)
-answered_by settings xs entries (i, entry) =
+abbrev pub entry_answer_texts : Settings → List Sample → List Entry → ℕ × Entry → List (List ℕ)
+entry_answer_texts settings xs entries (i, entry) =
     if entry.time == length xs then reply_text settings xs (take i entries) entry.what ∷ []
     else []
 
 -- the texts of the answers to a client's entries at the time of the last sample, in their order
-unfoldable pub answered : Profile → Settings → Client → List Sample → List (List ℕ)
-answered profile settings client xs =
-    flat_map (answered_by settings xs (entries_of profile client))
+unfoldable pub answer_texts : Profile → Settings → Client → List Sample → List (List ℕ)
+answer_texts profile settings client xs =
+    flat_map (entry_answer_texts settings xs (entries_of profile client))
     (enumerate_from 0 (entries_of profile client))
 
 -- the lines of each time from 0 to the number of samples, each of them from the samples before that
@@ -83,15 +83,17 @@ answered profile settings client xs =
 unfoldable pub at_each_time : (List Sample → List (List ℕ)) → List Sample → List (List ℕ)
 at_each_time lines xs = flat_map (λ t. lines (take t xs)) (range_with_len 0 (length xs + 1))
 
-abbrev pub timed : List Sample → List (List ℕ) → List (List ℕ)
-timed xs texts = map (at_time (length xs)) texts
+-- texts behind the last time
+abbrev pub timed_texts : List Sample → List (List ℕ) → List (List ℕ)
+timed_texts xs texts = map (at_time (length xs)) texts
 
 -- ---- one client alone
 
 -- the lines at the last time: what the samples make the slots tell, and then the answers
 unfoldable pub lines_alone_at : Profile → Settings → Client → List Sample → List (List ℕ)
 lines_alone_at profile settings client xs =
-    timed xs (told profile settings client xs) ++ timed xs (answered profile settings client xs)
+    timed_texts xs (event_texts profile settings client xs)
+    ++ timed_texts xs (answer_texts profile settings client xs)
 
 -- the lines of a client alone, time by time
 unfoldable pub alone : Profile → Settings → List Sample → Client → List (List ℕ)
@@ -112,26 +114,26 @@ for_each_client lines clients =
     flat_map (λ (number, client). map (for_client number) (lines client)) (enumerate_from 1 clients)
 
 -- at the last time: what the samples tell each client
-unfoldable pub told_at : Profile → Settings → List Client → List Sample → List (List ℕ)
-told_at profile settings clients xs =
-    for_each_client (λ client. timed xs (told profile settings client xs)) clients
+unfoldable pub event_lines : Profile → Settings → List Client → List Sample → List (List ℕ)
+event_lines profile settings clients xs =
+    for_each_client (λ client. timed_texts xs (event_texts profile settings client xs)) clients
 
 -- the answers to each
-unfoldable pub answers_at : Profile → Settings → List Client → List Sample → List (List ℕ)
-answers_at profile settings clients xs =
-    for_each_client (λ client. timed xs (answered profile settings client xs)) clients
+unfoldable pub answer_lines : Profile → Settings → List Client → List Sample → List (List ℕ)
+answer_lines profile settings clients xs =
+    for_each_client (λ client. timed_texts xs (answer_texts profile settings client xs)) clients
 
 -- what the samples tell, and then the answers
 unfoldable pub lines_at : Profile → Settings → List Client → List Sample → List (List ℕ)
 lines_at profile settings clients xs =
-    told_at profile settings clients xs ++ answers_at profile settings clients xs
+    event_lines profile settings clients xs ++ answer_lines profile settings clients xs
 
 -- what each of the samples ys behind xs adds, time after time, where tells gives what the last
 -- sample tells
-unfoldable pub told_between : {A : Type 0} → (List Sample → List A) → List Sample → List Sample
+unfoldable pub at_each_sample : {A : Type 0} → (List Sample → List A) → List Sample → List Sample
     → List A
-told_between tells xs [] = []
-told_between tells xs (y ∷ ys) = tells (xs ++ y ∷ []) ++ told_between tells (xs ++ y ∷ []) ys
+at_each_sample tells xs [] = []
+at_each_sample tells xs (y ∷ ys) = tells (xs ++ y ∷ []) ++ at_each_sample tells (xs ++ y ∷ []) ys
 
 -- the lines without the ends, and all lines
 unfoldable pub body_lines : Profile → Settings → List Sample → List Client → List (List ℕ)

@@ -47,15 +47,15 @@ abbrev pub is_too_long : Task → Input → Bool
 is_too_long task input = nat_lt task.limit (sample_count task.settings.packing input.bytes)
 
 -- the samples that are taken
-unfoldable pub taken : Task → Input → List Sample
-taken task input = take task.limit (samples task.settings.packing input.bytes)
+unfoldable pub taken_samples : Task → Input → List Sample
+taken_samples task input = take task.limit (samples task.settings.packing input.bytes)
 
 -- the text of those samples, without the ends, and with them
 abbrev pub body_text : Task → Input → List ℕ
-body_text task input = body task.profile task.settings (taken task input) (clients_of task)
+body_text task input = body task.profile task.settings (taken_samples task input) (clients_of task)
 
 abbrev pub full_text : Task → Input → List ℕ
-full_text task input = full task.profile task.settings (taken task input) (clients_of task)
+full_text task input = full task.profile task.settings (taken_samples task input) (clients_of task)
 
 -- the text that is due for what came: with the ends where reading came to its end within the limit,
 -- and without them behind a failed read, past the limit, and while reading goes on
@@ -99,7 +99,7 @@ IsAnswer task input written wrong_shares =
 IsAnswer task input written no_memory = AreRight task × IsUntouched input written
 IsAnswer task input written (finished n) =
     AreRight task × (is_too_long task input ≡ false) × (input.end ≡ exhausted)
-    × (n ≡ length (taken task input)) × (written ≡ full_text task input)
+    × (n ≡ length (taken_samples task input)) × (written ≡ full_text task input)
 IsAnswer task input written read_failed =
     AreRight task × (is_too_long task input ≡ false) × (input.end ≡ failed)
     × (written ≡ body_text task input)

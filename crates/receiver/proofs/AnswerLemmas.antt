@@ -8,7 +8,7 @@ use Rattle.std.specs.Io.KnownBytes.{Appends}
 use Rattle.definitions.specs.Samples.{Sample}
 use Rattle.definitions.specs.Oscillators.{Settings}
 use Rattle.definitions.specs.Receiver.{Client}
-use Rattle.definitions.specs.Lines.{ended, as_bytes}
+use Rattle.definitions.specs.Lines.{ended_line, as_bytes}
 use Rattle.definitions.specs.Receiver.{body, body_lines, full, full_lines, end_lines}
 use Rattle.definitions.proofs.BodyLemmas.{as_bytes-append}
 use Rattle.receiver.specs.Offered.{offered}
@@ -30,20 +30,20 @@ pub answered-none : (settings : Settings) (clients : List Client) (xs : List Sam
 answered-none settings clients xs waiting session start s = record { left = waiting; stands = s; wrote = wrote-none start (as_bytes waiting) }
 
 pub answered-more : (settings : Settings) (clients : List Client) (xs : List Sample) (waiting : List (List ℕ)) (start b c : Option (List ℕ)) (old new : Session) (reply : Reply) (text : List ℕ)
-    → GivesAnswer old reply new → text ≡ ended (line_of reply) → Appends b c text → HasAnswered settings clients xs waiting start old b → HasAnswered settings clients xs waiting start new c
+    → GivesAnswer old reply new → text ≡ ended_line (line_of reply) → Appends b c text → HasAnswered settings clients xs waiting start old b → HasAnswered settings clients xs waiting start new c
 unfolding as_bytes
 answered-more settings clients xs waiting start b c old new reply text gives e p h =
     let n = gives settings clients xs h.left h.stands in
-    record { left = n.0; stands = n.2; wrote = wrote-text start b c (as_bytes waiting) (as_bytes h.left) (ended (line_of reply)) (as_bytes n.0) h.wrote (ap as_bytes n.1) (subst (Appends b c) e p) }
+    record { left = n.0; stands = n.2; wrote = wrote-text start b c (as_bytes waiting) (as_bytes h.left) (ended_line (line_of reply)) (as_bytes n.0) h.wrote (ap as_bytes n.1) (subst (Appends b c) e p) }
 
 pub answered-part : (settings : Settings) (clients : List Client) (xs : List Sample) (waiting : List (List ℕ)) (start b c : Option (List ℕ)) (old new : Session) (reply : Reply) (text : List ℕ)
-    → GivesAnswer old reply new → text ≡ ended (line_of reply) → AppendsPart b c text → HasAnswered settings clients xs waiting start old b → AppendsPart start c (as_bytes waiting)
+    → GivesAnswer old reply new → text ≡ ended_line (line_of reply) → AppendsPart b c text → HasAnswered settings clients xs waiting start old b → AppendsPart start c (as_bytes waiting)
 unfolding as_bytes
 answered-part settings clients xs waiting start b c old new reply text gives e p h =
     let n = gives settings clients xs h.left h.stands in
-    wrote-part start b c (as_bytes waiting) (as_bytes h.left) (ended (line_of reply)) (as_bytes n.0) h.wrote (ap as_bytes n.1) (subst (AppendsPart b c) e p)
+    wrote-part start b c (as_bytes waiting) (as_bytes h.left) (ended_line (line_of reply)) (as_bytes n.0) h.wrote (ap as_bytes n.1) (subst (AppendsPart b c) e p)
 
-pub replies-next : (replies : List Reply) (i : ℕ) (d : Reply) → i < length replies → as_bytes (map line_of (drop i replies)) ≡ ended (line_of (get_or replies i d)) ++ as_bytes (map line_of (drop (i + 1) replies))
+pub replies-next : (replies : List Reply) (i : ℕ) (d : Reply) → i < length replies → as_bytes (map line_of (drop i replies)) ≡ ended_line (line_of (get_or replies i d)) ++ as_bytes (map line_of (drop (i + 1) replies))
 unfolding as_bytes
 replies-next replies i d h = rw (drop-cons replies i d h, add-one) refl
 
@@ -55,7 +55,7 @@ replies-done replies i h = rw (drop_of_length-le replies h) refl
 -- ---- a stretch: what was told, and then the answers
 pub stretch-text : (before told answers all : List (List ℕ)) → all ≡ before ++ told ++ answers → as_bytes all ≡ as_bytes before ++ (as_bytes told ++ as_bytes answers)
 unfolding as_bytes
-stretch-text before told answers all e = ap as_bytes e ∙ flat_map-append ended (before ++ told) answers ∙ ap (λ r. r ++ as_bytes answers) (flat_map-append ended before told) ∙ append_assoc (as_bytes before) (as_bytes told) (as_bytes answers)
+stretch-text before told answers all e = ap as_bytes e ∙ flat_map-append ended_line (before ++ told) answers ∙ ap (λ r. r ++ as_bytes answers) (flat_map-append ended_line before told) ∙ append_assoc (as_bytes before) (as_bytes told) (as_bytes answers)
 
 pub stretch-all : (start b c d : Option (List ℕ)) (before told answers all : List (List ℕ)) → all ≡ before ++ told ++ answers
     → Appends start b (as_bytes before) → Appends b c (as_bytes told) → Appends c d (as_bytes answers) → Appends start d (as_bytes all)

@@ -6,7 +6,7 @@ use Rattle.std.proofs.lemmas.Bool.{ne_eqb, lt-ltb, le-ltb}
 use Rattle.definitions.specs.Samples.{Sample}
 use Rattle.definitions.specs.Oscillators.{Settings}
 use Rattle.definitions.specs.Scripts.{Entry}
-use Rattle.definitions.specs.Receiver.{Client, entries_of, entries_before, answered}
+use Rattle.definitions.specs.Receiver.{Client, entries_of, entries_before, answer_texts}
 use Rattle.definitions.proofs.EntryLemmas.{NoneBefore, AreByTime, none_before-less, entries_of-by_time, answers_left, answered-left, answers_left-none, answers_left-past}
 use Rattle.receiver.specs.Offered.{offered}
 use Rattle.receiver.specs.Queues.{NoneDue, gap}
@@ -82,14 +82,14 @@ module _ (settings : Settings) (client : Client) (xs : List Sample) (done left :
     }
 
     -- what waits then is all that is answered then
-    pub waits-all : answers_left settings (xs ++ ys) done left ≡ answered offered settings client (xs ++ ys)
+    pub waits-all : answers_left settings (xs ++ ys) done left ≡ answer_texts offered settings client (xs ++ ys)
     waits-all =
         sym (answered-left offered settings client (xs ++ ys)
         ∙ ap (λ (es : List Entry). answers_left settings (xs ++ ys) [] es) q.all
         ∙ answers_left-past settings (xs ++ ys) [] done left (none-past (length (xs ++ ys)) (length xs) done (omega (arith, both ys, some)) q.past))
 
     -- and nothing is answered before
-    pub none-before : (zs : List Sample) → 0 < length zs → length zs < length ys → answered offered settings client (xs ++ zs) ≡ []
+    pub none-before : (zs : List Sample) → 0 < length zs → length zs < length ys → answer_texts offered settings client (xs ++ zs) ≡ []
     none-before zs more fewer =
         let n : ℕ = length (xs ++ zs) in
         answered-left offered settings client (xs ++ zs)

@@ -13,7 +13,7 @@ use Rattle.receiver.specs.declared.session.Session.{Session}
 use Rattle.receiver.specs.declared.faults.Stop.{Stop}
 use Rattle.receiver.specs.declared.faults.Stop.TheVariants.{AtEnd, ReadFailed, PastLimit}
 use Rattle.receiver.specs.Texts.{AppendsPart}
-use Rattle.definitions.specs.Receiver.{answers_at}
+use Rattle.definitions.specs.Receiver.{answer_lines}
 use Rattle.receiver.specs.Sessions.{StandsFor, time_of}
 use Rattle.definitions.proofs.TextLemmas.{client-alone}
 use Rattle.definitions.specs.Receiver.{alone_to_end}
@@ -25,7 +25,7 @@ use Rattle.receiver.proofs.PartLemmas.{part-longer}
 use Rattle.receiver.proofs.AnswerLemmas.{full-is}
 
 pub opened : (settings : Settings) (clients : List Client) (session answered : Session) (start contents : Option (List ℕ)) → IsOpen settings clients session
-    → Appends start contents (as_bytes (answers_at offered settings clients [])) → StandsFor settings clients answered [] [] → IsWrittenTo settings clients start answered contents []
+    → Appends start contents (as_bytes (answer_lines offered settings clients [])) → StandsFor settings clients answered [] [] → IsWrittenTo settings clients start answered contents []
 unfolding body
 opened settings clients session answered start contents open_is p stands = record { stands = stands; written = subst (Appends start contents) (ap as_bytes (sym open_is.first)) p }
 

@@ -9,7 +9,7 @@ use Rattle.definitions.specs.Samples.{Sample}
 use Rattle.definitions.specs.Oscillators.{Settings}
 use Rattle.definitions.specs.Scripts.{Entry}
 use Rattle.definitions.specs.Texts.{for_client, at_time}
-use Rattle.definitions.specs.Receiver.{Client, entries_of, entries_before, commands_to, reply_text, answered, answers_at, for_each_client, timed}
+use Rattle.definitions.specs.Receiver.{Client, entries_of, entries_before, commands_to, reply_text, answer_texts, answer_lines, for_each_client, timed_texts}
 use Rattle.definitions.proofs.EntryLemmas.{answers_left, answers_left-now}
 use Rattle.client_commands.specs.Entries.{result_in}
 use Rattle.receiver.specs.Offered.{offered}
@@ -72,8 +72,8 @@ others-queues xs done client e b (c ∷ cs) (q ∷ qs) h all =
 others-waiting : (settings : Settings) (xs : List Sample) (done : ℕ → List Entry) (client : ℕ) (e : Entry) (b : ℕ) (qs : List Queue) → client < b → answers_waiting settings xs done b qs ≡ answers_waiting settings xs (with_entry done client e) b qs
 others-waiting settings xs done client e b [] h = refl
 others-waiting settings xs done client e b (q ∷ qs) h =
-    ap (λ (d : List Entry). map (for_client b) (timed xs (answers_left settings xs d (left_of q))) ++ answers_waiting settings xs done (b + 1) qs) (sym (not-own done client e b (λ same. omega (arith, same, h))))
-    ∙ ap (λ (r : List (List ℕ)). map (for_client b) (timed xs (answers_left settings xs (with_entry done client e b) (left_of q))) ++ r) (others-waiting settings xs done client e (b + 1) qs (omega (arith, h)))
+    ap (λ (d : List Entry). map (for_client b) (timed_texts xs (answers_left settings xs d (left_of q))) ++ answers_waiting settings xs done (b + 1) qs) (sym (not-own done client e b (λ same. omega (arith, same, h))))
+    ∙ ap (λ (r : List (List ℕ)). map (for_client b) (timed_texts xs (answers_left settings xs (with_entry done client e b) (left_of q))) ++ r) (others-waiting settings xs done client e (b + 1) qs (omega (arith, h)))
 
 pub at-least : (now b : ℕ) (qs rs : List Queue) (due : Due) → TakesDue now b qs rs due → b ≤ due.client
 at-least now b [] rs due t = absurd t
@@ -145,17 +145,17 @@ module _ (settings : Settings) (xs : List Sample) (done : ℕ → List Entry) (d
       let done_then : done b ++ entry_now xs due ∷ [] ≡ then b = sym (own-entry done due.client (entry_now xs due) b (sym h.0)) in
       let rest : answers_waiting settings xs done (b + 1) qs ≡ answers_waiting settings xs then (b + 1) rs =
       others-waiting settings xs done due.client (entry_now xs due) (b + 1) qs (omega (arith, h.0)) ∙ ap (answers_waiting settings xs then (b + 1)) (sym h.2) in
-      ap (λ (l : List (List ℕ)). map (for_client b) (timed xs l) ++ answers_waiting settings xs done (b + 1) qs) one
-      ∙ ap (λ (k : ℕ). for_client k (at_time (length xs) (reply_text settings xs (done k) (result_in due.what))) ∷ (map (for_client b) (timed xs (answers_left settings xs (done b ++ entry_now xs due ∷ []) (left_of r))) ++ answers_waiting settings xs done (b + 1) qs)) (sym h.0)
-      ∙ ap (λ (d : List Entry). line_due settings xs done due ∷ (map (for_client b) (timed xs (answers_left settings xs d (left_of r))) ++ answers_waiting settings xs done (b + 1) qs)) done_then
-      ∙ ap (λ (l : List (List ℕ)). line_due settings xs done due ∷ (map (for_client b) (timed xs (answers_left settings xs (then b) (left_of r))) ++ l)) rest
+      ap (λ (l : List (List ℕ)). map (for_client b) (timed_texts xs l) ++ answers_waiting settings xs done (b + 1) qs) one
+      ∙ ap (λ (k : ℕ). for_client k (at_time (length xs) (reply_text settings xs (done k) (result_in due.what))) ∷ (map (for_client b) (timed_texts xs (answers_left settings xs (done b ++ entry_now xs due ∷ []) (left_of r))) ++ answers_waiting settings xs done (b + 1) qs)) (sym h.0)
+      ∙ ap (λ (d : List Entry). line_due settings xs done due ∷ (map (for_client b) (timed_texts xs (answers_left settings xs d (left_of r))) ++ answers_waiting settings xs done (b + 1) qs)) done_then
+      ∙ ap (λ (l : List (List ℕ)). line_due settings xs done due ∷ (map (for_client b) (timed_texts xs (answers_left settings xs (then b) (left_of r))) ++ l)) rest
   waiting-then b (c ∷ cs) (q ∷ qs) (r ∷ rs) all (inr h) =
       let same : then b ≡ done b = not-own done due.client (entry_now xs due) b (λ e. omega (arith, e, at-least (length xs) (b + 1) qs rs due h.2)) in
       let before : answers_left settings xs (done b) (left_of q) ≡ [] = none-waits settings c xs (done b) (left_of q) all.0 h.0 in
       let after : answers_left settings xs (then b) (left_of r) ≡ [] = ap (λ (d : List Entry). answers_left settings xs d (left_of r)) same ∙ ap (λ (x : Queue). answers_left settings xs (done b) (left_of x)) h.1 ∙ before in
-      ap (λ (l : List (List ℕ)). map (for_client b) (timed xs l) ++ answers_waiting settings xs done (b + 1) qs) before
+      ap (λ (l : List (List ℕ)). map (for_client b) (timed_texts xs l) ++ answers_waiting settings xs done (b + 1) qs) before
       ∙ waiting-then (b + 1) cs qs rs all.1 h.2
-      ∙ ap (λ (l : List (List ℕ)). line_due settings xs done due ∷ (map (for_client b) (timed xs l) ++ answers_waiting settings xs then (b + 1) rs)) (sym after)
+      ∙ ap (λ (l : List (List ℕ)). line_due settings xs done due ∷ (map (for_client b) (timed_texts xs l) ++ answers_waiting settings xs then (b + 1) rs)) (sym after)
 
 -- ---- samples come
 
@@ -172,7 +172,7 @@ module _ (settings : Settings) (xs ys : List Sample) (done : ℕ → List Entry)
       (later settings c xs (done b) (left_of q) all.0 ys some f.0, queues-later (b + 1) cs qs all.1 f.1)
 
   abbrev answers_from : ℕ → List Client → List Sample → List (List ℕ)
-  answers_from b cs zs = flat_map (λ (p : ℕ × Client). map (for_client p.0) (timed zs (answered offered settings p.1 zs))) (enumerate_from b cs)
+  answers_from b cs zs = flat_map (λ (p : ℕ × Client). map (for_client p.0) (timed_texts zs (answer_texts offered settings p.1 zs))) (enumerate_from b cs)
 
   waiting-from : (b : ℕ) (cs : List Client) (qs : List Queue) → AreQueues xs done b cs qs → length ys ≤ least_gap_of (length xs) qs → answers_from b cs (xs ++ ys) ≡ answers_waiting settings (xs ++ ys) done b qs
   waiting-from b [] [] all free = refl
@@ -180,11 +180,11 @@ module _ (settings : Settings) (xs ys : List Sample) (done : ℕ → List Entry)
   waiting-from b (c ∷ cs) [] all free = absurd all
   waiting-from b (c ∷ cs) (q ∷ qs) all free =
       let f = free-first (length ys) (length xs) q qs free in
-      ap (λ (l : List (List ℕ)). map (for_client b) (timed (xs ++ ys) l) ++ answers_from (b + 1) cs (xs ++ ys)) (sym (waits-all settings c xs (done b) (left_of q) all.0 ys some f.0))
-      ∙ ap (λ (r : List (List ℕ)). map (for_client b) (timed (xs ++ ys) (answers_left settings (xs ++ ys) (done b) (left_of q))) ++ r) (waiting-from (b + 1) cs qs all.1 f.1)
+      ap (λ (l : List (List ℕ)). map (for_client b) (timed_texts (xs ++ ys) l) ++ answers_from (b + 1) cs (xs ++ ys)) (sym (waits-all settings c xs (done b) (left_of q) all.0 ys some f.0))
+      ∙ ap (λ (r : List (List ℕ)). map (for_client b) (timed_texts (xs ++ ys) (answers_left settings (xs ++ ys) (done b) (left_of q))) ++ r) (waiting-from (b + 1) cs qs all.1 f.1)
 
-  pub waiting-later : (cs : List Client) (qs : List Queue) → AreQueues xs done 1 cs qs → length ys ≤ least_gap_of (length xs) qs → answers_at offered settings cs (xs ++ ys) ≡ answers_waiting settings (xs ++ ys) done 1 qs
-  unfolding answers_at for_each_client
+  pub waiting-later : (cs : List Client) (qs : List Queue) → AreQueues xs done 1 cs qs → length ys ≤ least_gap_of (length xs) qs → answer_lines offered settings cs (xs ++ ys) ≡ answers_waiting settings (xs ++ ys) done 1 qs
+  unfolding answer_lines for_each_client
   waiting-later cs qs all free = waiting-from 1 cs qs all free
 
   module _ (zs : List Sample) (more : 0 < length zs) where
@@ -193,11 +193,11 @@ module _ (settings : Settings) (xs ys : List Sample) (done : ℕ → List Entry)
     quiet-from fewer b (c ∷ cs) [] all free = absurd all
     quiet-from fewer b (c ∷ cs) (q ∷ qs) all free =
         let f = free-first (length ys) (length xs) q qs free in
-        ap (λ (l : List (List ℕ)). map (for_client b) (timed (xs ++ zs) l) ++ answers_from (b + 1) cs (xs ++ zs)) (none-before settings c xs (done b) (left_of q) all.0 ys some f.0 zs more fewer)
+        ap (λ (l : List (List ℕ)). map (for_client b) (timed_texts (xs ++ zs) l) ++ answers_from (b + 1) cs (xs ++ zs)) (none-before settings c xs (done b) (left_of q) all.0 ys some f.0 zs more fewer)
         ∙ quiet-from fewer (b + 1) cs qs all.1 f.1
 
-    pub quiet : length zs < length ys → (cs : List Client) (qs : List Queue) → AreQueues xs done 1 cs qs → length ys ≤ least_gap_of (length xs) qs → answers_at offered settings cs (xs ++ zs) ≡ []
-    unfolding answers_at for_each_client
+    pub quiet : length zs < length ys → (cs : List Client) (qs : List Queue) → AreQueues xs done 1 cs qs → length ys ≤ least_gap_of (length xs) qs → answer_lines offered settings cs (xs ++ zs) ≡ []
+    unfolding answer_lines for_each_client
     quiet fewer cs qs all free = quiet-from fewer 1 cs qs all free
 
     pub asked-each : length zs ≤ length ys → (b : ℕ) (cs : List Client) (qs : List Queue) → AreQueues xs done b cs qs → length ys ≤ least_gap_of (length xs) qs

@@ -8,7 +8,7 @@ use Rattle.definitions.specs.Receiver.{body, full, body_lines, lines_of_client, 
 use Rattle.definitions.specs.Lines.{as_bytes, lines_of}
 use Rattle.receiver.specs.Offered.{offered}
 use Rattle.receiver.specs.Texts.{AppendsPart, WroteUpTo}
-use Rattle.definitions.specs.Receiver.{answers_at}
+use Rattle.definitions.specs.Receiver.{answer_lines}
 use Rattle.receiver.specs.Sessions.{StandsFor}
 use Rattle.receiver.specs.declared.session.Session.{Session}
 use Rattle.receiver.specs.declared.faults.RunFault.{RunFault}
@@ -85,8 +85,8 @@ pub record ServesEachAlone (settings : Settings) (clients : List Client) (old ne
 
 -- a session before the first sample, with the answers at time 0 to come
 pub record IsOpen (settings : Settings) (clients : List Client) (session : Session) : Type 0 where
-  pub stands : StandsFor settings clients session [] (answers_at offered settings clients [])
-  pub first : body_lines offered settings [] clients ≡ answers_at offered settings clients []
+  pub stands : StandsFor settings clients session [] (answer_lines offered settings clients [])
+  pub first : body_lines offered settings [] clients ≡ answer_lines offered settings clients []
 
 -- a session at the end of samples, with all that was to be written by then, since the writer held `start`
 pub record IsWrittenTo (settings : Settings) (clients : List Client) (start : Option (List ℕ)) (session : Session) (contents : Option (List ℕ)) (xs : List Sample) : Type 0 where

@@ -4,7 +4,7 @@ use Rattle.std.specs.List.{AllByRecursion}
 use Rattle.definitions.specs.Samples.{Sample, Packing}
 use Rattle.definitions.specs.Oscillators.{Settings}
 use Rattle.definitions.specs.Scripts.{Entry}
-use Rattle.definitions.specs.Receiver.{Client, entries_of, commands_to, reply_text, timed}
+use Rattle.definitions.specs.Receiver.{Client, entries_of, commands_to, reply_text, timed_texts}
 use Rattle.definitions.specs.Texts.{for_client, at_time}
 use Rattle.definitions.proofs.EntryLemmas.{NoneBefore, answers_left}
 use Rattle.channel_slots.specs.BankStates.{StandsFor as BankStandsFor, settings_of, clients_of, time_of as time_of_bank}
@@ -52,7 +52,7 @@ AreQueues xs done b (c ∷ cs) (q ∷ qs) = IsQueue xs c (done b) (left_of q) ×
 -- the lines of the answers that they have still to get at this time
 abbrev pub answers_waiting : Settings → List Sample → (ℕ → List Entry) → ℕ → List Queue → List (List ℕ)
 answers_waiting settings xs done b [] = []
-answers_waiting settings xs done b (q ∷ qs) = map (for_client b) (timed xs (answers_left settings xs (done b) (left_of q))) ++ answers_waiting settings xs done (b + 1) qs
+answers_waiting settings xs done b (q ∷ qs) = map (for_client b) (timed_texts xs (answers_left settings xs (done b) (left_of q))) ++ answers_waiting settings xs done (b + 1) qs
 
 -- the commands to each slot among such entries of each client
 abbrev pub asked_of : (ℕ → List Entry) → ℕ → ℕ → List TimedRequest

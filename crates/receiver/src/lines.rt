@@ -3,7 +3,7 @@
 ghost use Rattle.std.specs.Prelude.{◌≡◌, ◌≤◌, ◌+◌, ℕ, ℤ, ◌++◌, ◌∷◌, length, codes};
 ghost use Rattle.std.specs.Fmt.{decimal, signed_decimal};
 ghost use Rattle.arrayvec.specs.ArrayVec.{array_vec_len};
-ghost use Rattle.definitions.specs.Lines.{ended};
+ghost use Rattle.definitions.specs.Lines.{ended_line};
 ghost use Rattle.definitions.specs.Texts.{for_client, at_time};
 ghost use Rattle.lane_correlator.specs.Counting.{counts_in};
 ghost use Rattle.channel_slots.specs.Replies.{text_of, line_of, view_in};
@@ -21,7 +21,7 @@ pub type Line = ArrayVec<u8, LINE_BYTES>;
 
 /// The line of a reply, with its end.
 pub fn line(reply: &Reply) -> Line
-    ensures { result.items ≡ ended (line_of reply.now) }
+    ensures { result.items ≡ ended_line (line_of reply.now) }
 {
     let mut line = ArrayVec::new();
     push_decimal(&mut line, reply.client.into());
@@ -35,7 +35,7 @@ pub fn line(reply: &Reply) -> Line
 
 /// A client's last line, with its end.
 pub fn end_line(client: u8, time: u64) -> Line
-    ensures { result.items ≡ ended (for_client client (at_time time (codes "end"))) }
+    ensures { result.items ≡ ended_line (for_client client (at_time time (codes "end"))) }
 {
     let mut line = ArrayVec::new();
     push_decimal(&mut line, client.into());

@@ -28,7 +28,7 @@ impl<'a> Session<'a> {
     ghost use Rattle.std.specs.Prelude.{◌≤◌, ◌<◌, ◌+◌, ◌^◌, ◌⊎◌, ◌↔◌, ℕ, List, [], ◌∷◌, ◌++◌, map, IfSome, IsNone, IfOk, Err};
     ghost use Rattle.definitions.specs.Oscillators.{Settings as Recording};
     ghost use Rattle.definitions.specs.Samples.{Sample, sample_count, samples_from};
-    ghost use Rattle.definitions.specs.Receiver.{Client, body_lines, answers_at};
+    ghost use Rattle.definitions.specs.Receiver.{Client, body_lines, answer_lines};
     ghost use Rattle.channel_slots.specs.Replies.{line_of};
     ghost use Rattle.receiver.specs.Offered.{offered, client_with};
     ghost use Rattle.receiver.specs.Sessions.{StandsFor, packing_in, time_of, until_next, lines_left};
@@ -45,7 +45,7 @@ impl<'a> Session<'a> {
         ensures time { IfOk result (λ session. time_of session ≡ 0) }
         ensures stands { IfOk result (λ session. StandsFor settings (map
             (λ script. client_with script.now) scripts.now) session []
-            (answers_at offered settings (map (λ script. client_with script.now) scripts.now) [])) }
+            (answer_lines offered settings (map (λ script. client_with script.now) scripts.now) [])) }
     {
         let clients = scripts.len().min(MOST_CLIENTS + 1);
         let bank = Bank::open(alloc, settings, clients as u8)?;
@@ -98,13 +98,13 @@ impl<'a> Session<'a> {
             → StandsFor settings clients self.old xs []
             → StandsFor settings clients self.new
             (xs ++ samples_from settings.packing bytes.now first len)
-            (answers_at offered settings clients
+            (answer_lines offered settings clients
             (xs ++ samples_from settings.packing bytes.now first len)) }
         ensures told { (settings : Recording) (clients : List Client) (xs : List Sample)
             → StandsFor settings clients self.old xs []
             → body_lines offered settings
             (xs ++ samples_from settings.packing bytes.now first len) clients
-            ≡ body_lines offered settings xs clients ++ map line_of replies.new.items ++ answers_at
+            ≡ body_lines offered settings xs clients ++ map line_of replies.new.items ++ answer_lines
             offered settings clients (xs ++ samples_from settings.packing bytes.now first len) }
     {
         self.bank.feed_into(bytes, first, len, replies);

@@ -3,7 +3,7 @@ use Rattle.std.proofs.KnownBytes.{Consumes-nil}
 use Rattle.definitions.specs.Samples.{Sample}
 use Rattle.definitions.specs.Lines.{as_bytes}
 use Rattle.definitions.specs.Receiver.{body}
-use Rattle.definitions.specs.Receiver.{answers_at}
+use Rattle.definitions.specs.Receiver.{answer_lines}
 use Rattle.receiver.specs.Offered.{offered}
 use Rattle.receiver.specs.Texts.{AppendsPart}
 use Rattle.receiver.specs.Runs.{samples_read}
@@ -14,7 +14,7 @@ use Rattle.receiver.proofs.running.run_session.Goals as goal
 pub returns-in_err-write_answers-clause-broken : goal.returns-in_err-write_answers-clause-broken
 unfolding body
 returns-in_err-write_answers-clause-broken g c = let s = g.W.Sink in on_err c.from_residual.result _ (λ settings clients open_is.
-    let part = c.in_err-write_answers.ensures.err settings clients [] (answers_at offered settings clients []) open_is.stands in
+    let part = c.in_err-write_answers.ensures.err settings clients [] (answer_lines offered settings clients []) open_is.stands in
     let Q : List Sample → Type 0 = λ ys. AppendsPart (s.contents c.args.writer.now) (s.contents c.write_answers.new.writer) (body offered settings ys clients) in
     record {
       read = [];
@@ -26,14 +26,14 @@ returns-in_err-write_answers-clause-broken g c = let s = g.W.Sink in on_err c.fr
 pub returns-in_err-stop-clause-broken : goal.returns-in_err-stop-clause-broken
 returns-in_err-stop-clause-broken g c = let s = g.W.Sink in on_err c.from_residual-in_err-stop.result _ (λ settings clients open_is.
     let start = s.contents c.args.writer.now in
-    let answered = c.in_ok-write_answers.ensures.ok settings clients [] (answers_at offered settings clients []) open_is.stands in
+    let answered = c.in_ok-write_answers.ensures.ok settings clients [] (answer_lines offered settings clients []) open_is.stands in
     let broke = c.in_err-stop.ensures.broken settings clients start (opened settings clients c.args.session.now c.write_answers.new.session start (s.contents c.write_answers.new.writer) open_is answered.0 answered.1) in
     record { read = broke.read; consumed = broke.consumed; breaks = breaks-in-body settings clients c.args.limit broke.read _ _ c.in_err-stop.ensures.failure broke.written })
 
 pub returns-in_err-finish-clause-broken : goal.returns-in_err-finish-clause-broken
 returns-in_err-finish-clause-broken g c = let s = g.W.Sink in on_err c.from_residual-in_err-finish.result _ (λ settings clients open_is.
     let start = s.contents c.args.writer.now in
-    let answered = c.in_ok-write_answers.ensures.ok settings clients [] (answers_at offered settings clients []) open_is.stands in
+    let answered = c.in_ok-write_answers.ensures.ok settings clients [] (answer_lines offered settings clients []) open_is.stands in
     let has = c.in_ok-stop.ensures.read settings clients start (opened settings clients c.args.session.now c.write_answers.new.session start (s.contents c.write_answers.new.writer) open_is answered.0 answered.1) in
     record {
       read = has.read;
@@ -44,7 +44,7 @@ returns-in_err-finish-clause-broken g c = let s = g.W.Sink in on_err c.from_resi
 pub returns-clause-ran : goal.returns-clause-ran
 returns-clause-ran g c = let s = g.W.Sink in λ settings clients open_is.
     let start = s.contents c.args.writer.now in
-    let answered = c.in_ok-write_answers.ensures.ok settings clients [] (answers_at offered settings clients []) open_is.stands in
+    let answered = c.in_ok-write_answers.ensures.ok settings clients [] (answer_lines offered settings clients []) open_is.stands in
     let has = c.in_ok-stop.ensures.read settings clients start (opened settings clients c.args.session.now c.write_answers.new.session start (s.contents c.write_answers.new.writer) open_is answered.0 answered.1) in
     record {
       read = has.read;

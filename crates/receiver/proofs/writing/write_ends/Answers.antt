@@ -1,7 +1,7 @@
 use Rattle.std.proofs.Common.{◌≡◌, ◌+◌, ◌-◌, ◌++◌, ℕ, List, [], length, append-nil, refl, sym, ap, ◌∙◌, subst, arith}
 use Rattle.std.specs.Prelude.{codes}
 use Rattle.std.specs.Io.KnownBytes.{Appends}
-use Rattle.definitions.specs.Lines.{as_bytes, ended}
+use Rattle.definitions.specs.Lines.{as_bytes, ended_line}
 use Rattle.definitions.specs.Texts.{for_client, at_time}
 use Rattle.definitions.specs.Samples.{Sample}
 use Rattle.definitions.specs.Oscillators.{Settings}
@@ -34,7 +34,7 @@ loop-client-preserved g c =
     let time = time_of c.args.session.now in
     let k = c.loop-client.client in
     let n = c.clients-client-end.result in
-    let e = c.deref.ensures.0 ∙ c.end_line.ensures ∙ ap (λ (t : ℕ). ended (for_client (k + 1) (at_time t (codes "end")))) c.time.ensures in
+    let e = c.deref.ensures.0 ∙ c.end_line.ensures ∙ ap (λ (t : ℕ). ended_line (for_client (k + 1) (at_time t (codes "end")))) c.time.ensures in
     record {
       failure = c.in_ok-write_text.ensures.failure ∙ c.loop-client.invariant.failure;
       wrote = wrote-text (s.contents c.args.writer.now) (s.contents c.loop-client.writer) (s.contents c.write_text.new.writer) (as_bytes (ends time 1 n)) (as_bytes (ends time (k + 1) (n - k))) _ (as_bytes (ends time (k + 1 + 1) (n - (k + 1))))
@@ -47,7 +47,7 @@ returns-in_err-write_text-clause-err g c =
     let time = time_of c.args.session.now in
     let k = c.loop-client.client in
     let n = c.clients-client-end.result in
-    let e = c.deref.ensures.0 ∙ c.end_line.ensures ∙ ap (λ (t : ℕ). ended (for_client (k + 1) (at_time t (codes "end")))) c.time.ensures in
+    let e = c.deref.ensures.0 ∙ c.end_line.ensures ∙ ap (λ (t : ℕ). ended_line (for_client (k + 1) (at_time t (codes "end")))) c.time.ensures in
     let part = wrote-part (s.contents c.args.writer.now) (s.contents c.loop-client.writer) (s.contents c.write_text.new.writer) (as_bytes (ends time 1 n)) (as_bytes (ends time (k + 1) (n - k))) _ (as_bytes (ends time (k + 1 + 1) (n - (k + 1))))
     c.loop-client.invariant.wrote (ends-next time k n c.loop-client-test.true) (subst (AppendsPart (s.contents c.loop-client.writer) (s.contents c.write_text.new.writer)) e c.in_err-write_text.ensures.err) in
     on_err c.from_residual.result _ (λ settings clients start xs at.

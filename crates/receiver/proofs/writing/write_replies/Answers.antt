@@ -1,7 +1,7 @@
 use Rattle.std.proofs.Common.{◌∙◌, ◌+◌, drop, subst, ap}
 use Rattle.std.specs.Prelude.{map}
 use Rattle.std.specs.Io.KnownBytes.{Appends}
-use Rattle.definitions.specs.Lines.{as_bytes, ended}
+use Rattle.definitions.specs.Lines.{as_bytes, ended_line}
 use Rattle.channel_slots.specs.declared.reply.Reply.{Reply}
 use Rattle.channel_slots.specs.Replies.{line_of}
 use Rattle.receiver.specs.Texts.{AppendsPart}
@@ -14,7 +14,7 @@ loop-reply-preserved g c =
     let s = g.W.Sink in
     let rs = c.args.replies.now in
     let i = c.loop-reply.reply-index in
-    let e = c.deref.ensures.0 ∙ c.line.ensures ∙ ap (λ (r : Reply). ended (line_of r)) c.reply-item.is in
+    let e = c.deref.ensures.0 ∙ c.line.ensures ∙ ap (λ (r : Reply). ended_line (line_of r)) c.reply-item.is in
     record {
       failure = c.in_ok-write_text.ensures.failure ∙ c.loop-reply.invariant.failure;
       wrote = wrote-text (s.contents c.args.writer.now) (s.contents c.loop-reply.writer) (s.contents c.write_text.new.writer) (as_bytes (map line_of rs)) (as_bytes (map line_of (drop i rs))) _ (as_bytes (map line_of (drop (i + 1) rs)))
@@ -26,7 +26,7 @@ returns-in_err-write_text-clause-err g c =
     let s = g.W.Sink in
     let rs = c.args.replies.now in
     let i = c.loop-reply.reply-index in
-    let e = c.deref.ensures.0 ∙ c.line.ensures ∙ ap (λ (r : Reply). ended (line_of r)) c.reply-item.is in
+    let e = c.deref.ensures.0 ∙ c.line.ensures ∙ ap (λ (r : Reply). ended_line (line_of r)) c.reply-item.is in
     on_err c.from_residual.result _ (wrote-part (s.contents c.args.writer.now) (s.contents c.loop-reply.writer) (s.contents c.write_text.new.writer) (as_bytes (map line_of rs)) (as_bytes (map line_of (drop i rs))) _ (as_bytes (map line_of (drop (i + 1) rs)))
     c.loop-reply.invariant.wrote (replies-next rs i (_) c.loop-reply-test.true) (subst (AppendsPart (s.contents c.loop-reply.writer) (s.contents c.write_text.new.writer)) e c.in_err-write_text.ensures.err))
 
