@@ -155,13 +155,17 @@ module _ (settings : Settings) (plan : Plan) (begun : ℕ) (wanted wanted_from :
               ∙ ap lost_dumps (lost-stays (dumps_of settings c xs) more.0 was)
               ∙ was
 
--- what samples have ended stays ended, whatever samples follow
-pub is_over-append : (settings : Settings) (xs ys : List Sample) (begun : ℕ) (start : Start) (wanted wanted_from : ℕ)
+-- what samples have ended stays ended, by what began the life
+over-append : (settings : Settings) (xs ys : List Sample) (begun : ℕ) (start : Start) (wanted wanted_from : ℕ)
     → is_over settings xs (record { begun = begun; start = start; wanted = wanted; wanted_from = wanted_from }) ≡ true → is_over settings (xs ++ ys) (record { begun = begun; start = start; wanted = wanted; wanted_from = wanted_from }) ≡ true
 unfolding is_over dumps_of_life acquiring_life
-is_over-append settings xs ys begun (hold prn doppler half_chip) wanted wanted_from over = absurd (clash refl over)
-is_over-append settings xs ys begun (track prn doppler half_chip) wanted wanted_from over =
+over-append settings xs ys begun (hold prn doppler half_chip) wanted wanted_from over = absurd (clash refl over)
+over-append settings xs ys begun (track prn doppler half_chip) wanted wanted_from over =
     let c : Channel = record { prn = prn; start = begun; code = half_chip * 2 ^ 31; steering = shift_after (doppler_shift doppler) } in
     let more = dumps_of-append settings c xs ys in
     ap (λ (ds : List Dump). is_some (lost_after (counts_of (until_lost ds)))) more.1 ∙ ap (λ (ds : List Dump). is_some (lost_after (counts_of ds))) (lost-stays (dumps_of settings c xs) more.0 over) ∙ over
-is_over-append settings xs ys begun (acquire plan) wanted wanted_from over = acquiring-append settings plan begun wanted wanted_from xs ys over
+over-append settings xs ys begun (acquire plan) wanted wanted_from over = acquiring-append settings plan begun wanted wanted_from xs ys over
+
+-- whatever samples follow
+pub is_over-append : (settings : Settings) (xs ys : List Sample) (life : Life) → is_over settings xs life ≡ true → is_over settings (xs ++ ys) life ≡ true
+is_over-append settings xs ys life over = over-append settings xs ys life.begun life.start life.wanted life.wanted_from over

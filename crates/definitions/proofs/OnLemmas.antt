@@ -39,7 +39,7 @@ clash f t = cc
 
 -- what is over by a time is over by the last
 over-stays : (settings : Settings) (xs : List Sample) (t : ℕ) (life : Life) → is_over settings (take t xs) life ≡ true → is_over settings xs life ≡ true
-over-stays settings xs t life over = ap (λ zs. is_over settings zs life) (sym (take-append-drop t xs)) ∙ is_over-append settings (take t xs) (drop t xs) life.begun life.start life.wanted life.wanted_from over
+over-stays settings xs t life over = ap (λ zs. is_over settings zs life) (sym (take-append-drop t xs)) ∙ is_over-append settings (take t xs) (drop t xs) life over
 
 module _ (settings : Settings) (xs : List Sample) where
   -- a command began the life, and where a `stop` stands behind it the life was over

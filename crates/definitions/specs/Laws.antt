@@ -13,8 +13,8 @@ use Rattle.definitions.specs.Acquisition.{dwell_end, result_of}
 use Rattle.definitions.specs.BitEdge.{edge_of}
 use Rattle.definitions.specs.Parity.{passes, data_of}
 use Rattle.definitions.specs.Frames.{Found, starts_of, subframe_at, found_by, word_at, prior_at}
-use Rattle.definitions.specs.Commands.{TimedRequest, Start}
-use Rattle.definitions.specs.Lives.{is_over, life_of, life_after}
+use Rattle.definitions.specs.Commands.{TimedRequest}
+use Rattle.definitions.specs.Lives.{Life, is_over, life_of, life_after}
 use Rattle.definitions.specs.Answers.{answer_at_end, refused}
 
 -- ---- a slot
@@ -27,21 +27,8 @@ LivesStay = (settings : Settings) (xs ys : List Sample) (commands : List TimedRe
 
 -- What samples have ended stays ended, whatever samples follow.
 abbrev pub EndsStay : Type 0
-EndsStay = (settings : Settings) (xs ys : List Sample) (begun : ℕ) (start : Start)
-    (wanted wanted_from : ℕ)
-    → is_over settings xs (record {
-      begun = begun;
-      start = start;
-      wanted = wanted;
-      wanted_from =
-          wanted_from;
-    }) ≡ true
-    → is_over settings (xs ++ ys) (record {
-      begun = begun;
-      start = start;
-      wanted = wanted;
-      wanted_from = wanted_from;
-    }) ≡ true
+EndsStay = (settings : Settings) (xs ys : List Sample) (life : Life)
+    → is_over settings xs life ≡ true → is_over settings (xs ++ ys) life ≡ true
 
 -- What an acquisition names rests on the samples of its dwell.
 abbrev pub AcquisitionsStay : Type 0
