@@ -30,7 +30,9 @@ pub record StandsFor (settings : Settings) (xs : List Sample) (asked : ℕ → �
 -- whatever a bank stood for: what its slots tell over a run of samples, which it knows by its packing, are these replies
 abbrev pub Tells : Bank → (Packing → List Sample) → List Reply → Type 0
 Tells old run replies = (settings : Settings) (xs : List Sample) (asked : ℕ → ℕ → List TimedRequest) → StandsFor settings xs asked old
-    → AreTold replies (at_each_sample (bank_events_at_end settings (layout (replicate (clients_of old) 4)) asked) xs (run settings.packing))
+    → AreTold replies
+    (at_each_sample (bank_events_at_end settings (layout (replicate (clients_of old) 4)) asked) xs
+    (run settings.packing))
 
 -- and behind the run it stands for the same with these samples
 abbrev pub Takes : Bank → (Packing → List Sample) → Bank → Type 0

@@ -17,8 +17,10 @@ pub record HoldsFor (settings : Settings) (xs : List Sample) (life : Life) (h : 
   pub half_chip : ℕ
   pub start : life.start ≡ hold prn doppler half_chip
   pub follows : Follows settings (held_channel life.begun prn doppler half_chip) xs h.follower
-  pub dumps : h.dumps ≡ length (progress settings (held_channel life.begun prn doppler half_chip) xs).dumps
-  pub left : h.left ≡ unprinted life (progress settings (held_channel life.begun prn doppler half_chip) xs).dumps
+  pub dumps : h.dumps
+      ≡ length (progress settings (held_channel life.begun prn doppler half_chip) xs).dumps
+  pub left : h.left
+      ≡ unprinted life (progress settings (held_channel life.begun prn doppler half_chip) xs).dumps
   pub asked : life.wanted_from ≤ length xs
 
 -- how many dumps may come within so many samples, of which there are at most 1,024

@@ -32,7 +32,8 @@ impl Follower {
 
     /// Begins at the next sample, with the code at a half chip.
     pub(crate) fn start(settings: &Settings, prn: Prn, doppler: Doppler, half: HalfChip) -> Follower
-        ensures { (xs : List Sample) → Follows settings.now (held_channel (length xs) prn doppler half) xs result }
+        ensures { (xs : List Sample)
+            → Follows settings.now (held_channel (length xs) prn doppler half) xs result }
     {
         let v = i64::from(doppler.get()) * 65_536;
         Follower {

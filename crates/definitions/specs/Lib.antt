@@ -1,3 +1,4 @@
+-- The definitions, each file above those that use it, and then their laws.
 pub mod Sums
 pub mod Samples
 pub mod Codes

@@ -52,7 +52,9 @@ AreQueues xs done b (c ∷ cs) (q ∷ qs) = IsQueue xs c (done b) (left_of q) ×
 -- the lines of the answers that they have still to get at this time
 abbrev pub answers_waiting : Settings → List Sample → (ℕ → List Entry) → ℕ → List Queue → List (List ℕ)
 answers_waiting settings xs done b [] = []
-answers_waiting settings xs done b (q ∷ qs) = map (for_client b) (timed_texts xs (answers_left settings xs (done b) (left_of q))) ++ answers_waiting settings xs done (b + 1) qs
+answers_waiting settings xs done b (q ∷ qs) =
+    map (for_client b) (timed_texts xs (answers_left settings xs (done b) (left_of q)))
+    ++ answers_waiting settings xs done (b + 1) qs
 
 -- the commands to each slot among such entries of each client
 abbrev pub asked_of : (ℕ → List Entry) → ℕ → ℕ → List TimedRequest

@@ -45,7 +45,8 @@ impl<'a> Session<'a> {
         ensures time { IfOk result (λ session. time_of session ≡ 0) }
         ensures stands { IfOk result (λ session. StandsFor settings (map
             (λ script. client_with script.now) scripts.now) session []
-            (answer_lines offered settings (map (λ script. client_with script.now) scripts.now) [])) }
+            (answer_lines offered settings
+            (map (λ script. client_with script.now) scripts.now) [])) }
     {
         let clients = scripts.len().min(MOST_CLIENTS + 1);
         let bank = Bank::open(alloc, settings, clients as u8)?;
@@ -104,8 +105,9 @@ impl<'a> Session<'a> {
             → StandsFor settings clients self.old xs []
             → body_lines offered settings
             (xs ++ samples_from settings.packing bytes.now first len) clients
-            ≡ body_lines offered settings xs clients ++ map line_of replies.new.items ++ answer_lines
-            offered settings clients (xs ++ samples_from settings.packing bytes.now first len) }
+            ≡ body_lines offered settings xs clients ++ map line_of replies.new.items
+            ++ answer_lines offered settings clients
+            (xs ++ samples_from settings.packing bytes.now first len) }
     {
         self.bank.feed_into(bytes, first, len, replies);
     }
