@@ -1,8 +1,10 @@
 pub mod TextLemmas
+pub mod HeldLemmas
 pub mod AnswerLemmas
 pub mod PartLemmas
 pub mod ReadLemmas
 pub mod RunLemmas
+pub mod TableLemmas
 pub mod LineLemmas
 pub mod QueueLemmas
 pub mod SessionLemmas

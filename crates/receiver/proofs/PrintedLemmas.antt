@@ -1,13 +1,13 @@
 -- The lines of a run that came to its end, one by one.
-use Rattle.std.proofs.Common.{◌≡◌, ◌≤◌, ℕ, List, length, take, refl, sym, ap, ◌∙◌, subst}
-use Rattle.std.specs.Prelude.{slice_get, Some, codes}
+use Rattle.std.proofs.Common.{◌≡◌, ℕ, List, refl, ap, ◌∙◌, subst}
+use Rattle.std.specs.Prelude.{slice_get, Some}
 use Rattle.std.proofs.lemmas.List.{take_all}
 use Rattle.definitions.specs.Oscillators.{Settings}
 use Rattle.definitions.specs.Samples.{Sample, samples}
 use Rattle.definitions.specs.Events.{Event, acquired, count, subframe, reported, almanacs}
 use Rattle.definitions.specs.Lines.{lines_of}
 use Rattle.definitions.specs.Receiver.{Client, full}
-use Rattle.definitions.specs.PrintedLaws.{IsLineOf, IsPageVerb, verb_of}
+use Rattle.definitions.specs.PrintedLaws.{IsLineOf, verb_of}
 use Rattle.definitions.proofs.PrintedVerbLemmas.{counts-printed, acquisitions-printed, words-printed, almanacs-printed, pages-printed}
 use Rattle.receiver.specs.Offered.{offered}
 use Rattle.receiver.specs.declared.session.Session.{Session}

@@ -10,6 +10,13 @@ use Rattle.definitions.proofs.SampleLemmas.{sample_count-append, samples-append,
 up_to-all : (xs : List Sample) (limit : ℕ) → length xs ≤ limit → take limit xs ≡ xs
 up_to-all xs limit h = take_all limit xs h
 
+-- what has been read so far is within the limit
+pub within-limit : (packing : Packing) (before : List ℕ) (limit time : ℕ) → time ≡ sample_count packing before → time ≤ limit → length (samples packing before) ≤ limit
+within-limit packing before limit time t within = subst (λ n. n ≤ limit) (t ∙ sym (samples-length packing before)) within
+
+pub all-read : (packing : Packing) (before : List ℕ) (limit time : ℕ) → time ≡ sample_count packing before → time ≤ limit → take limit (samples packing before) ≡ samples packing before
+all-read packing before limit time t within = up_to-all (samples packing before) limit (within-limit packing before limit time t within)
+
 up_to-front : (packing : Packing) (front back : List ℕ) (limit : ℕ) → sample_count packing front ≡ limit → take limit (samples packing (front ++ back)) ≡ samples packing front
 up_to-front packing front back limit e =
     let n : limit ≡ length (samples packing front) = sym (samples-length packing front ∙ e) in

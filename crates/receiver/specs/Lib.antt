@@ -1,5 +1,6 @@
 pub mod Devices
 pub mod Texts
+pub mod HeldTexts
 pub mod Offered
 pub mod Sessions
 pub mod Runs

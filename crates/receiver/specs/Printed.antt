@@ -1,5 +1,5 @@
 -- What is shown by the lines that were written, one by one.
-use Rattle.std.specs.Prelude.{◌≡◌, ◌⊎◌, ℕ, List, slice_get, Some, codes}
+use Rattle.std.specs.Prelude.{◌≡◌, ℕ, List, slice_get, Some, codes}
 use Rattle.std.specs.Io.KnownBytes.{Appends, Consumes}
 use Rattle.definitions.specs.Oscillators.{Settings}
 use Rattle.definitions.specs.Samples.{samples}

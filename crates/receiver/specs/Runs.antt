@@ -1,9 +1,11 @@
 -- What a run reads and writes, by its answer.
-use Rattle.std.specs.Prelude.{◌≡◌, ◌≤◌, ◌<◌, ℕ, Bool, true, false, List, [], length, take, slice_get, ◌+◌, Option, Some, Result, Ok, Err}
+use Rattle.std.specs.Prelude.{◌≡◌, ◌≤◌, ◌<◌, ℕ, Bool, true, List, [], length, take, replicate, slice_get, ◌+◌, Option, Some, Result, Ok, Err}
 use Rattle.std.specs.Io.KnownBytes.{Appends, Consumes, IsAtEnd}
 use Rattle.definitions.specs.Oscillators.{Settings}
 use Rattle.definitions.specs.Samples.{Sample, samples}
 use Rattle.definitions.specs.Receiver.{Client}
+use Rattle.definitions.specs.Runs.{Task, Input, InputEnd, RunAnswer, due_text, IsAnswer}
+use Rattle.definitions.specs.Runs as defined
 use Rattle.definitions.specs.Receiver.{body, full, body_lines, lines_of_client, alone_to_end}
 use Rattle.definitions.specs.Lines.{as_bytes, lines_of}
 use Rattle.receiver.specs.Offered.{offered}
@@ -43,33 +45,50 @@ text_for AtEnd settings xs clients = full offered settings xs clients
 text_for ReadFailed settings xs clients = body offered settings xs clients
 text_for PastLimit settings xs clients = body offered settings xs clients
 
--- all of the text was written
-pub record Completes (settings : Settings) (clients : List Client) (limit : ℕ) (read : List ℕ) (old new : Devices) (stop : Stop) : Type 0 where
-  pub why : StopsFor limit (length (samples settings.packing read)) old.read_failed new.read_failed new.remaining stop
-  pub written : Appends old.contents new.contents (text_for stop settings (samples_read settings limit read) clients)
-  pub write_failed : new.write_failed ≡ old.write_failed
+-- what a run is asked for: scripts of clients that have four slots each
+abbrev pub task_of : Settings → List (List ℕ) → ℕ → Task
+task_of settings scripts limit = record {
+  profile = offered;
+  settings = settings;
+  shares = replicate (length scripts) 4;
+  scripts = scripts;
+  limit = limit;
+}
 
--- a write failed: a front of the text was written
-pub record BreaksOff (settings : Settings) (clients : List Client) (limit : ℕ) (read : List ℕ) (old new : Devices) : Type 0 where
-  pub failed : new.write_failed ≡ true
-  pub written : AppendsPart old.contents new.contents (full offered settings (samples_read settings limit read) clients)
-  pub after_failed_read : old.read_failed ≡ false → new.read_failed ≡ true → AppendsPart old.contents new.contents (body offered settings (samples_read settings limit read) clients)
-  pub past_limit : limit < length (samples settings.packing read) → AppendsPart old.contents new.contents (body offered settings (samples_read settings limit read) clients)
+-- a run's result, as the definitions' table names it
+abbrev pub answer_of : Result ℕ RunFault → RunAnswer
+answer_of (Ok n) = defined.finished n
+answer_of (Err NoMemory) = defined.no_memory
+answer_of (Err Clients) = defined.wrong_clients
+answer_of (Err Read) = defined.read_failed
+answer_of (Err Write) = defined.write_failed
+answer_of (Err TooLong) = defined.too_long
 
--- what each answer means
-abbrev pub Answers : Settings → List Client → ℕ → List ℕ → Devices → Devices → Result ℕ RunFault → Type 0
-Answers settings clients limit read old new (Ok n) = (n ≡ length (samples settings.packing read)) × Completes settings clients limit read old new AtEnd
-Answers settings clients limit read old new (Err Read) = Completes settings clients limit read old new ReadFailed
-Answers settings clients limit read old new (Err TooLong) = Completes settings clients limit read old new PastLimit
-Answers settings clients limit read old new (Err Write) = BreaksOff settings clients limit read old new
-Answers settings clients limit read old new (Err Clients) = new ≡ old
-Answers settings clients limit read old new (Err NoMemory) = new ≡ old
+-- reading came so to an end, as the reader tells it: no byte is left, a read failed, or neither
+abbrev pub EndedAs : InputEnd → Devices → Devices → Type 0
+EndedAs defined.exhausted old new = IsAtEnd new.remaining × (new.read_failed ≡ old.read_failed)
+EndedAs defined.failed old new = new.read_failed ≡ true
+EndedAs defined.unfinished old new = new.read_failed ≡ old.read_failed
 
--- a run over bytes that reads gave
-pub record IsRun (settings : Settings) (clients : List Client) (limit : ℕ) (old new : Devices) (result : Result ℕ RunFault) : Type 0 where
-  pub read : List ℕ
-  pub consumed : Consumes old.remaining new.remaining read
-  pub answer : Answers settings clients limit read old new result
+-- the writer failed where the result says so, and nowhere else
+abbrev pub WriterTells : Result ℕ RunFault → Devices → Devices → Type 0
+WriterTells (Ok n) old new = new.write_failed ≡ old.write_failed
+WriterTells (Err NoMemory) old new = new.write_failed ≡ old.write_failed
+WriterTells (Err Clients) old new = new.write_failed ≡ old.write_failed
+WriterTells (Err Read) old new = new.write_failed ≡ old.write_failed
+WriterTells (Err Write) old new = new.write_failed ≡ true
+WriterTells (Err TooLong) old new = new.write_failed ≡ old.write_failed
+
+-- a run: the bytes that its reads gave and how they ended, and the text that it wrote. Its result is the answer that the definitions'
+-- table has for them
+pub record IsRun (task : Task) (old new : Devices) (result : Result ℕ RunFault) : Type 0 where
+  pub input : Input
+  pub text : List ℕ
+  pub consumed : Consumes old.remaining new.remaining input.bytes
+  pub ended : EndedAs input.end old new
+  pub written : Appends old.contents new.contents text
+  pub writer : WriterTells result old new
+  pub answer : IsAnswer task input text (answer_of result)
 
 -- what was written has for each client, behind its number, the lines of a receiver with that client alone over the samples that were
 -- read, and then its end, whatever the others ask
@@ -110,16 +129,26 @@ pub record HasRead (settings : Settings) (clients : List Client) (limit : ℕ) (
 pub record BrokeOffReading (settings : Settings) (clients : List Client) (limit : ℕ) (start : Option (List ℕ)) (old new : Devices) : Type 0 where
   pub read : List ℕ
   pub consumed : Consumes old.remaining new.remaining read
+  pub read_failed : new.read_failed ≡ old.read_failed
   pub written : AppendsPart start new.contents (body offered settings (samples_read settings limit read) clients)
 
--- a run over a session came to its stop, or a write failed in it
+-- all of the text was written
+pub record Completes (settings : Settings) (clients : List Client) (limit : ℕ) (read : List ℕ) (old new : Devices) (stop : Stop) : Type 0 where
+  pub why : StopsFor limit (length (samples settings.packing read)) old.read_failed new.read_failed new.remaining stop
+  pub written : Appends old.contents new.contents (text_for stop settings (samples_read settings limit read) clients)
+  pub write_failed : new.write_failed ≡ old.write_failed
+
+-- a run over a session came to its stop
 pub record Ran (settings : Settings) (clients : List Client) (limit : ℕ) (session : Session) (old new : Devices) (stop : Stop) : Type 0 where
   pub read : List ℕ
   pub consumed : Consumes old.remaining new.remaining read
   pub stands : StandsFor settings clients session (samples_read settings limit read) []
   pub completes : Completes settings clients limit read old new stop
 
-pub record BrokeOff (settings : Settings) (clients : List Client) (limit : ℕ) (old new : Devices) : Type 0 where
-  pub read : List ℕ
-  pub consumed : Consumes old.remaining new.remaining read
-  pub breaks : BreaksOff settings clients limit read old new
+-- a write failed: a front was written of the text that is due for what came
+pub record BrokeOff (task : Task) (old new : Devices) : Type 0 where
+  pub input : Input
+  pub consumed : Consumes old.remaining new.remaining input.bytes
+  pub ended : EndedAs input.end old new
+  pub write_failed : new.write_failed ≡ true
+  pub written : AppendsPart old.contents new.contents (due_text task input)

@@ -16,6 +16,7 @@
 mod devices;
 mod due;
 mod faults;
+mod held_text;
 mod lines;
 mod queue;
 mod queues;
@@ -24,7 +25,6 @@ mod running;
 mod session;
 #[cfg(test)]
 mod tests;
-mod texts;
 mod writing;
 
 pub use devices::{DeviceFault, Plain, Sink, Source};

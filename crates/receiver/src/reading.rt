@@ -5,25 +5,31 @@ ghost use Rattle.definitions.specs.Oscillators.{Settings as Recording};
 ghost use Rattle.definitions.specs.Samples.{Sample, sample_count, samples_from, samples, samples_per_byte};
 ghost use Rattle.definitions.specs.Receiver.{Client, body};
 ghost use Rattle.receiver.specs.Devices.{TellsFailure};
+ghost use Rattle.receiver.specs.HeldTexts.{held, promised};
 ghost use Rattle.receiver.specs.Offered.{offered};
 ghost use Rattle.receiver.specs.Runs.{seen, IsWrittenTo, HasRead, BrokeOffReading};
 ghost use Rattle.receiver.specs.Sessions.{packing_in, time_of, until_next};
-ghost use Rattle.receiver.specs.Texts.{AppendsPart};
+ghost use Rattle.receiver.specs.Texts.{AppendsPart, Grows};
 
 use crate::devices::{DeviceFault, Sink, Source};
 use crate::faults::Stop;
+use crate::held_text::HeldText;
 use crate::session::{MOST_REPLIES, Session};
-use crate::writing::{write_answers, write_replies};
+use crate::writing::{put_answers, put_replies};
 use arrayvec::ArrayVec;
 use channel_slots::Reply;
 
-/// Takes samples, none of them past the next command's time, and writes the lines of each time.
+/// The most bytes of a read.
+const READ_BYTES: usize = 65_536;
+
+/// Takes samples, none of them past the next command's time, and puts the lines of each time.
 fn take_samples<W: Sink>(
     session: &mut Session,
     bytes: &[u8],
     first: usize,
     len: usize,
     replies: &mut ArrayVec<Reply, MOST_REPLIES>,
+    text: &mut HeldText,
     writer: &mut W,
 ) -> Result<(), DeviceFault>
     requires empty { replies.old.items ≡ [] }
@@ -38,32 +44,36 @@ fn take_samples<W: Sink>(
     ensures ready { OnOk result (0 < until_next session.new) }
     ensures ok { OnOk result ((settings : Recording) (clients : List Client)
         (start : Option (List ℕ)) (xs : List Sample)
-        → IsWrittenTo settings clients start session.old (W.contents writer.old) xs →
-        IsWrittenTo settings clients start session.new (W.contents writer.new)
+        → IsWrittenTo settings clients start session.old
+        (promised (W.contents writer.old) text.old) xs → IsWrittenTo settings clients start
+        session.new (promised (W.contents writer.new) text.new)
         (xs ++ samples_from settings.packing bytes.now first len)) }
     ensures err { OnErr result ((settings : Recording) (clients : List Client)
         (start : Option (List ℕ)) (xs : List Sample)
-        → IsWrittenTo settings clients start session.old (W.contents writer.old) xs →
-        AppendsPart start (W.contents writer.new) (body offered settings
+        → IsWrittenTo settings clients start session.old
+        (promised (W.contents writer.old) text.old) xs →
+        AppendsPart start (promised (W.contents writer.new) text.new) (body offered settings
         (xs ++ samples_from settings.packing bytes.now first len) clients)) }
+    ensures grows { Grows (W.contents writer.old) (W.contents writer.new) }
     ensures failure { TellsFailure (W.has_failed writer.old) (W.has_failed writer.new) result }
 {
     session.feed(bytes, first, len, replies);
-    write_replies(replies, writer)?;
+    put_replies(replies, text, writer)?;
     replies.clear();
-    write_answers(session, writer)
+    put_answers(session, text, writer)
 }
 
-/// Takes all samples of bytes, and writes the lines of each time.
+/// Takes all samples of bytes, and puts the lines of each time.
 fn take_piece<W: Sink>(
     session: &mut Session,
     bytes: &[u8],
     per_byte: usize,
     replies: &mut ArrayVec<Reply, MOST_REPLIES>,
+    text: &mut HeldText,
     writer: &mut W,
 ) -> Result<(), DeviceFault>
     requires empty { replies.old.items ≡ [] }
-    requires short { length bytes.now ≤ 4096 }
+    requires short { length bytes.now ≤ 65536 }
     requires per_byte { per_byte ≡ samples_per_byte (packing_in session.old) }
     requires room { time_of session.old + sample_count (packing_in session.old) bytes.now ≤ 2 ^ 40 }
     requires ready { 0 < until_next session.old }
@@ -74,32 +84,37 @@ fn take_piece<W: Sink>(
     ensures ready { OnOk result (0 < until_next session.new) }
     ensures ok { OnOk result ((settings : Recording) (clients : List Client)
         (start : Option (List ℕ)) (xs : List Sample)
-        → IsWrittenTo settings clients start session.old (W.contents writer.old) xs →
-        IsWrittenTo settings clients start session.new (W.contents writer.new)
+        → IsWrittenTo settings clients start session.old
+        (promised (W.contents writer.old) text.old) xs → IsWrittenTo settings clients start
+        session.new (promised (W.contents writer.new) text.new)
         (xs ++ samples settings.packing bytes.now)) }
     ensures err { OnErr result ((settings : Recording) (clients : List Client)
         (start : Option (List ℕ)) (xs : List Sample)
-        → IsWrittenTo settings clients start session.old (W.contents writer.old) xs →
-        AppendsPart start (W.contents writer.new) (body offered settings
+        → IsWrittenTo settings clients start session.old
+        (promised (W.contents writer.old) text.old) xs →
+        AppendsPart start (promised (W.contents writer.new) text.new) (body offered settings
         (xs ++ samples settings.packing bytes.now) clients)) }
+    ensures grows { Grows (W.contents writer.old) (W.contents writer.new) }
     ensures failure { TellsFailure (W.has_failed writer.old) (W.has_failed writer.new) result }
 {
     let count = bytes.len() * per_byte;
     let mut first = 0;
     while first < count {
         let len = ((count - first) as u64).min(1024).min(session.until_next()) as usize;
-        take_samples(session, bytes, first, len, replies, writer)?;
+        take_samples(session, bytes, first, len, replies, text, writer)?;
         first += len;
     }
     Ok(())
 }
 
-/// Reads to the end, to a fault or past the limit, and writes the lines of each time up to there.
+/// Reads to the end, to a fault or past the limit, and puts the lines of each time up to there. All
+/// that was put is written before each read.
 pub fn read_all<R: Source, W: Sink>(
     session: &mut Session,
     per_byte: usize,
     limit: u64,
     reader: &mut R,
+    text: &mut HeldText,
     writer: &mut W,
 ) -> Result<Stop, DeviceFault>
     requires per_byte { per_byte ≡ samples_per_byte (packing_in session.old) }
@@ -112,24 +127,29 @@ pub fn read_all<R: Source, W: Sink>(
     ensures packing { packing_in session.new ≡ packing_in session.old }
     ensures read { IfOk result (λ stop. (settings : Recording) (clients : List Client)
         (start : Option (List ℕ))
-        → IsWrittenTo settings clients start session.old (W.contents writer.old) [] →
+        → IsWrittenTo settings clients start session.old
+        (promised (W.contents writer.old) text.old) [] →
         HasRead settings clients limit start session.new
         (seen (R.remaining reader.old) (R.has_failed reader.old)
-        (W.contents writer.old) (W.has_failed writer.old))
+        (promised (W.contents writer.old) text.old) (W.has_failed writer.old))
         (seen (R.remaining reader.new) (R.has_failed reader.new)
-        (W.contents writer.new) (W.has_failed writer.new)) stop) }
+        (promised (W.contents writer.new) text.new) (W.has_failed writer.new)) stop) }
     ensures broken { OnErr result ((settings : Recording) (clients : List Client)
-        (start : Option (List ℕ)) → IsWrittenTo settings clients start session.old (W.contents writer.old) [] →
+        (start : Option (List ℕ)) → IsWrittenTo settings clients start session.old
+        (promised (W.contents writer.old) text.old) [] →
         BrokeOffReading settings clients limit start
         (seen (R.remaining reader.old) (R.has_failed reader.old)
-        (W.contents writer.old) (W.has_failed writer.old))
+        (promised (W.contents writer.old) text.old) (W.has_failed writer.old))
         (seen (R.remaining reader.new) (R.has_failed reader.new)
-        (W.contents writer.new) (W.has_failed writer.new))) }
+        (promised (W.contents writer.new) text.new) (W.has_failed writer.new))) }
+    ensures grows { Grows (W.contents writer.old) (W.contents writer.new) }
     ensures failure { TellsFailure (W.has_failed writer.old) (W.has_failed writer.new) result }
 {
-    let mut buffer = [0; 4096];
+    let mut buffer = [0; READ_BYTES];
     let mut replies = ArrayVec::new();
     loop {
+        // Nothing is held back while the run waits for bytes.
+        text.send(writer)?;
         let Ok(count) = reader.read(&mut buffer) else {
             return Ok(Stop::ReadFailed);
         };
@@ -138,7 +158,14 @@ pub fn read_all<R: Source, W: Sink>(
         }
         let room = (limit - session.time()) / per_byte as u64;
         let used = (count as u64).min(room) as usize;
-        take_piece(session, &buffer[..used], per_byte, &mut replies, writer)?;
+        take_piece(
+            session,
+            &buffer[..used],
+            per_byte,
+            &mut replies,
+            text,
+            writer,
+        )?;
         if used < count {
             return Ok(Stop::PastLimit);
         }

@@ -1,21 +1,21 @@
 //! A whole run: what is written, and what it answers.
 
-ghost use Rattle.std.specs.Prelude.{◌≡◌, ◌≤◌, ◌<◌, ◌%◌, ◌^◌, List, length, map, false, OnErr, IfOk, Err, IsErrOf, ◌⊎◌, ◌↔◌};
+ghost use Rattle.std.specs.Prelude.{◌≡◌, ◌≤◌, ◌<◌, ◌%◌, ◌^◌, ℕ, List, length, map, false, OnErr, IfOk, Err, IsErrOf, ◌⊎◌, ◌↔◌};
 ghost use Rattle.definitions.specs.Oscillators.{Settings as Recording};
 ghost use Rattle.definitions.specs.Samples.{samples_per_byte};
-ghost use Rattle.definitions.specs.Receiver.{Client};
+ghost use Rattle.definitions.specs.Runs.{clients_of};
 ghost use Rattle.receiver.specs.Offered.{client_with};
 ghost use Rattle.receiver.specs.Printed.{CountsAreSums, AcquisitionsNameTheGreatest, WordsPass};
 ghost use Rattle.receiver.specs.Printed.{PagesPass, AlmanacsAgree};
-ghost use Rattle.receiver.specs.Runs.{seen, IsOpen, Ran, BrokeOff, IsRun, ServesEachAlone};
+ghost use Rattle.receiver.specs.Runs.{seen, task_of, IsOpen, Ran, BrokeOff, IsRun, ServesEachAlone};
 ghost use Rattle.receiver.specs.Sessions.{packing_in, time_of};
 
 use crate::devices::{DeviceFault, Sink, Source};
 use crate::faults::{RunFault, Stop};
-use crate::lines::line;
+use crate::held_text::HeldText;
 use crate::reading::read_all;
 use crate::session::Session;
-use crate::writing::{finish, write_answers};
+use crate::writing::{finish, put_answers};
 use channel_slots::OpenFault;
 use oscillators::Settings;
 use std::alloc::Global;
@@ -37,22 +37,25 @@ fn run_session<R: Source, W: Sink>(
     requires start { time_of session.old ≡ 0 }
     ensures once { R.has_failed reader.old ≡ false
         → R.was_asked_again reader.new ≡ R.was_asked_again reader.old }
-    ensures ran { IfOk result (λ stop. (settings : Recording) (clients : List Client)
-        → IsOpen settings clients session.old → Ran settings clients limit session.new
+    ensures ran { IfOk result (λ stop. (settings : Recording) (scripts : List (List ℕ))
+        → IsOpen settings (clients_of (task_of settings scripts limit)) session.old
+        → Ran settings (clients_of (task_of settings scripts limit)) limit session.new
         (seen (R.remaining reader.old) (R.has_failed reader.old)
         (W.contents writer.old) (W.has_failed writer.old))
         (seen (R.remaining reader.new) (R.has_failed reader.new)
         (W.contents writer.new) (W.has_failed writer.new)) stop) }
-    ensures broken { OnErr result ((settings : Recording) (clients : List Client)
-        → IsOpen settings clients session.old → BrokeOff settings clients limit
+    ensures broken { OnErr result ((settings : Recording) (scripts : List (List ℕ))
+        → IsOpen settings (clients_of (task_of settings scripts limit)) session.old
+        → BrokeOff (task_of settings scripts limit)
         (seen (R.remaining reader.old) (R.has_failed reader.old)
         (W.contents writer.old) (W.has_failed writer.old))
         (seen (R.remaining reader.new) (R.has_failed reader.new)
         (W.contents writer.new) (W.has_failed writer.new))) }
 {
-    write_answers(session, writer)?;
-    let stop = read_all(session, per_byte, limit, reader, writer)?;
-    finish(session, stop, writer)?;
+    let mut text = HeldText::new();
+    put_answers(session, &mut text, writer)?;
+    let stop = read_all(session, per_byte, limit, reader, &mut text, writer)?;
+    finish(session, stop, &mut text, writer)?;
     Ok(stop)
 }
 
@@ -75,7 +78,7 @@ pub fn run<R: Source, W: Sink>(
         → (reader.new ≡ reader.old) × (writer.new ≡ writer.old) }
     ensures once { R.has_failed reader.old ≡ false
         → R.was_asked_again reader.new ≡ R.was_asked_again reader.old }
-    ensures run { IsRun settings (map (λ script. client_with script.now) scripts.now) (2 ^ 40)
+    ensures run { IsRun (task_of settings (map (λ script. script.now) scripts.now) (2 ^ 40))
         (seen (R.remaining reader.old) (R.has_failed reader.old)
         (W.contents writer.old) (W.has_failed writer.old))
         (seen (R.remaining reader.new) (R.has_failed reader.new)
@@ -137,7 +140,7 @@ pub fn run_to<R: Source, W: Sink>(
         → (reader.new ≡ reader.old) × (writer.new ≡ writer.old) }
     ensures once { R.has_failed reader.old ≡ false
         → R.was_asked_again reader.new ≡ R.was_asked_again reader.old }
-    ensures run { IsRun settings (map (λ script. client_with script.now) scripts.now) limit
+    ensures run { IsRun (task_of settings (map (λ script. script.now) scripts.now) limit)
         (seen (R.remaining reader.old) (R.has_failed reader.old)
         (W.contents writer.old) (W.has_failed writer.old))
         (seen (R.remaining reader.new) (R.has_failed reader.new)

@@ -5,6 +5,7 @@ ghost use Rattle.std.specs.Prelude.{◌≡◌, ◌≤◌, ◌%◌, ◌^◌};
 mod clients;
 mod devices;
 mod fakes;
+mod held_text;
 mod limits;
 mod recording;
 mod runs;

@@ -123,7 +123,7 @@ const SCRIPTS: [&[u8]; 8] = [
 ];
 
 /// How many dumps each client is told: five or three of each slot, as far as they come within the samples.
-const DUMPS: [u64; 8] = [15, 15, 14, 15, 15, 14, 15, 14];
+const DUMPS: [usize; 8] = [15, 15, 14, 15, 15, 14, 15, 14];
 
 /// The first client's lines, without its number. A program that adds up sample by sample, apart from this project, gives them and the
 /// numbers of dumps; the lines of slot 0 also came with the recording.
@@ -176,17 +176,24 @@ fn lines_of(writer: &Holding, client: u8) -> Result<Holding, Fail> {
     Ok(lines)
 }
 
+/// How many lines were written.
+fn number_of_lines(writer: &Holding) -> Result<usize, Fail> {
+    Ok(writer.text()?.lines().count())
+}
+
 #[test]
 fn clients_do_not_touch_each_other(rt: HostRuntime) -> Result<(), Fail> {
     let together = written(rt.alloc(), &SCRIPTS)?;
     assert_eq!(rt; lines_of(&together, b'1')?.text()?, FIRST_LINES);
-    // Four holds and four counts of each client, its dumps, and its end.
-    assert_eq!(rt; together.writes, 189);
+    // Four holds and four counts of each client, its dumps, and its end. They are written before the
+    // two reads and at the end.
+    assert_eq!(rt; number_of_lines(&together)?, 189);
+    assert_eq!(rt; together.writes, 3);
     for ((client, script), dumps) in (b'1'..=b'8').zip(SCRIPTS).zip(DUMPS) {
         let alone = written(rt.alloc(), &[script])?;
         let lines = lines_of(&alone, b'1')?;
         assert_eq!(rt; lines_of(&together, client)?.text()?, lines.text()?);
-        assert_eq!(rt; alone.writes, dumps.wrapping_add(9));
+        assert_eq!(rt; number_of_lines(&alone)?, dumps.wrapping_add(9));
     }
     Ok(())
 }

@@ -77,8 +77,10 @@ fn two_bit_byte(rt: HostRuntime) -> Result<(), Fail> {
     Ok(())
 }
 
+// Three lines come before the first read, three with the last of 256 bytes, and the end behind the
+// read that gives none.
 #[test]
-fn a_line_is_one_write(rt: HostRuntime) -> Result<(), Fail> {
+fn lines_are_written_before_the_next_read(rt: HostRuntime) -> Result<(), Fail> {
     let code = code_file()?;
     let mut reader = Giving::pieces(&code, 1);
     let mut writer = Holding::whole();
@@ -93,7 +95,7 @@ fn a_line_is_one_write(rt: HostRuntime) -> Result<(), Fail> {
         1 2047 err 10\n\
         1 2048 end\n";
     assert_eq!(rt; writer.text()?, text);
-    assert_eq!(rt; writer.writes, 7);
+    assert_eq!(rt; (reader.reads, writer.writes), (257, 3));
     assert_eq!(rt; writer.flushes, 1);
     Ok(())
 }

@@ -6,6 +6,8 @@ use Rattle.receiver.specs.Runs.{IsWrittenTo}
 use Rattle.receiver.proofs.TextLemmas.{on_err}
 use Rattle.definitions.proofs.SampleLemmas.{samples-next}
 use Rattle.receiver.proofs.PartLemmas.{body-part-longer}
+use Rattle.receiver.specs.HeldTexts.{promised}
+use Rattle.receiver.proofs.HeldLemmas.{grows-none, grows-on}
 use Rattle.receiver.proofs.reading.take_piece.Goals as goal
 
 pub returns-in_err-take_samples-clause-err : goal.returns-in_err-take_samples-clause-err
@@ -21,7 +23,7 @@ returns-in_err-take_samples-clause-err g c = let s = g.W.Sink in on_err c.from_r
     let shorter = c.min-len.ensures in
     let within : next ≤ length bytes * c.args.per_byte = omega (arith, short, shorter) in
     let rest : next + (total - next) ≡ total = omega arith in
-    body-part-longer settings clients start (s.contents c.take_samples.new.writer) ((xs ++ samples_from packing bytes 0 first) ++ samples_from packing bytes first len) (samples_from packing bytes next (total - next)) (xs ++ samples_from packing bytes 0 total)
+    body-part-longer settings clients start (promised (s.contents c.take_samples.new.writer) c.take_samples.new.text) ((xs ++ samples_from packing bytes 0 first) ++ samples_from packing bytes first len) (samples_from packing bytes next (total - next)) (xs ++ samples_from packing bytes 0 total)
     (ap (λ r. r ++ samples_from packing bytes next (total - next)) (samples-next packing bytes xs first len next refl) ∙ samples-next packing bytes xs next (total - next) total rest)
     (c.in_err-take_samples.ensures.err settings clients start (xs ++ samples_from packing bytes 0 first) (c.loop-first.invariant.written settings clients start xs at)))
 
@@ -38,8 +40,9 @@ loop-first-preserved g c = let s = g.W.Sink in let i = c.loop-first.invariant in
       time = omega (arith, later, i.time);
       ready = e.ready;
       failure = e.failure ∙ i.failure;
+      grows = grows-on (s.contents c.args.writer.now) (s.contents c.loop-first.writer) (s.contents c.take_samples.new.writer) i.grows e.grows;
       written = λ settings clients start xs at.
-          let P : List Sample → Type 0 = λ ys. IsWrittenTo settings clients start c.take_samples.new.session (s.contents c.take_samples.new.writer) ys in
+          let P : List Sample → Type 0 = λ ys. IsWrittenTo settings clients start c.take_samples.new.session (promised (s.contents c.take_samples.new.writer) c.take_samples.new.text) ys in
           subst P (samples-next settings.packing c.args.bytes.now xs c.loop-first.first c.min-len.result (c.loop-first.first + c.min-len.result) refl)
           (e.ok settings clients start (xs ++ samples_from settings.packing c.args.bytes.now 0 c.loop-first.first) (i.written settings clients start xs at));
     }
@@ -54,5 +57,13 @@ loop-first-init g c = record {
   time = omega arith;
   ready = c.requires.ready;
   failure = refl;
+  grows = grows-none (g.W.Sink.contents c.args.writer.now);
   written = λ settings clients start xs at. rw append-nil at;
 }
+
+pub returns-in_err-take_samples-clause-grows : goal.returns-in_err-take_samples-clause-grows
+returns-in_err-take_samples-clause-grows g c = let s = g.W.Sink in
+    grows-on (s.contents c.args.writer.now) (s.contents c.loop-first.writer) (s.contents c.take_samples.new.writer) c.loop-first.invariant.grows c.take_samples.ensures.grows
+
+pub returns-clause-grows : goal.returns-clause-grows
+returns-clause-grows g c = c.loop-first.invariant.grows

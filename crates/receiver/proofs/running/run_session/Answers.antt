@@ -1,4 +1,4 @@
-use Rattle.std.proofs.Common.{◌∙◌, List, [], ap, sym, subst}
+use Rattle.std.proofs.Common.{◌≡◌, ◌∙◌, refl, List, [], ap, sym, subst}
 use Rattle.std.proofs.KnownBytes.{Consumes-nil}
 use Rattle.definitions.specs.Samples.{Sample}
 use Rattle.definitions.specs.Lines.{as_bytes}
@@ -8,44 +8,59 @@ use Rattle.receiver.specs.Offered.{offered}
 use Rattle.receiver.specs.Texts.{AppendsPart}
 use Rattle.receiver.specs.Runs.{samples_read}
 use Rattle.receiver.proofs.TextLemmas.{on_err}
-use Rattle.receiver.proofs.RunLemmas.{opened, none-read, breaks-in-body, breaks-in-end}
+use Rattle.receiver.proofs.RunLemmas.{opened, none-read}
+use Rattle.receiver.proofs.TableLemmas.{breaks-in-body, breaks-in-end}
+use Rattle.definitions.specs.Runs.{clients_of}
+use Rattle.receiver.specs.Runs.{task_of}
+use Rattle.receiver.specs.HeldTexts.{held, promised}
+use Rattle.receiver.proofs.HeldLemmas.{none-held, unheld, grows-on}
 use Rattle.receiver.proofs.running.run_session.Goals as goal
 
-pub returns-in_err-write_answers-clause-broken : goal.returns-in_err-write_answers-clause-broken
+pub returns-in_err-put_answers-clause-broken : goal.returns-in_err-put_answers-clause-broken
 unfolding body
-returns-in_err-write_answers-clause-broken g c = let s = g.W.Sink in on_err c.from_residual.result _ (λ settings clients open_is.
-    let part = c.in_err-write_answers.ensures.err settings clients [] (answer_lines offered settings clients []) open_is.stands in
-    let Q : List Sample → Type 0 = λ ys. AppendsPart (s.contents c.args.writer.now) (s.contents c.write_answers.new.writer) (body offered settings ys clients) in
-    record {
-      read = [];
-      consumed = Consumes-nil (g.R.Source.remaining c.args.reader.now);
-      breaks = breaks-in-body settings clients c.args.limit [] _ _ c.in_err-write_answers.ensures.failure
-          (subst Q (none-read settings c.args.limit) (subst (AppendsPart (s.contents c.args.writer.now) (s.contents c.write_answers.new.writer)) (ap as_bytes (sym open_is.first)) part));
-    })
+returns-in_err-put_answers-clause-broken g c = let s = g.W.Sink in on_err c.from_residual.result _ (λ settings scripts open_is.
+    let clients = clients_of (task_of settings scripts c.args.limit) in
+    let start = s.contents c.args.writer.now in
+    let now = s.contents c.put_answers.new.writer in
+    let none : promised start c.new-text.result ≡ start = none-held start (held c.new-text.result) c.new-text.ensures in
+    let part = unheld start now (held c.put_answers.new.text) _ c.put_answers.ensures.grows (rw none at (c.in_err-put_answers.ensures.err settings clients [] (answer_lines offered settings clients []) open_is.stands)) in
+    let Q : List Sample → Type 0 = λ ys. AppendsPart start now (body offered settings ys clients) in
+    breaks-in-body settings scripts c.args.limit [] _ _ (Consumes-nil (g.R.Source.remaining c.args.reader.now)) refl c.in_err-put_answers.ensures.failure
+    (subst Q (none-read settings c.args.limit) (subst (AppendsPart start now) (ap as_bytes (sym open_is.first)) part)))
 
 pub returns-in_err-stop-clause-broken : goal.returns-in_err-stop-clause-broken
-returns-in_err-stop-clause-broken g c = let s = g.W.Sink in on_err c.from_residual-in_err-stop.result _ (λ settings clients open_is.
+returns-in_err-stop-clause-broken g c = let s = g.W.Sink in on_err c.from_residual-in_err-stop.result _ (λ settings scripts open_is.
+    let clients = clients_of (task_of settings scripts c.args.limit) in
     let start = s.contents c.args.writer.now in
-    let answered = c.in_ok-write_answers.ensures.ok settings clients [] (answer_lines offered settings clients []) open_is.stands in
-    let broke = c.in_err-stop.ensures.broken settings clients start (opened settings clients c.args.session.now c.write_answers.new.session start (s.contents c.write_answers.new.writer) open_is answered.0 answered.1) in
-    record { read = broke.read; consumed = broke.consumed; breaks = breaks-in-body settings clients c.args.limit broke.read _ _ c.in_err-stop.ensures.failure broke.written })
+    let none : promised start c.new-text.result ≡ start = none-held start (held c.new-text.result) c.new-text.ensures in
+    let answered = c.in_ok-put_answers.ensures.ok settings clients [] (answer_lines offered settings clients []) open_is.stands in
+    let broke = c.in_err-stop.ensures.broken settings clients start
+    (opened settings clients c.args.session.now c.put_answers.new.session start (promised (s.contents c.put_answers.new.writer) c.put_answers.new.text) open_is (rw none at answered.0) answered.1) in
+    let grown = grows-on start (s.contents c.put_answers.new.writer) (s.contents c.read_all.new.writer) c.put_answers.ensures.grows c.read_all.ensures.grows in
+    breaks-in-body settings scripts c.args.limit broke.read _ _ broke.consumed broke.read_failed c.in_err-stop.ensures.failure
+    (unheld start (s.contents c.read_all.new.writer) (held c.read_all.new.text) _ grown broke.written))
 
 pub returns-in_err-finish-clause-broken : goal.returns-in_err-finish-clause-broken
-returns-in_err-finish-clause-broken g c = let s = g.W.Sink in on_err c.from_residual-in_err-finish.result _ (λ settings clients open_is.
+returns-in_err-finish-clause-broken g c = let s = g.W.Sink in on_err c.from_residual-in_err-finish.result _ (λ settings scripts open_is.
+    let clients = clients_of (task_of settings scripts c.args.limit) in
     let start = s.contents c.args.writer.now in
-    let answered = c.in_ok-write_answers.ensures.ok settings clients [] (answer_lines offered settings clients []) open_is.stands in
-    let has = c.in_ok-stop.ensures.read settings clients start (opened settings clients c.args.session.now c.write_answers.new.session start (s.contents c.write_answers.new.writer) open_is answered.0 answered.1) in
-    record {
-      read = has.read;
-      consumed = has.consumed;
-      breaks = breaks-in-end settings clients c.args.limit has.read _ _ c.in_ok-stop.stop c.in_err-finish.ensures.failure has.why (c.in_err-finish.ensures.err settings clients start (samples_read settings c.args.limit has.read) has.at);
-    })
+    let none : promised start c.new-text.result ≡ start = none-held start (held c.new-text.result) c.new-text.ensures in
+    let answered = c.in_ok-put_answers.ensures.ok settings clients [] (answer_lines offered settings clients []) open_is.stands in
+    let has = c.in_ok-stop.ensures.read settings clients start
+    (opened settings clients c.args.session.now c.put_answers.new.session start (promised (s.contents c.put_answers.new.writer) c.put_answers.new.text) open_is (rw none at answered.0) answered.1) in
+    let grown = grows-on start (s.contents c.read_all.new.writer) (s.contents c.finish.new.writer)
+    (grows-on start (s.contents c.put_answers.new.writer) (s.contents c.read_all.new.writer) c.put_answers.ensures.grows c.read_all.ensures.grows) c.finish.ensures.grows in
+    breaks-in-end settings scripts c.args.limit has.read _ _ c.in_ok-stop.stop has.consumed c.in_err-finish.ensures.failure has.why
+    (unheld start (s.contents c.finish.new.writer) (held c.finish.new.text) _ grown (c.in_err-finish.ensures.err settings clients start (samples_read settings c.args.limit has.read) has.at)))
 
 pub returns-clause-ran : goal.returns-clause-ran
-returns-clause-ran g c = let s = g.W.Sink in λ settings clients open_is.
+returns-clause-ran g c = let s = g.W.Sink in λ settings scripts open_is.
+    let clients = clients_of (task_of settings scripts c.args.limit) in
     let start = s.contents c.args.writer.now in
-    let answered = c.in_ok-write_answers.ensures.ok settings clients [] (answer_lines offered settings clients []) open_is.stands in
-    let has = c.in_ok-stop.ensures.read settings clients start (opened settings clients c.args.session.now c.write_answers.new.session start (s.contents c.write_answers.new.writer) open_is answered.0 answered.1) in
+    let none : promised start c.new-text.result ≡ start = none-held start (held c.new-text.result) c.new-text.ensures in
+    let answered = c.in_ok-put_answers.ensures.ok settings clients [] (answer_lines offered settings clients []) open_is.stands in
+    let has = c.in_ok-stop.ensures.read settings clients start
+    (opened settings clients c.args.session.now c.put_answers.new.session start (promised (s.contents c.put_answers.new.writer) c.put_answers.new.text) open_is (rw none at answered.0) answered.1) in
     record {
       read = has.read;
       consumed = has.consumed;
@@ -53,6 +68,6 @@ returns-clause-ran g c = let s = g.W.Sink in λ settings clients open_is.
       completes = record {
         why = has.why;
         written = c.in_ok-finish.ensures.ok settings clients start (samples_read settings c.args.limit has.read) has.at;
-        write_failed = c.in_ok-finish.ensures.failure ∙ c.in_ok-stop.ensures.failure ∙ c.in_ok-write_answers.ensures.failure;
+        write_failed = c.in_ok-finish.ensures.failure ∙ c.in_ok-stop.ensures.failure ∙ c.in_ok-put_answers.ensures.failure;
       };
     }

@@ -1,23 +1,24 @@
-use Rattle.std.proofs.Common.{◌≡◌, ap, sym}
-use Rattle.definitions.specs.Receiver.{body, full}
-use Rattle.receiver.specs.Offered.{offered}
-use Rattle.receiver.specs.declared.faults.Stop.{Stop}
+use Rattle.std.proofs.KnownBytes.{Keeps-trans, append_known-kept}
+use Rattle.receiver.specs.HeldTexts.{held}
 use Rattle.receiver.specs.Runs.{text_for}
-use Rattle.receiver.proofs.TextLemmas.{on_err}
-use Rattle.receiver.proofs.RunLemmas.{flushed-part, no-end}
-use Rattle.receiver.proofs.writing.finish.Goals.{in-AtEnd+in_ok-write_ends-in-AtEnd, in-ReadFailed}
+use Rattle.receiver.proofs.TextLemmas.{on_err, appended-part}
+use Rattle.receiver.proofs.HeldLemmas.{grows-on, grows-kept}
 use Rattle.receiver.proofs.writing.finish.Goals as goal
+
+pub returns-in_err-send-clause-err : goal.returns-in_err-send-clause-err
+returns-in_err-send-clause-err g c = on_err c.from_residual-in_err-send.result _ (λ settings clients start xs at.
+    appended-part start _ _ (text_for c.args.stop settings xs clients) (c.in_ok-put_last.ensures.ok settings clients start xs at) c.send.ensures.same)
+
+pub returns-in_err-send-clause-grows : goal.returns-in_err-send-clause-grows
+returns-in_err-send-clause-grows g c = let s = g.W.Sink in
+    grows-on (s.contents c.args.writer.now) (s.contents c.put_last.new.writer) (s.contents c.send.new.writer) c.put_last.ensures.grows c.send.ensures.grows
 
 pub returns-clause-err : goal.returns-clause-err
 returns-clause-err g c = let s = g.W.Sink in on_err c.flush.result _ (λ settings clients start xs at.
-    let middle = s.contents c.match-stop.writer in
-    let last = s.contents c.flush.new.self in
-    elim c.match-stop.branch [
-      | in-AtEnd+in_ok-write_ends-in-AtEnd w ↦
-          let e : full offered settings xs clients ≡ text_for c.args.stop settings xs clients = ap (λ (stop : Stop). text_for stop settings xs clients) (sym w.in-AtEnd.is) in
-          flushed-part settings clients xs start middle last c.args.stop (full offered settings xs clients) e
-          (rw w.writer-is (w.in_ok-write_ends-in-AtEnd.ensures.ok settings clients start xs at)) c.flush.ensures.bytes
-      | in-ReadFailed w ↦
-          flushed-part settings clients xs start middle last c.args.stop (body offered settings xs clients) (no-end settings clients xs c.args.stop w.in-ReadFailed.is)
-          (rw w.writer-is at.written) c.flush.ensures.bytes
-    ])
+    appended-part start _ _ (text_for c.args.stop settings xs clients) (c.in_ok-put_last.ensures.ok settings clients start xs at)
+    (Keeps-trans _ _ _ c.send.ensures.same (append_known-kept (s.contents c.send.new.writer) (s.contents c.flush.new.self) (held c.send.new.self) c.flush.ensures.bytes)))
+
+pub returns-clause-grows : goal.returns-clause-grows
+returns-clause-grows g c = let s = g.W.Sink in
+    grows-kept (s.contents c.args.writer.now) (s.contents c.send.new.writer) (s.contents c.flush.new.self)
+    (grows-on (s.contents c.args.writer.now) (s.contents c.put_last.new.writer) (s.contents c.send.new.writer) c.put_last.ensures.grows c.send.ensures.grows) c.flush.ensures.bytes

@@ -4,15 +4,18 @@ use Rattle.definitions.specs.Oscillators.{Settings}
 use Rattle.definitions.specs.Receiver.{Client}
 use Rattle.receiver.specs.Sessions.{StandsFor, packing_in, time_of, lines_left}
 use Rattle.receiver.specs.Runs.{HasAnswered}
-use Rattle.receiver.proofs.writing.write_answers.Given as goal
+use Rattle.receiver.specs.Texts.{Grows}
+use Rattle.receiver.specs.HeldTexts.{promised}
+use Rattle.receiver.proofs.writing.put_answers.Given as goal
 
 abbrev pub invariant-loop-reply : goal.invariant-loop-reply
 invariant-loop-reply g l = let sink = g.W.Sink in record {
   format : packing_in l.session ≡ packing_in l.fn.session;
   time : time_of l.session ≡ time_of l.fn.session;
+  grows : Grows (sink.contents l.fn.writer) (sink.contents l.writer);
   failure : sink.has_failed l.writer ≡ sink.has_failed l.fn.writer;
   answered : (settings : Settings) (clients : List Client) (xs : List Sample) (waiting : List (List ℕ)) → StandsFor settings clients l.fn.session xs waiting
-      → HasAnswered settings clients xs waiting (sink.contents l.fn.writer) l.session (sink.contents l.writer);
+      → HasAnswered settings clients xs waiting (promised (sink.contents l.fn.writer) l.fn.text) l.session (promised (sink.contents l.writer) l.text);
 }
 
 abbrev pub decreases-loop-reply : goal.decreases-loop-reply
