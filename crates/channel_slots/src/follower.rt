@@ -59,8 +59,8 @@ impl Follower {
         self.code.to_wrap()
     }
 
-    /// Takes `count` samples of a run, from sample `from` on, that don't go past the segment's end. It answers the segment's sums if it
-    /// ends with the last of them.
+    /// Takes `count` samples of a run, from sample `from` on, that don't go past the segment's end.
+    /// It answers the segment's sums if it ends with the last of them.
     pub(crate) fn advance(
         &mut self,
         run: &Planes,
@@ -71,15 +71,18 @@ impl Follower {
         requires some { 0 < count }
         requires within { from + count ≤ length run.now }
         requires before { self.old.code.phase + (count - 1) * self.old.code.step < code_cycle }
-        ensures stays { IsNone result → (settings : Recording) (channel : Channel) (xs : List Sample)
+        ensures stays { IsNone result
+            → (settings : Recording) (channel : Channel) (xs : List Sample)
             → Follows settings channel xs self.old
             → Stays settings channel xs (part run.now from count) self.new }
-        ensures closes { IfSome result (λ c. (settings : Recording) (channel : Channel) (xs : List Sample)
+        ensures closes { IfSome result (λ c. (settings : Recording) (channel : Channel)
+            (xs : List Sample)
             → Follows settings channel xs self.old
             → Closes settings channel xs (part run.now from count) (counts_in c) self.new) }
         ensures step { self.new.code.step ≡ self.old.code.step }
         ensures slow { self.old.code.step ≤ 3000000000 }
-        ensures moved { IsNone result → self.new.code.phase ≡ self.old.code.phase + count * self.old.code.step }
+        ensures moved { IsNone result
+            → self.new.code.phase ≡ self.old.code.phase + count * self.old.code.step }
         ensures wrapped { IsSome result → (self.new.code.phase < self.old.code.step)
             × (code_cycle ≤ self.old.code.phase + count * self.old.code.step) }
     {

@@ -29,7 +29,14 @@ impl Holding {
 
     /// Begins at the next sample.
     pub fn start(settings: &Settings, prn: Prn, doppler: Doppler, half: HalfChip) -> Holding
-        ensures stands { (xs : List Sample) → HoldsFor settings.now xs (record { begun = length xs; start = hold prn doppler half; wanted = 0; wanted_from = length xs }) result }
+        ensures stands { (xs : List Sample)
+            → HoldsFor settings.now xs
+            (record {
+              begun = length xs;
+              start = hold prn doppler half;
+              wanted = 0;
+              wanted_from = length xs;
+            }) result }
         ensures dumps { result.dumps ≡ 0 }
     {
         Holding {
@@ -41,8 +48,14 @@ impl Holding {
 
     /// Sets how many dumps are still to be printed.
     pub fn print(&mut self, count: u32)
-        ensures stands { (settings : Recording) (xs : List Sample) (life : Life) → HoldsFor settings xs life self.old
-            → HoldsFor settings xs (record { begun = life.begun; start = life.start; wanted = count; wanted_from = length xs }) self.new }
+        ensures stands { (settings : Recording) (xs : List Sample) (life : Life)
+            → HoldsFor settings xs life self.old
+            → HoldsFor settings xs (record {
+              begun = life.begun;
+              start = life.start;
+              wanted = count;
+              wanted_from = length xs;
+            }) self.new }
         ensures dumps { self.new.dumps ≡ self.old.dumps }
     {
         self.left = count;
@@ -52,14 +65,17 @@ impl Holding {
     pub fn to_event(&self) -> u64
         ensures some { 0 < result }
         ensures through { code_cycle ≤ self.now.follower.code.phase + result * self.now.follower.code.step }
-        ensures before { self.now.follower.code.phase + (result - 1) * self.now.follower.code.step < code_cycle }
+        ensures before { self.now.follower.code.phase +
+            (result - 1) * self.now.follower.code.step < code_cycle }
     {
         self.follower.to_end()
     }
 
     /// What is shown of it.
     pub fn state(&self) -> SlotState
-        ensures { (settings : Recording) (xs : List Sample) (life : Life) → HoldsFor settings xs life self.now → shown (view_in result) ≡ answer_with settings xs (Some life) state }
+        ensures { (settings : Recording) (xs : List Sample) (life : Life)
+            → HoldsFor settings xs life self.now
+            → shown (view_in result) ≡ answer_with settings xs (Some life) state }
     {
         SlotState::Hold {
             prn: self.follower.prn(),
@@ -67,8 +83,8 @@ impl Holding {
         }
     }
 
-    /// Takes `count` samples of a run, from sample `from` on, that don't go past the next dump. It answers that dump if it comes and is
-    /// wanted.
+    /// Takes `count` samples of a run, from sample `from` on, that don't go past the next dump. It
+    /// answers that dump if it comes and is wanted.
     pub fn step(
         &mut self,
         run: &Planes,
@@ -78,7 +94,8 @@ impl Holding {
     ) -> Option<Counts>
         requires some { 0 < count }
         requires within { from + count ≤ length run.now }
-        requires before { self.old.follower.code.phase + (count - 1) * self.old.follower.code.step < code_cycle }
+        requires before { self.old.follower.code.phase +
+            (count - 1) * self.old.follower.code.step < code_cycle }
         requires few { self.old.dumps < 2 ^ 62 }
         ensures stands { (settings : Recording) (xs : List Sample) (life : Life)
             → HoldsFor settings xs life self.old

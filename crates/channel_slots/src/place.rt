@@ -38,8 +38,8 @@ impl Place {
     ghost use Rattle.channel_slots.specs.Slots.{IsRefusal, MayStep, StandsFor, dumps_of};
     ghost use Rattle.channel_slots.specs.Banks.{PlaceAdds, PlaceGoes};
 
-    /// Takes `count` samples of a run, from sample `from` on, that don't go past the slot's next event. It adds what they tell with the
-    /// last of them, at that time.
+    /// Takes `count` samples of a run, from sample `from` on, that don't go past the slot's next
+    /// event. It adds what they tell with the last of them, at that time.
     fn step(
         &mut self,
         run: &Planes,
@@ -96,10 +96,14 @@ impl Place {
     pub fn command(&mut self, settings: &Settings, command: Command) -> Event
         ensures client { self.new.client ≡ self.old.client }
         ensures number { self.new.number ≡ self.old.number }
-        ensures answer { (xs : List Sample) (commands : List TimedRequest) → StandsFor settings.now xs commands self.old.slot
-            → answer_in result ≡ Some (answer_at_end settings.now xs commands (request_in command)) }
-        ensures stands { (xs : List Sample) (commands : List TimedRequest) → StandsFor settings.now xs commands self.old.slot
-            → StandsFor settings.now xs (commands ++ record { time = length xs; request = request_in command } ∷ []) self.new.slot }
+        ensures answer { (xs : List Sample) (commands : List TimedRequest)
+            → StandsFor settings.now xs commands self.old.slot
+            → answer_in result ≡ Some (answer_at_end settings.now xs commands
+            (request_in command)) }
+        ensures stands { (xs : List Sample) (commands : List TimedRequest)
+            → StandsFor settings.now xs commands self.old.slot
+            → StandsFor settings.now xs (commands
+            ++ record { time = length xs; request = request_in command } ∷ []) self.new.slot }
         ensures refused { IsRefusal result → self.new ≡ self.old }
         ensures dumps { dumps_of self.new.slot ≤ dumps_of self.old.slot }
     {
@@ -112,7 +116,8 @@ pub fn idle_places(alloc: Global, clients: u8) -> Result<Vec<Place>, AllocError>
     requires { clients ≤ 8 }
     ensures keys { IfOk result (λ places. keys_of places.items ≡ layout (replicate clients 4)) }
     ensures few { IfOk result (λ places. AllFew 0 places.items) }
-    ensures stand { IfOk result (λ places. (settings : Recording) → AllByRecursion (λ p. StandsFor settings [] [] p.slot) places.items) }
+    ensures stand { IfOk result (λ places. (settings : Recording)
+        → AllByRecursion (λ p. StandsFor settings [] [] p.slot) places.items) }
 {
     let mut places = Vec::with_capacity(alloc, 4 * clients as usize)?;
     for place in 0..4 * clients {

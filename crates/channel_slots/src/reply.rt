@@ -16,7 +16,8 @@ pub enum Event {
     /// A command other than `state` was accepted.
     #[default]
     Accepted,
-    /// A command was refused: 9 where the slot isn't idle, 10 where it is, 1 to 8 by the script's reader.
+    /// A command was refused: 9 where the slot isn't idle, 10 where it is, 1 to 8 by the script's
+    /// reader.
     Refused(u8),
     /// A dump that was asked for: its six sums.
     Count(Counts),

@@ -67,8 +67,9 @@ impl Slot {
         }
     }
 
-    /// Takes `count` samples of a run, from sample `from` on, that don't go past the slot's next event. It answers the events that are
-    /// told with the last of them, in their order. The book is any book of codes.
+    /// Takes `count` samples of a run, from sample `from` on, that don't go past the slot's next
+    /// event. It answers the events that are told with the last of them, in their order. The book
+    /// is any book of codes.
     pub fn step(
         &mut self,
         run: &Planes,
@@ -98,10 +99,14 @@ impl Slot {
 
     /// Does what a client asks of this slot, and answers it: a refused command changes nothing.
     pub fn command(&mut self, settings: &Settings, command: Command) -> Event
-        ensures answer { (xs : List Sample) (commands : List TimedRequest) → StandsFor settings.now xs commands self.old
-            → answer_in result ≡ Some (answer_at_end settings.now xs commands (request_in command)) }
-        ensures stands { (xs : List Sample) (commands : List TimedRequest) → StandsFor settings.now xs commands self.old
-            → StandsFor settings.now xs (commands ++ record { time = length xs; request = request_in command } ∷ []) self.new }
+        ensures answer { (xs : List Sample) (commands : List TimedRequest)
+            → StandsFor settings.now xs commands self.old
+            → answer_in result ≡ Some (answer_at_end settings.now xs commands
+            (request_in command)) }
+        ensures stands { (xs : List Sample) (commands : List TimedRequest)
+            → StandsFor settings.now xs commands self.old
+            → StandsFor settings.now xs (commands
+            ++ record { time = length xs; request = request_in command } ∷ []) self.new }
         ensures refused { IsRefusal result → self.new ≡ self.old }
         ensures dumps { dumps_of self.new ≤ dumps_of self.old }
     {

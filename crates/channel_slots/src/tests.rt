@@ -1,4 +1,5 @@
-//! Slots by hand: what they answer, and sums of samples of which each product is plain. `banks` has those of all clients together.
+//! Slots by hand: what they answer, and sums of samples of which each product is plain. `banks` has
+//! those of all clients together.
 
 ghost use Rattle.std.specs.Prelude.{◌≡◌, ◌+◌, ◌<◌, ◌≤◌, IfOk};
 ghost use Rattle.definitions.specs.Samples.{real1};
@@ -91,7 +92,8 @@ fn held(settings: &Settings, prn: u8, doppler: i32) -> Result<Slot, Fail>
     Ok(slot)
 }
 
-/// What `len` samples of value 1 make it tell, where they go to its next event, or are `most` before it, and not beyond.
+/// What `len` samples of value 1 make it tell, where they go to its next event, or are `most`
+/// before it, and not beyond.
 fn told(slot: &mut Slot, most: usize, len: usize) -> Option<Counts>
     requires few { dumps_of slot.old < 4 }
     requires some { 0 < most }
@@ -114,8 +116,9 @@ fn counted(events: &[Event]) -> Option<Counts> {
     }
 }
 
-// At two samples a chip the code begins half a chip before its end, so one sample ends the segment. Chip 0 of satellite 1 is 1 and
-// chip 1022 is 0, and the carrier's first pair is 2, 1: the early chip, of the next period, has the sign -1, the others +1.
+// At two samples a chip the code begins half a chip before its end, so one sample ends the segment.
+// Chip 0 of satellite 1 is 1 and chip 1022 is 0, and the carrier's first pair is 2, 1: the early
+// chip, of the next period, has the sign -1, the others +1.
 #[test]
 fn early_wraps(rt: HostRuntime) -> Result<(), Fail> {
     let settings = plain_settings()?;
@@ -125,9 +128,9 @@ fn early_wraps(rt: HostRuntime) -> Result<(), Fail> {
     Ok(())
 }
 
-// A little slower than half a chip a sample, so the second sample ends the segment. Chip 0 of satellite 7 is 1 and chip 1022 is 0. The
-// carrier has turned a little less than a whole cycle back at the second sample, where its pair is 2, -1: the signs of the quadrature
-// cancel.
+// A little slower than half a chip a sample, so the second sample ends the segment. Chip 0 of
+// satellite 7 is 1 and chip 1022 is 0. The carrier has turned a little less than a whole cycle back
+// at the second sample, where its pair is 2, -1: the signs of the quadrature cancel.
 #[test]
 fn sums_do_not_depend_on_the_cut(rt: HostRuntime) -> Result<(), Fail> {
     let settings = plain_settings()?;

@@ -4,3 +4,4 @@ pub mod PartLemmas
 pub mod RunLemmas
 pub mod SumLemmas
 mod ReplicaLemmas
+mod TallyLemmas

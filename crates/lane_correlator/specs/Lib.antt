@@ -3,3 +3,4 @@ pub mod Products
 pub mod Words
 pub mod ReplicaWords
 pub mod Factors
+pub mod Tallies

@@ -1,10 +1,11 @@
-ghost use Rattle.std.specs.Prelude.{◌≡◌, ◌-◌, ◌<◌, ◌≤◌, ℕ, pos, ◌-ℤ◌, unsigned_abs, false, IfSome, IfNone};
+ghost use Rattle.std.specs.Prelude.{◌≡◌, ◌-◌, ◌*◌, ◌<◌, ◌≤◌, ℕ, pos, ◌-ℤ◌, unsigned_abs, false, IfSome, IfNone};
 ghost use Rattle.std.specs.Int.{bit_at};
 ghost use Rattle.sample_planes.specs.Signs.{IsWord, IsQuadratureWord, AreReal, AreOneBit};
 ghost use Rattle.oscillators.specs.Signs.{signed};
 ghost use Rattle.lane_correlator.specs.Factors.{IsCosine, IsSine, IsMinusSine, IsSumOf, wave_bits};
+ghost use Rattle.lane_correlator.specs.Words.{sizes_in};
 
-use crate::word::products;
+use crate::word::{products, sizes_below};
 use oscillators::{CarrierPlanes, CarrierWord};
 use sample_planes::Planes;
 
@@ -110,6 +111,21 @@ pub(crate) fn sum_of_part(part: Factors, wave: Factors, chips: u64, mask: u64) -
     ensures small { unsigned_abs result ≤ 384 }
 {
     products(
+        part.negative ^ wave.negative ^ chips,
+        part.large,
+        wave.large,
+        mask,
+    )
+}
+
+/// The sizes of those products that are below 0.
+#[inline(always)]
+pub(crate) fn below_of_part(part: Factors, wave: Factors, chips: u64, mask: u64) -> u32
+    ensures sum { IsSumOf part wave chips mask
+        (pos (sizes_in part.large wave.large mask) -ℤ pos (2 * result)) }
+    ensures small { result ≤ 448 }
+{
+    sizes_below(
         part.negative ^ wave.negative ^ chips,
         part.large,
         wave.large,

@@ -12,6 +12,7 @@ mod factors;
 mod pair;
 mod six;
 mod sums;
+mod tally;
 #[cfg(test)]
 mod tests;
 mod with_replica;

@@ -4,11 +4,13 @@ ghost use Rattle.definitions.specs.Correlation.{Replica, six_sums};
 ghost use Rattle.sample_planes.specs.Signs.{AreOneBit};
 ghost use Rattle.lane_correlator.specs.Counting.{counts_in, AreWithin};
 ghost use Rattle.lane_correlator.specs.Products.{AreLongEnough, replica_in};
+ghost use Rattle.lane_correlator.specs.Tallies.{tally_in, AreFew};
 ghost use Rattle.lane_correlator.specs.Factors.{ArePart, AreWave, AreThreeChips, IsMask, part_sums};
 
 use crate::counts::Counts;
-use crate::factors::{Factors, Wave, sum_of_part};
-use crate::word::places;
+use crate::factors::{Factors, Wave, below_of_part};
+use crate::tally::Tally;
+use crate::word::{places, sizes};
 use oscillators::{CarrierPlanes, CodePlanes};
 use sample_planes::Planes;
 
@@ -67,9 +69,9 @@ fn six_of_word(
     let in_phase = six_of_part(part, wave.cos, wave.minus_sin, chips, mask);
     let quadrature = match Factors::quadrature(samples, w, has_sizes) {
         Some(part) => six_of_part(part, wave.sin, wave.cos, chips, mask),
-        None => Counts::NONE,
+        None => Tally::NONE,
     };
-    in_phase.add(&quadrature)
+    in_phase.add(&quadrature).counts()
 }
 
 /// What one part of the samples of a word adds to the six sums: its products with one carrier in
@@ -81,19 +83,21 @@ pub(crate) fn six_of_part(
     q: Factors,
     chips: (u64, u64, u64),
     mask: u64,
-) -> Counts
+) -> Tally
     ensures sums { (x wave_i wave_q : ℕ → ℤ) (r : Replica) (base first end : ℕ)
         → IsMask first end mask → ArePart x base end part → AreWave wave_i base end i
         → AreWave wave_q base end q → AreThreeChips r base end chips
-        → counts_in result ≡ part_sums x wave_i wave_q r (base + first) (base + end) }
-    ensures small { AreWithin 384 (counts_in result) }
+        → tally_in result ≡ part_sums x wave_i wave_q r (base + first) (base + end) }
+    ensures few { AreFew 448 result }
 {
-    Counts {
-        ie: sum_of_part(part, i, chips.0, mask),
-        qe: sum_of_part(part, q, chips.0, mask),
-        ip: sum_of_part(part, i, chips.1, mask),
-        qp: sum_of_part(part, q, chips.1, mask),
-        il: sum_of_part(part, i, chips.2, mask),
-        ql: sum_of_part(part, q, chips.2, mask),
+    Tally {
+        all_i: sizes(part.large, i.large, mask),
+        all_q: sizes(part.large, q.large, mask),
+        ie: below_of_part(part, i, chips.0, mask),
+        qe: below_of_part(part, q, chips.0, mask),
+        ip: below_of_part(part, i, chips.1, mask),
+        qp: below_of_part(part, q, chips.1, mask),
+        il: below_of_part(part, i, chips.2, mask),
+        ql: below_of_part(part, q, chips.2, mask),
     }
 }

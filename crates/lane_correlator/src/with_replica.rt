@@ -5,11 +5,13 @@ ghost use Rattle.definitions.specs.Samples.{sample_at};
 ghost use Rattle.definitions.specs.Correlation.{Replica, six_sums, replica_of};
 ghost use Rattle.sample_planes.specs.Signs.{AreOneBit};
 ghost use Rattle.lane_correlator.specs.Counting.{counts_in, AreWithin};
+ghost use Rattle.lane_correlator.specs.Tallies.{tally_in, AreFew};
 ghost use Rattle.lane_correlator.specs.ReplicaWords.{AreOf, phases_of};
 
 use crate::counts::Counts;
 use crate::factors::{Factors, Wave};
 use crate::six::six_of_part;
+use crate::tally::Tally;
 use crate::word::places;
 use ca_codes::{CodeBook, Prn};
 use oscillators::{CarrierOsc, CarrierWord, ChipWord, CodeOsc};
@@ -66,7 +68,7 @@ fn run_sums(
     let before = from % 64;
     let mut carrier = carrier.earlier(before as u32);
     let mut code = code.earlier(before as u32);
-    let mut sums = Counts::NONE;
+    let mut sums = Tally::NONE;
     for w in from / 64..(to.min(len) + 63) / 64 {
         let wave = carrier.next_word();
         let chips = code.next_word(book, prn);
@@ -74,7 +76,7 @@ fn run_sums(
         let end = to.min(64 * w + 64) - 64 * w;
         sums = sums.add(&word_sums(samples, w, wave, chips, first, end, has_sizes));
     }
-    sums
+    sums.counts()
 }
 
 /// The six sums over places `first` to `end` - 1 of the samples from `64 * w` on, with the words of
@@ -88,15 +90,16 @@ fn word_sums(
     first: usize,
     end: usize,
     has_sizes: bool,
-) -> Counts
+) -> Tally
     requires word { w < 16 }
     requires ordered { first ≤ end }
     requires within { end ≤ 64 }
     requires reach { 64 * w + end ≤ length samples.now }
     requires one_bit { has_sizes ≡ false → AreOneBit samples.now }
     ensures sums { (r : Replica) → AreOf r (64 * w) end carrier chips
-        → counts_in result ≡ six_sums (sample_at samples.now) r (64 * w + first) (64 * w + end) }
-    ensures small { AreWithin (9 * (end - first)) (counts_in result) }
+        → tally_in result ≡ six_sums (sample_at samples.now) r (64 * w + first) (64 * w + end) }
+    ensures small { AreWithin (9 * (end - first)) (tally_in result) }
+    ensures few { AreFew 896 result }
 {
     let mask = places(first, end);
     let wave = Wave::of_word(carrier);
@@ -105,7 +108,7 @@ fn word_sums(
     let in_phase = six_of_part(part, wave.cos, wave.minus_sin, three, mask);
     let quadrature = match Factors::quadrature(samples, w, has_sizes) {
         Some(part) => six_of_part(part, wave.sin, wave.cos, three, mask),
-        None => Counts::NONE,
+        None => Tally::NONE,
     };
     in_phase.add(&quadrature)
 }

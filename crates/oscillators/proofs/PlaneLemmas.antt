@@ -129,7 +129,7 @@ chip_number here w h small = omega arith
 chip_number_before : (here w : ℕ) → here < 1023 * 2 ^ 32 → w ≤ 15 * 4294967295 → (here / 4294967296 + (here % 4294967296 + w) / 4294967296 % 16 + 1022) % 1023 ≡ ((here + w) % 4393751543808 / 4294967296 + 1022) % 1023
 chip_number_before here w h small = omega arith
 
-few_steps : (r step : ℕ) → r < 16 → step < 2 ^ 32 → r * step ≤ 15 * 4294967295
+pub few_steps : (r step : ℕ) → r < 16 → step < 2 ^ 32 → r * step ≤ 15 * 4294967295
 few_steps r step h l = mul-le-mul {n₁ = r} {m₁ = step} {n₂ = 15} {m₂ = 4294967295} (omega arith) (omega arith)
 
 pub chip_found : (prn phase step g r here cell : ℕ) → r < 16 → step < 2 ^ 32 → here ≡ code_phase_after phase step (16 * g) → cell ≡ (here % 4294967296 + r * step) / 4294967296 % 16

@@ -10,18 +10,20 @@ use crate::strides::Strides;
 use bit_planes::{Plane, pick_bytes, second_bits, third_bits, top_bits, with_sixteen};
 use std::marker::Model;
 
-/// For each eighth of a cycle, four cycles long: 1 in the top bit where the cosine is below 0, in the next where the sine is below 0,
-/// and in the one below where the sine is 2 in size, and so the cosine 1.
+/// For each eighth of a cycle, four cycles long: 1 in the top bit where the cosine is below 0, in
+/// the next where the sine is below 0, and in the one below where the sine is 2 in size, and so the
+/// cosine 1.
 const EIGHTHS: [u8; 32] = [
     0x00, 0x20, 0xa0, 0x80, 0xc0, 0xe0, 0x60, 0x40, 0x00, 0x20, 0xa0, 0x80, 0xc0, 0xe0, 0x60, 0x40,
     0x00, 0x20, 0xa0, 0x80, 0xc0, 0xe0, 0x60, 0x40, 0x00, 0x20, 0xa0, 0x80, 0xc0, 0xe0, 0x60, 0x40,
 ];
 
 /// An eighth of a cycle, in 2^-32 cycle.
-const EIGHTH: u64 = 1 << 29;
+const EIGHTH: u32 = 1 << 29;
 
-/// An oscillator at the carrier's frequency. Its phase is in 2^-32 cycle, from 0 to below 2^32, and its step is what a sample adds to
-/// it. The fixed-point form and the values of `planes` are this project's own.
+/// An oscillator at the carrier's frequency. Its phase is in 2^-32 cycle, from 0 to below 2^32, and
+/// its step is what a sample adds to it. The fixed-point form and the values of `planes` are this
+/// project's own.
 #[derive(Debug, Drop)]
 pub struct CarrierOsc {
     phase: u32,
@@ -90,7 +92,8 @@ impl CarrierOsc {
         self.next_eighths()
     }
 
-    /// The bits of the eighths of a cycle in which this sample and the 63 that follow lie. The oscillator goes on by 64 samples.
+    /// The bits of the eighths of a cycle in which this sample and the 63 that follow lie. The
+    /// oscillator goes on by 64 samples.
     fn next_eighths(&mut self) -> CarrierWord
         ensures word { AreEighths self.old.phase self.old.step result }
         ensures moved { self.new ≡ record self.old { phase = carrier_phase_after self.old.phase self.old.step 64 } }
@@ -103,7 +106,7 @@ impl CarrierOsc {
         };
         let mut here = self.phase;
         for group in 0..4u32 {
-            let eighths = self.strides.cells(here as u64 % EIGHTH, EIGHTH);
+            let eighths = self.strides.cells_mod_16(here % EIGHTH, EIGHTH);
             let found = pick_bytes(&EIGHTHS, (here >> 29) as usize, eighths);
             word = CarrierWord {
                 cos_sign: with_sixteen(word.cos_sign, top_bits(found)),
@@ -116,13 +119,16 @@ impl CarrierOsc {
         word
     }
 
-    /// Cosine and sine at this sample and the `n` - 1 that follow; `n` is at most 1,024. The oscillator stays where it is.
+    /// Cosine and sine at this sample and the `n` - 1 that follow; `n` is at most 1,024. The
+    /// oscillator stays where it is.
     pub fn planes(&self, n: usize) -> CarrierPlanes
         requires { n ≤ 1024 }
         ensures cos_len { length result.cos ≡ n }
         ensures sin_len { length result.sin ≡ n }
-        ensures cos { result.cos ≡ map (λ j. cosine (carrier_phase_after self.now.phase self.now.step j)) (range_with_len 0 n) }
-        ensures sin { result.sin ≡ map (λ j. sine (carrier_phase_after self.now.phase self.now.step j)) (range_with_len 0 n) }
+        ensures cos { result.cos ≡ map (λ j. cosine
+            (carrier_phase_after self.now.phase self.now.step j)) (range_with_len 0 n) }
+        ensures sin { result.sin ≡ map (λ j. sine
+            (carrier_phase_after self.now.phase self.now.step j)) (range_with_len 0 n) }
     {
         let mut here = self.earlier(0);
         let mut cos_sign = Plane::new();
@@ -168,7 +174,12 @@ pub struct CarrierPlanes {
 impl Model for CarrierPlanes {
     ghost Value = { CarrierViews };
 
-    ghost view = { λ p. record { cos = map (cos_in p.cos_sign p.sin_size) (range_with_len 0 p.len); sin = map (sin_in p.sin_sign p.sin_size) (range_with_len 0 p.len) } };
+    ghost view = { λ p. record {
+      cos = map (cos_in p.cos_sign p.sin_size)
+          (range_with_len 0 p.len);
+      sin = map (sin_in p.sin_sign p.sin_size)
+          (range_with_len 0 p.len);
+    } };
 
     ghost invariant = { λ p. p.len ≤ 1024 };
 }
@@ -200,8 +211,8 @@ impl CarrierPlanes {
         signed(self.sin_sign.bit(i), self.sin_size.bit(i))
     }
 
-    /// From sample `64 * w` on, the first in the top bits: where the cosine is below 0, where the sine is, and where the sine is 2 in
-    /// size and the cosine 1.
+    /// From sample `64 * w` on, the first in the top bits: where the cosine is below 0, where the
+    /// sine is, and where the sine is 2 in size and the cosine 1.
     pub fn word(&self, w: usize) -> (u64, u64, u64)
         requires { w < 16 }
         ensures cos { IsCosWord self.now.cos w result.0 result.2 }

@@ -8,7 +8,7 @@ ghost use Rattle.oscillators.specs.Signs.{sign_in, IsChipWord};
 ghost use Rattle.oscillators.specs.ChipWords.{AreChips, AreChipBits};
 
 use crate::half_chip::HalfChip;
-use crate::strides::Strides;
+use crate::strides::{Strides, second_halves, whole_chips};
 use bit_planes::{Plane, second_bits, top_bits, with_sixteen};
 use ca_codes::{CodeBook, Prn};
 use std::marker::Model;
@@ -22,8 +22,9 @@ const CHIP: u64 = 1 << 32;
 /// Half a chip, in 2^-32 chip.
 const HALF_CHIP: u64 = 1 << 31;
 
-/// An oscillator at the code's rate. Its phase is in 2^-32 chip, from 0 to below the cycle of 1,023 * 2^32 (IS-GPS-200, section 3.3.2.3:
-/// the code has 1,023 chips); its step is what a sample adds to it. The fixed-point form is this project's own.
+/// An oscillator at the code's rate. Its phase is in 2^-32 chip, from 0 to below the cycle of
+/// 1,023 * 2^32 (IS-GPS-200, section 3.3.2.3: the code has 1,023 chips); its step is what a sample
+/// adds to it. The fixed-point form is this project's own.
 #[derive(Debug, Drop)]
 pub struct CodeOsc {
     phase: u64,
@@ -41,7 +42,7 @@ impl Model for CodeOsc {
 
     ghost view = { λ o. record { phase = o.phase; step = o.step } };
 
-    ghost invariant = { λ o. (o.phase < code_cycle) × IsStrides o.step (2 ^ 32) o.strides };
+    ghost invariant = { λ o. (o.phase < code_cycle) × IsStrides o.step (2 ^ 31) o.strides };
 }
 
 impl CodeOsc {
@@ -52,7 +53,7 @@ impl CodeOsc {
         CodeOsc {
             phase: start.get() as u64 * HALF_CHIP,
             step,
-            strides: Strides::new(step, CHIP),
+            strides: Strides::new(step, HALF_CHIP as u32),
         }
     }
 
@@ -69,10 +70,11 @@ impl CodeOsc {
         ensures { self.new ≡ record self.old { step = step } }
     {
         self.step = step;
-        self.strides = Strides::new(step, CHIP);
+        self.strides = Strides::new(step, HALF_CHIP as u32);
     }
 
-    /// The least number of samples, at least 1, that brings the phase to the end of the cycle or past it. The step isn't 0.
+    /// The least number of samples, at least 1, that brings the phase to the end of the cycle or
+    /// past it. The step isn't 0.
     pub fn to_wrap(&self) -> u64
         requires { 0 < self.now.step }
         ensures at_least_one { 0 < result }
@@ -82,7 +84,8 @@ impl CodeOsc {
         (CODE_CYCLE - self.phase).div_ceil(self.step as u64)
     }
 
-    /// Goes on by `n` samples, at most `to_wrap()`. The step isn't 0. At the end of the cycle the code begins again.
+    /// Goes on by `n` samples, at most `to_wrap()`. The step isn't 0. At the end of the cycle the
+    /// code begins again.
     pub fn advance(&mut self, n: u64)
         requires moving { 0 < self.old.step }
 
@@ -114,8 +117,9 @@ impl CodeOsc {
         }
     }
 
-    /// The chips of a satellite at this sample and the 63 that follow: at the phase, half a chip ahead of it and half a chip behind.
-    /// The oscillator goes on by 64 samples, and the book stands for the codes as before.
+    /// The chips of a satellite at this sample and the 63 that follow: at the phase, half a chip
+    /// ahead of it and half a chip behind. The oscillator goes on by 64 samples, and the book
+    /// stands for the codes as before.
     pub fn next_word(&mut self, book: &mut CodeBook, prn: Prn) -> ChipWord
         ensures word { AreChips prn self.old.phase self.old.step result }
         ensures moved { self.new ≡ record self.old { phase = code_phase_after self.old.phase self.old.step 64 } }
@@ -134,35 +138,40 @@ impl CodeOsc {
         let mut second_half = 0;
         let mut ahead = in_cycle(self.phase + HALF_CHIP);
         for group in 0..4u32 {
-            let cells = self.strides.cells(ahead % CHIP, CHIP);
-            let chips = book.look_up(prn, (ahead >> 32) as usize, cells);
-            let halves = self.strides.second_halves((ahead % CHIP) as u32);
+            let halves = self.strides.half_chips((ahead % CHIP) as u32);
+            let chips = book.look_up(prn, (ahead >> 32) as usize, whole_chips(halves));
             early = with_sixteen(early, top_bits(chips));
             // The late chip is the one before the early one.
             late = with_sixteen(late, second_bits(chips));
-            second_half = with_sixteen(second_half, halves);
+            second_half = with_sixteen(second_half, second_halves(halves));
             ahead = in_cycle(ahead + turn);
         }
         self.phase = in_cycle(self.phase + 4 * turn);
         ChipWord {
             early,
-            // Half a chip behind the second half of a chip is the same chip, and behind the first half the one before.
+            // Half a chip behind the second half of a chip is the same chip, and behind the first
+            // half the one before.
             prompt: late ^ ((early ^ late) & second_half),
             late,
         }
     }
 
-    /// The signs of a satellite's chips at this sample and the `n` - 1 that follow: at the phase, half a chip ahead of it and half a chip
-    /// behind; `n` is at most 1,024. The code goes round as often as the samples take it round. The oscillator stays where it is, and
-    /// the book stands for the codes as before.
+    /// The signs of a satellite's chips at this sample and the `n` - 1 that follow: at the phase,
+    /// half a chip ahead of it and half a chip behind; `n` is at most 1,024. The code goes round as
+    /// often as the samples take it round. The oscillator stays where it is, and the book stands
+    /// for the codes as before.
     pub fn planes(&self, n: usize, book: &mut CodeBook, prn: Prn) -> CodePlanes
         requires { n ≤ 1024 }
         ensures early_len { length result.early ≡ n }
         ensures prompt_len { length result.prompt ≡ n }
         ensures late_len { length result.late ≡ n }
-        ensures early { result.early ≡ map (λ j. early_sign prn (code_phase_after self.now.phase self.now.step j)) (range_with_len 0 n) }
-        ensures prompt { result.prompt ≡ map (λ j. prompt_sign prn (code_phase_after self.now.phase self.now.step j)) (range_with_len 0 n) }
-        ensures late { result.late ≡ map (λ j. late_sign prn (code_phase_after self.now.phase self.now.step j)) (range_with_len 0 n) }
+        ensures early { result.early ≡ map (λ j. early_sign prn
+            (code_phase_after self.now.phase self.now.step j)) (range_with_len 0 n) }
+        ensures prompt { result.prompt
+            ≡ map (λ j. prompt_sign prn (code_phase_after self.now.phase self.now.step j))
+            (range_with_len 0 n) }
+        ensures late { result.late ≡ map (λ j. late_sign prn
+            (code_phase_after self.now.phase self.now.step j)) (range_with_len 0 n) }
     {
         let mut here = self.earlier(0);
         let mut early = Plane::new();
@@ -206,8 +215,8 @@ fn in_cycle(phase: u64) -> u64
     }
 }
 
-/// The signs of a code's chips, +1 for 0 and -1 for 1, at a run of at most 1,024 samples: half a chip ahead (early), in time
-/// (prompt) and half a chip behind (late).
+/// The signs of a code's chips, +1 for 0 and -1 for 1, at a run of at most 1,024 samples: half a
+/// chip ahead (early), in time (prompt) and half a chip behind (late).
 #[derive(Drop)]
 pub struct CodePlanes {
     early: Plane,
@@ -219,7 +228,13 @@ pub struct CodePlanes {
 impl Model for CodePlanes {
     ghost Value = { CodeViews };
 
-    ghost view = { λ p. record { early = map (sign_in p.early) (range_with_len 0 p.len); prompt = map (sign_in p.prompt) (range_with_len 0 p.len); late = map (sign_in p.late) (range_with_len 0 p.len) } };
+    ghost view = { λ p. record {
+      early = map (sign_in p.early)
+          (range_with_len 0 p.len);
+      prompt = map (sign_in p.prompt)
+          (range_with_len 0 p.len);
+      late = map (sign_in p.late) (range_with_len 0 p.len);
+    } };
 
     ghost invariant = { λ p. p.len ≤ 1024 };
 }

@@ -1,7 +1,9 @@
-//! The settings of a recording, and the oscillators that follow a satellite's carrier and code through its samples.
+//! The settings of a recording, and the oscillators that follow a satellite's carrier and code
+//! through its samples.
 //!
-//! `Settings` gives the steps for a Doppler shift; `CarrierOsc` and `CodeOsc` keep a phase, step it on, and give the replica of up to
-//! 1,024 samples as planes. Each step, phase and value is proved to be that of its definition, for every step of 32 bits.
+//! `Settings` gives the steps for a Doppler shift; `CarrierOsc` and `CodeOsc` keep a phase, step it
+//! on, and give the replica of up to 1,024 samples as planes. Each step, phase and value is proved
+//! to be that of its definition, for every step of 32 bits.
 #![tactic(auto)]
 
 mod carrier;

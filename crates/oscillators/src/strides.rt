@@ -1,32 +1,38 @@
 ghost use Rattle.std.specs.Int.{bit_at};
 ghost use Rattle.std.specs.Prelude.{◌≡◌, ◌+◌, ◌-◌, ◌*◌, ◌/◌, ◌%◌, ◌^◌, ◌<◌, ◌≤◌, ℕ, length, slice_index, cond, ltb, ◌⊎◌};
 
+use bit_planes::masked_bits;
 use std::simd::prelude::*;
 
-/// How far sixteen samples lie from the first of them, in cells of a phase: lane k stands for sample 15 - k.
+/// Half a chip, in 2^-32 chip.
+const HALF_CHIP: u32 = 1 << 31;
+
+/// How far sixteen samples lie from the first of them, in cells of a phase: lane k stands for
+/// sample 15 - k.
 #[derive(Clone, Copy, Debug)]
 pub(crate) struct Strides {
     /// The part of a cell.
     low: u32x16,
-    /// The whole cells, mod 16.
+    /// The whole cells.
     whole: u8x16,
     ghost lanes: { (length low ≡ 16) × (length whole ≡ 16) },
+    ghost small: { (k : ℕ) → k < 16 → slice_index low k < 2 ^ 31 },
 }
 
 impl Strides {
     ghost use Rattle.oscillators.specs.Strides.{IsStrides};
 
     /// For a step, and cells of that many steps of a phase.
-    pub(crate) fn new(step: u32, cell: u64) -> Strides
-        requires { (cell ≡ 2 ^ 29) ⊎ (cell ≡ 2 ^ 32) }
+    pub(crate) fn new(step: u32, cell: u32) -> Strides
+        requires { (cell ≡ 2 ^ 29) ⊎ (cell ≡ 2 ^ 31) }
         ensures { IsStrides step cell result }
     {
         let mut low = [0; 16];
         let mut whole = [0; 16];
         for k in 0..16 {
             let way = (15 - k as u64) * step as u64;
-            low[k] = (way % cell) as u32;
-            whole[k] = (way / cell % 16) as u8;
+            low[k] = (way % cell as u64) as u32;
+            whole[k] = (way / cell as u64) as u8;
         }
         Strides {
             low: u32x16::from_array(low),
@@ -34,46 +40,71 @@ impl Strides {
         }
     }
 
-    /// The numbers of the cells in which sixteen samples lie, mod 16, where the first lies at `part` of cell 0.
-    pub(crate) fn cells(&self, part: u64, cell: u64) -> u8x16
+    /// The numbers of the cells in which sixteen samples lie, where the first lies at `part` of
+    /// cell 0.
+    fn cells(&self, part: u32, cell: u32) -> u8x16
         requires part { part < cell }
-        requires cell { (cell ≡ 2 ^ 29) ⊎ (cell ≡ 2 ^ 32) }
+        requires cell { (cell ≡ 2 ^ 29) ⊎ (cell ≡ 2 ^ 31) }
         ensures long { length result ≡ 16 }
-        ensures cells { (step : ℕ) → IsStrides step cell self.now → (k : ℕ) → k < 16 → slice_index result k ≡ (part + (15 - k) * step) / cell % 16 }
+        ensures cells { (step : ℕ) → step < 2 ^ 32 → IsStrides step cell self.now
+            → (k : ℕ) → k < 16 → slice_index result k ≡ (part + (15 - k) * step) / cell }
+    {
+        self.whole + carries(cell - 1 - part, self.low)
+    }
+
+    /// The same mod 16.
+    pub(crate) fn cells_mod_16(&self, part: u32, cell: u32) -> u8x16
+        requires part { part < cell }
+        requires cell { (cell ≡ 2 ^ 29) ⊎ (cell ≡ 2 ^ 31) }
+        ensures long { length result ≡ 16 }
+        ensures cells { (step : ℕ) → step < 2 ^ 32 → IsStrides step cell self.now
+            → (k : ℕ) → k < 16 → slice_index result k ≡ (part + (15 - k) * step) / cell % 16 }
         ensures below { (k : ℕ) → k < 16 → slice_index result k < 16 }
     {
-        (self.whole + carries((cell - 1 - part) as u32, self.low)) & u8x16::splat(15)
+        self.cells(part, cell) & u8x16::splat(15)
     }
 
-    /// Whether sixteen samples lie in the second half of a cell of 2^32, where the first lies at `part` of one. The first of them is the
-    /// highest of sixteen bits.
-    pub(crate) fn second_halves(&self, part: u32) -> u64
-        ensures halves { (step : ℕ) → IsStrides step (2 ^ 32) self.now → (r : ℕ) → r < 16
-            → bit_at result (15 - r) ≡ (part + r * step) % 2 ^ 32 / 2 ^ 31 }
-        ensures few { result < 2 ^ 16 }
+    /// The numbers of the half chips in which sixteen samples lie, where the first lies at `part`
+    /// of a chip.
+    pub(crate) fn half_chips(&self, part: u32) -> u8x16
+        ensures long { length result ≡ 16 }
+        ensures halves { (step : ℕ) → step < 2 ^ 32 → IsStrides step (2 ^ 31) self.now
+            → (k : ℕ) → k < 16 → slice_index result k ≡ (part + (15 - k) * step) / 2 ^ 31 }
     {
-        upper_halves(self.low, part)
+        self.cells(part % HALF_CHIP, HALF_CHIP) + u8x16::splat((part / HALF_CHIP) as u8)
     }
 }
 
-/// Which of sixteen lanes are in the upper half of 32 bits when a number is added to them: that of lane k is bit k.
-fn upper_halves(low: u32x16, part: u32) -> u64
-    requires { length low ≡ 16 }
-    ensures halves { (k : ℕ) → k < 16 → bit_at result k ≡ (slice_index low k + part) % 2 ^ 32 / 2 ^ 31 }
+/// The chips in which half chips lie.
+pub(crate) fn whole_chips(halves: u8x16) -> u8x16
+    requires { length halves ≡ 16 }
+    ensures long { length result ≡ 16 }
+    ensures chips { (k : ℕ) → k < 16 → slice_index result k ≡ slice_index halves k / 2 }
+{
+    halves >> u8x16::splat(1)
+}
+
+/// Which of sixteen half chips are the second half of a chip: that of lane k is bit k.
+pub(crate) fn second_halves(halves: u8x16) -> u64
+    requires { length halves ≡ 16 }
+    ensures halves { (k : ℕ) → k < 16 → bit_at result k ≡ slice_index halves k % 2 }
     ensures few { result < 2 ^ 16 }
 {
-    (low + u32x16::splat(part))
-        .simd_ge(u32x16::splat(1 << 31))
-        .to_bitmask()
+    masked_bits(halves, u8x16::splat(1))
 }
 
-/// 1 in each lane above a limit.
+/// 1 in each lane above a limit. Below 2^31 numbers with a sign are as great, and quicker to
+/// compare.
 fn carries(limit: u32, low: u32x16) -> u8x16
-    requires { length low ≡ 16 }
+    requires limit { limit < 2 ^ 31 }
+    requires long { length low ≡ 16 }
+    requires small { (k : ℕ) → k < 16 → slice_index low k < 2 ^ 31 }
     ensures long { length result ≡ 16 }
-    ensures carried { (k : ℕ) → k < 16 → slice_index result k ≡ cond (ltb limit (slice_index low k)) 1 0 }
+    ensures carried { (k : ℕ) → k < 16
+        → slice_index result k ≡ cond (ltb limit (slice_index low k)) 1 0 }
 {
-    low.simd_gt(u32x16::splat(limit))
+    low.cast::<i32>()
+        .simd_gt(i32x16::splat(limit as i32))
         .select(u32x16::splat(1), u32x16::splat(0))
         .cast::<u8>()
 }

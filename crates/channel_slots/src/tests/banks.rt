@@ -4,8 +4,8 @@ use super::{hold, plain_settings, slot_zero, sums};
 use crate::{Bank, Command, Event, OpenFault, Reply, SlotState};
 use std::test::Fail;
 
-// Satellite 1 of client 1 and satellite 7 of client 2 as in the tests of one slot: their dumps come with samples 1 and 2, in one run of
-// eight samples.
+// Satellite 1 of client 1 and satellite 7 of client 2 as in the tests of one slot: their dumps come
+// with samples 1 and 2, in one run of eight samples.
 #[test]
 fn each_client_has_its_slots(rt: HostRuntime) -> Result<(), Fail> {
     let slot = slot_zero()?;
@@ -40,6 +40,38 @@ fn each_client_has_its_slots(rt: HostRuntime) -> Result<(), Fail> {
     ];
     assert_eq!(rt; replies.as_slice(), told.as_slice());
     assert_eq!(rt; bank.time(), 8);
+    Ok(())
+}
+
+// The same satellites the other way round, so that the book is first asked for the other one: the
+// sums are the same.
+#[test]
+fn satellites_fill_the_book_in_either_order(rt: HostRuntime) -> Result<(), Fail> {
+    let counts = Command::Counts {
+        slot: slot_zero()?,
+        n: 1,
+    };
+    let mut bank = Bank::open(rt.alloc(), plain_settings()?, 2)?;
+    bank.command(1, hold(7, -1_000)?);
+    bank.command(2, hold(1, 0)?);
+    bank.command(1, counts);
+    bank.command(2, counts);
+    let replies = bank.feed(&[0], 0, 8);
+    let told = [
+        Reply {
+            client: 2,
+            slot: 0,
+            time: 1,
+            event: Event::Count(sums([-2, 1, 2, -1, 2, -1])),
+        },
+        Reply {
+            client: 1,
+            slot: 0,
+            time: 2,
+            event: Event::Count(sums([-4, 0, 4, 0, 4, 0])),
+        },
+    ];
+    assert_eq!(rt; replies.as_slice(), told.as_slice());
     Ok(())
 }
 

@@ -1,4 +1,5 @@
-//! The beginning of a recording, and the dumps that two references apart from this project give for it.
+//! The beginning of a recording, and the dumps that two references apart from this project give for
+//! it.
 
 ghost use Rattle.std.specs.Prelude.{◌+◌, ◌<◌, ◌≤◌, IfOk};
 ghost use Rattle.channel_slots.specs.Slots.{dumps_of};
@@ -11,7 +12,8 @@ use oscillators::{Doppler, HalfChip, Settings};
 use sample_planes::{Format, unpack};
 use std::test::Fail;
 
-/// 3,392 one-bit samples at 2,046,000 a second and an intermediate frequency of 511,500 Hz, of three satellites in noise.
+/// 3,392 one-bit samples at 2,046,000 a second and an intermediate frequency of 511,500 Hz, of
+/// three satellites in noise.
 const RECORDING: [u8; 424] = [
     0xee, 0x6a, 0x45, 0xfa, 0x59, 0xc7, 0xe0, 0x1f, 0xa7, 0x85, 0x81, 0x5d, 0xfc, 0x5a, 0xf7, 0xf5,
     0x96, 0x9c, 0xbe, 0x0c, 0xd9, 0x9e, 0xf4, 0x41, 0xab, 0xb4, 0x51, 0xcb, 0x52, 0x6e, 0xd3, 0xa4,
@@ -42,7 +44,8 @@ const RECORDING: [u8; 424] = [
     0x70, 0x04, 0x5c, 0xc5, 0x67, 0x04, 0x93, 0xaf,
 ];
 
-/// Takes samples of the recording from a place on, as far as the slot may go, and gives the place behind them and what they tell.
+/// Takes samples of the recording from a place on, as far as the slot may go, and gives the place
+/// behind them and what they tell.
 fn next(slot: &mut Slot, place: usize) -> Result<(usize, Option<Counts>), Fail>
     requires few { dumps_of slot.old < 8 }
     ensures few { dumps_of slot.new ≤ dumps_of slot.old + 1 }
@@ -61,7 +64,8 @@ fn next(slot: &mut Slot, place: usize) -> Result<(usize, Option<Counts>), Fail>
     Ok((place + room, told))
 }
 
-// The first segment begins at half chip 700 and ends with sample 1,345; it takes two runs. The second is the next 2,046 samples, in three.
+// The first segment begins at half chip 700 and ends with sample 1,345; it takes two runs. The
+// second is the next 2,046 samples, in three.
 #[test]
 fn first_counts_of_a_recording(rt: HostRuntime) -> Result<(), Fail> {
     let settings = Settings::new(2_046_000, 511_500, Format::Real1)?;

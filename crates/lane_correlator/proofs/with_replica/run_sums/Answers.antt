@@ -1,4 +1,4 @@
-use Rattle.std.proofs.Common.{◌≡◌, ◌≤◌, ◌∙◌, ◌+◌, ◌-◌, ◌*◌, ◌/◌, sym, ap, arith, refl, ℕ}
+use Rattle.std.proofs.Common.{◌≡◌, ◌≤◌, ◌∙◌, ◌+◌, ◌-◌, ◌*◌, ◌/◌, sym, ap, arith, refl, ℕ, lit≤}
 use Rattle.std.specs.Prelude.{min, max}
 use Rattle.std.proofs.Math.Path.{ap₂}
 use Rattle.definitions.specs.Samples.{sample_at}
@@ -6,9 +6,10 @@ use Rattle.definitions.specs.Oscillators.{carrier_phase_after, code_phase_after}
 use Rattle.definitions.specs.Correlation.{Replica, Phases, six_sums, added}
 use Rattle.definitions.proofs.CorrelationLemmas.{six_sums-split}
 use Rattle.oscillators.specs.Views.{Oscillation}
-use Rattle.lane_correlator.specs.Counting.{counts_in}
+use Rattle.lane_correlator.specs.Tallies.{tally_in}
 use Rattle.lane_correlator.specs.ReplicaWords.{AreOf, phases_of}
-use Rattle.lane_correlator.proofs.SumLemmas.{six_sums-none, none_within, added_within, added_fit}
+use Rattle.lane_correlator.proofs.SumLemmas.{six_sums-none, none_within, added_within}
+use Rattle.lane_correlator.proofs.TallyLemmas.{none_few, few_more}
 use Rattle.lane_correlator.proofs.ReplicaLemmas.{placed, words_of_placed, carrier_word_on, code_word_on, sums_from}
 use Rattle.lane_correlator.proofs.with_replica.run_sums.Goals as goal
 
@@ -30,22 +31,19 @@ loop-w-init c =
           (sym (six_sums-none (sample_at c.args.samples.now)
           (placed c.args.prn (phases_of carrier code) (64 * (from / 64))) from));
       small = rw first (none_within (9 * (from - from)));
+      few = none_few _;
     }
 
-pub add-sums-requires : goal.add-sums-requires
-add-sums-requires c =
-    let p : ℕ = min (c.args.from + c.args.count) (max c.args.from (64 * c.loop-w.w)) in
-    added_fit (9 * (p - c.args.from))
-    (9 * (c.min-in-loop-w.result - 64 * c.loop-w.w - (c.max.result - 64 * c.loop-w.w)))
-    (counts_in c.loop-w.sums) (counts_in c.word_sums.result) c.loop-w.invariant.small
-    c.word_sums.ensures.small
-    (omega (
-      arith,
-      c.len-len.ensures.count,
-      c.len-len.ensures.most,
-      c.requires.within,
-      c.min-in-loop-w.ensures,
-    ))
+pub add-sums-requires-clause-these : goal.add-sums-requires-clause-these
+add-sums-requires-clause-these c = few_more (896 * (c.loop-w.w - c.args.from / 64)) 1000000 c.loop-w.sums
+    (omega (arith, c.loop-w-test.true, c.len-len.ensures.count, c.len-len.ensures.most, c.min.ensures)) c.loop-w.invariant.few
+
+pub add-sums-requires-clause-those : goal.add-sums-requires-clause-those
+add-sums-requires-clause-those c = few_more 896 1000000 c.word_sums.result (lit≤ tt) c.word_sums.ensures.few
+
+pub counts-requires : goal.counts-requires
+counts-requires c = few_more (896 * (c.loop-w.w - c.args.from / 64)) 1000000 c.loop-w.sums
+    (omega (arith, c.loop-w.auto.w, c.len-len.ensures.count, c.len-len.ensures.most, c.min.ensures)) c.loop-w.invariant.few
 
 pub loop-w-preserved : goal.loop-w-preserved
 loop-w-preserved c =
@@ -100,15 +98,16 @@ loop-w-preserved c =
           (ap (λ (o : Oscillation). o.phase) chips.moved
           ∙ ap (λ (s : ℕ). code_phase_after c.loop-w.code.phase s 64) i.code_step) i.code;
       code_step = ap (λ (o : Oscillation). o.step) chips.moved ∙ i.code_step;
-      sums = c.add-sums.ensures
+      sums = c.add-sums.ensures.sums
           ∙ ap₂ added i.sums
           (c.word_sums.ensures.sums r of ∙ ap₂ (λ (a b : ℕ). six_sums x r a b) a_is b_is)
           ∙ sym (six_sums-split x r from p q low high);
-      small = rw c.add-sums.ensures
+      small = rw c.add-sums.ensures.sums
           (added_within (9 * (p - from))
           (9 * (c.min-in-loop-w.result - 64 * w - (c.max.result - 64 * w))) (9 * (q - from))
-          (counts_in c.loop-w.sums) (counts_in c.word_sums.result) i.small c.word_sums.ensures.small
+          (tally_in c.loop-w.sums) (tally_in c.word_sums.result) i.small c.word_sums.ensures.small
           (omega (arith, a_is, b_is, low, high)));
+      few = few_more _ _ _ (omega (arith, i.from)) (c.add-sums.ensures.few (896 * (w - from / 64)) 896 i.few c.word_sums.ensures.few);
     }
 
 pub returns-clause-sums : goal.returns-clause-sums
@@ -125,7 +124,7 @@ returns-clause-sums c =
       c.len-len.ensures.count,
     ) in
     let many : from + c.args.count - from ≡ c.args.count = omega arith in
-    rw last at c.loop-w.invariant.sums
+    c.counts.ensures ∙ rw last at c.loop-w.invariant.sums
     ∙ rw many at (sums_from (sample_at c.args.samples.now) c.args.prn from
     (c.args.from + c.args.count) (phases_of c.earlier-carrier.result c.earlier-code.result)
     (phases_of c.args.carrier.now c.args.code.now)
@@ -144,4 +143,4 @@ returns-clause-small c =
       c.requires.within,
       c.len-len.ensures.count,
     ) in
-    rw last at c.loop-w.invariant.small
+    rw c.counts.ensures (rw last at c.loop-w.invariant.small)

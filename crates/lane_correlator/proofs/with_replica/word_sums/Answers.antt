@@ -1,13 +1,14 @@
-use Rattle.std.proofs.Common.{◌≡◌, ℤ, ◌+◌, ◌-◌, ◌*◌, ◌∙◌, sym, ap, arith}
+use Rattle.std.proofs.Common.{◌≡◌, ℤ, ◌+◌, ◌-◌, ◌*◌, ◌∙◌, sym, ap, arith, lit≤}
 use Rattle.std.specs.Prelude.{pos, ◌-ℤ◌}
 use Rattle.std.proofs.Math.Path.{ap₂}
 use Rattle.definitions.specs.Samples.{sample_at}
 use Rattle.definitions.specs.Correlation.{Replica, six_sums, added}
-use Rattle.lane_correlator.specs.Counting.{counts_in}
+use Rattle.lane_correlator.specs.Tallies.{tally_in}
 use Rattle.lane_correlator.specs.ReplicaWords.{AreOf}
 use Rattle.lane_correlator.specs.Factors.{IsMask, AreThreeChips, AreWave, part_sums}
 use Rattle.lane_correlator.proofs.PartLemmas.{HasSigns, AreSmall, six_by_parts, part_sums-none, six-small}
 use Rattle.lane_correlator.proofs.RunLemmas.{part_of_run, quadrature_of_run, real_in_run, quadrature_small, real_small}
+use Rattle.lane_correlator.proofs.TallyLemmas.{none_few, few_more}
 use Rattle.lane_correlator.proofs.ReplicaLemmas.{own_replica, chips_of_replica, signs_of_replica, small_of_replica}
 use Rattle.lane_correlator.proofs.with_replica.word_sums.Goals as goal
 use Rattle.lane_correlator.proofs.with_replica.word_sums.Goals.{After-add, in-Some, in-None}
@@ -44,7 +45,7 @@ module _ (c : After-add) (r : Replica)
   signs : HasSigns r (64 * c.args.w + c.args.first) (64 * c.args.w + c.args.end)
   signs = signs_of_replica r (64 * c.args.w) c.args.first c.args.end c.args.carrier c.args.chips of
 
-  in_phase_is : counts_in c.six_of_part-in_phase.result
+  in_phase_is : tally_in c.six_of_part-in_phase.result
       ≡ part_sums (λ j. (sample_at c.args.samples.now j).in_phase) r.cos (λ j. pos 0 -ℤ r.sin j) r
       (64 * c.args.w + c.args.first) (64 * c.args.w + c.args.end)
   in_phase_is =
@@ -53,7 +54,7 @@ module _ (c : After-add) (r : Replica)
       (part_of_run c.args.w c.args.end c.requires.within c.args.samples.now c.in_phase-part.result
       c.requires.reach c.in_phase-part.ensures) cos_is minus_sin_is chips_are
 
-  quadrature_is : counts_in c.match-quadrature.quadrature
+  quadrature_is : tally_in c.match-quadrature.quadrature
       ≡ part_sums (λ j. (sample_at c.args.samples.now j).quadrature) r.sin r.cos r
       (64 * c.args.w + c.args.first) (64 * c.args.w + c.args.end)
   quadrature_is = elim c.match-quadrature.branch [
@@ -82,10 +83,10 @@ module _ (c : After-add) (r : Replica)
             c.requires.reach w.in-None.ensures.real
       ]) of
 
-  sums_are : counts_in c.add.result ≡ six_sums (sample_at c.args.samples.now) r
+  sums_are : tally_in c.add.result ≡ six_sums (sample_at c.args.samples.now) r
       (64 * c.args.w + c.args.first) (64 * c.args.w + c.args.end)
   sums_are =
-      c.add.ensures ∙ ap₂ added in_phase_is quadrature_is
+      c.add.ensures.sums ∙ ap₂ added in_phase_is quadrature_is
       ∙ sym (six_by_parts (sample_at c.args.samples.now) r (64 * c.args.w + c.args.first)
       (64 * c.args.w + c.args.end) signs)
 
@@ -101,3 +102,20 @@ returns-clause-small c =
     (rw many at (six-small (sample_at c.args.samples.now) own.replica
     (64 * c.args.w + c.args.first) (64 * c.args.w + c.args.end) (small c own.replica own.own)
     (signs c own.replica own.own)))
+
+pub returns-clause-few : goal.returns-clause-few
+returns-clause-few c = c.add.ensures.few 448 448 c.six_of_part-in_phase.ensures.few
+    (elim c.match-quadrature.branch [
+      | in-Some w ↦ rw w.quadrature-is w.six_of_part-quadrature.ensures.few
+      | in-None w ↦ rw w.quadrature-is (none_few 448)
+    ])
+
+pub add-requires-clause-these : goal.add-requires-clause-these
+add-requires-clause-these c = few_more 448 1000000 c.six_of_part-in_phase.result (lit≤ tt)
+    c.six_of_part-in_phase.ensures.few
+
+pub add-requires-clause-those : goal.add-requires-clause-those
+add-requires-clause-those c = elim c.match-quadrature.branch [
+  | in-Some w ↦ rw w.quadrature-is (few_more 448 1000000 w.six_of_part-quadrature.result (lit≤ tt) w.six_of_part-quadrature.ensures.few)
+  | in-None w ↦ rw w.quadrature-is (none_few 1000000)
+]

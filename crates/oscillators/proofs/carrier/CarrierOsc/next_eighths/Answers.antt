@@ -1,4 +1,4 @@
-use Rattle.std.proofs.Common.{◌≡◌, ◌*◌, ◌+◌, ◌-◌, ◌<◌, ◌≤◌, ◌%◌, ℕ, get_or, refl, ap, ◌∙◌, arith}
+use Rattle.std.proofs.Common.{◌≡◌, ◌*◌, ◌+◌, ◌-◌, ◌<◌, ◌≤◌, ◌%◌, ◌^◌, ℕ, get_or, refl, ap, ◌∙◌, arith, rules}
 use Rattle.std.specs.Int.{bit_at}
 use Rattle.definitions.specs.Oscillators.{carrier_phase_after}
 use Rattle.oscillators.specs.Views.{Oscillation}
@@ -11,6 +11,7 @@ loop-group-preserved c =
     let phase : ℕ = c.args.self.now.phase in
     let step : ℕ = c.args.self.now.step in
     let step_is : c.self.inside.step ≡ step = ap (λ (v : Oscillation). v.step) c.self.view_is in
+    let short : c.self.inside.step < 2 ^ 32 = search (rules, c.self.ranges) in
     let i = c.loop-group.invariant in
     let g : ℕ = c.loop-group.group in
     let here : ℕ = c.loop-group.here in
@@ -19,8 +20,8 @@ loop-group-preserved c =
     let found : (r : ℕ) → r < 16 → get_or c.pick_bytes-found.result (15 - r) 0 ≡ eighth_at (carrier_phase_after phase step (16 * g + r)) = λ r h.
     let lane : 15 - (15 - r) ≡ r = omega arith in
     c.pick_bytes-found.ensures.picked (15 - r) (omega arith)
-    ∙ eighth_found phase step g r here (get_or c.cells-eighths.result (15 - r) 0) i.here
-    (c.cells-eighths.ensures.cells c.self.inside.step c.self.invariant (15 - r) (omega arith) ∙ rw (lane, step_is) refl)
+    ∙ eighth_found phase step g r here (get_or c.cells_mod_16-eighths.result (15 - r) 0) i.here
+    (c.cells_mod_16-eighths.ensures.cells c.self.inside.step short c.self.invariant (15 - r) (omega arith) ∙ rw (lane, step_is) refl)
     in
     record {
       here = ap (λ (s : ℕ). (here + s * 16 % 4294967296) % 4294967296) step_is ∙ carrier_turned phase step g here i.here;
