@@ -1,15 +1,16 @@
-use Rattle.std.proofs.Common.{ap}
+use Rattle.std.proofs.Common.{ap, ◌∙◌, w64}
 use Rattle.std.proofs.lemmas.Int.{to_z-of_z}
-use Rattle.definitions.specs.Loops.{Loops, loops_after}
+use Rattle.definitions.specs.Loops.{Loops, loops_start, loops_after}
 use Rattle.tracking_loops.specs.Standing.{StandsFor, dump_count}
 use Rattle.tracking_loops.proofs.loops.Loops.start.Goals as goal
 
 pub returns-clause-stands : goal.returns-clause-stands
 unfolding StandsFor loops_after
-returns-clause-stands c =
-    let fits = c.ranges.v in
-    let begun = simp to_z-of_z at c.start.ensures in
-    record { taken = ap (λ (l : Loops). l.taken) c.start.ensures; steering = begun; lock = c.new.ensures }
+returns-clause-stands c = record {
+  taken = ap (λ (l : Loops). l.taken) c.start.ensures;
+  steering = c.start.ensures ∙ ap loops_start (to_z-of_z w64 c.args.v c.ranges.v);
+  lock = c.new.ensures;
+}
 
 pub returns-clause-none : goal.returns-clause-none
 unfolding dump_count

@@ -1,0 +1,53 @@
+//! Why the program ends early, and with which status.
+
+ghost use Rattle.std.specs.Prelude.{◌≡◌};
+ghost use Rattle.command_line.specs.declared.failure.Failure.TheVariants.{NoMemory};
+ghost use Rattle.command_line.specs.Programs.{status_of};
+
+use oscillators::SettingsFault;
+use receiver::RunFault;
+use std::alloc::{AllocError, AllocFailed};
+use thiserror::Error;
+
+/// Why the program ends early, but for a command line that isn't understood.
+#[derive(Clone, Copy, Debug, PartialEq, Eq, Error)]
+pub enum Failure {
+    /// There was no memory for the command line or a script.
+    #[error("no memory")]
+    NoMemory,
+    /// A script couldn't be read, or is longer than 16 MiB.
+    #[error("script")]
+    Script,
+    #[error("{0}")]
+    Settings(SettingsFault),
+    #[error("{0}")]
+    Run(RunFault),
+}
+
+/// The status of the program: 0 behind a run that came to its end, 2 where what was asked for is at
+/// fault, and 1 where the run or memory is.
+pub fn status(ended: Result<u64, Failure>) -> u8
+    ensures { result ≡ status_of ended }
+{
+    match ended {
+        Ok(_) => 0,
+        Err(Failure::NoMemory | Failure::Run(_)) => 1,
+        Err(Failure::Script | Failure::Settings(_)) => 2,
+    }
+}
+
+impl From<AllocError> for Failure {
+    ghost from_gives = { λ _ failure. failure ≡ NoMemory };
+
+    fn from(_: AllocError) -> Failure {
+        Failure::NoMemory
+    }
+}
+
+impl<T: Drop> From<AllocFailed<T>> for Failure {
+    ghost from_gives = { λ _ failure. failure ≡ NoMemory };
+
+    fn from(_: AllocFailed<T>) -> Failure {
+        Failure::NoMemory
+    }
+}

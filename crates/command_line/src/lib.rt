@@ -1,0 +1,26 @@
+//! The program behind its command line: scripts of timed commands in, lines of what the channels
+//! tell out. `carry_out` takes the words of the command line, has the option parser read them, reads
+//! the script files that they name, and runs them, in their order, over a reader and a writer. It
+//! tells on standard error what went wrong, and gives the status. The crate `receiver` has the run.
+//!
+//!     use command_line::{Stored, carry_out};
+//!     use receiver::Plain;
+//!
+//!     fn main(rt: HostRuntime) -> ExitCode {
+//!         let (mut reader, mut writer) = (Plain::new(rt.reader()), Plain::new(io::writer(&rt)));
+//!         carry_out(&rt, &Stored::new(&rt), &mut reader, &mut writer)
+//!     }
+#![tactic(auto)]
+
+mod failure;
+mod options;
+mod program;
+mod receiving;
+mod script_files;
+#[cfg(test)]
+mod tests;
+mod words;
+
+pub use failure::Failure;
+pub use program::carry_out;
+pub use script_files::{ScriptFiles, Stored};

@@ -1,0 +1,155 @@
+//! The program's command line.
+
+ghost use Rattle.std.specs.Prelude.{◌≡◌, ◌<◌, ◌≤◌, ◌*◌, ◌↔◌, pos, neg_ℤ, if◌then◌else◌, Err, IfOk, codes, map};
+ghost use Rattle.clap.specs.Matches.{found_of, first_value, one_text};
+ghost use Rattle.sample_planes.specs.Packings.{packing_of};
+ghost use Rattle.oscillators.specs.Limits.{IsRate};
+ghost use Rattle.command_line.specs.Programs.{IsAllowed, asked_in, recording_of, number_in, format_in, paths_in};
+
+use clap::{Arg, ArgAction, ArgMatches, Command, Error, value_parser};
+use oscillators::{Settings, SettingsFault};
+use sample_planes::Format;
+use std::alloc::Global;
+
+const ABOUT: &str =
+    "Runs scripts of timed commands over recorded GPS L1 C/A samples: reads samples from standard input and prints what the channels tell, line by line.";
+
+/// The formats that `--format` takes.
+static FORMATS: [&str; 2] = ["real1", "real2"];
+
+/// What stands behind the options in the help.
+const MORE: &str = "\
+A script is lines of `T VERB WORDS`, T being a time in samples that doesn't fall. Each script is a client with the slots 0 to 3.
+  T hold S PRN DOPPLER HALF  follow satellite PRN (1 to 32) in slot S at a shift of DOPPLER Hz (-16000 to 16000), from
+                             half chip HALF (0 to 2045) of its code on
+  T counts S N               print the sums of the next N code periods (0 to 1000000)
+  T state S                  show the slot
+  T stop S                   make the slot idle
+
+A printed line is `CLIENT T TEXT`. `err N` refuses a line of a script:
+  1 longer than 80 bytes            6 another number of words
+  2 a byte outside 0x20..0x7e       7 a word isn't a number
+  3 no time up to 2^40              8 a number is out of range
+  4 the time is before the last     9 the slot isn't idle
+  5 no verb, or an unknown one     10 the slot is idle
+
+Example, with the lines `0 hold 0 5 1250 700` and `0 counts 0 5` in the file hold.script:
+  receiver --offset 511500 hold.script < three_satellites.real1";
+
+/// Reads the words of a command line, the program's name first.
+pub fn matches<'a>(alloc: Global, words: &'a [String]) -> Result<ArgMatches<'a>, Error> {
+    Command::new(alloc, "receiver")
+        .about(ABOUT)
+        .override_usage("receiver [OPTIONS] [SCRIPT]...")
+        .after_help(MORE)
+        .arg(hertz(
+            alloc,
+            "rate",
+            "2046000",
+            "Samples a second, 2046000 to 20000000",
+        ))?
+        .arg(hertz(
+            alloc,
+            "offset",
+            "0",
+            "Intermediate frequency in Hz, at most half the rate",
+        ))?
+        .arg(
+            Arg::new(alloc, "minus")
+                .long("minus")
+                .action(ArgAction::SetTrue)
+                .help("Makes the intermediate frequency negative"),
+        )?
+        .arg(format(alloc))?
+        .arg(
+            Arg::new(alloc, "script")
+                .value_name("SCRIPT")
+                .num_args(0..)
+                .help("Script files, one to eight, of 16 MiB at most; none is one empty script"),
+        )?
+        .try_get_matches_from(words)
+}
+
+/// An option that takes a number of Hz.
+fn hertz<'a>(alloc: Global, name: &'a str, default: &'a str, help: &'a str) -> Arg<'a> {
+    Arg::new(alloc, name)
+        .long(name)
+        .value_name("HZ")
+        .action(ArgAction::Set)
+        .value_parser(value_parser!(u32))
+        .default_value(default)
+        .help(help)
+}
+
+/// The option of the samples' format.
+fn format<'a>(alloc: Global) -> Arg<'a> {
+    Arg::new(alloc, "format")
+        .long("format")
+        .action(ArgAction::Set)
+        .value_parser(FORMATS.as_slice())
+        .default_value("real1")
+        .help("Real samples of one or of two bits")
+}
+
+/// The settings that the options ask for.
+pub fn settings(matches: &ArgMatches) -> Result<Settings, SettingsFault>
+    ensures rate { (result ≡ Err SettingsFault.Rate)
+        ↔ ¬ IsRate (asked_in (found_of matches.now)).rate }
+    ensures offset { (result ≡ Err SettingsFault.Offset)
+        ↔ (IsRate (asked_in (found_of matches.now)).rate
+        × ((asked_in (found_of matches.now)).rate < 2 * (asked_in (found_of matches.now)).offset)) }
+    ensures allowed { IfOk result (λ _. IsAllowed (asked_in (found_of matches.now))) }
+    ensures same { IfOk result (λ settings.
+        settings ≡ recording_of (asked_in (found_of matches.now))) }
+{
+    settings_of(
+        number(matches, "rate", 2_046_000),
+        number(matches, "offset", 0),
+        matches.get_one("minus").unwrap_or(false),
+        packing(matches),
+    )
+}
+
+/// Settings by the words of the options.
+fn settings_of(
+    rate: u32,
+    offset: u32,
+    is_minus: bool,
+    format: Format,
+) -> Result<Settings, SettingsFault>
+    ensures rate { (result ≡ Err SettingsFault.Rate) ↔ ¬ IsRate rate }
+    ensures offset { (result ≡ Err SettingsFault.Offset) ↔ (IsRate rate × (rate < 2 * offset)) }
+    ensures same { IfOk result (λ settings. settings ≡ record {
+      rate = rate;
+      offset = if is_minus then neg_ℤ (pos offset) else pos offset;
+      packing = packing_of format;
+    }) }
+{
+    let offset = i64::from(offset);
+    let offset = if is_minus { -offset } else { offset };
+    Settings::new(rate, offset, format)
+}
+
+/// The number of an option, or its default.
+fn number(matches: &ArgMatches, id: &str, default: u32) -> u32
+    ensures { result ≡ number_in (one_text (found_of matches.now) id.now) default }
+{
+    matches.get_one(id).unwrap_or(default)
+}
+
+/// The format of the samples.
+fn packing(matches: &ArgMatches) -> Format
+    ensures { packing_of result ≡ format_in (first_value (found_of matches.now) (codes "format")) }
+{
+    match matches.get_str("format") {
+        Some("real2") => Format::Real2,
+        _ => Format::Real1,
+    }
+}
+
+/// The names of the script files, in the order of the command line.
+pub fn scripts<'m>(matches: &'m ArgMatches) -> &'m [&'m str]
+    ensures { map (λ path. path.now) result.now ≡ paths_in (found_of matches.now) }
+{
+    matches.get_strs("script").unwrap_or(&[])
+}

@@ -1,0 +1,73 @@
+//! The program, from its words to its status.
+
+ghost use Rattle.std.specs.Prelude.{◌≡◌};
+ghost use Rattle.std.specs.Process.{exit_status};
+ghost use Rattle.clap.specs.Values.{kind_of};
+ghost use Rattle.receiver.specs.Runs.{seen};
+ghost use Rattle.command_line.specs.Programs.{status_of};
+ghost use Rattle.command_line.specs.Endings.{HasEnded, parser_status};
+
+use crate::failure::{Failure, status};
+use crate::options;
+use crate::receiving::receive;
+use crate::script_files::ScriptFiles;
+use crate::words::words;
+use clap::Error;
+use clap::error::ErrorKind;
+use receiver::{Sink, Source};
+use std::env::Env;
+use std::io::{Eprint, Print};
+use std::process::ExitCode;
+
+/// Does what the words of the command line ask for, with these script files, reader and writer:
+/// shows the help, or refuses an option, or runs the scripts. It tells on standard error what went
+/// wrong, and gives the status: 0, or 1 where the run or memory is at fault, or 2 where what was
+/// asked for is.
+pub fn carry_out<T, S, R, W>(rt: &T, files: &S, reader: &mut R, writer: &mut W) -> ExitCode
+where
+    T: AllocGlobal + Env + Print + Eprint,
+    S: ScriptFiles,
+    R: Source,
+    W: Sink,
+    ensures status { HasEnded (S.bytes_of files.now)
+        (seen (R.remaining reader.old) (R.has_failed reader.old)
+        (W.contents writer.old) (W.has_failed writer.old))
+        (seen (R.remaining reader.new) (R.has_failed reader.new)
+        (W.contents writer.new) (W.has_failed writer.new)) (exit_status result) }
+{
+    let words = match words(rt.alloc(), rt) {
+        Ok(words) => words,
+        Err(failure) => return tell(rt, Err(failure)),
+    };
+    match options::matches(rt.alloc(), &words) {
+        Ok(matches) => tell(rt, receive(rt.alloc(), files, &matches, reader, writer)),
+        Err(error) => refuse(rt, &error),
+    }
+}
+
+/// Prints what the option parser says where it gives no options, and gives the status: 0 where help
+/// was asked for, 1 where it had no memory, and 2 where it refuses.
+fn refuse<P: Print + Eprint>(rt: &P, error: &Error) -> ExitCode
+    ensures status { exit_status result ≡ parser_status (kind_of error.now) }
+{
+    match error.kind() {
+        ErrorKind::OutOfMemory => tell(rt, Err(Failure::NoMemory)),
+        kind => {
+            // Where printing fails too, the status alone tells.
+            let _ = error.print(rt);
+            let is_shown = matches!(kind, ErrorKind::DisplayHelp | ErrorKind::DisplayVersion);
+            ExitCode::from(if is_shown { 0 } else { 2 })
+        }
+    }
+}
+
+/// Tells what went wrong, where something did, and gives the status.
+fn tell<E: Eprint>(rt: &E, ended: Result<u64, Failure>) -> ExitCode
+    ensures status { exit_status result ≡ status_of ended }
+{
+    if let Err(failure) = ended {
+        // Where standard error fails too, the status alone tells.
+        let _ = eprintln!(rt; "receiver: {failure}");
+    }
+    ExitCode::from(status(ended))
+}

@@ -1,0 +1,80 @@
+//! The program, from its options to the end of its run.
+
+ghost use Rattle.std.specs.Prelude.{◌≡◌, map, IfOk, IfErr};
+ghost use Rattle.clap.specs.Matches.{found_of};
+ghost use Rattle.receiver.specs.Runs.{seen};
+ghost use Rattle.command_line.specs.Programs.{Receives, RunsTexts, IsBeforeRun, asked_in, paths_in, one_or_more};
+
+use crate::failure::Failure;
+use crate::options;
+use crate::script_files::{ScriptFiles, read_scripts};
+use clap::ArgMatches;
+use oscillators::Settings;
+use receiver::{Sink, Source, run};
+use std::alloc::Global;
+
+/// Runs the scripts that the options name, in their order, or an empty one where they name none,
+/// over a reader and a writer.
+pub fn receive<S: ScriptFiles, R: Source, W: Sink>(
+    alloc: Global,
+    files: &S,
+    matches: &ArgMatches,
+    reader: &mut R,
+    writer: &mut W,
+) -> Result<u64, Failure>
+    ensures untouched { IfErr result (λ failure. IsBeforeRun failure
+        → (reader.new ≡ reader.old) × (writer.new ≡ writer.old)) }
+    ensures receives { Receives
+        (asked_in (found_of matches.now))
+        (map (λ path. S.bytes_of files.now path) (paths_in (found_of matches.now)))
+        (seen (R.remaining reader.old) (R.has_failed reader.old)
+        (W.contents writer.old) (W.has_failed writer.old))
+        (seen (R.remaining reader.new) (R.has_failed reader.new)
+        (W.contents writer.new) (W.has_failed writer.new)) result }
+{
+    let settings = match options::settings(matches) {
+        Ok(settings) => settings,
+        Err(fault) => return Err(Failure::Settings(fault)),
+    };
+    let texts = read_scripts(alloc, files, options::scripts(matches))?;
+    run_texts(alloc, settings, &texts, reader, writer)
+}
+
+/// Runs these scripts, or an empty one where there are none.
+fn run_texts<R: Source, W: Sink>(
+    alloc: Global,
+    settings: Settings,
+    texts: &[Vec<u8>],
+    reader: &mut R,
+    writer: &mut W,
+) -> Result<u64, Failure>
+    ensures untouched { IfErr result (λ failure. IsBeforeRun failure
+        → (reader.new ≡ reader.old) × (writer.new ≡ writer.old)) }
+    ensures runs { RunsTexts settings (map (λ text. text.items) texts.now)
+        (seen (R.remaining reader.old) (R.has_failed reader.old)
+        (W.contents writer.old) (W.has_failed writer.old))
+        (seen (R.remaining reader.new) (R.has_failed reader.new)
+        (W.contents writer.new) (W.has_failed writer.new)) result }
+{
+    let scripts = one_or_more(alloc, texts)?;
+    match run(alloc, settings, &scripts, reader, writer) {
+        Ok(samples) => Ok(samples),
+        Err(fault) => Err(Failure::Run(fault)),
+    }
+}
+
+/// The scripts of a run: these texts, or an empty one where there are none.
+fn one_or_more<'t>(alloc: Global, texts: &'t [Vec<u8>]) -> Result<Vec<&'t [u8]>, Failure>
+    ensures scripts { IfOk result (λ scripts. map (λ script. script.now) scripts.items
+        ≡ one_or_more (map (λ text. text.items) texts.now)) }
+    ensures fault { IfErr result (λ failure. failure ≡ Failure.NoMemory) }
+{
+    let mut scripts: Vec<&[u8]> = Vec::new(alloc);
+    for text in texts {
+        scripts.push(text.as_slice())?;
+    }
+    if scripts.is_empty() {
+        scripts.push(&[])?;
+    }
+    Ok(scripts)
+}

@@ -1,0 +1,8 @@
+//! The program behind its command line.
+
+mod command_lines;
+mod endings;
+mod fakes;
+mod files;
+mod program;
+mod systems;

@@ -1,0 +1,41 @@
+//! The words of the command line, as text.
+
+ghost use Rattle.std.specs.Prelude.{◌≡◌, IfOk, IfErr, string_bytes};
+ghost use Rattle.std.specs.Str.{IsUtf8};
+
+use crate::failure::Failure;
+use std::alloc::{AllocError, Global};
+use std::env::{Env, FillError};
+use std::str::from_utf8;
+
+/// The most bytes of a word: Linux takes none of 128 KiB.
+const MOST_BYTES: usize = 128 << 10;
+
+/// The words, the program's name first.
+pub fn words<E: Env>(alloc: Global, env: &E) -> Result<Vec<String>, Failure>
+    ensures fault { IfErr result (λ failure. failure ≡ Failure.NoMemory) }
+{
+    let mut buffer = vec![in alloc; 0u8; MOST_BYTES]?;
+    let mut words = Vec::new(alloc);
+    for i in 0..usize::MAX {
+        match env.arg(i, &mut buffer) {
+            Ok(len) => words.push(word(alloc, &buffer[..len])?)?,
+            Err(FillError::NotPresent) => break,
+            Err(FillError::TooLong) => return Err(Failure::NoMemory),
+        }
+    }
+    Ok(words)
+}
+
+/// A word as text. One that isn't UTF-8 gets U+FFFD for what isn't, and a NUL at its end: the
+/// system passes no word with a NUL and has no file with one, so what stands there is no option's
+/// value and no script.
+fn word(alloc: Global, bytes: &[u8]) -> Result<String, AllocError>
+    ensures { IfOk result (λ word. IsUtf8 bytes.now → string_bytes word ≡ bytes.now) }
+{
+    let mut word = String::from_utf8_lossy(alloc, bytes)?;
+    if from_utf8(bytes).is_err() {
+        word.push('\0')?;
+    }
+    Ok(word)
+}

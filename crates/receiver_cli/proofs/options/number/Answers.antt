@@ -1,6 +1,0 @@
-use Rattle.std.proofs.Common.{◌∙◌}
-use Rattle.receiver_cli.proofs.OptionLemmas.{number-read}
-use Rattle.receiver_cli.proofs.options.number.Goals as goal
-
-pub returns : goal.returns
-returns c = c.unwrap_or.ensures ∙ number-read _ c.get_one.result c.args.default c.get_one.ensures.none c.get_one.ensures.value
