@@ -4,12 +4,14 @@
 use Rattle.std.specs.Prelude.{ℕ, zero, suc, ◌+◌, ◌-◌, ◌*◌, ◌==◌, ◌&&◌, ◌||◌, Bool, false}
 use Rattle.std.specs.Prelude.{if◌then◌else◌, ℤ, pos, List, [], ◌∷◌, ◌++◌, map, flat_map, length}
 use Rattle.std.specs.Prelude.{get_or, take, filter, slice_get, Option, Some, None}
-use Rattle.std.specs.Prelude.{option_map, option_and_then}
+use Rattle.std.specs.Prelude.{option_map, option_and_then, codes}
 use Rattle.std.specs.List.{list_all, range_with_len}
 use Rattle.std.specs.Option.{option_map_or}
 use Rattle.std.specs.Ordering.{int_eq}
 use lib.Pointwise.{pointwise}
 use Rattle.std.specs.Int.{int_rem_euclid}
+use Rattle.definitions.specs.Fields.{Field, place_of, clock_fields, eph2_fields, eph3_fields}
+use Rattle.definitions.specs.Fields.{almanac_fields}
 use Rattle.definitions.specs.Pages.{Kind, clock, eph2, eph3, almanac, utc, health, message, Page}
 
 abbrev pub kind_number : Kind → ℕ
@@ -31,20 +33,21 @@ is_ephemeris page = is_of clock page || is_of eph2 page || is_of eph3 page
 abbrev pub last_page : (Page → Bool) → List Page → Option Page
 last_page test pages = let those = filter test pages in slice_get those (length those - 1)
 
-abbrev pub value_in : Page → ℕ → ℤ
-value_in page i = get_or page.values i (pos 0)
+-- the value of the field of a name, of a page that has these fields
+abbrev pub value_named : List Field → List ℕ → Page → ℤ
+value_named fields name page = get_or page.values (place_of name fields) (pos 0)
 
 -- ---- clock and ephemeris
 
 -- the issues of data: IODC of a clock page, IODE of a subframe 2 and of a subframe 3
 abbrev pub iodc : Page → ℤ
-iodc page = value_in page 4
+iodc page = value_named clock_fields (codes "iodc") page
 
 abbrev pub iode : Page → ℤ
-iode page = value_in page 0
+iode page = value_named eph2_fields (codes "iode") page
 
 abbrev pub iode3 : Page → ℤ
-iode3 page = value_in page 7
+iode3 page = value_named eph3_fields (codes "iode3") page
 
 -- the low eight bits of the clock page's issue of data are the issue of data of the other two
 abbrev pub belong_together : Page → Page → Page → Bool
@@ -67,13 +70,13 @@ ephemeris_of pages = joined (last_page (is_of clock) pages) (last_page (is_of ep
 
 -- the SV ID of an almanac page, its time of applicability and its health
 abbrev pub almanac_sv : Page → ℤ
-almanac_sv page = value_in page 1
+almanac_sv page = value_named almanac_fields (codes "sv") page
 
 abbrev pub toa_of : Page → ℤ
-toa_of page = value_in page 3
+toa_of page = value_named almanac_fields (codes "toa") page
 
 abbrev pub health_of : Page → ℤ
-health_of page = value_in page 6
+health_of page = value_named almanac_fields (codes "health") page
 
 abbrev pub is_almanac_of : ℕ → Page → Bool
 is_almanac_of sv page = is_of almanac page && int_eq (almanac_sv page) (pos sv)
@@ -164,11 +167,15 @@ pub record AlmanacSet : Type 0 where
   pub toa : ℤ
   pub health : List ℤ
 
+-- the value of the field of a name, of almanac number k of those whose values these are
+abbrev pub value_of_almanac : List ℤ → ℕ → List ℕ → ℤ
+value_of_almanac values k name =
+    get_or values (length almanac_fields * k + place_of name almanac_fields) (pos 0)
+
 abbrev pub almanac_set : List ℤ → AlmanacSet
 almanac_set values = record {
-  toa = get_or values 3 (pos 0);
-  health =
-      map (λ k. get_or values (13 * k + 6) (pos 0)) (range_with_len 0 32);
+  toa = value_of_almanac values 0 (codes "toa");
+  health = map (λ k. value_of_almanac values k (codes "health")) (range_with_len 0 32);
 }
 
 -- what a page makes reported: a report of its own, and behind it perhaps a set of almanacs

@@ -3,7 +3,8 @@
 -- their scale factors, stand in the tables that are named with each list.
 use Rattle.std.specs.Prelude.{ℕ, ◌+◌, ◌-◌, ◌*◌, ◌/◌, ◌%◌, ◌^◌, ◌==◌, ◌&&◌, Bool, true, false}
 use Rattle.std.specs.Prelude.{if◌then◌else◌, ℤ, pos, ◌-ℤ◌, neg_ℤ, List, [], ◌∷◌, ◌++◌, map}
-use Rattle.std.specs.Prelude.{flat_map, length, slice_index, Option, Some, None, codes, unwrap_or}
+use Rattle.std.specs.Prelude.{flat_map, length, slice_index, Option, Some, None, codes, suc, unwrap_or}
+use Rattle.std.specs.Str.{bytes_eq}
 use Rattle.std.specs.Int.{bit_at}
 use Rattle.std.specs.Int.Digits.{number_from_digits}
 use Rattle.std.specs.List.{range_with_len, list_all}
@@ -35,6 +36,12 @@ unsigned name parts exponent =
 abbrev pub signed : List ℕ → List Bits → ℤ → Field
 signed name parts exponent =
     record { name = name; parts = parts; is_signed = true; exponent = exponent }
+
+-- the place of the field of a name among these fields, from 0
+abbrev pub place_of : List ℕ → List Field → ℕ
+place_of name [] = 0
+place_of name (field ∷ fields) =
+    if bytes_eq field.name name then 0 else suc (place_of name fields)
 
 abbrev pub minus : ℕ → ℤ
 minus n = neg_ℤ (pos n)
