@@ -64,7 +64,8 @@ impl Holding {
     /// How many samples there are to the next dump.
     pub fn to_event(&self) -> u64
         ensures some { 0 < result }
-        ensures through { code_cycle ≤ self.now.follower.code.phase + result * self.now.follower.code.step }
+        ensures through { code_cycle
+            ≤ self.now.follower.code.phase + result * self.now.follower.code.step }
         ensures before { self.now.follower.code.phase +
             (result - 1) * self.now.follower.code.step < code_cycle }
     {

@@ -54,7 +54,8 @@ impl Place {
         requires may { MayStep self.old.slot count }
         requires few { dumps_of self.old.slot < 2 ^ 62 }
         requires fits { array_vec_len replies.old ≤ 252 }
-        ensures { PlaceAdds (part run.now from count) time self.old self.new replies.old.items replies.new.items }
+        ensures { PlaceAdds (part run.now from count) time self.old self.new replies.old.items
+            replies.new.items }
     {
         let events = self.slot.step(run, from, count, book);
         for event in events.as_slice() {

@@ -57,7 +57,8 @@ impl CarrierOsc {
 
     /// Goes on by `n` samples.
     pub fn advance(&mut self, n: u64)
-        ensures { self.new ≡ record self.old { phase = carrier_phase_after self.old.phase self.old.step n } }
+        ensures { self.new
+            ≡ record self.old { phase = carrier_phase_after self.old.phase self.old.step n } }
     {
         // 2^32 samples add whole cycles, whatever the step, and so nothing.
         let turns = (n % (1 << 32)) as u32;
@@ -87,7 +88,8 @@ impl CarrierOsc {
     /// Cosine and sine at this sample and the 63 that follow. The oscillator goes on by 64 samples.
     pub fn next_word(&mut self) -> CarrierWord
         ensures word { IsCarrier self.old.phase self.old.step result }
-        ensures moved { self.new ≡ record self.old { phase = carrier_phase_after self.old.phase self.old.step 64 } }
+        ensures moved { self.new
+            ≡ record self.old { phase = carrier_phase_after self.old.phase self.old.step 64 } }
     {
         self.next_eighths()
     }
@@ -96,7 +98,8 @@ impl CarrierOsc {
     /// oscillator goes on by 64 samples.
     fn next_eighths(&mut self) -> CarrierWord
         ensures word { AreEighths self.old.phase self.old.step result }
-        ensures moved { self.new ≡ record self.old { phase = carrier_phase_after self.old.phase self.old.step 64 } }
+        ensures moved { self.new
+            ≡ record self.old { phase = carrier_phase_after self.old.phase self.old.step 64 } }
     {
         let turn = self.step.wrapping_mul(16);
         let mut word = CarrierWord {

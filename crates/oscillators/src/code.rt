@@ -91,14 +91,16 @@ impl CodeOsc {
 
         // So n is at most `to_wrap()`.
         requires within { self.old.phase + (n - 1) * self.old.step < code_cycle }
-        ensures { self.new ≡ record self.old { phase = code_phase_after self.old.phase self.old.step n } }
+        ensures { self.new
+            ≡ record self.old { phase = code_phase_after self.old.phase self.old.step n } }
     {
         self.phase = in_cycle(self.phase + n * self.step as u64);
     }
 
     /// Goes on by any number of samples, through as many cycles as they take.
     pub fn jump(&mut self, n: u64)
-        ensures { self.new ≡ record self.old { phase = code_phase_after self.old.phase self.old.step n } }
+        ensures { self.new
+            ≡ record self.old { phase = code_phase_after self.old.phase self.old.step n } }
     {
         let phase = self.phase as u128 + n as u128 * self.step as u128;
         self.phase = (phase % CODE_CYCLE as u128) as u64;
@@ -122,7 +124,8 @@ impl CodeOsc {
     /// stands for the codes as before.
     pub fn next_word(&mut self, book: &mut CodeBook, prn: Prn) -> ChipWord
         ensures word { AreChips prn self.old.phase self.old.step result }
-        ensures moved { self.new ≡ record self.old { phase = code_phase_after self.old.phase self.old.step 64 } }
+        ensures moved { self.new
+            ≡ record self.old { phase = code_phase_after self.old.phase self.old.step 64 } }
     {
         self.next_chips(book, prn)
     }
@@ -130,7 +133,8 @@ impl CodeOsc {
     /// The same, by the bits of the chips.
     fn next_chips(&mut self, book: &mut CodeBook, prn: Prn) -> ChipWord
         ensures word { AreChipBits prn self.old.phase self.old.step result }
-        ensures moved { self.new ≡ record self.old { phase = code_phase_after self.old.phase self.old.step 64 } }
+        ensures moved { self.new
+            ≡ record self.old { phase = code_phase_after self.old.phase self.old.step 64 } }
     {
         let turn = 16 * self.step as u64;
         let mut early = 0;
