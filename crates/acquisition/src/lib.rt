@@ -6,6 +6,19 @@
 //! and taken up at every cell, and stands for the greatest and the total of the powers of the cells
 //! that it has done. Once all are done it names the first greatest cell. (IS-GPS-200 has the signal
 //! alone; the search is this project's own.)
+//!
+//!     use acquisition::{PackedSamples, Plan, Search};
+//!     use ca_codes::{CodeBook, Prn};
+//!
+//!     // Satellite 5 within 4 kHz of 0, over 2 ms of samples from the first one on.
+//!     let plan = Plan::new(Prn::new(5)?, 0, 16, 2, 25)?;
+//!     let mut search = Search::new(plan, &settings, 0);
+//!     let samples = PackedSamples::new(settings.format(), &bytes, 0);
+//!     search.advance(plan.cells(), &samples, &mut CodeBook::new());
+//!     if let Some(cell) = search.result().filter(|cell| cell.found) {
+//!         // The signal is followed from the dwell's first sample on at this shift and half chip.
+//!         let start = (plan.doppler(&cell), cell.half);
+//!     }
 #![tactic(auto)]
 
 mod bin_steps;

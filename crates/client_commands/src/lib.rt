@@ -2,6 +2,16 @@
 //!
 //! `Script` gives the entries of a script in order, each a command or the refusal of its line, at its time; then none. They are proved
 //! to be the entries of the script's definition, for every list of bytes. (Scripts are this project's own.)
+//!
+//!     use client_commands::Script;
+//!
+//!     let mut script = Script::new(text);
+//!     while let Some(timed) = script.next() {
+//!         match timed.what {
+//!             Ok(command) => carry_out(timed.time, command),
+//!             Err(refusal) => println!(rt; "{} err {}", timed.time, refusal.number())?,
+//!         }
+//!     }
 #![tactic(auto)]
 
 mod line;

@@ -4,6 +4,18 @@
 //! reported as one set where they are of one issue of data, and once as long as it stays the same; a
 //! page of any other kind is reported each time. The crate promises that the [`Report`] of each page
 //! is what the definition makes of all the pages so far, however many there are.
+//!
+//!     use data_sets::{DataSets, Report};
+//!     use subframes::Page;
+//!
+//!     let mut sets = DataSets::new();
+//!     if let Some(page) = Page::read(&subframe) {
+//!         // The clock and ephemeris come with the last of their three pages.
+//!         if let Some(Report::Eph(numbers)) = sets.take(&page) {
+//!             // In the order of `Kind::Clock.fields()` the fifth is the issue of the clock.
+//!             let issue = numbers[4];
+//!         }
+//!     }
 #![tactic(auto)]
 
 mod data_sets;

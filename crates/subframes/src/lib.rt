@@ -4,6 +4,15 @@
 //! subframe is complete and its kind is known. Both go by tables of the standard's own bit numbers,
 //! and promise the number that the bits of the definitions' table write, in two's complement where
 //! the standard marks it.
+//!
+//!     use subframes::{ClockField, Field, Kind, Page, field};
+//!
+//!     // The group delay in 2^-31 s, wherever its own word is there.
+//!     let delay = field(&subframe, Field::Clock(ClockField::Tgd));
+//!     // All numbers of a complete subframe, each in the unit of its field.
+//!     if let Some(Page::Clock(numbers)) = Page::read(&subframe) {
+//!         let fields = Kind::Clock.fields();
+//!     }
 #![tactic(auto)]
 
 mod almanac;

@@ -1,6 +1,17 @@
 //! The loops that steer a tracking channel of a GPS L1 C/A receiver by its dumps, and the news of whether it is locked to its signal.
 //! All of it is this project's own, in exact whole numbers, with quotients that round toward minus infinity. The crate promises that
 //! the channel's shift, its count of dumps and its news are what the definition says of the list of all dumps taken.
+//!
+//!     use tracking_loops::{Loops, News};
+//!
+//!     // Begins with a shift of 1,250 Hz, in 1/65536 Hz.
+//!     let mut loops = Loops::start(1_250 * 65_536);
+//!     for counts in dumps {
+//!         if loops.take(counts) == News::Lost {
+//!             break;
+//!         }
+//!         let (shift, code_rate) = (loops.v(), loops.w());
+//!     }
 #![tactic(auto)]
 
 mod discriminators;
