@@ -23,6 +23,7 @@ impl HeldText {
     ghost use Rattle.receiver.specs.Devices.{TellsFailure};
     ghost use Rattle.receiver.specs.HeldTexts.{held, promised};
     ghost use Rattle.receiver.specs.Texts.{Grows};
+    ghost use Rattle.receiver.specs.declared.lines.TheConstants.{LINE_BYTES};
 
     /// Nothing is held back.
     pub fn new() -> Self
@@ -36,7 +37,7 @@ impl HeldText {
 
     /// Holds a line back, and first writes what there was where there is no room for the line.
     pub fn put<W: Sink>(&mut self, writer: &mut W, line: &[u8]) -> Result<(), DeviceFault>
-        requires short { length line.now ≤ 1024 }
+        requires short { length line.now ≤ LINE_BYTES }
         ensures ok { OnOk result (Appends (promised (W.contents writer.old) self.old)
             (promised (W.contents writer.new) self.new) line.now) }
         ensures err { OnErr result (Keeps (promised (W.contents writer.old) self.old)

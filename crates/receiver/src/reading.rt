@@ -10,6 +10,7 @@ ghost use Rattle.receiver.specs.Offered.{offered};
 ghost use Rattle.receiver.specs.Runs.{seen, IsWrittenTo, HasRead, BrokeOffReading};
 ghost use Rattle.receiver.specs.Sessions.{packing_in, time_of, until_next};
 ghost use Rattle.receiver.specs.Texts.{AppendsPart, Grows};
+ghost use Rattle.receiver.specs.declared.reading.TheConstants.{READ_BYTES};
 
 use crate::devices::{DeviceFault, Sink, Source};
 use crate::faults::Stop;
@@ -73,7 +74,7 @@ fn take_piece<W: Sink>(
     writer: &mut W,
 ) -> Result<(), DeviceFault>
     requires empty { replies.old.items ≡ [] }
-    requires short { length bytes.now ≤ 65536 }
+    requires short { length bytes.now ≤ READ_BYTES }
     requires per_byte { per_byte ≡ samples_per_byte (packing_in session.old) }
     requires room { time_of session.old + sample_count (packing_in session.old) bytes.now ≤ 2 ^ 40 }
     requires ready { 0 < until_next session.old }
