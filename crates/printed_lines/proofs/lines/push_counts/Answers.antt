@@ -2,8 +2,8 @@ use Rattle.std.proofs.Common.{FitsSigned, w32, rules}
 use Rattle.std.proofs.lemmas.Int.{to_z-of_z}
 use Rattle.std.specs.Fmt.{signed_decimal}
 use Rattle.std.proofs.Common.{◌∷◌}
-use Rattle.receiver.proofs.LineLemmas.{six_parts}
-use Rattle.receiver.proofs.lines.push_counts.Goals as goal
+use Rattle.printed_lines.proofs.LineLemmas.{six_parts}
+use Rattle.printed_lines.proofs.lines.push_counts.Goals as goal
 
 pub returns-clause-text : goal.returns-clause-text
 returns-clause-text c =

@@ -7,7 +7,7 @@ ghost use Rattle.definitions.specs.Lines.{ended_line};
 ghost use Rattle.definitions.specs.Texts.{for_client, at_time};
 ghost use Rattle.lane_correlator.specs.Counting.{counts_in};
 ghost use Rattle.channel_slots.specs.Replies.{text_of, line_of, view_in};
-ghost use Rattle.receiver.specs.LineTexts.{counts_text, state_text};
+ghost use Rattle.printed_lines.specs.LineTexts.{counts_text, state_text};
 
 use arrayvec::ArrayVec;
 use channel_slots::{Event, Reply, SlotState};

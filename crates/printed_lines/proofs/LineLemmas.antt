@@ -9,7 +9,7 @@ use Rattle.definitions.specs.Texts.{event_text, answer_text}
 use Rattle.channel_slots.specs.declared.reply.SlotState.{SlotState}
 use Rattle.channel_slots.specs.declared.reply.SlotState.TheVariants.{Idle, Hold}
 use Rattle.channel_slots.specs.Replies.{view_in}
-use Rattle.receiver.specs.LineTexts.{counts_text, state_text}
+use Rattle.printed_lines.specs.LineTexts.{counts_text, state_text}
 
 pub six_parts : (line a b c d e f : List ℕ) → (((((line ++ a) ++ b) ++ c) ++ d) ++ e) ++ f ≡ line ++ ((((((a ++ b) ++ c) ++ d) ++ e) ++ f))
 six_parts line a b c d e f = simp append_assoc

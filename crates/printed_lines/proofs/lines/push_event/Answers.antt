@@ -3,8 +3,8 @@ use Rattle.std.specs.Prelude.{ℕ, List}
 use Rattle.channel_slots.specs.Replies.{text_of}
 use Rattle.channel_slots.specs.declared.reply.Event.{Event}
 use Rattle.lane_correlator.specs.Counting.{counts_in}
-use Rattle.receiver.proofs.LineLemmas.{count-text, refused-text, state-text, accepted-text}
-use Rattle.receiver.proofs.lines.push_event.Goals as goal
+use Rattle.printed_lines.proofs.LineLemmas.{count-text, refused-text, state-text, accepted-text}
+use Rattle.printed_lines.proofs.lines.push_event.Goals as goal
 
 -- the text of an event that is known
 known : (line : List ℕ) (slot : ℕ) (event : Event) (now : Event) → now ≡ event → line ++ text_of slot event ≡ line ++ text_of slot now
