@@ -1,1 +1,1 @@
-pub mod LineTexts
+pub mod Room

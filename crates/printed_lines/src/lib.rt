@@ -12,5 +12,7 @@
 mod lines;
 #[cfg(test)]
 mod tests;
+mod words;
 
-pub use lines::{LINE_BYTES, Line, end_line, line};
+pub use lines::{end_line, line};
+pub use words::{LINE_BYTES, Line};
