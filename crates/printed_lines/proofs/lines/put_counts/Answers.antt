@@ -1,9 +1,8 @@
 use Rattle.std.proofs.Common.{FitsSigned, w32, rules}
 use Rattle.std.proofs.lemmas.Int.{to_z-of_z}
-use Rattle.std.specs.Fmt.{signed_decimal}
-use Rattle.std.proofs.Common.{◌∷◌}
-use Rattle.receiver.proofs.LineLemmas.{six_parts}
-use Rattle.receiver.proofs.lines.push_counts.Goals as goal
+use Rattle.lane_correlator.specs.Counting.{counts_in}
+use Rattle.printed_lines.proofs.LineLemmas.{count-text}
+use Rattle.printed_lines.proofs.lines.put_counts.Goals as goal
 
 pub returns-clause-text : goal.returns-clause-text
 returns-clause-text c =
@@ -15,12 +14,15 @@ returns-clause-text c =
     let il : FitsSigned w32 c.args.counts.il = search rules in
     let ql : FitsSigned w32 c.args.counts.ql = search rules in
     rw (
-      c.push_signed-6.ensures.text,
-      c.push_signed-5.ensures.text,
-      c.push_signed-4.ensures.text,
-      c.push_signed-3.ensures.text,
-      c.push_signed-2.ensures.text,
-      c.push_signed.ensures.text,
+      c.signed-6.ensures.text,
+      c.signed-5.ensures.text,
+      c.signed-4.ensures.text,
+      c.signed-3.ensures.text,
+      c.signed-2.ensures.text,
+      c.signed.ensures.text,
+      c.number.ensures.text,
+      c.into.ensures,
+      c.word.ensures.text,
       to_z-of_z w32 counts.ie ie,
       to_z-of_z w32 counts.qe qe,
       to_z-of_z w32 counts.ip ip,
@@ -28,4 +30,4 @@ returns-clause-text c =
       to_z-of_z w32 counts.il il,
       to_z-of_z w32 counts.ql ql,
     )
-    (six_parts c.args.line.now.items (32 ∷ signed_decimal counts.ie) (32 ∷ signed_decimal counts.qe) (32 ∷ signed_decimal counts.ip) (32 ∷ signed_decimal counts.qp) (32 ∷ signed_decimal counts.il) (32 ∷ signed_decimal counts.ql))
+    (count-text c.args.words.now c.args.slot (counts_in counts))

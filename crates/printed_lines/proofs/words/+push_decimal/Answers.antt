@@ -2,8 +2,8 @@ use Rattle.std.proofs.Common.{◌≡◌, ◌+◌, ◌/◌, ◌%◌, length, leng
 use Rattle.std.specs.Fmt.{decimal}
 use Rattle.std.proofs.lemmas.Fmt.{decimal_digit, decimal_step, length-decimal-le}
 use Rattle.arrayvec.specs.ArrayVec.{array_vec_len}
-use Rattle.receiver.proofs.lines.+push_decimal.Goals as goal
-use Rattle.receiver.proofs.lines.+push_decimal.Goals.{then-n-ge10, else-n-ge10}
+use Rattle.printed_lines.proofs.words.+push_decimal.Goals as goal
+use Rattle.printed_lines.proofs.words.+push_decimal.Goals.{then-n-ge10, else-n-ge10}
 
 pub returns-clause-text : goal.returns-clause-text
 returns-clause-text t c = elim c.if-n-ge10.branch [
