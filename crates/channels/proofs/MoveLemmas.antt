@@ -5,10 +5,10 @@ use Rattle.definitions.specs.Oscillators.{carrier_phase_after}
 use Rattle.definitions.specs.Correlation.{Counts, replica_of, six_sums, added}
 use Rattle.lane_correlator.specs.Counting.{counts_in}
 use Rattle.lane_correlator.specs.ReplicaWords.{phases_of}
-use Rattle.channel_slots.specs.declared.follower.Follower.{Follower}
-use Rattle.channel_slots.specs.Parts.{part}
-use Rattle.channel_slots.proofs.FollowingLemmas.{Moves}
-use Rattle.channel_slots.proofs.PartLemmas.{part-length, part-sums}
+use Rattle.channels.specs.declared.follower.Follower.{Follower}
+use Rattle.channels.specs.Parts.{part}
+use Rattle.channels.proofs.FollowingLemmas.{Moves}
+use Rattle.channels.proofs.PartLemmas.{part-length, part-sums}
 
 pub moves_by : (f : Follower) (run : List Sample) (from count turn : ℕ) (six total : Counts) → from + count ≤ length run
     → turn ≡ carrier_phase_after f.carrier.phase f.carrier.step count

@@ -1,11 +1,10 @@
 //! The beginning of a recording, and the dumps that two references apart from this project give for
 //! it.
 
-ghost use Rattle.std.specs.Prelude.{◌+◌, ◌<◌, ◌≤◌, IfOk};
-ghost use Rattle.channel_slots.specs.Slots.{dumps_of};
+ghost use Rattle.std.specs.Prelude.{◌≡◌, ◌+◌, ◌<◌, ◌≤◌, IfOk};
+ghost use Rattle.channels.specs.HeldChannels.{dumps_of};
 
-use super::{counted, slot_zero, sums};
-use crate::{Command, Event, Slot};
+use crate::Held;
 use ca_codes::{CodeBook, Prn};
 use lane_correlator::Counts;
 use oscillators::{Doppler, HalfChip, Settings};
@@ -44,24 +43,47 @@ const RECORDING: [u8; 424] = [
     0x70, 0x04, 0x5c, 0xc5, 0x67, 0x04, 0x93, 0xaf,
 ];
 
-/// Takes samples of the recording from a place on, as far as the slot may go, and gives the place
-/// behind them and what they tell.
-fn next(slot: &mut Slot, place: usize) -> Result<(usize, Option<Counts>), Fail>
-    requires few { dumps_of slot.old < 8 }
-    ensures few { dumps_of slot.new ≤ dumps_of slot.old + 1 }
+/// Sums in the order of a line of counts.
+fn sums([ie, qe, ip, qp, il, ql]: [i32; 6]) -> Counts {
+    Counts {
+        ie,
+        qe,
+        ip,
+        qp,
+        il,
+        ql,
+    }
+}
+
+/// A satellite that is held before the first sample.
+fn held(settings: &Settings, prn: u8, doppler: i32, half: u16) -> Result<Held, Fail>
+    ensures few { IfOk result (λ held. dumps_of held ≡ 0) }
+{
+    let prn = Prn::new(prn).ok_or("a satellite")?;
+    let doppler = Doppler::new(doppler).ok_or("a shift")?;
+    let half = HalfChip::new(half).ok_or("a half chip")?;
+    Ok(Held::start(settings, prn, doppler, half))
+}
+
+/// Takes samples of the recording from a place on, as far as the next dump, and gives the place
+/// behind them and the dump.
+fn next(held: &mut Held, place: usize) -> Result<(usize, Option<Counts>), Fail>
+    requires few { dumps_of held.old < 8 }
+    ensures few { dumps_of held.new ≤ dumps_of held.old + 1 }
 {
     if 3_392 <= place {
         return Err(Fail::new("the recording is at its end"));
     }
     // The run begins before the place, where it can.
     let before = place.min(24);
-    let room = slot.room((3_392 - place).min(1_000));
+    let most = (3_392 - place).min(1_000);
+    let room = held.to_dump().min(most as u64) as usize;
     let samples = unpack(Format::Real1, &RECORDING, place - before, before + room);
     if samples.len() != before + room {
         return Err(Fail::new("samples are missing"));
     }
-    let told = counted(&slot.step(&samples, before, room, &mut CodeBook::new()));
-    Ok((place + room, told))
+    let dump = held.take(&samples, before, room, &mut CodeBook::new());
+    Ok((place + room, dump))
 }
 
 // The first segment begins at half chip 700 and ends with sample 1,345; it takes two runs. The
@@ -69,30 +91,22 @@ fn next(slot: &mut Slot, place: usize) -> Result<(usize, Option<Counts>), Fail>
 #[test]
 fn first_counts_of_a_recording(rt: HostRuntime) -> Result<(), Fail> {
     let settings = Settings::new(2_046_000, 511_500, Format::Real1)?;
-    let mut slot = Slot::new();
-    let hold = Command::Hold {
-        slot: slot_zero()?,
-        prn: Prn::new(5).ok_or("a satellite")?,
-        doppler: Doppler::new(1_250).ok_or("a shift")?,
-        half: HalfChip::new(700).ok_or("a half chip")?,
-    };
-    let counts = Command::Counts {
-        slot: slot_zero()?,
-        n: 5,
-    };
-    assert_eq!(rt; slot.command(&settings, hold), Event::Accepted);
-    assert_eq!(rt; slot.command(&settings, counts), Event::Accepted);
-    let (place, told) = next(&mut slot, 0)?;
-    assert_eq!(rt; told, None);
-    let (place, told) = next(&mut slot, place)?;
-    let dump = sums([-354, -50, -704, -12, -432, -42]);
-    assert_eq!(rt; (place, told), (1_346, Some(dump)));
-    let (place, told) = next(&mut slot, place)?;
-    assert_eq!(rt; told, None);
-    let (place, told) = next(&mut slot, place)?;
-    assert_eq!(rt; told, None);
-    let (place, told) = next(&mut slot, place)?;
-    let dump = sums([-623, -73, -1_079, 11, -483, 143]);
-    assert_eq!(rt; (place, told), (3_392, Some(dump)));
+    let mut held = held(&settings, 5, 1_250, 700)?;
+    assert_eq!(rt;
+        (held.prn().get(), held.dumps(), held.to_dump()),
+        (5, 0, 1_346)
+    );
+    let (place, dump) = next(&mut held, 0)?;
+    assert_eq!(rt; dump, None);
+    let (place, dump) = next(&mut held, place)?;
+    let first = sums([-354, -50, -704, -12, -432, -42]);
+    assert_eq!(rt; (place, dump, held.dumps()), (1_346, Some(first), 1));
+    let (place, dump) = next(&mut held, place)?;
+    assert_eq!(rt; dump, None);
+    let (place, dump) = next(&mut held, place)?;
+    assert_eq!(rt; dump, None);
+    let (place, dump) = next(&mut held, place)?;
+    let second = sums([-623, -73, -1_079, 11, -483, 143]);
+    assert_eq!(rt; (place, dump, held.dumps()), (3_392, Some(second), 2));
     Ok(())
 }

@@ -1,16 +1,17 @@
-use Rattle.std.proofs.Common.{◌≡◌, ◌+◌, ◌-◌, ◌*◌, ◌<◌, List, length, refl, ap, sym}
+use Rattle.std.proofs.Common.{◌≡◌, ◌+◌, ◌-◌, ◌*◌, ◌<◌, List, length, refl, ap, sym, arith}
 use Rattle.definitions.specs.Samples.{Sample}
 use Rattle.definitions.specs.Oscillators.{code_cycle}
 use Rattle.oscillators.specs.Views.{Oscillation}
 use Rattle.lane_correlator.specs.Counting.{counts_in}
-use Rattle.channel_slots.specs.Sizes.{GrowWith}
-use Rattle.channel_slots.specs.Parts.{part}
-use Rattle.channel_slots.proofs.FollowingLemmas.{stays, closes}
-use Rattle.channel_slots.proofs.MoveLemmas.{moves_by}
-use Rattle.channel_slots.proofs.PartLemmas.{part-length}
-use Rattle.channel_slots.proofs.WrapLemmas.{quiet, wraps}
-use Rattle.channel_slots.proofs.SizeLemmas.{sums_fit, sums_grow}
-use Rattle.channel_slots.proofs.follower.Follower.advance.Goals as goal
+use Rattle.channels.specs.Sizes.{GrowWith}
+use Rattle.channels.specs.Parts.{part}
+use Rattle.channels.proofs.FollowingLemmas.{stays, closes}
+use Rattle.channels.proofs.MoveLemmas.{moves_by}
+use Rattle.channels.proofs.PartLemmas.{part-length}
+use Rattle.channels.proofs.WrapLemmas.{quiet, wraps, past_less}
+use Rattle.channels.proofs.ChanceLemmas.{chance-moves, chance-wraps}
+use Rattle.channels.proofs.SizeLemmas.{sums_fit, sums_grow}
+use Rattle.channels.proofs.follower.Follower.advance.Goals as goal
 
 pub add-sums-requires : goal.add-sums-requires
 add-sums-requires c =
@@ -55,8 +56,15 @@ returns-else-ends-clause-stays c none settings channel xs s =
     (ap (λ (o : Oscillation). o.phase) c.advance-2.ensures) c.replica_sums-more.ensures.sums c.add-sums.ensures in
     stays settings channel xs ys f s _ c.advance-2.new.self.phase (counts_in c.add-sums.result) moves some (after.0) _ refl (after.1) refl (ap (λ (o : Oscillation). o.step) c.advance.ensures) (ap (λ (o : Oscillation). o.step) c.advance-2.ensures) refl
 
-pub returns-else-ends-clause-moved : goal.returns-else-ends-clause-moved
-returns-else-ends-clause-moved c none =
+pub returns-then-ends-clause-chance : goal.returns-then-ends-clause-chance
+returns-then-ends-clause-chance c left h few =
+    let f = c.args.self.now in
+    let after = wraps f.code c.advance.new.self c.args.count c.args.count c.to_wrap.result refl c.advance.ensures c.requires.some c.requires.before f.slow c.to_wrap.ensures.through c.if-ends.true in
+    let low = past_less f.code.phase f.code.step c.args.count _ c.requires.some c.requires.before (after.0) (after.1) in
+    chance-wraps f.code.phase f.code.step c.args.count left _ _ 1 h few f.slow (ap (λ (o : Oscillation). o.step) c.advance.ensures) low (after.0) (omega arith)
+
+pub returns-else-ends-clause-chance : goal.returns-else-ends-clause-chance
+returns-else-ends-clause-chance c left h few =
     let f = c.args.self.now in
     let after = quiet f.code c.advance.new.self c.args.count c.args.count c.to_wrap.result refl c.advance.ensures c.requires.some c.requires.before c.to_wrap.ensures.through c.to_wrap.ensures.least c.if-ends.false in
-    after.1
+    chance-moves f.code.phase f.code.step c.args.count left _ _ h (ap (λ (o : Oscillation). o.step) c.advance.ensures) (after.1)

@@ -5,7 +5,7 @@ use Rattle.std.proofs.lemmas.List.{length-take-le, length-drop, get_or-take, get
 use Rattle.definitions.specs.Samples.{Sample, sample_at, real}
 use Rattle.definitions.specs.Correlation.{Replica, six_sums}
 use Rattle.definitions.proofs.CorrelationLemmas.{six_sums-same}
-use Rattle.channel_slots.specs.Parts.{part}
+use Rattle.channels.specs.Parts.{part}
 
 pub part-length : (run : List Sample) (from count : ℕ) → from + count ≤ length run → length (part run from count) ≡ count
 part-length run from count within = length-take-le count (drop from run) (rw length-drop (omega (arith, within)))

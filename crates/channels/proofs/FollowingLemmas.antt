@@ -10,9 +10,9 @@ use Rattle.definitions.specs.Segments.{Channel, Progress, progress, open_phases,
 use Rattle.definitions.proofs.BlockLemmas.{progress-begun, progress-quiet, progress-closes, quiet-through, last-through, phase-split}
 use Rattle.definitions.proofs.SplitLemmas.{counts_over-more, counts_over-none, carrier_on}
 use Rattle.definitions.specs.Lives.{held_channel, doppler_shift}
-use Rattle.channel_slots.specs.declared.follower.Follower.{Follower}
+use Rattle.channels.specs.declared.follower.Follower.{Follower}
 use Rattle.lane_correlator.specs.Counting.{counts_in}
-use Rattle.channel_slots.specs.Following.{IsAt, Follows, Stays, Closes, QuietInside}
+use Rattle.channels.specs.Following.{IsAt, Follows, Stays, Closes, QuietInside}
 
 -- what a block does to a follower, before the end of a segment is looked at
 pub record Moves (ys : List Sample) (f : Follower) (phase turn : ℕ) (total : Counts) : Type 0 where

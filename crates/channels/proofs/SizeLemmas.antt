@@ -6,7 +6,7 @@ use Rattle.definitions.specs.Oscillators.{code_cycle}
 use Rattle.definitions.specs.Correlation.{Counts as Sums, added}
 use Rattle.lane_correlator.specs.declared.counts.Counts.{Counts}
 use Rattle.lane_correlator.specs.Counting.{counts_in, SumsFit, AreWithin}
-use Rattle.channel_slots.specs.Sizes.{GrowWith}
+use Rattle.channels.specs.Sizes.{GrowWith}
 
 abs_add : (a b : ℤ) → unsigned_abs (a +ℤ b) ≤ unsigned_abs a + unsigned_abs b
 abs_add a b = omega (arith, ints)

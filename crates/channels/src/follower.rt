@@ -1,15 +1,16 @@
-ghost use Rattle.std.specs.Prelude.{◌≡◌, ◌≤◌, ◌<◌, ◌+◌, ◌-◌, ◌*◌, ◌^◌};
+ghost use Rattle.std.specs.Prelude.{◌≡◌, ◌≤◌, ◌<◌, ◌+◌, ◌-◌, ◌*◌};
 ghost use Rattle.definitions.specs.Oscillators.{code_cycle};
-ghost use Rattle.channel_slots.specs.Sizes.{GrowWith};
+ghost use Rattle.channels.specs.Sizes.{GrowWith};
 
 use ca_codes::{CodeBook, Prn};
 use lane_correlator::{Counts, replica_sums};
 use oscillators::{CarrierOsc, CodeOsc, Doppler, HalfChip, Settings};
 use sample_planes::Planes;
 
-/// The open segment of a channel: the code and the carrier at the next sample, and the sums so far.
+/// The open segment of a channel: the satellite, the code and the carrier at the next sample, and
+/// the sums so far. It stands for the channel and the samples taken.
 #[derive(Debug, Drop)]
-pub(crate) struct Follower {
+pub struct Follower {
     prn: Prn,
     code: CodeOsc,
     carrier: CarrierOsc,
@@ -21,17 +22,18 @@ pub(crate) struct Follower {
 }
 
 impl Follower {
-    ghost use Rattle.std.specs.Prelude.{List, length, ◌++◌, IfSome, IsNone, IsSome};
+    ghost use Rattle.std.specs.Prelude.{ℕ, List, length, IfSome, IsNone};
     ghost use Rattle.definitions.specs.Samples.{Sample};
     ghost use Rattle.definitions.specs.Oscillators.{Settings as Recording};
     ghost use Rattle.definitions.specs.Segments.{Channel};
     ghost use Rattle.definitions.specs.Lives.{held_channel};
     ghost use Rattle.lane_correlator.specs.Counting.{counts_in};
-    ghost use Rattle.channel_slots.specs.Following.{Follows, Stays, Closes};
-    ghost use Rattle.channel_slots.specs.Parts.{part};
+    ghost use Rattle.channels.specs.Following.{Follows, Stays, Closes, MayTake, Ends, prn_of, chance, how_many};
+    ghost use Rattle.channels.specs.Parts.{part};
 
-    /// Begins at the next sample, with the code at a half chip.
-    pub(crate) fn start(settings: &Settings, prn: Prn, doppler: Doppler, half: HalfChip) -> Follower
+    /// Begins at the next sample, with the code at a half chip of its cycle and the carrier at 0.
+    /// It goes on at this Doppler shift.
+    pub fn start(settings: &Settings, prn: Prn, doppler: Doppler, half: HalfChip) -> Follower
         ensures { (xs : List Sample)
             → Follows settings.now (held_channel (length xs) prn doppler half) xs result }
     {
@@ -44,24 +46,26 @@ impl Follower {
         }
     }
 
-    pub(crate) fn prn(&self) -> Prn
-        ensures { result ≡ self.now.prn }
+    /// The satellite that it follows.
+    pub fn prn(&self) -> Prn
+        ensures { result ≡ prn_of self.now }
     {
         self.prn
     }
 
-    /// How many samples there are to the end of the segment.
-    pub(crate) fn to_end(&self) -> u64
+    /// How many samples there are to the end of the segment, at least 1.
+    pub fn to_end(&self) -> u64
         ensures some { 0 < result }
-        ensures through { code_cycle ≤ self.now.code.phase + result * self.now.code.step }
-        ensures before { self.now.code.phase + (result - 1) * self.now.code.step < code_cycle }
+        ensures ends { Ends self.now result }
+        ensures before { (count : ℕ) → count ≤ result → MayTake self.now count }
     {
         self.code.to_wrap()
     }
 
-    /// Takes `count` samples of a run, from sample `from` on, that don't go past the segment's end.
-    /// It answers the segment's sums if it ends with the last of them.
-    pub(crate) fn advance(
+    /// Takes `count` samples of a run, at least one and from sample `from` on, that don't go past
+    /// the segment's end. It answers the segment's sums if it ends with the last of them. The book
+    /// is any book of codes.
+    pub fn advance(
         &mut self,
         run: &Planes,
         from: usize,
@@ -70,7 +74,7 @@ impl Follower {
     ) -> Option<Counts>
         requires some { 0 < count }
         requires within { from + count ≤ length run.now }
-        requires before { self.old.code.phase + (count - 1) * self.old.code.step < code_cycle }
+        requires before { MayTake self.old count }
         ensures stays { IsNone result
             → (settings : Recording) (channel : Channel) (xs : List Sample)
             → Follows settings channel xs self.old
@@ -79,12 +83,8 @@ impl Follower {
             (xs : List Sample)
             → Follows settings channel xs self.old
             → Closes settings channel xs (part run.now from count) (counts_in c) self.new) }
-        ensures step { self.new.code.step ≡ self.old.code.step }
-        ensures slow { self.old.code.step ≤ 3000000000 }
-        ensures moved { IsNone result
-            → self.new.code.phase ≡ self.old.code.phase + count * self.old.code.step }
-        ensures wrapped { IsSome result → (self.new.code.phase < self.old.code.step)
-            × (code_cycle ≤ self.old.code.phase + count * self.old.code.step) }
+        ensures chance { (left : ℕ) → count ≤ left → left ≤ 1024
+            → chance self.new (left - count) + how_many result ≤ chance self.old left }
     {
         let more = replica_sums(run, from, count, &self.carrier, &self.code, book, self.prn);
         let sums = self.sums.add(&more);

@@ -45,3 +45,11 @@ pub wraps : (code new : Oscillation) (len n w : ℕ) → len ≡ n → new ≡ r
 wraps code new len n w is e some before slow through ends =
     let high : code_cycle ≤ code.phase + n * code.step = rw (← is, ← ends) through in
     (high, ap (λ (o : Oscillation). o.phase) e ∙ ap (λ k. code_phase_after code.phase code.step k) is ∙ past_wrap code.phase code.step n some before slow high)
+
+-- past the end by less than a step
+pub past_less : (phase step n new : ℕ) → 0 < n → phase + (n - 1) * step < code_cycle → code_cycle ≤ phase + n * step → new ≡ phase + n * step - code_cycle → new < step
+past_less phase step zero new some before high is = absurd (omega (arith, some))
+past_less phase step (suc m) new some before high is =
+    let more : suc m * step ≡ step + m * step = omega arith in
+    let low : phase + m * step < code_cycle = simp unary_clauses at before in
+    omega (arith, more, low, high, is)

@@ -3,8 +3,8 @@ use Rattle.std.proofs.lemmas.Int.{to_z-of_z, fits_signed_from_abs, unsigned_abs-
 use Rattle.std.proofs.Math.Nat.{mul-le-mul_right}
 use Rattle.definitions.specs.Oscillators.{code_step, carrier_step}
 use Rattle.oscillators.specs.Views.{Oscillation}
-use Rattle.channel_slots.proofs.FollowingLemmas.{started}
-use Rattle.channel_slots.proofs.follower.Follower.start.Goals as goal
+use Rattle.channels.proofs.FollowingLemmas.{started}
+use Rattle.channels.proofs.follower.Follower.start.Goals as goal
 
 computed : (v d : ℤ) → v ≡ d → unsigned_abs d ≤ 16000 → to_z w64 (of_z w64 (to_z w64 (of_z w64 v) *ℤ pos 65536)) ≡ d *ℤ pos 65536
 computed v d is h =
