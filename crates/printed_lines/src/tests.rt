@@ -48,18 +48,27 @@ fn each_kind_of_reply(rt: HostRuntime) -> Result<(), Fail> {
             time: 1_099_511_627_776,
             event,
         };
-        assert_eq!(rt; line(&reply).as_slice(), text);
+        let printed = line(&reply);
+        let bytes: &[u8] = &printed;
+        assert_eq!(rt; bytes, text);
     }
     Ok(())
 }
 
 #[test]
 fn last_lines(rt: HostRuntime) -> Result<(), Fail> {
-    assert_eq!(rt; end_line(1, 0).as_slice(), b"1 0 end\n".as_slice());
-    let latest = end_line(255, 18_446_744_073_709_551_615);
-    assert_eq!(rt;
-        latest.as_slice(),
-        b"255 18446744073709551615 end\n".as_slice()
-    );
+    let rows: [(u8, u64, &[u8]); 2] = [
+        (1, 0, b"1 0 end\n"),
+        (
+            255,
+            18_446_744_073_709_551_615,
+            b"255 18446744073709551615 end\n",
+        ),
+    ];
+    for (client, time, text) in rows {
+        let printed = end_line(client, time);
+        let bytes: &[u8] = &printed;
+        assert_eq!(rt; bytes, text);
+    }
     Ok(())
 }

@@ -30,4 +30,4 @@ returns-clause-text c =
       to_z-of_z w32 counts.il il,
       to_z-of_z w32 counts.ql ql,
     )
-    (count-text c.args.words.now c.args.slot (counts_in counts))
+    (count-text c.args.line.now c.args.slot (counts_in counts))
