@@ -17,6 +17,7 @@ mod devices;
 mod due;
 mod faults;
 mod held_text;
+mod lines;
 mod queue;
 mod queues;
 mod reading;

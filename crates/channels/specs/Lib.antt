@@ -1,4 +1,0 @@
-pub mod Following
-pub mod HeldChannels
-pub mod Parts
-pub mod Sizes
