@@ -1,9 +1,9 @@
 -- Replies that are told, put in by time; and what a place tells over a run that it takes by its own events.
 use Rattle.std.proofs.Common.{◌≡◌, ℕ, zero, suc, inl, inr, ◌+◌, ◌-◌, ◌<◌, ◌≤◌, List, [], ◌∷◌, ◌++◌, length, take, drop, get_or, refl, sym, ap, ◌∙◌, arith, length-append, append-nil, append_assoc}
-use Rattle.std.specs.Prelude.{Option, Some, None, map, Bool, true, false, if◌then◌else◌, nat_le, ◌*◌}
+use Rattle.std.specs.Prelude.{Option, Some, None, map}
+use Rattle.channels.proofs.HeldLemmas.{one-dump}
 use Rattle.channel_slots.specs.declared.slot.Slot.{Slot}
 use Rattle.channel_slots.specs.declared.slot.Slot.TheVariants.{Idle, Holds}
-use Rattle.definitions.specs.Oscillators.{code_cycle}
 use Rattle.std.proofs.lemmas.Bool.{cases_lt, lt-ltb, le-ltb}
 use Rattle.std.proofs.lemmas.List.{map-append}
 use Rattle.definitions.specs.Samples.{Sample}
@@ -128,11 +128,7 @@ goes-more left n ys zs time p q r before mid after g a is some within short =
     both_told : (rs ss : List Reply) (es fs : List SlotEvent) → AreTold rs es → AreTold ss fs → AreTold (rs ++ ss) (es ++ fs)
     both_told rs ss es fs a b = map-append told_in rs ss ∙ (λ i. a i ++ b i) ∙ sym (map-append (λ (e : SlotEvent). Some e) es fs)
 
-at_most_one : (b : Bool) → (if b then 1 else 0) ≤ 1
-at_most_one true = omega arith
-at_most_one false = omega arith
-
 -- in 1,024 samples there is one dump of a slot at most
 pub one-chance : (slot : Slot) (left : ℕ) → chances slot left ≤ 1
 one-chance Idle left = omega arith
-one-chance (Holds h) left = at_most_one (nat_le code_cycle (h.follower.code.phase + left * h.follower.code.step))
+one-chance (Holds h) left = one-dump h.held left

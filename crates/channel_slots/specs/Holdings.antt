@@ -1,38 +1,25 @@
 -- What a slot that holds stands for: a life over the samples so far.
-use Rattle.std.specs.Prelude.{◌≡◌, ◌≤◌, ◌<◌, ℤ, ℕ, List, [], ◌∷◌, ◌++◌, length, take, Option, Some, None, nat_le, if◌then◌else◌, ◌+◌, ◌*◌}
+use Rattle.std.specs.Prelude.{◌≡◌, ◌≤◌, ◌<◌, ℤ, ℕ, List, [], ◌∷◌, ◌++◌, length, take, Option, Some, None}
 use Rattle.definitions.specs.Samples.{Sample}
-use Rattle.definitions.specs.Oscillators.{Settings, code_cycle}
+use Rattle.definitions.specs.Oscillators.{Settings}
 use Rattle.definitions.specs.Segments.{progress}
 use Rattle.definitions.specs.Commands.{hold}
 use Rattle.definitions.specs.Lives.{Life, held_channel}
 use Rattle.definitions.specs.Events.{Event, unprinted, count, life_events}
 use Rattle.lane_correlator.specs.declared.counts.Counts.{Counts}
-use Rattle.channel_slots.specs.declared.holding.Holding.{Holding}
 use Rattle.lane_correlator.specs.Counting.{counts_in}
-use Rattle.channel_slots.specs.Following.{Follows}
+use Rattle.channels.specs.HeldChannels.{Holds}
+use Rattle.channel_slots.specs.declared.holding.Holding.{Holding}
 
 pub record HoldsFor (settings : Settings) (xs : List Sample) (life : Life) (h : Holding) : Type 0 where
   pub prn : ℕ
   pub doppler : ℤ
   pub half_chip : ℕ
   pub start : life.start ≡ hold prn doppler half_chip
-  pub follows : Follows settings (held_channel life.begun prn doppler half_chip) xs h.follower
-  pub dumps : h.dumps
-      ≡ length (progress settings (held_channel life.begun prn doppler half_chip) xs).dumps
+  pub holds : Holds settings (held_channel life.begun prn doppler half_chip) xs h.held
   pub left : h.left
       ≡ unprinted life (progress settings (held_channel life.begun prn doppler half_chip) xs).dumps
   pub asked : life.wanted_from ≤ length xs
-
--- how many dumps may come within so many samples, of which there are at most 1,024
-abbrev pub phase_chance : ℕ → ℕ → ℕ → ℕ
-phase_chance code step left = if nat_le code_cycle (code + left * step) then 1 else 0
-
-abbrev pub chance : Holding → ℕ → ℕ
-chance h left = phase_chance h.follower.code.phase h.follower.code.step left
-
-abbrev pub how_many : {A : Type 0} → Option A → ℕ
-how_many None = 0
-how_many (Some x) = 1
 
 abbrev pub events_in : Option Counts → List Event
 events_in None = []

@@ -1,10 +1,7 @@
 pub mod BankStates
 pub mod Banks
 pub mod Commands
-pub mod Following
 pub mod Holdings
 pub mod Orders
-pub mod Parts
 pub mod Replies
-pub mod Sizes
 pub mod Slots

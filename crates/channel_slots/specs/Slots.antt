@@ -1,8 +1,8 @@
 -- What a slot stands for: the samples so far and the commands that it was given.
-use Rattle.std.specs.Prelude.{◌≡◌, ◌≤◌, ◌<◌, ◌+◌, ◌-◌, ◌*◌, ℕ, List, [], ◌++◌, length, take, map, Some, None}
+use Rattle.std.specs.Prelude.{◌≡◌, ◌≤◌, ◌<◌, ℕ, List, [], ◌++◌, length, take, map, Some, None}
 use Rattle.std.specs.List.{AllByRecursion}
 use Rattle.definitions.specs.Samples.{Sample}
-use Rattle.definitions.specs.Oscillators.{Settings, code_cycle}
+use Rattle.definitions.specs.Oscillators.{Settings}
 use Rattle.definitions.specs.Commands.{TimedRequest}
 use Rattle.definitions.specs.Lives.{Life, life_of, life_now}
 use Rattle.definitions.specs.Events.{Event as Told, events_at_end}
@@ -10,7 +10,8 @@ use Rattle.channel_slots.specs.declared.slot.Slot.{Slot}
 use Rattle.channel_slots.specs.declared.slot.Slot.TheVariants.{Idle, Holds}
 use Rattle.channel_slots.specs.declared.reply.Event.{Event}
 use Rattle.channel_slots.specs.declared.reply.Event.TheVariants.{Accepted, Refused, Count, State}
-use Rattle.channel_slots.specs.Holdings.{chance, HoldsFor}
+use Rattle.channels.specs.HeldChannels as held
+use Rattle.channel_slots.specs.Holdings.{HoldsFor}
 use Rattle.channel_slots.specs.Replies.{event_in}
 
 abbrev pub IsRefusal : Event → Type 0
@@ -22,21 +23,21 @@ IsRefusal (State state) = ⊥
 -- a run of n samples doesn't go past the slot's next event
 abbrev pub MayStep : Slot → ℕ → Type 0
 MayStep Idle n = Unit
-MayStep (Holds h) n = h.follower.code.phase + (n - 1) * h.follower.code.step < code_cycle
+MayStep (Holds h) n = held.MayTake h.held n
 
 -- the slot's next event comes with the last of n samples, or before it
 abbrev pub ComesToEvent : Slot → ℕ → Type 0
 ComesToEvent Idle n = ⊥
-ComesToEvent (Holds h) n = code_cycle ≤ h.follower.code.phase + n * h.follower.code.step
+ComesToEvent (Holds h) n = held.Ends h.held n
 
 -- how many events the slot may tell within so many samples
 abbrev pub chances : Slot → ℕ → ℕ
 chances Idle left = 0
-chances (Holds h) left = chance h left
+chances (Holds h) left = held.chance h.held left
 
 abbrev pub dumps_of : Slot → ℕ
 dumps_of Idle = 0
-dumps_of (Holds h) = h.dumps
+dumps_of (Holds h) = held.dumps_of h.held
 
 -- the life that is on after the samples and commands: none, whatever samples come, or the one that is held
 abbrev pub IsOn : Settings → List Sample → List TimedRequest → Slot → Type 0

@@ -1,18 +1,16 @@
-ghost use Rattle.std.specs.Prelude.{◌≡◌, ◌≤◌, ◌<◌, ◌+◌, ◌-◌, ◌*◌, ◌^◌};
-ghost use Rattle.definitions.specs.Oscillators.{code_cycle};
+ghost use Rattle.std.specs.Prelude.{◌≡◌, ◌≤◌, ◌<◌, ◌+◌, ◌-◌, ◌^◌};
 
-use crate::follower::Follower;
 use crate::reply::SlotState;
 use ca_codes::{CodeBook, Prn};
+use channels::Held;
 use lane_correlator::Counts;
 use oscillators::{Doppler, HalfChip, Settings};
 use sample_planes::Planes;
 
-/// A slot that holds a satellite.
+/// A slot that holds a satellite: what it follows, and how many dumps are still to be printed.
 #[derive(Debug, Drop)]
 pub struct Holding {
-    follower: Follower,
-    dumps: u64,
+    held: Held,
     left: u32,
 }
 
@@ -24,8 +22,10 @@ impl Holding {
     ghost use Rattle.definitions.specs.Lives.{Life};
     ghost use Rattle.definitions.specs.Answers.{shown, answer_with};
     ghost use Rattle.channel_slots.specs.Replies.{view_in};
-    ghost use Rattle.channel_slots.specs.Holdings.{chance, how_many, HoldsFor, HoldSteps};
-    ghost use Rattle.channel_slots.specs.Parts.{part};
+    ghost use Rattle.channels.specs.Following.{how_many};
+    ghost use Rattle.channels.specs.HeldChannels.{MayTake, Ends, dumps_of, chance};
+    ghost use Rattle.channels.specs.Parts.{part};
+    ghost use Rattle.channel_slots.specs.Holdings.{HoldsFor, HoldSteps};
 
     /// Begins at the next sample.
     pub fn start(settings: &Settings, prn: Prn, doppler: Doppler, half: HalfChip) -> Holding
@@ -37,11 +37,10 @@ impl Holding {
               wanted = 0;
               wanted_from = length xs;
             }) result }
-        ensures dumps { result.dumps ≡ 0 }
+        ensures dumps { dumps_of result.held ≡ 0 }
     {
         Holding {
-            follower: Follower::start(settings, prn, doppler, half),
-            dumps: 0,
+            held: Held::start(settings, prn, doppler, half),
             left: 0,
         }
     }
@@ -56,7 +55,7 @@ impl Holding {
               wanted = count;
               wanted_from = length xs;
             }) self.new }
-        ensures dumps { self.new.dumps ≡ self.old.dumps }
+        ensures dumps { dumps_of self.new.held ≡ dumps_of self.old.held }
     {
         self.left = count;
     }
@@ -64,12 +63,10 @@ impl Holding {
     /// How many samples there are to the next dump.
     pub fn to_event(&self) -> u64
         ensures some { 0 < result }
-        ensures through { code_cycle
-            ≤ self.now.follower.code.phase + result * self.now.follower.code.step }
-        ensures before { self.now.follower.code.phase +
-            (result - 1) * self.now.follower.code.step < code_cycle }
+        ensures ends { Ends self.now.held result }
+        ensures before { (count : ℕ) → count ≤ result → MayTake self.now.held count }
     {
-        self.follower.to_end()
+        self.held.to_dump()
     }
 
     /// What is shown of it.
@@ -79,8 +76,8 @@ impl Holding {
             → shown (view_in result) ≡ answer_with settings xs (Some life) state }
     {
         SlotState::Hold {
-            prn: self.follower.prn(),
-            dumps: self.dumps,
+            prn: self.held.prn(),
+            dumps: self.held.dumps(),
         }
     }
 
@@ -95,18 +92,17 @@ impl Holding {
     ) -> Option<Counts>
         requires some { 0 < count }
         requires within { from + count ≤ length run.now }
-        requires before { self.old.follower.code.phase +
-            (count - 1) * self.old.follower.code.step < code_cycle }
-        requires few { self.old.dumps < 2 ^ 62 }
+        requires before { MayTake self.old.held count }
+        requires few { dumps_of self.old.held < 2 ^ 62 }
         ensures stands { (settings : Recording) (xs : List Sample) (life : Life)
             → HoldsFor settings xs life self.old
             → HoldSteps settings xs (part run.now from count) life self.new result }
-        ensures dumps { self.new.dumps ≤ self.old.dumps + 1 }
+        ensures dumps { dumps_of self.new.held ≤ dumps_of self.old.held + 1 }
         ensures chance { (left : ℕ) → count ≤ left → left ≤ 1024
-            → chance self.new (left - count) + how_many result ≤ chance self.old left }
+            → chance self.new.held (left - count) + how_many result
+            ≤ chance self.old.held left }
     {
-        let counts = self.follower.advance(run, from, count, book)?;
-        self.dumps += 1;
+        let counts = self.held.take(run, from, count, book)?;
         if self.left == 0 {
             return None;
         }

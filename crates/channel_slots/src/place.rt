@@ -33,7 +33,7 @@ impl Place {
     ghost use Rattle.definitions.specs.Samples.{Sample};
     ghost use Rattle.definitions.specs.Commands.{TimedRequest};
     ghost use Rattle.definitions.specs.Answers.{answer_at_end};
-    ghost use Rattle.channel_slots.specs.Parts.{part};
+    ghost use Rattle.channels.specs.Parts.{part};
     ghost use Rattle.channel_slots.specs.Replies.{answer_in};
     ghost use Rattle.channel_slots.specs.Slots.{IsRefusal, MayStep, StandsFor, dumps_of};
     ghost use Rattle.channel_slots.specs.Banks.{PlaceAdds, PlaceGoes};

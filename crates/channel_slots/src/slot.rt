@@ -34,7 +34,7 @@ impl Slot {
     ghost use Rattle.definitions.specs.Commands.{TimedRequest};
     ghost use Rattle.definitions.specs.Answers.{answer_at_end};
     ghost use Rattle.channel_slots.specs.Commands.{request_in};
-    ghost use Rattle.channel_slots.specs.Parts.{part};
+    ghost use Rattle.channels.specs.Parts.{part};
     ghost use Rattle.channel_slots.specs.Replies.{answer_in};
     ghost use Rattle.channel_slots.specs.Slots.{chances, StandsFor, Tells, MayStep, ComesToEvent, dumps_of, IsRefusal};
 

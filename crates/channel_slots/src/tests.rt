@@ -13,7 +13,6 @@ use sample_planes::{Format, unpack};
 use std::test::Fail;
 
 mod banks;
-mod recording;
 
 /// A recording of one-bit samples at two samples a chip, with the carrier at 0 Hz.
 fn plain_settings() -> Result<Settings, Fail>

@@ -17,6 +17,6 @@ mod tests;
 
 pub use carrier::{CarrierOsc, CarrierPlanes, CarrierWord};
 pub use code::{ChipWord, CodeOsc, CodePlanes};
-pub use doppler::Doppler;
-pub use half_chip::HalfChip;
+pub use doppler::{Doppler, DopplerFault};
+pub use half_chip::{HalfChip, HalfChipFault};
 pub use settings::{Settings, SettingsFault};

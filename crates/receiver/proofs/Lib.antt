@@ -5,7 +5,6 @@ pub mod PartLemmas
 pub mod ReadLemmas
 pub mod RunLemmas
 pub mod TableLemmas
-pub mod LineLemmas
 pub mod QueueLemmas
 pub mod SessionLemmas
 pub mod TellingLemmas

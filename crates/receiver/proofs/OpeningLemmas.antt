@@ -13,7 +13,7 @@ use Rattle.definitions.specs.Lives.{life_now, life_of}
 use Rattle.definitions.specs.Receiver.{Client, entries_of, entries_before, commands_to, event_texts, slot_event_texts, event_lines, answer_texts, answer_lines, for_each_client, body_lines, lines_at, at_each_time, timed_texts, end_lines, end_line}
 use Rattle.definitions.proofs.EntryLemmas.{NoneBefore, answers_left, answered-left}
 use Rattle.receiver.specs.Offered.{offered, client_with}
-use Rattle.receiver.specs.LineTexts.{ends}
+use Rattle.receiver.specs.LastLines.{ends}
 use Rattle.receiver.specs.declared.queue.Queue.{Queue}
 use Rattle.receiver.specs.Queues.{left_of}
 use Rattle.receiver.specs.Sessions.{AreQueues, answers_waiting}

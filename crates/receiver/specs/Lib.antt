@@ -4,6 +4,6 @@ pub mod HeldTexts
 pub mod Offered
 pub mod Sessions
 pub mod Runs
-pub mod LineTexts
+pub mod LastLines
 pub mod Queues
 pub mod Printed

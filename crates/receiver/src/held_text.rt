@@ -23,7 +23,7 @@ impl HeldText {
     ghost use Rattle.receiver.specs.Devices.{TellsFailure};
     ghost use Rattle.receiver.specs.HeldTexts.{held, promised};
     ghost use Rattle.receiver.specs.Texts.{Grows};
-    ghost use Rattle.receiver.specs.declared.lines.TheConstants.{LINE_BYTES};
+    ghost use Rattle.printed_lines.specs.declared.words.TheConstants.{LINE_BYTES};
 
     /// Nothing is held back.
     pub fn new() -> Self

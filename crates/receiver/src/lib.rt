@@ -17,7 +17,6 @@ mod devices;
 mod due;
 mod faults;
 mod held_text;
-mod lines;
 mod queue;
 mod queues;
 mod reading;

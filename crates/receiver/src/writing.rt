@@ -17,9 +17,9 @@ ghost use Rattle.receiver.specs.Texts.{AppendsPart, Grows};
 use crate::devices::{DeviceFault, Sink};
 use crate::faults::Stop;
 use crate::held_text::HeldText;
-use crate::lines::{end_line, line};
 use crate::session::Session;
 use channel_slots::Reply;
+use printed_lines::{end_line, line};
 
 /// Puts the lines of replies.
 pub fn put_replies<W: Sink>(

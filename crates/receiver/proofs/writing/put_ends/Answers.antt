@@ -7,7 +7,7 @@ use Rattle.definitions.specs.Samples.{Sample}
 use Rattle.definitions.specs.Oscillators.{Settings}
 use Rattle.definitions.specs.Receiver.{Client, body, full}
 use Rattle.receiver.specs.Offered.{offered}
-use Rattle.receiver.specs.LineTexts.{ends}
+use Rattle.receiver.specs.LastLines.{ends}
 use Rattle.receiver.specs.Sessions.{time_of, StandsFor}
 use Rattle.receiver.specs.declared.session.Session.{Session}
 use Rattle.receiver.proofs.TextLemmas.{wrote-none, wrote-front, wrote-text, wrote-part, wrote-all, on_err}

@@ -1,6 +1,6 @@
 use Rattle.std.proofs.Common.{◌≡◌, ◌+◌, ◌-◌}
 use Rattle.definitions.specs.Lines.{as_bytes}
-use Rattle.receiver.specs.LineTexts.{ends}
+use Rattle.receiver.specs.LastLines.{ends}
 use Rattle.receiver.specs.Sessions.{time_of}
 use Rattle.receiver.specs.Texts.{WroteUpTo, Grows}
 use Rattle.receiver.specs.HeldTexts.{promised}

@@ -5,7 +5,7 @@ use Rattle.channel_slots.specs.Banks.{PlaceAdds}
 use Rattle.channel_slots.specs.Replies.{time_in}
 use Rattle.channel_slots.proofs.OrderLemmas.{put_all-length}
 use Rattle.channel_slots.proofs.TellingLemmas.{goes-begin, goes-more, one-chance, take_part}
-use Rattle.channel_slots.proofs.PartLemmas.{part-length}
+use Rattle.channels.proofs.PartLemmas.{part-length}
 use Rattle.channel_slots.proofs.place.Place.run.Goals as goal
 
 pub loop-done-init : goal.loop-done-init

@@ -2,8 +2,8 @@ use Rattle.std.proofs.Common.{◌≡◌, length, take, List, [], ◌∷◌, refl
 use Rattle.std.proofs.lemmas.List.{take_all}
 use Rattle.channel_slots.specs.declared.reply.Reply.{Reply}
 use Rattle.definitions.specs.Samples.{Sample}
-use Rattle.channel_slots.specs.Parts.{part}
-use Rattle.channel_slots.proofs.PartLemmas.{part-length}
+use Rattle.channels.specs.Parts.{part}
+use Rattle.channels.proofs.PartLemmas.{part-length}
 use Rattle.channel_slots.specs.Orders.{put_in, put_all}
 use Rattle.channel_slots.specs.Banks.{replies_of}
 use Rattle.channel_slots.specs.Replies.{time_in}

@@ -1,8 +1,8 @@
 use Rattle.std.proofs.Common.{refl, [], ℕ, List, length, ◌+◌, ◌<◌, ◌≤◌}
 use Rattle.std.specs.Prelude.{None, Some}
 use Rattle.definitions.specs.Samples.{Sample}
-use Rattle.channel_slots.specs.Parts.{part}
-use Rattle.channel_slots.proofs.PartLemmas.{part-length}
+use Rattle.channels.specs.Parts.{part}
+use Rattle.channels.proofs.PartLemmas.{part-length}
 use Rattle.channel_slots.proofs.SlotLemmas.{idle_tells, held_tells}
 use Rattle.channel_slots.proofs.slot.Slot.step.Goals as goal
 

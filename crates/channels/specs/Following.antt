@@ -1,0 +1,65 @@
+-- What a follower stands for: the open segment of a channel over the samples so far.
+use Rattle.std.specs.Prelude.{◌≡◌, ◌≤◌, ◌<◌, ℕ, List, [], ◌∷◌, ◌++◌, length, take, ◌+◌, ◌-◌, ◌*◌, Option, Some, None, nat_le, if◌then◌else◌}
+use Rattle.definitions.specs.Samples.{Sample}
+use Rattle.definitions.specs.Oscillators.{Settings, carrier_phase_after, code_cycle}
+use Rattle.definitions.specs.Correlation.{Counts, counts_over}
+use Rattle.definitions.specs.Segments.{Channel, Progress, progress, open_phases}
+use Rattle.channels.specs.declared.follower.Follower.{Follower}
+use Rattle.lane_correlator.specs.Counting.{counts_in}
+
+-- which satellite it is
+abbrev pub prn_of : Follower → ℕ
+prn_of f = f.prn
+
+-- so many samples don't go past the end of the open segment
+abbrev pub MayTake : Follower → ℕ → Type 0
+MayTake f count = f.code.phase + (count - 1) * f.code.step < code_cycle
+
+-- the open segment ends with the last of so many samples, or before it
+abbrev pub Ends : Follower → ℕ → Type 0
+Ends f count = code_cycle ≤ f.code.phase + count * f.code.step
+
+-- how many segments may end within so many samples, of which there are at most 1,024
+abbrev pub phase_chance : ℕ → ℕ → ℕ → ℕ
+phase_chance code step left = if nat_le code_cycle (code + left * step) then 1 else 0
+
+abbrev pub chance : Follower → ℕ → ℕ
+chance f left = phase_chance f.code.phase f.code.step left
+
+abbrev pub how_many : {A : Type 0} → Option A → ℕ
+how_many None = 0
+how_many (Some x) = 1
+
+-- the phases and sums of the open segment, by the follower's own steps
+pub record IsAt (channel : Channel) (xs : List Sample) (p : Progress) (f : Follower) : Type 0 where
+  pub begun : channel.start ≤ length xs
+  pub opened : p.open_segment.start ≤ length xs
+  pub prn : prn_of f ≡ channel.prn
+  pub code : f.code.phase ≡ p.open_segment.code + (length xs - p.open_segment.start) * f.code.step
+  pub carrier : f.carrier.phase ≡ carrier_phase_after p.open_segment.carrier f.carrier.step (length xs - p.open_segment.start)
+  pub sums : counts_in f.sums ≡ counts_over channel.prn (record { code = p.open_segment.code; carrier = p.open_segment.carrier; code_step = f.code.step; carrier_step = f.carrier.step }) xs p.open_segment.start (length xs)
+
+-- and those steps are the channel's
+pub record Follows (settings : Settings) (channel : Channel) (xs : List Sample) (f : Follower) : Type 0 where
+  pub at : IsAt channel xs (progress settings channel xs) f
+  pub code_step : f.code.step ≡ (open_phases settings channel (progress settings channel xs)).code_step
+  pub carrier_step : f.carrier.step ≡ (open_phases settings channel (progress settings channel xs)).carrier_step
+
+-- none of the samples ys but perhaps the last ends the segment
+abbrev pub QuietInside : Settings → Channel → List Sample → List Sample → Type 0
+QuietInside settings channel xs ys = (j : ℕ) → j < length ys → progress settings channel (xs ++ take j ys) ≡ progress settings channel xs
+
+-- with ys behind xs the segment stays open
+pub record Stays (settings : Settings) (channel : Channel) (xs ys : List Sample) (f : Follower) : Type 0 where
+  pub inside : QuietInside settings channel xs ys
+  pub same : progress settings channel (xs ++ ys) ≡ progress settings channel xs
+  pub follows : Follows settings channel (xs ++ ys) f
+
+-- the last of ys ends it, with these sums; the next segment is open, with the steps of the one before
+pub record Closes (settings : Settings) (channel : Channel) (xs ys : List Sample) (counts : Counts) (f : Follower) : Type 0 where
+  pub inside : QuietInside settings channel xs ys
+  pub dumps : (progress settings channel (xs ++ ys)).dumps ≡ (progress settings channel xs).dumps ++ record { time = length (xs ++ ys); counts = counts } ∷ []
+  pub opens : (progress settings channel (xs ++ ys)).open_segment.start ≡ length (xs ++ ys)
+  pub at : IsAt channel (xs ++ ys) (progress settings channel (xs ++ ys)) f
+  pub code_step : f.code.step ≡ (open_phases settings channel (progress settings channel xs)).code_step
+  pub carrier_step : f.carrier.step ≡ (open_phases settings channel (progress settings channel xs)).carrier_step

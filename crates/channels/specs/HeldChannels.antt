@@ -1,0 +1,55 @@
+-- What a held satellite stands for: a channel at a fixed shift over the samples so far.
+use Rattle.std.specs.Prelude.{◌≡◌, ℕ, List, [], ◌∷◌, ◌++◌, length, Option, Some, None}
+use Rattle.definitions.specs.Samples.{Sample}
+use Rattle.definitions.specs.Oscillators.{Settings}
+use Rattle.definitions.specs.Correlation.{Counts as Sums}
+use Rattle.definitions.specs.Segments.{Channel, progress}
+use Rattle.lane_correlator.specs.declared.counts.Counts.{Counts}
+use Rattle.lane_correlator.specs.Counting.{counts_in}
+use Rattle.channels.specs.declared.held.Held.{Held}
+use Rattle.channels.specs.Following as segments
+use Rattle.channels.specs.Following.{Follows, QuietInside}
+
+-- which satellite it is
+abbrev pub prn_of : Held → ℕ
+prn_of h = segments.prn_of h.follower
+
+-- how many dumps it has had
+abbrev pub dumps_of : Held → ℕ
+dumps_of h = h.dumps
+
+-- so many samples don't go past its next dump
+abbrev pub MayTake : Held → ℕ → Type 0
+MayTake h count = segments.MayTake h.follower count
+
+-- its next dump comes with the last of so many samples, or before it
+abbrev pub Ends : Held → ℕ → Type 0
+Ends h count = segments.Ends h.follower count
+
+-- how many dumps may come within so many samples, of which there are at most 1,024
+abbrev pub chance : Held → ℕ → ℕ
+chance h left = segments.chance h.follower left
+
+-- the shift of a channel stays the same, whatever its dumps are
+abbrev pub IsSteady : Channel → Type 0
+IsSteady channel = (a b : List Sums) → channel.steering a ≡ channel.steering b
+
+pub record Holds (settings : Settings) (channel : Channel) (xs : List Sample) (h : Held) : Type 0 where
+  pub steady : IsSteady channel
+  pub follows : Follows settings channel xs h.follower
+  pub dumps : dumps_of h ≡ length (progress settings channel xs).dumps
+
+-- what ys behind xs bring is what was answered: no dump, or one with the last of them
+abbrev pub Brings : Settings → Channel → List Sample → List Sample → Option Counts → Type 0
+Brings settings channel xs ys None =
+    progress settings channel (xs ++ ys) ≡ progress settings channel xs
+Brings settings channel xs ys (Some c) =
+    (progress settings channel (xs ++ ys)).dumps
+    ≡ (progress settings channel xs).dumps
+    ++ record { time = length (xs ++ ys); counts = counts_in c } ∷ []
+
+-- with ys behind xs there is no dump before the last of them, and then what was answered
+pub record Takes (settings : Settings) (channel : Channel) (xs ys : List Sample) (h : Held) (counts : Option Counts) : Type 0 where
+  pub inside : QuietInside settings channel xs ys
+  pub brings : Brings settings channel xs ys counts
+  pub stands : Holds settings channel (xs ++ ys) h

@@ -1,0 +1,4 @@
+pub mod Following
+pub mod HeldChannels
+pub mod Parts
+pub mod Sizes

@@ -1,0 +1,102 @@
+ghost use Rattle.std.specs.Prelude.{◌≡◌, ◌≤◌, ◌<◌, ◌+◌, ◌-◌, ◌*◌};
+ghost use Rattle.definitions.specs.Oscillators.{code_cycle};
+ghost use Rattle.channels.specs.Sizes.{GrowWith};
+
+use ca_codes::{CodeBook, Prn};
+use lane_correlator::{Counts, replica_sums};
+use oscillators::{CarrierOsc, CodeOsc, Doppler, HalfChip, Settings};
+use sample_planes::Planes;
+
+/// The open segment of a channel: the satellite, the code and the carrier at the next sample, and
+/// the sums so far. It stands for the channel and the samples taken.
+#[derive(Debug, Drop)]
+pub struct Follower {
+    prn: Prn,
+    code: CodeOsc,
+    carrier: CarrierOsc,
+    sums: Counts,
+    ghost in_cycle: { code.phase < code_cycle },
+    ghost moves: { 200000000 ≤ code.step },
+    ghost slow: { code.step ≤ 3000000000 },
+    ghost small: { GrowWith sums code.step code.phase },
+}
+
+impl Follower {
+    ghost use Rattle.std.specs.Prelude.{ℕ, List, length, IfSome, IsNone};
+    ghost use Rattle.definitions.specs.Samples.{Sample};
+    ghost use Rattle.definitions.specs.Oscillators.{Settings as Recording};
+    ghost use Rattle.definitions.specs.Segments.{Channel};
+    ghost use Rattle.definitions.specs.Lives.{held_channel};
+    ghost use Rattle.lane_correlator.specs.Counting.{counts_in};
+    ghost use Rattle.channels.specs.Following.{Follows, Stays, Closes, MayTake, Ends, prn_of, chance, how_many};
+    ghost use Rattle.channels.specs.Parts.{part};
+
+    /// Begins at the next sample, with the code at a half chip of its cycle and the carrier at 0.
+    /// It goes on at this Doppler shift.
+    pub fn start(settings: &Settings, prn: Prn, doppler: Doppler, half: HalfChip) -> Follower
+        ensures { (xs : List Sample)
+            → Follows settings.now (held_channel (length xs) prn doppler half) xs result }
+    {
+        let v = i64::from(doppler.get()) * 65_536;
+        Follower {
+            prn,
+            code: CodeOsc::new(half, settings.code_step(v, 0)),
+            carrier: CarrierOsc::new(settings.carrier_step(v)),
+            sums: Counts::NONE,
+        }
+    }
+
+    /// The satellite that it follows.
+    pub fn prn(&self) -> Prn
+        ensures { result ≡ prn_of self.now }
+    {
+        self.prn
+    }
+
+    /// How many samples there are to the end of the segment, at least 1.
+    pub fn to_end(&self) -> u64
+        ensures some { 0 < result }
+        ensures ends { Ends self.now result }
+        ensures before { (count : ℕ) → count ≤ result → MayTake self.now count }
+    {
+        self.code.to_wrap()
+    }
+
+    /// Takes `count` samples of a run, at least one and from sample `from` on, that don't go past
+    /// the segment's end. It answers the segment's sums if it ends with the last of them. The book
+    /// is any book of codes.
+    pub fn advance(
+        &mut self,
+        run: &Planes,
+        from: usize,
+        count: usize,
+        book: &mut CodeBook,
+    ) -> Option<Counts>
+        requires some { 0 < count }
+        requires within { from + count ≤ length run.now }
+        requires before { MayTake self.old count }
+        ensures stays { IsNone result
+            → (settings : Recording) (channel : Channel) (xs : List Sample)
+            → Follows settings channel xs self.old
+            → Stays settings channel xs (part run.now from count) self.new }
+        ensures closes { IfSome result (λ c. (settings : Recording) (channel : Channel)
+            (xs : List Sample)
+            → Follows settings channel xs self.old
+            → Closes settings channel xs (part run.now from count) (counts_in c) self.new) }
+        ensures chance { (left : ℕ) → count ≤ left → left ≤ 1024
+            → chance self.new (left - count) + how_many result ≤ chance self.old left }
+    {
+        let more = replica_sums(run, from, count, &self.carrier, &self.code, book, self.prn);
+        let sums = self.sums.add(&more);
+        let ends = self.code.to_wrap() == count as u64;
+        self.code.advance(count as u64);
+        self.carrier.advance(count as u64);
+        if ends {
+            self.sums = Counts::NONE;
+            Some(sums)
+        } else {
+            self.sums = sums;
+            None
+        }
+    }
+}

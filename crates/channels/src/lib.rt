@@ -1,0 +1,24 @@
+//! One satellite followed over samples. A `Follower` has the open segment of a channel: its code
+//! and carrier at the next sample, and its sums so far. A `Held` is a channel at a fixed Doppler
+//! shift, with the number of its dumps. Each stands for the samples that it took, and its dumps are
+//! proved to be those of the definition, however the samples are cut into runs. Nothing here knows
+//! a command or a client.
+//!
+//!     use channels::Held;
+//!
+//!     // Satellite 5 at a shift of 1,250 Hz, from half chip 700 on.
+//!     let mut held = Held::start(&settings, prn, doppler, half);
+//!     // As far as the next dump, or to the end of this run.
+//!     let count = (run.len() as u64).min(held.to_dump()) as usize;
+//!     if let Some(counts) = held.take(&run, 0, count, &mut book) {
+//!         let (prompt, nth) = (counts.ip, held.dumps());
+//!     }
+#![tactic(auto)]
+
+mod follower;
+mod held;
+#[cfg(test)]
+mod tests;
+
+pub use follower::Follower;
+pub use held::Held;
