@@ -1,8 +1,9 @@
 pub mod BankLemmas
 pub mod CommandLemmas
-pub mod HoldingLemmas
+pub mod LifeLemmas
 pub mod LayoutLemmas
 pub mod OrderLemmas
 pub mod PlaceLemmas
 pub mod SlotLemmas
+pub mod StageLemmas
 pub mod TellingLemmas

@@ -1,21 +1,20 @@
--- Replies that are told, put in by time; and what a place tells over a run that it takes by its own events.
-use Rattle.std.proofs.Common.{◌≡◌, ℕ, zero, suc, inl, inr, ◌+◌, ◌-◌, ◌<◌, ◌≤◌, List, [], ◌∷◌, ◌++◌, length, take, drop, get_or, refl, sym, ap, ◌∙◌, arith, length-append, append-nil, append_assoc}
-use Rattle.std.specs.Prelude.{Option, Some, None, map}
+-- Events that are put in by time, and what a place tells over a run that it takes by its own events.
+use Rattle.std.proofs.Common.{◌≡◌, ℕ, zero, suc, ◌+◌, ◌-◌, ◌<◌, ◌≤◌, List, [], ◌∷◌, ◌++◌, length, take, drop, refl, sym, ap, ◌∙◌, arith, length-append, append-nil, append_assoc}
+use Rattle.std.specs.Prelude.{Bool, true, false, map, nat_lt, if◌then◌else◌}
 use Rattle.channels.proofs.HeldLemmas.{one-dump}
 use Rattle.channel_slots.specs.declared.slot.Slot.{Slot}
-use Rattle.channel_slots.specs.declared.slot.Slot.TheVariants.{Idle, Holds}
-use Rattle.std.proofs.lemmas.Bool.{cases_lt, lt-ltb, le-ltb}
+use Rattle.channel_slots.specs.declared.slot.Slot.TheVariants.{Idle, On}
 use Rattle.std.proofs.lemmas.List.{map-append}
 use Rattle.definitions.specs.Samples.{Sample}
-use Rattle.definitions.specs.Events.{Event as Told}
-use Rattle.definitions.specs.Banks.{SlotEvent, slot_events}
+use Rattle.definitions.specs.Events.{Event}
+use Rattle.definitions.specs.Banks.{SlotEvent as Told, slot_events}
 use Rattle.definitions.specs.Receiver.{at_each_sample}
-use Rattle.channel_slots.specs.declared.reply.Reply.{Reply}
+use Rattle.channel_slots.specs.declared.event.SlotEvent.{SlotEvent}
 use Rattle.channel_slots.specs.declared.place.Place.{Place}
 use Rattle.channel_slots.specs.Slots.{chances}
 use Rattle.channel_slots.specs.Orders.{put_in, put_all}
-use Rattle.channel_slots.specs.Replies.{told_in, told_with, event_in, time_in, time_at}
-use Rattle.channel_slots.specs.Banks.{AreTold, PlaceAdds, PlaceGoes, slot_tells}
+use Rattle.channel_slots.specs.Events.{AreTold, told_in, time_in, time_at}
+use Rattle.channel_slots.specs.Banks.{PlaceAdds, PlaceGoes, slot_tells}
 use Rattle.channel_slots.proofs.OrderLemmas.{put_all-append}
 
 module _ {A : Type 0} (tells : List Sample → List A) where
@@ -39,42 +38,34 @@ module _ {A : Type 0} (tells : List Sample → List A) where
       let rest = at_each_sample-last (xs ++ y ∷ []) (z ∷ ys) (omega arith) (λ j f b. rw (append_assoc xs (y ∷ []) (take j (z ∷ ys))) (quiet (suc j) (omega arith) (omega arith))) in
       rw first (rest ∙ ap tells (append_assoc xs (y ∷ []) (z ∷ ys)))
 
--- ---- replies and events in step
-time_or : Option SlotEvent → ℕ
-time_or None = 0
-time_or (Some e) = e.time
-
-some_or : Option SlotEvent → ℕ
-some_or None = 0
-some_or (Some e) = 1
-
-same_time : (r : Reply) (e : SlotEvent) (o : Option Told) → told_with r o ≡ Some e → r.time ≡ e.time
-unfolding time_or some_or
-same_time r e None is = let z : 0 ≡ 1 = ap some_or is in absurd (omega (arith, z))
-same_time r e (Some t) is = ap time_or is
-
-one_put : (r : Reply) (e : SlotEvent) (rs : List Reply) (es : List SlotEvent) → told_in r ≡ Some e → AreTold rs es → AreTold (put_in time_in r rs) (put_in time_at e es)
+-- ---- events that are put in by time
+-- the code's events and the definitions' are put in at the same places
+one-put : (e : SlotEvent) (es : List SlotEvent)
+    → map told_in (put_in time_in e es) ≡ put_in time_at (told_in e) (map told_in es)
 unfolding put_in
-one_put r e [] [] is told = ap (λ (o : Option SlotEvent). o ∷ []) is
-one_put r e [] (f ∷ es) is told = let z : 0 ≡ suc (length (map (λ (e : SlotEvent). Some e) es)) = ap length told in absurd (omega (arith, z))
-one_put r e (s ∷ rs) [] is told = let z : suc (length (map told_in rs)) ≡ 0 = ap length told in absurd (omega (arith, z))
-one_put r e (s ∷ rs) (f ∷ es) is told =
-    let head : told_in s ≡ Some f = ap (λ (l : List (Option SlotEvent)). get_or l 0 None) told in
-    let rest : AreTold rs es = ap (λ (l : List (Option SlotEvent)). drop 1 l) told in
-    let here : r.time ≡ e.time = same_time r e (event_in r.event) is in
-    let there : s.time ≡ f.time = same_time s f (event_in s.event) head in
-    elim (cases_lt r.time s.time) [
-      | inl less ↦ rw (lt-ltb r.time s.time less, lt-ltb e.time f.time (omega (arith, less, here, there))) (λ i. is i ∷ told i)
-      | inr more ↦ rw (le-ltb r.time s.time more, le-ltb e.time f.time (omega (arith, more, here, there))) (λ i. head i ∷ one_put r e rs es is rest i)
-    ]
+one-put e [] = refl
+one-put e (x ∷ es) = by_test (nat_lt e.time x.time) refl (one-put e es)
+  where
+    by_test : (b : Bool) → nat_lt e.time x.time ≡ b
+        → map told_in (put_in time_in e es) ≡ put_in time_at (told_in e) (map told_in es)
+        → map told_in (if nat_lt e.time x.time then e ∷ x ∷ es else x ∷ put_in time_in e es)
+        ≡ (if nat_lt e.time x.time then told_in e ∷ told_in x ∷ map told_in es
+        else told_in x ∷ put_in time_at (told_in e) (map told_in es))
+    by_test true is rest = rw is refl
+    by_test false is rest = rw is (ap (λ (l : List Told). told_in x ∷ l) rest)
 
-pub all_put : (rs ss : List Reply) (es fs : List SlotEvent) → AreTold rs es → AreTold ss fs → AreTold (put_all time_in rs ss) (put_all time_at es fs)
+all-put : (es fs : List SlotEvent)
+    → map told_in (put_all time_in es fs) ≡ put_all time_at (map told_in es) (map told_in fs)
 unfolding put_all
-all_put rs [] es [] a b = a
-all_put rs [] es (f ∷ fs) a b = let z : 0 ≡ suc (length (map (λ (e : SlotEvent). Some e) fs)) = ap length b in absurd (omega (arith, z))
-all_put rs (s ∷ ss) es [] a b = let z : suc (length (map told_in ss)) ≡ 0 = ap length b in absurd (omega (arith, z))
-all_put rs (s ∷ ss) es (f ∷ fs) a b =
-    all_put (put_in time_in s rs) ss (put_in time_at f es) fs (one_put s f rs es (ap (λ (l : List (Option SlotEvent)). get_or l 0 None) b) a) (ap (λ (l : List (Option SlotEvent)). drop 1 l) b)
+all-put es [] = refl
+all-put es (f ∷ fs) =
+    all-put (put_in time_in f es) fs
+    ∙ ap (λ (l : List Told). put_all time_at l (map told_in fs)) (one-put f es)
+
+pub all_put : (es fs : List SlotEvent) (ts us : List Told) → AreTold es ts → AreTold fs us
+    → AreTold (put_all time_in es fs) (put_all time_at ts us)
+all_put es fs ts us a b = all-put es fs ∙ ap (λ (l : List Told). put_all time_at l (map told_in fs)) a
+    ∙ ap (put_all time_at ts) b
 
 -- ---- runs in parts
 pub take_part : (xs : List Sample) (n m : ℕ) → take (n + m) xs ≡ take n xs ++ take m (drop n xs)
@@ -84,10 +75,10 @@ take_part [] (suc n) (suc m) = let e : suc n + suc m ≡ suc (n + suc m) = omega
 take_part (x ∷ xs) (suc n) m = let e : suc n + m ≡ suc (n + m) = omega arith in ap (λ (k : ℕ). take k (x ∷ xs)) e ∙ ap (λ (l : List Sample). x ∷ l) (take_part xs n m)
 
 -- ---- a place through a run
-pub goes-begin : (left time : ℕ) (p : Place) (before : List Reply) → chances p.slot left ≤ 1 → PlaceGoes left [] time p p before before
+pub goes-begin : (left time : ℕ) (p : Place) (before : List SlotEvent) → chances p.slot left ≤ 1 → PlaceGoes left [] time p p before before
 unfolding at_each_sample put_all
 goes-begin left time p before few = record {
-  replies = [];
+  events = [];
   client = refl;
   number = refl;
   chances = omega (arith, few);
@@ -96,39 +87,40 @@ goes-begin left time p before few = record {
   tells = λ settings xs commands now s. record { told = refl; stands = rw (append-nil xs) s };
 }
 
-pub goes-more : (left n : ℕ) (ys zs : List Sample) (time : ℕ) (p q r : Place) (before mid after : List Reply) → PlaceGoes left ys time p q before mid → PlaceAdds zs (time + length ys + length zs) q r mid after
+pub goes-more : (left n : ℕ) (ys zs : List Sample) (time : ℕ) (p q r : Place) (before mid after : List SlotEvent) → PlaceGoes left ys time p q before mid → PlaceAdds zs (time + length ys + length zs) q r mid after
     → length zs ≡ n → 0 < n → n ≤ left → left ≤ 1024 → PlaceGoes (left - n) (ys ++ zs) time p r before after
 goes-more left n ys zs time p q r before mid after g a is some within short =
     let s = a.steps in
-    let many : length (g.replies ++ a.replies) ≡ length g.replies + length a.replies = simp length-append (omega arith) in
+    let many : length (g.events ++ a.events) ≡ length g.events + length a.events = simp length-append (omega arith) in
     let all : length (ys ++ zs) ≡ length ys + length zs = simp length-append (omega arith) in
-    let room : chances r.slot (left - n) + length a.replies ≤ chances q.slot left = rw is at (s.chances left (omega (arith, is, within)) short) in
+    let room : chances r.slot (left - n) + length a.events ≤ chances q.slot left = rw is at (s.chances left (omega (arith, is, within)) short) in
     record {
-      replies = g.replies ++ a.replies;
+      events = g.events ++ a.events;
       client = s.client ∙ g.client;
       number = s.number ∙ g.number;
       chances = omega (arith, many, g.chances, room);
       dumps = omega (arith, all, g.dumps, s.dumps, is, some);
-      added = a.added ∙ ap (λ (l : List Reply). put_all time_in l a.replies) g.added ∙ sym (put_all-append time_in before g.replies a.replies);
+      added = a.added ∙ ap (λ (l : List SlotEvent). put_all time_in l a.events) g.added ∙ sym (put_all-append time_in before g.events a.events);
       tells = λ settings xs commands now st.
           let before_it = g.tells settings xs commands now st in
           let one : length ((xs ++ ys) ++ zs) ≡ time + length ys + length zs = simp length-append (omega (arith, now)) in
           let step = s.tells settings (xs ++ ys) commands one before_it.stands in
-          let f : List Sample → List SlotEvent = slot_tells settings p.client p.number commands in
+          let f : List Sample → List Told = slot_tells settings p.client p.number commands in
           let quiet : (j : ℕ) → 0 < j → j < length zs → f ((xs ++ ys) ++ take j zs) ≡ [] =
-          λ j first b. ap (λ (l : List Told). slot_events p.client p.number (length ((xs ++ ys) ++ take j zs)) l) (step.inside j first b) in
+          λ j first b. ap (λ (l : List Event). slot_events p.client p.number (length ((xs ++ ys) ++ take j zs)) l) (step.inside j first b) in
           let last : at_each_sample f (xs ++ ys) zs ≡ f ((xs ++ ys) ++ zs) = at_each_sample-last f (xs ++ ys) zs (omega (arith, is, some)) quiet in
-          let own : AreTold a.replies (f ((xs ++ ys) ++ zs)) = rw (g.client, g.number) at step.told in
+          let own : AreTold a.events (f ((xs ++ ys) ++ zs)) = rw (g.client, g.number) at step.told in
           record {
-            told = rw (at_each_sample-append f xs ys zs, last) (both_told g.replies a.replies (at_each_sample f xs ys) _ before_it.told own);
+            told = rw (at_each_sample-append f xs ys zs, last) (both_told g.events a.events (at_each_sample f xs ys) _ before_it.told own);
             stands = rw (sym (append_assoc xs ys zs)) step.stands;
           };
     }
   where
-    both_told : (rs ss : List Reply) (es fs : List SlotEvent) → AreTold rs es → AreTold ss fs → AreTold (rs ++ ss) (es ++ fs)
-    both_told rs ss es fs a b = map-append told_in rs ss ∙ (λ i. a i ++ b i) ∙ sym (map-append (λ (e : SlotEvent). Some e) es fs)
+    both_told : (es fs : List SlotEvent) (ts us : List Told) → AreTold es ts → AreTold fs us
+        → AreTold (es ++ fs) (ts ++ us)
+    both_told es fs ts us a b = map-append told_in es fs ∙ (λ i. a i ++ b i)
 
 -- in 1,024 samples there is one dump of a slot at most
 pub one-chance : (slot : Slot) (left : ℕ) → chances slot left ≤ 1
 one-chance Idle left = omega arith
-one-chance (Holds h) left = one-dump h.held left
+one-chance (On life) left = one-dump life.stage left

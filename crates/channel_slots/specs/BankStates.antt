@@ -6,8 +6,9 @@ use Rattle.definitions.specs.Banks.{bank_events_at_end, layout}
 use Rattle.definitions.specs.Oscillators.{Settings}
 use Rattle.definitions.specs.Commands.{TimedRequest}
 use Rattle.channel_slots.specs.declared.bank.Bank.{Bank}
-use Rattle.channel_slots.specs.declared.reply.Reply.{Reply}
-use Rattle.channel_slots.specs.Banks.{AreTold, BankStands}
+use Rattle.channel_slots.specs.declared.event.SlotEvent.{SlotEvent}
+use Rattle.channel_slots.specs.Banks.{BankStands}
+use Rattle.channel_slots.specs.Events.{AreTold}
 
 -- how many samples there were
 abbrev pub time_of : Bank → ℕ
@@ -22,19 +23,25 @@ abbrev pub settings_of : Bank → Settings
 settings_of bank = bank.settings
 
 -- the settings, the samples so far, and for each client and slot its commands so far
-pub record StandsFor (settings : Settings) (xs : List Sample) (asked : ℕ → ℕ → List TimedRequest) (bank : Bank) : Type 0 where
+pub record StandsFor (settings : Settings) (xs : List Sample)
+    (asked : ℕ → ℕ → List TimedRequest) (bank : Bank) : Type 0 where
   pub recorded : bank.settings ≡ settings
   pub now : bank.time ≡ length xs
   pub slots : BankStands settings xs asked bank.time bank.places.items
 
--- whatever a bank stood for: what its slots tell over a run of samples, which it knows by its packing, are these replies
-abbrev pub Tells : Bank → (Packing → List Sample) → List Reply → Type 0
-Tells old run replies = (settings : Settings) (xs : List Sample) (asked : ℕ → ℕ → List TimedRequest) → StandsFor settings xs asked old
-    → AreTold replies
+-- whatever a bank stood for: these events are what its slots tell over a run of samples, which it
+-- knows by its packing
+abbrev pub Tells : Bank → (Packing → List Sample) → List SlotEvent → Type 0
+Tells old run events =
+    (settings : Settings) (xs : List Sample) (asked : ℕ → ℕ → List TimedRequest)
+    → StandsFor settings xs asked old
+    → AreTold events
     (at_each_sample (bank_events_at_end settings (layout (replicate (clients_of old) 4)) asked) xs
     (run settings.packing))
 
 -- and behind the run it stands for the same with these samples
 abbrev pub Takes : Bank → (Packing → List Sample) → Bank → Type 0
-Takes old run new = (settings : Settings) (xs : List Sample) (asked : ℕ → ℕ → List TimedRequest) → StandsFor settings xs asked old
+Takes old run new =
+    (settings : Settings) (xs : List Sample) (asked : ℕ → ℕ → List TimedRequest)
+    → StandsFor settings xs asked old
     → StandsFor settings (xs ++ run settings.packing) asked new

@@ -1,7 +1,9 @@
+pub mod Answers
 pub mod BankStates
 pub mod Banks
 pub mod Commands
-pub mod Holdings
+pub mod Events
+pub mod Lives
 pub mod Orders
-pub mod Replies
 pub mod Slots
+pub mod Stages

@@ -1,3 +1,5 @@
+//! The slots of all clients, each with whose it is.
+
 ghost use Rattle.std.specs.Prelude.{◌≡◌, ◌≤◌, ◌<◌, ◌+◌, ◌*◌, ◌^◌, ℕ, length, replicate, [], IfOk};
 ghost use Rattle.std.specs.List.{AllByRecursion};
 ghost use Rattle.definitions.specs.Oscillators.{Settings as Recording};
@@ -7,8 +9,9 @@ ghost use Rattle.arrayvec.specs.ArrayVec.{array_vec_len};
 ghost use Rattle.channel_slots.specs.Banks.{keys_of, AllFew, RunsAll, IsCommanded};
 ghost use Rattle.channel_slots.specs.Commands.{request_in};
 
+use crate::answer::Answer;
 use crate::command::Command;
-use crate::reply::{Event, Reply};
+use crate::event::SlotEvent;
 use crate::slot::Slot;
 use crate::timeline::put_in_time;
 use arrayvec::ArrayVec;
@@ -17,8 +20,8 @@ use oscillators::Settings;
 use sample_planes::Planes;
 use std::alloc::{AllocError, Global};
 
-/// The most replies of a run of samples.
-pub const MOST_REPLIES: usize = 256;
+/// The most events of a run of samples.
+pub const RUN_EVENTS: usize = 256;
 
 /// A client's slot: clients are numbered from 1, their slots from 0.
 #[derive(Debug, Default, Drop)]
@@ -29,13 +32,13 @@ pub struct Place {
 }
 
 impl Place {
-    ghost use Rattle.std.specs.Prelude.{List, [], ◌∷◌, ◌++◌, length, Some};
+    ghost use Rattle.std.specs.Prelude.{List, [], ◌∷◌, ◌++◌, length};
     ghost use Rattle.definitions.specs.Samples.{Sample};
     ghost use Rattle.definitions.specs.Commands.{TimedRequest};
     ghost use Rattle.definitions.specs.Answers.{answer_at_end};
     ghost use Rattle.channels.specs.Parts.{part};
-    ghost use Rattle.channel_slots.specs.Replies.{answer_in};
-    ghost use Rattle.channel_slots.specs.Slots.{IsRefusal, MayStep, StandsFor, dumps_of};
+    ghost use Rattle.channel_slots.specs.Answers.{answer_in, IsRefusal};
+    ghost use Rattle.channel_slots.specs.Slots.{MayStep, StandsFor, dumps_of};
     ghost use Rattle.channel_slots.specs.Banks.{PlaceAdds, PlaceGoes};
 
     /// Takes `count` samples of a run, from sample `from` on, that don't go past the slot's next
@@ -47,25 +50,25 @@ impl Place {
         count: usize,
         book: &mut CodeBook,
         time: u64,
-        replies: &mut ArrayVec<Reply, MOST_REPLIES>,
+        events: &mut ArrayVec<SlotEvent, RUN_EVENTS>,
     )
         requires some { 0 < count }
         requires within { from + count ≤ length run.now }
         requires may { MayStep self.old.slot count }
         requires few { dumps_of self.old.slot < 2 ^ 62 }
-        requires fits { array_vec_len replies.old ≤ 252 }
-        ensures { PlaceAdds (part run.now from count) time self.old self.new replies.old.items
-            replies.new.items }
+        requires fits { array_vec_len events.old ≤ 252 }
+        ensures { PlaceAdds (part run.now from count) time self.old self.new events.old.items
+            events.new.items }
     {
-        let events = self.slot.step(run, from, count, book);
-        for event in events.as_slice() {
-            let reply = Reply {
+        let news = self.slot.step(run, from, count, book);
+        for event in news.as_slice() {
+            let told = SlotEvent {
                 client: self.client,
                 slot: self.number,
                 time,
                 event: *event,
             };
-            put_in_time(replies, reply);
+            put_in_time(events, told);
         }
     }
 
@@ -75,32 +78,31 @@ impl Place {
         run: &Planes,
         book: &mut CodeBook,
         time: u64,
-        replies: &mut ArrayVec<Reply, MOST_REPLIES>,
+        events: &mut ArrayVec<SlotEvent, RUN_EVENTS>,
     )
         requires short { length run.now ≤ 1024 }
         requires room { time + length run.now ≤ 2 ^ 40 }
         requires few { dumps_of self.old.slot ≤ 2 ^ 61 }
-        requires fits { array_vec_len replies.old ≤ 251 }
-        ensures { PlaceGoes 0 run.now time self.old self.new replies.old.items replies.new.items }
+        requires fits { array_vec_len events.old ≤ 251 }
+        ensures { PlaceGoes 0 run.now time self.old self.new events.old.items events.new.items }
     {
         let len = run.len();
         let mut done = 0;
         while done < len {
             let count = self.slot.room(len - done);
             let end = done + count;
-            self.step(run, done, count, book, time + end as u64, replies);
+            self.step(run, done, count, book, time + end as u64, events);
             done = end;
         }
     }
 
     /// Does what its client asks of its slot, and answers it.
-    pub fn command(&mut self, settings: &Settings, command: Command) -> Event
+    pub fn command(&mut self, settings: &Settings, command: Command) -> Answer
         ensures client { self.new.client ≡ self.old.client }
         ensures number { self.new.number ≡ self.old.number }
         ensures answer { (xs : List Sample) (commands : List TimedRequest)
             → StandsFor settings.now xs commands self.old.slot
-            → answer_in result ≡ Some (answer_at_end settings.now xs commands
-            (request_in command)) }
+            → answer_in result ≡ answer_at_end settings.now xs commands (request_in command) }
         ensures stands { (xs : List Sample) (commands : List TimedRequest)
             → StandsFor settings.now xs commands self.old.slot
             → StandsFor settings.now xs (commands
@@ -137,21 +139,21 @@ pub fn run_all(
     run: &Planes,
     book: &mut CodeBook,
     time: u64,
-    replies: &mut ArrayVec<Reply, MOST_REPLIES>,
+    events: &mut ArrayVec<SlotEvent, RUN_EVENTS>,
 )
     requires short { length run.now ≤ 1024 }
     requires room { time + length run.now ≤ 2 ^ 40 }
     requires few { AllFew (2 ^ 61) places.old }
-    requires fits { array_vec_len replies.old + length places.old ≤ 251 }
-    ensures { RunsAll run.now time places.old places.new replies.old.items replies.new.items }
+    requires fits { array_vec_len events.old + length places.old ≤ 251 }
+    ensures { RunsAll run.now time places.old places.new events.old.items events.new.items }
 {
     for place in places.iter_mut() {
-        place.run(run, book, time, replies);
+        place.run(run, book, time, events);
     }
 }
 
 /// One of the slots does what its client asks, and answers it.
-pub fn command_at(places: &mut [Place], at: usize, settings: &Settings, command: Command) -> Event
+pub fn command_at(places: &mut [Place], at: usize, settings: &Settings, command: Command) -> Answer
     requires { at < length places.old }
     ensures { IsCommanded settings.now (request_in command) places.old places.new at result }
 {

@@ -1,42 +1,39 @@
-ghost use Rattle.std.specs.Prelude.{◌≡◌, ◌≤◌, ◌<◌, ◌+◌, ◌-◌, ◌*◌, ◌^◌, [], ◌∷◌};
-ghost use Rattle.channel_slots.specs.declared.reply.Event.TheVariants.{Count};
+//! One slot: what it tells of the samples, and what it answers to its client.
 
+ghost use Rattle.std.specs.Prelude.{◌≡◌, ◌≤◌, ◌<◌, ◌+◌, ◌-◌, ◌*◌, ◌^◌, [], ◌∷◌};
+ghost use Rattle.channel_slots.specs.declared.event.Event.TheVariants.{Count};
+
+use crate::answer::{Answer, Refusal, SlotState};
 use crate::command::Command;
-use crate::holding::Holding;
-use crate::reply::{Event, SlotState};
+use crate::event::Event;
+use crate::life::Life;
 use arrayvec::ArrayVec;
 use ca_codes::CodeBook;
 use lane_correlator::Counts;
 use oscillators::Settings;
 use sample_planes::Planes;
 
-/// The refusal of a command that wants an idle slot.
-const BUSY: u8 = 9;
-
-/// The refusal of a command that wants a slot that isn't idle.
-const IDLE: u8 = 10;
-
 /// The most events of a slot that come together.
-pub const MOST_EVENTS: usize = 4;
+pub const SLOT_EVENTS: usize = 4;
 
-/// A slot: idle, or holding a satellite.
+/// A slot: idle, or with a life of its own.
 #[derive(Debug, Default, Drop)]
 pub enum Slot {
     #[default]
     Idle,
-    Holds(Holding),
+    On(Life),
 }
 
 impl Slot {
     ghost use Rattle.std.specs.Prelude.{ℕ, List, [], ◌∷◌, ◌++◌, length, Some};
     ghost use Rattle.definitions.specs.Samples.{Sample};
     ghost use Rattle.definitions.specs.Oscillators.{Settings as Recording};
-    ghost use Rattle.definitions.specs.Commands.{TimedRequest};
-    ghost use Rattle.definitions.specs.Answers.{answer_at_end};
+    ghost use Rattle.definitions.specs.Commands.{TimedRequest, state};
+    ghost use Rattle.definitions.specs.Answers.{answer_at_end, shown};
     ghost use Rattle.channel_slots.specs.Commands.{request_in};
     ghost use Rattle.channels.specs.Parts.{part};
-    ghost use Rattle.channel_slots.specs.Replies.{answer_in};
-    ghost use Rattle.channel_slots.specs.Slots.{chances, StandsFor, Tells, MayStep, ComesToEvent, dumps_of, IsRefusal};
+    ghost use Rattle.channel_slots.specs.Answers.{answer_in, view_in, IsRefusal};
+    ghost use Rattle.channel_slots.specs.Slots.{chances, StandsFor, Tells, MayStep, ComesToEvent, dumps_of};
 
     /// A slot that was never asked for anything.
     pub fn new() -> Slot
@@ -56,8 +53,8 @@ impl Slot {
     {
         match self {
             Slot::Idle => most,
-            Slot::Holds(holding) => {
-                let next = holding.to_event();
+            Slot::On(life) => {
+                let next = life.to_event();
                 if next < most as u64 {
                     next as usize
                 } else {
@@ -76,7 +73,7 @@ impl Slot {
         from: usize,
         count: usize,
         book: &mut CodeBook,
-    ) -> ArrayVec<Event, MOST_EVENTS>
+    ) -> ArrayVec<Event, SLOT_EVENTS>
         requires some { 0 < count }
         requires within { from + count ≤ length run.now }
         requires may { MayStep self.old count }
@@ -90,19 +87,30 @@ impl Slot {
     {
         match self {
             Slot::Idle => ArrayVec::new(),
-            Slot::Holds(holding) => match holding.step(run, from, count, book) {
+            Slot::On(life) => match life.step(run, from, count, book) {
                 None => ArrayVec::new(),
                 Some(counts) => counted(counts),
             },
         }
     }
 
+    /// What it shows of itself.
+    fn state(&self) -> SlotState
+        ensures { (settings : Recording) (xs : List Sample) (commands : List TimedRequest)
+            → StandsFor settings xs commands self.now
+            → shown (view_in result) ≡ answer_at_end settings xs commands state }
+    {
+        match self {
+            Slot::Idle => SlotState::Idle,
+            Slot::On(life) => life.state(),
+        }
+    }
+
     /// Does what a client asks of this slot, and answers it: a refused command changes nothing.
-    pub fn command(&mut self, settings: &Settings, command: Command) -> Event
+    pub fn command(&mut self, settings: &Settings, command: Command) -> Answer
         ensures answer { (xs : List Sample) (commands : List TimedRequest)
             → StandsFor settings.now xs commands self.old
-            → answer_in result ≡ Some (answer_at_end settings.now xs commands
-            (request_in command)) }
+            → answer_in result ≡ answer_at_end settings.now xs commands (request_in command) }
         ensures stands { (xs : List Sample) (commands : List TimedRequest)
             → StandsFor settings.now xs commands self.old
             → StandsFor settings.now xs (commands
@@ -110,31 +118,32 @@ impl Slot {
         ensures refused { IsRefusal result → self.new ≡ self.old }
         ensures dumps { dumps_of self.new ≤ dumps_of self.old }
     {
-        match self {
-            Slot::Idle => match command {
-                Command::Hold {
-                    slot: _,
-                    prn,
-                    doppler,
-                    half,
-                } => {
-                    *self = Slot::Holds(Holding::start(settings, prn, doppler, half));
-                    Event::Accepted
+        match command {
+            Command::Hold {
+                slot: _,
+                prn,
+                doppler,
+                half,
+            } => match self {
+                Slot::Idle => {
+                    *self = Slot::On(Life::hold(settings, prn, doppler, half));
+                    Answer::Accepted
                 }
-                Command::State { .. } => Event::State(SlotState::Idle),
-                Command::Counts { .. } => Event::Refused(IDLE),
-                Command::Stop { .. } => Event::Refused(IDLE),
+                Slot::On(_) => Answer::Refused(Refusal::Busy),
             },
-            Slot::Holds(holding) => match command {
-                Command::Hold { .. } => Event::Refused(BUSY),
-                Command::Counts { slot: _, n } => {
-                    holding.print(n);
-                    Event::Accepted
+            Command::Counts { slot: _, n } => match self {
+                Slot::Idle => Answer::Refused(Refusal::Idle),
+                Slot::On(life) => {
+                    life.print(n);
+                    Answer::Accepted
                 }
-                Command::State { .. } => Event::State(holding.state()),
-                Command::Stop { .. } => {
+            },
+            Command::State { .. } => Answer::State(self.state()),
+            Command::Stop { .. } => match self {
+                Slot::Idle => Answer::Refused(Refusal::Idle),
+                Slot::On(_) => {
                     *self = Slot::Idle;
-                    Event::Accepted
+                    Answer::Accepted
                 }
             },
         }
@@ -142,7 +151,7 @@ impl Slot {
 }
 
 /// The event of a dump that was asked for.
-fn counted(counts: Counts) -> ArrayVec<Event, MOST_EVENTS>
+fn counted(counts: Counts) -> ArrayVec<Event, SLOT_EVENTS>
     ensures { result.items ≡ Count counts ∷ [] }
 {
     let mut events = ArrayVec::new();

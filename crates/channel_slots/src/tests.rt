@@ -44,21 +44,21 @@ fn idle_and_busy_slots_answer(rt: HostRuntime) -> Result<(), Fail> {
     let stop = Command::Stop { slot };
     let mut held = Slot::new();
     for (command, answer) in [
-        (counts, Event::Refused(10)),
-        (stop, Event::Refused(10)),
-        (state, Event::State(SlotState::Idle)),
-        (hold(1, 0)?, Event::Accepted),
-        (hold(2, 0)?, Event::Refused(9)),
-        (counts, Event::Accepted),
+        (counts, Answer::Refused(Refusal::Idle)),
+        (stop, Answer::Refused(Refusal::Idle)),
+        (state, Answer::State(SlotState::Idle)),
+        (hold(1, 0)?, Answer::Accepted),
+        (hold(2, 0)?, Answer::Refused(Refusal::Busy)),
+        (counts, Answer::Accepted),
         (
             state,
-            Event::State(SlotState::Hold {
+            Answer::State(SlotState::Hold {
                 prn: Prn::new(1).ok_or("a satellite")?,
                 dumps: 0,
             }),
         ),
-        (stop, Event::Accepted),
-        (state, Event::State(SlotState::Idle)),
+        (stop, Answer::Accepted),
+        (state, Answer::State(SlotState::Idle)),
     ] {
         assert_eq!(rt; held.command(&settings, command), answer);
     }

@@ -1,7 +1,7 @@
 //! The slots of several clients over one stream.
 
 use super::{hold, plain_settings, slot_zero, sums};
-use crate::{Bank, Command, Event, OpenFault, Reply, SlotState};
+use crate::{Answer, Bank, Command, Event, OpenFault, SlotEvent, SlotState};
 use std::test::Fail;
 
 // Satellite 1 of client 1 and satellite 7 of client 2 as in the tests of one slot: their dumps come
@@ -12,33 +12,29 @@ fn each_client_has_its_slots(rt: HostRuntime) -> Result<(), Fail> {
     let state = Command::State { slot };
     let counts = Command::Counts { slot, n: 1 };
     let mut bank = Bank::open(rt.alloc(), plain_settings()?, 2)?;
-    let busy = bank.command(1, hold(1, 0)?);
-    assert_eq!(rt; (busy.client, busy.slot, busy.time), (1, 0, 0));
-    assert_eq!(rt; busy.event, Event::Accepted);
-    let idle = bank.command(2, state);
-    assert_eq!(rt; (idle.client, idle.slot, idle.time), (2, 0, 0));
-    assert_eq!(rt; idle.event, Event::State(SlotState::Idle));
+    assert_eq!(rt; bank.command(1, hold(1, 0)?), Answer::Accepted);
+    assert_eq!(rt; bank.command(2, state), Answer::State(SlotState::Idle));
     bank.command(2, hold(7, -1_000)?);
     bank.command(1, counts);
     bank.command(2, counts);
-    let replies = bank.feed(&[0], 0, 8);
+    let events = bank.feed(&[0], 0, 8);
     let first = Event::Count(sums([-2, 1, 2, -1, 2, -1]));
     let second = Event::Count(sums([-4, 0, 4, 0, 4, 0]));
     let told = [
-        Reply {
+        SlotEvent {
             client: 1,
             slot: 0,
             time: 1,
             event: first,
         },
-        Reply {
+        SlotEvent {
             client: 2,
             slot: 0,
             time: 2,
             event: second,
         },
     ];
-    assert_eq!(rt; replies.as_slice(), told.as_slice());
+    assert_eq!(rt; events.as_slice(), told.as_slice());
     assert_eq!(rt; bank.time(), 8);
     Ok(())
 }
@@ -56,22 +52,22 @@ fn satellites_fill_the_book_in_either_order(rt: HostRuntime) -> Result<(), Fail>
     bank.command(2, hold(1, 0)?);
     bank.command(1, counts);
     bank.command(2, counts);
-    let replies = bank.feed(&[0], 0, 8);
+    let events = bank.feed(&[0], 0, 8);
     let told = [
-        Reply {
+        SlotEvent {
             client: 2,
             slot: 0,
             time: 1,
             event: Event::Count(sums([-2, 1, 2, -1, 2, -1])),
         },
-        Reply {
+        SlotEvent {
             client: 1,
             slot: 0,
             time: 2,
             event: Event::Count(sums([-4, 0, 4, 0, 4, 0])),
         },
     ];
-    assert_eq!(rt; replies.as_slice(), told.as_slice());
+    assert_eq!(rt; events.as_slice(), told.as_slice());
     Ok(())
 }
 
@@ -85,14 +81,14 @@ fn a_feed_begins_anywhere(rt: HostRuntime) -> Result<(), Fail> {
     };
     bank.command(1, hold(1, 0)?);
     bank.command(1, counts);
-    let replies = bank.feed(&[255, 127], 8, 1);
-    let told = [Reply {
+    let events = bank.feed(&[255, 127], 8, 1);
+    let told = [SlotEvent {
         client: 1,
         slot: 0,
         time: 1,
         event: Event::Count(sums([-2, 1, 2, -1, 2, -1])),
     }];
-    assert_eq!(rt; replies.as_slice(), told.as_slice());
+    assert_eq!(rt; events.as_slice(), told.as_slice());
     Ok(())
 }
 

@@ -4,7 +4,7 @@ use Rattle.definitions.specs.Oscillators.{Settings}
 use Rattle.definitions.specs.Banks.{layout}
 use Rattle.channel_slots.specs.declared.place.Place.{Place}
 use Rattle.channel_slots.specs.declared.command.Command.{Command}
-use Rattle.channel_slots.specs.declared.reply.Event.{Event}
+use Rattle.channel_slots.specs.declared.answer.Answer.{Answer}
 use Rattle.channel_slots.specs.Slots.{StandsFor}
 use Rattle.channel_slots.specs.Banks.{IsCommanded, keys_of}
 use Rattle.channel_slots.specs.Commands.{slot_of, request_in}
@@ -23,10 +23,10 @@ within : (client number : ℕ) (ps : List Place) → 1 ≤ client → 4 * client
 within client number ps first last small = omega (arith, first, last, small)
 
 -- what the command does to the places
-done : (own settings : Settings) (command : Command) (taken ps qs : List Place) (at : ℕ) (event : Event) → own ≡ settings → taken ≡ ps
-    → IsCommanded own (request_in command) taken qs at event → IsCommanded settings (request_in command) ps qs at event
-done own settings command taken ps qs at event known same e =
-    subst (λ (l : List Place). IsCommanded settings (request_in command) l qs at event) same (subst (λ (r : Settings). IsCommanded r (request_in command) taken qs at event) known e)
+done : (own settings : Settings) (command : Command) (taken ps qs : List Place) (at : ℕ) (answer : Answer) → own ≡ settings → taken ≡ ps
+    → IsCommanded own (request_in command) taken qs at answer → IsCommanded settings (request_in command) ps qs at answer
+done own settings command taken ps qs at answer known same e =
+    subst (λ (l : List Place). IsCommanded settings (request_in command) l qs at answer) same (subst (λ (r : Settings). IsCommanded r (request_in command) taken qs at answer) known e)
 
 pub command_at-requires : goal.command_at-requires
 command_at-requires c =
@@ -55,7 +55,7 @@ returns-clause-answer c settings xs asked s =
     let e = done _ settings c.args.command _ ps c.command_at.new.places at c.command_at.result s.recorded c.deref_mut.ensures.value c.command_at.ensures in
     let n : c.get-slot.result ≡ slot_of c.args.command = c.get-slot.ensures.same ∙ c.slot.ensures in
     let last = many c.args.client c.args.self.now.clients ps c.requires.last c.args.self.now.keys in
-    e.answer xs _ (subst (λ (m : ℕ). StandsFor settings xs (asked c.args.client m) e.old.slot) n (stands-at settings xs asked ps c.args.client c.get-slot.result c.args.self.now.time e.old e.old c.requires.first last c.get-slot.ensures.range (own_keys c.args.self.now.clients ps c.args.self.now.keys) e.is s.slots))
+    e.answers xs _ (subst (λ (m : ℕ). StandsFor settings xs (asked c.args.client m) e.old.slot) n (stands-at settings xs asked ps c.args.client c.get-slot.result c.args.self.now.time e.old e.old c.requires.first last c.get-slot.ensures.range (own_keys c.args.self.now.clients ps c.args.self.now.keys) e.is s.slots))
 
 pub returns-clause-stands : goal.returns-clause-stands
 returns-clause-stands c settings xs asked s =

@@ -33,21 +33,21 @@ invariant_of-self c =
     let places : List Place = c.args.self.now.places.items in
     let new : List Place = c.run_all.new.places in
     let ys : List Sample = samples_from (packing_of c.format.result) c.args.bytes.now c.args.first c.args.len in
-    let runs : RunsAll ys c.args.self.now.time places new [] c.run_all.new.replies.items = rw (c.deref_mut.ensures.value, c.requires.empty, c.unpack-run.ensures) at c.run_all.ensures in
+    let runs : RunsAll ys c.args.self.now.time places new [] c.run_all.new.events.items = rw (c.deref_mut.ensures.value, c.requires.empty, c.unpack-run.ensures) at c.run_all.ensures in
     let whole = refilled c.args.self.now.places.len places new (omega (arith, c.run_all.auto.places, c.deref_mut.ensures.len)) in
     let is : length ys ≡ c.args.len = samples_from-length (packing_of c.format.result) c.args.bytes.now c.args.first c.args.len in
     record {
-      few = rw (whole, ← is) (most-from_few (c.args.self.now.time + length ys) new (few-more ys c.args.self.now.time c.args.self.now.time places new [] c.run_all.new.replies.items runs (few-from_most c.args.self.now.time places c.args.self.now.few)));
+      few = rw (whole, ← is) (most-from_few (c.args.self.now.time + length ys) new (few-more ys c.args.self.now.time c.args.self.now.time places new [] c.run_all.new.events.items runs (few-from_most c.args.self.now.time places c.args.self.now.few)));
       size = c.args.self.now.size;
-      keys = rw whole (keys-same ys c.args.self.now.time places new [] c.run_all.new.replies.items runs ∙ c.args.self.now.keys);
+      keys = rw whole (keys-same ys c.args.self.now.time places new [] c.run_all.new.events.items runs ∙ c.args.self.now.keys);
     }
 
 pub returns-clause-told : goal.returns-clause-told
 returns-clause-told c settings xs asked s =
     let packing : packing_of c.format.result ≡ settings.packing = c.format.ensures ∙ ap (λ (s : Settings). s.packing) s.recorded in
     let ys : List Sample = samples_from settings.packing c.args.bytes.now c.args.first c.args.len in
-    let runs : RunsAll ys c.args.self.now.time c.args.self.now.places.items c.run_all.new.places [] c.run_all.new.replies.items = rw (c.deref_mut.ensures.value, c.requires.empty, c.unpack-run.ensures, packing) at c.run_all.ensures in
-    run-tells settings asked xs ys c.args.self.now.time (sym s.now) c.args.self.now.places.items c.run_all.new.places c.run_all.new.replies.items (layout (replicate c.args.self.now.clients 4)) c.args.self.now.keys runs s.slots
+    let runs : RunsAll ys c.args.self.now.time c.args.self.now.places.items c.run_all.new.places [] c.run_all.new.events.items = rw (c.deref_mut.ensures.value, c.requires.empty, c.unpack-run.ensures, packing) at c.run_all.ensures in
+    run-tells settings asked xs ys c.args.self.now.time (sym s.now) c.args.self.now.places.items c.run_all.new.places c.run_all.new.events.items (layout (replicate c.args.self.now.clients 4)) c.args.self.now.keys runs s.slots
 
 pub returns-clause-stands : goal.returns-clause-stands
 returns-clause-stands c settings xs asked s =
@@ -55,8 +55,8 @@ returns-clause-stands c settings xs asked s =
     let places : List Place = c.args.self.now.places.items in
     let new : List Place = c.run_all.new.places in
     let ys : List Sample = samples_from settings.packing c.args.bytes.now c.args.first c.args.len in
-    let runs : RunsAll ys c.args.self.now.time places new [] c.run_all.new.replies.items = rw (c.deref_mut.ensures.value, c.requires.empty, c.unpack-run.ensures, packing) at c.run_all.ensures in
+    let runs : RunsAll ys c.args.self.now.time places new [] c.run_all.new.events.items = rw (c.deref_mut.ensures.value, c.requires.empty, c.unpack-run.ensures, packing) at c.run_all.ensures in
     let whole = refilled c.args.self.now.places.len places new (omega (arith, c.run_all.auto.places, c.deref_mut.ensures.len)) in
     let slots : BankStands settings (xs ++ ys) asked (c.args.self.now.time + c.args.len) new =
-    run-stands settings asked xs ys c.args.self.now.time (sym s.now) c.args.len places new [] c.run_all.new.replies.items (samples_from-length settings.packing c.args.bytes.now c.args.first c.args.len) runs s.slots in
+    run-stands settings asked xs ys c.args.self.now.time (sym s.now) c.args.len places new [] c.run_all.new.events.items (samples_from-length settings.packing c.args.bytes.now c.args.first c.args.len) runs s.slots in
     record { recorded = s.recorded; now = slots.now; slots = rw whole slots }

@@ -2,7 +2,7 @@ use Rattle.std.proofs.Common.{◌≡◌, ◌+◌, ◌-◌, arith, ℕ, List, len
 use Rattle.std.proofs.lemmas.List.{take_all, length-take-le}
 use Rattle.definitions.specs.Samples.{Sample}
 use Rattle.channel_slots.specs.Banks.{PlaceAdds}
-use Rattle.channel_slots.specs.Replies.{time_in}
+use Rattle.channel_slots.specs.Events.{time_in}
 use Rattle.channel_slots.proofs.OrderLemmas.{put_all-length}
 use Rattle.channel_slots.proofs.TellingLemmas.{goes-begin, goes-more, one-chance, take_part}
 use Rattle.channels.proofs.PartLemmas.{part-length}
@@ -11,7 +11,7 @@ use Rattle.channel_slots.proofs.place.Place.run.Goals as goal
 pub loop-done-init : goal.loop-done-init
 loop-done-init c = record {
   within = omega arith;
-  goes = goes-begin (c.len-len.result - 0) c.args.time c.args.self.now c.args.replies.now.items (one-chance c.args.self.now.slot (c.len-len.result - 0));
+  goes = goes-begin (c.len-len.result - 0) c.args.time c.args.self.now c.args.events.now.items (one-chance c.args.self.now.slot (c.len-len.result - 0));
 }
 
 pub step-requires-clause-few : goal.step-requires-clause-few
@@ -22,7 +22,7 @@ step-requires-clause-few c =
 pub step-requires-clause-fits : goal.step-requires-clause-fits
 step-requires-clause-fits c =
     let g = c.loop-done.invariant.goes in
-    let e : length c.loop-done.replies.items ≡ length c.args.replies.now.items + length g.replies = ap length g.added ∙ put_all-length time_in c.args.replies.now.items g.replies in
+    let e : length c.loop-done.events.items ≡ length c.args.events.now.items + length g.events = ap length g.added ∙ put_all-length time_in c.args.events.now.items g.events in
     omega (arith, e, g.chances, c.requires.fits)
 
 pub loop-done-preserved : goal.loop-done-preserved
@@ -36,12 +36,12 @@ loop-done-preserved c =
     let is : length zs ≡ count = part-length xs done count (omega (arith, c.len-len.ensures.count, c.room-count.ensures.within, c.loop-done-test.true)) in
     let here : c.args.time + (done + count) ≡ c.args.time + length ys + length zs = omega (arith, before_it, is) in
     let left : c.len-len.result - (done + count) ≡ c.len-len.result - done - count = omega arith in
-    let steps : PlaceAdds zs (c.args.time + (done + count)) c.loop-done.self c.step.new.self c.loop-done.replies.items c.step.new.replies.items = c.step.ensures in
-    let adds : PlaceAdds zs (c.args.time + length ys + length zs) c.loop-done.self c.step.new.self c.loop-done.replies.items c.step.new.replies.items =
-    subst (λ (t : ℕ). PlaceAdds zs t c.loop-done.self c.step.new.self c.loop-done.replies.items c.step.new.replies.items) here steps in
+    let steps : PlaceAdds zs (c.args.time + (done + count)) c.loop-done.self c.step.new.self c.loop-done.events.items c.step.new.events.items = c.step.ensures in
+    let adds : PlaceAdds zs (c.args.time + length ys + length zs) c.loop-done.self c.step.new.self c.loop-done.events.items c.step.new.events.items =
+    subst (λ (t : ℕ). PlaceAdds zs t c.loop-done.self c.step.new.self c.loop-done.events.items c.step.new.events.items) here steps in
     rw (left, take_part xs done count) (record {
       within = omega (arith, c.room-count.ensures.within, c.loop-done-test.true);
-      goes = goes-more (c.len-len.result - done) count ys zs c.args.time c.args.self.now c.loop-done.self c.step.new.self c.args.replies.now.items c.loop-done.replies.items c.step.new.replies.items c.loop-done.invariant.goes adds is c.room-count.ensures.some c.room-count.ensures.within (omega (arith, c.len-len.ensures.count, c.requires.short));
+      goes = goes-more (c.len-len.result - done) count ys zs c.args.time c.args.self.now c.loop-done.self c.step.new.self c.args.events.now.items c.loop-done.events.items c.step.new.events.items c.loop-done.invariant.goes adds is c.room-count.ensures.some c.room-count.ensures.within (omega (arith, c.len-len.ensures.count, c.requires.short));
     })
 
 pub returns : goal.returns
