@@ -5,7 +5,7 @@ use Rattle.std.specs.Fmt.{decimal, signed_decimal}
 use Rattle.definitions.specs.Correlation.{Counts}
 use Rattle.definitions.specs.Events.{count}
 use Rattle.definitions.specs.Answers.{idle, holding, accepted, refused, shown}
-use Rattle.definitions.specs.Texts.{event_text, answer_text}
+use Rattle.definitions.specs.Texts.{event_text, answer_text, refusal_text}
 
 six_parts : (line a b c d e f : List ℕ) → (((((line ++ a) ++ b) ++ c) ++ d) ++ e) ++ f ≡ line ++ (((((a ++ b) ++ c) ++ d) ++ e) ++ f)
 six_parts line a b c d e f = simp append_assoc
@@ -27,9 +27,15 @@ pub accepted-text : (line : List ℕ) (slot : ℕ) → line ++ codes " ok" ≡ l
 unfolding answer_text
 accepted-text line slot = refl
 
-pub refused-text : (line : List ℕ) (slot n : ℕ) → (line ++ codes " err") ++ 32 ∷ decimal n ≡ line ++ 32 ∷ answer_text slot (refused n)
+pub refusal-text : (line : List ℕ) (n : ℕ)
+    → (line ++ codes " err") ++ 32 ∷ decimal n ≡ line ++ 32 ∷ refusal_text n
+refusal-text line n = simp append_assoc
+
+-- a slot's refusal is printed as that of a line
+pub refused-text : (line : List ℕ) (slot n : ℕ)
+    → line ++ 32 ∷ refusal_text n ≡ line ++ 32 ∷ answer_text slot (refused n)
 unfolding answer_text
-refused-text line slot n = simp append_assoc
+refused-text line slot n = refl
 
 pub idle-text : (line : List ℕ) (slot : ℕ) → ((line ++ codes " state") ++ 32 ∷ decimal slot) ++ codes " idle" ≡ line ++ 32 ∷ answer_text slot (shown idle)
 unfolding answer_text

@@ -1,10 +1,11 @@
-//! Replies as printed lines: a reply's line and a client's last line, each with its end, are proved
-//! to be the texts of their definitions, and none has more than LINE_BYTES bytes.
+//! Printed lines: what a slot tells, what it answers, the refusal of a script's line and a client's
+//! last line, each with its end, are proved to be the texts of their definitions. None has more than
+//! LINE_BYTES bytes.
 //!
-//!     use printed_lines::{end_line, line};
+//!     use printed_lines::{end_line, event_line};
 //!
-//!     for reply in &replies {
-//!         output.extend_from_slice(&line(reply))?;
+//!     for event in &events {
+//!         output.extend_from_slice(&event_line(event))?;
 //!     }
 //!     output.extend_from_slice(&end_line(client, time))?;
 #![tactic(auto)]
@@ -14,5 +15,5 @@ mod lines;
 mod tests;
 mod words;
 
-pub use lines::{end_line, line};
+pub use lines::{answer_line, end_line, event_line, refusal_line};
 pub use words::{LINE_BYTES, Line};

@@ -1,25 +1,50 @@
 //! The texts of printed lines.
 
-ghost use Rattle.std.specs.Prelude.{◌≡◌, ◌≤◌, ◌<◌, ◌+◌, ◌*◌, ◌++◌, ◌∷◌, length, codes};
+ghost use Rattle.std.specs.Prelude.{◌≡◌, ◌++◌, ◌∷◌, codes};
 ghost use Rattle.definitions.specs.Lines.{ended_line};
-ghost use Rattle.definitions.specs.Texts.{for_client, at_time, event_text, answer_text};
+ghost use Rattle.definitions.specs.Texts.{for_client, at_time, event_text, answer_text, refusal_text};
 ghost use Rattle.definitions.specs.Events.{count};
 ghost use Rattle.definitions.specs.Answers.{shown};
 ghost use Rattle.lane_correlator.specs.Counting.{counts_in};
-ghost use Rattle.channel_slots.specs.Replies.{text_of, line_of, view_in};
+ghost use Rattle.channel_slots.specs.Answers.{answer_in, view_in};
+ghost use Rattle.channel_slots.specs.Events.{event_in, line_of};
 ghost use Rattle.printed_lines.specs.Room.{HasRoom, TakesUp};
 
 use crate::words::Line;
-use channel_slots::{Event, Reply, SlotState};
+use channel_slots::{Answer, Event, SlotEvent, SlotState};
 use lane_correlator::Counts;
 
-/// The line of a reply, with its end.
-pub fn line(reply: &Reply) -> Line
-    ensures { result ≡ ended_line (line_of reply.now) }
+/// The line of what a slot tells, with its end.
+pub fn event_line(event: &SlotEvent) -> Line
+    ensures { result ≡ ended_line (line_of event.now) }
 {
-    let mut line = Line::new(reply.client.into());
-    line.number(reply.time);
-    put_event(&mut line, reply.slot, &reply.event);
+    let mut line = Line::new(event.client.into());
+    line.number(event.time);
+    put_event(&mut line, event.slot, &event.event);
+    line.end();
+    line
+}
+
+/// The line of what a client's slot answers at a time, with its end.
+pub fn answer_line(client: u8, time: u64, slot: u8, answer: &Answer) -> Line
+    ensures { result ≡ ended_line
+        (for_client client (at_time time (answer_text slot (answer_in answer.now)))) }
+{
+    let mut line = Line::new(client.into());
+    line.number(time);
+    put_answer(&mut line, slot, answer);
+    line.end();
+    line
+}
+
+/// The line that refuses a line of a client's script at a time, with its end. The number is that of
+/// the refusal.
+pub fn refusal_line(client: u8, time: u64, number: u8) -> Line
+    ensures { result ≡ ended_line (for_client client (at_time time (refusal_text number))) }
+{
+    let mut line = Line::new(client.into());
+    line.number(time);
+    put_refusal(&mut line, number);
     line.end();
     line
 }
@@ -35,21 +60,38 @@ pub fn end_line(client: u8, time: u64) -> Line
     line
 }
 
-/// Adds the words of an event, at most 8.
+/// Adds the words of what a slot tells, at most 8.
 fn put_event(line: &mut Line, slot: u8, event: &Event)
     requires room { HasRoom 8 line.old }
-    ensures text { line.new ≡ line.old ++ 32 ∷ text_of slot event.now }
+    ensures text { line.new ≡ line.old ++ 32 ∷ event_text slot (event_in event.now) }
     ensures longer { TakesUp 8 line.old line.new }
 {
     match event {
-        Event::Accepted => line.word(b"ok"),
-        Event::Refused(number) => {
-            line.word(b"err");
-            line.number((*number).into());
-        }
         Event::Count(counts) => put_counts(line, slot, *counts),
-        Event::State(state) => put_state(line, slot, *state),
     }
+}
+
+/// Adds the words of an answer, at most 5.
+fn put_answer(line: &mut Line, slot: u8, answer: &Answer)
+    requires room { HasRoom 5 line.old }
+    ensures text { line.new ≡ line.old ++ 32 ∷ answer_text slot (answer_in answer.now) }
+    ensures longer { TakesUp 5 line.old line.new }
+{
+    match answer {
+        Answer::Accepted => line.word(b"ok"),
+        Answer::Refused(refusal) => put_refusal(line, refusal.number()),
+        Answer::State(state) => put_state(line, slot, *state),
+    }
+}
+
+/// Adds the words of a refusal.
+fn put_refusal(line: &mut Line, number: u8)
+    requires room { HasRoom 2 line.old }
+    ensures text { line.new ≡ line.old ++ 32 ∷ refusal_text number }
+    ensures longer { TakesUp 2 line.old line.new }
+{
+    line.word(b"err");
+    line.number(number.into());
 }
 
 /// Adds the words of a dump.

@@ -2,7 +2,7 @@
 
 use super::*;
 use ca_codes::Prn;
-use channel_slots::{Event, Reply, SlotState};
+use channel_slots::{Answer, Event, Refusal, SlotEvent, SlotState};
 use lane_correlator::Counts;
 use std::test::Fail;
 
@@ -16,14 +16,18 @@ const SUMS: Counts = Counts {
     ql: -99,
 };
 
+/// The latest time of a command.
+const TIME: u64 = 1_099_511_627_776;
+
+/// A line as bytes.
+fn is_text(line: &Line, text: &[u8]) -> bool {
+    let bytes: &[u8] = line;
+    bytes == text
+}
+
 #[test]
-fn each_kind_of_reply(rt: HostRuntime) -> Result<(), Fail> {
-    let prn = Prn::new(32).ok_or("a satellite")?;
-    let dumps = 18_446_744_073_709_551_615;
-    let rows: [(Event, &[u8]); 7] = [
-        (Event::Accepted, b"8 1099511627776 ok\n"),
-        (Event::Refused(9), b"8 1099511627776 err 9\n"),
-        (Event::Refused(10), b"8 1099511627776 err 10\n"),
+fn each_kind_of_event(rt: HostRuntime) {
+    let rows: [(Event, &[u8]); 2] = [
         (
             Event::Count(SUMS),
             b"8 1099511627776 count 3 0 -1 10 -2147483648 2147483647 -99\n",
@@ -32,43 +36,58 @@ fn each_kind_of_reply(rt: HostRuntime) -> Result<(), Fail> {
             Event::Count(Counts::NONE),
             b"8 1099511627776 count 3 0 0 0 0 0 0\n",
         ),
+    ];
+    for (event, text) in rows {
+        let told = SlotEvent {
+            client: 8,
+            slot: 3,
+            time: TIME,
+            event,
+        };
+        assert!(rt; is_text(&event_line(&told), text));
+    }
+}
+
+#[test]
+fn each_kind_of_answer(rt: HostRuntime) -> Result<(), Fail> {
+    let prn = Prn::new(32).ok_or("a satellite")?;
+    let dumps = 18_446_744_073_709_551_615;
+    let rows: [(Answer, &[u8]); 5] = [
+        (Answer::Accepted, b"8 1099511627776 ok\n"),
         (
-            Event::State(SlotState::Idle),
+            Answer::Refused(Refusal::Busy),
+            b"8 1099511627776 err 9\n",
+        ),
+        (
+            Answer::Refused(Refusal::Idle),
+            b"8 1099511627776 err 10\n",
+        ),
+        (
+            Answer::State(SlotState::Idle),
             b"8 1099511627776 state 3 idle\n",
         ),
         (
-            Event::State(SlotState::Hold { prn, dumps }),
+            Answer::State(SlotState::Hold { prn, dumps }),
             b"8 1099511627776 state 3 hold 32 18446744073709551615\n",
         ),
     ];
-    for (event, text) in rows {
-        let reply = Reply {
-            client: 8,
-            slot: 3,
-            time: 1_099_511_627_776,
-            event,
-        };
-        let printed = line(&reply);
-        let bytes: &[u8] = &printed;
-        assert_eq!(rt; bytes, text);
+    for (answer, text) in rows {
+        assert!(rt; is_text(&answer_line(8, TIME, 3, &answer), text));
     }
     Ok(())
 }
 
 #[test]
-fn last_lines(rt: HostRuntime) -> Result<(), Fail> {
-    let rows: [(u8, u64, &[u8]); 2] = [
-        (1, 0, b"1 0 end\n"),
-        (
-            255,
-            18_446_744_073_709_551_615,
-            b"255 18446744073709551615 end\n",
-        ),
-    ];
-    for (client, time, text) in rows {
-        let printed = end_line(client, time);
-        let bytes: &[u8] = &printed;
-        assert_eq!(rt; bytes, text);
-    }
-    Ok(())
+fn refused_lines(rt: HostRuntime) {
+    assert!(rt; is_text(&refusal_line(1, 0, 1), b"1 0 err 1\n"));
+    assert!(rt; is_text(&refusal_line(8, TIME, 8), b"8 1099511627776 err 8\n"));
+}
+
+#[test]
+fn last_lines(rt: HostRuntime) {
+    assert!(rt; is_text(&end_line(1, 0), b"1 0 end\n"));
+    assert!(rt; is_text(
+        &end_line(255, 18_446_744_073_709_551_615),
+        b"255 18446744073709551615 end\n"
+    ));
 }

@@ -2,8 +2,8 @@ use Rattle.std.proofs.Common.{◌≡◌, ◌++◌, ◌∷◌, ap, sym, ◌∙◌
 use Rattle.std.specs.Prelude.{ℕ, List}
 use Rattle.definitions.specs.Answers.{shown}
 use Rattle.definitions.specs.Texts.{answer_text}
-use Rattle.channel_slots.specs.Replies.{view_in}
-use Rattle.channel_slots.specs.declared.reply.SlotState.{SlotState}
+use Rattle.channel_slots.specs.Answers.{view_in}
+use Rattle.channel_slots.specs.declared.answer.SlotState.{SlotState}
 use Rattle.printed_lines.proofs.LineLemmas.{idle-text, hold-text}
 use Rattle.printed_lines.proofs.lines.put_state.Goals as goal
 
