@@ -12,45 +12,54 @@ use Rattle.definitions.specs.Lines.{ended_line, as_bytes}
 use Rattle.definitions.specs.Receiver.{body, body_lines, full, full_lines, end_lines}
 use Rattle.definitions.proofs.BodyLemmas.{as_bytes-append}
 use Rattle.receiver.specs.Offered.{offered}
-use Rattle.channel_slots.specs.declared.reply.Reply.{Reply}
+use Rattle.channel_slots.specs.declared.event.SlotEvent.{SlotEvent}
 use Rattle.receiver.specs.declared.session.Session.{Session}
 use Rattle.receiver.specs.Texts.{AppendsPart}
-use Rattle.receiver.specs.Sessions.{StandsFor}
-use Rattle.channel_slots.specs.Replies.{line_of}
+use Rattle.receiver.specs.Sessions.{StandsFor, Gives}
+use Rattle.channel_slots.specs.Events.{line_of}
 use Rattle.receiver.specs.Runs.{HasAnswered}
 use Rattle.receiver.proofs.TextLemmas.{wrote-none, wrote-text, wrote-part, wrote-all, wrote-front}
-
--- a session gives its next answer
-abbrev pub GivesAnswer : Session → Reply → Session → Type 0
-GivesAnswer old reply new = (settings : Settings) (clients : List Client) (xs : List Sample) (waiting : List (List ℕ)) → StandsFor settings clients old xs waiting
-    → (rest : List (List ℕ)) × (waiting ≡ line_of reply ∷ rest) × StandsFor settings clients new xs rest
 
 pub answered-none : (settings : Settings) (clients : List Client) (xs : List Sample) (waiting : List (List ℕ)) (session : Session) (start : Option (List ℕ))
     → StandsFor settings clients session xs waiting → HasAnswered settings clients xs waiting start session start
 answered-none settings clients xs waiting session start s = record { left = waiting; stands = s; wrote = wrote-none start (as_bytes waiting) }
 
-pub answered-more : (settings : Settings) (clients : List Client) (xs : List Sample) (waiting : List (List ℕ)) (start b c : Option (List ℕ)) (old new : Session) (reply : Reply) (text : List ℕ)
-    → GivesAnswer old reply new → text ≡ ended_line (line_of reply) → Appends b c text → HasAnswered settings clients xs waiting start old b → HasAnswered settings clients xs waiting start new c
+pub answered-more : (settings : Settings) (clients : List Client) (xs : List Sample)
+    (waiting : List (List ℕ)) (start b c : Option (List ℕ)) (old new : Session) (line : List ℕ)
+    → Gives old line new → Appends b c line
+    → HasAnswered settings clients xs waiting start old b
+    → HasAnswered settings clients xs waiting start new c
 unfolding as_bytes
-answered-more settings clients xs waiting start b c old new reply text gives e p h =
+answered-more settings clients xs waiting start b c old new line gives p h =
     let n = gives settings clients xs h.left h.stands in
-    record { left = n.0; stands = n.2; wrote = wrote-text start b c (as_bytes waiting) (as_bytes h.left) (ended_line (line_of reply)) (as_bytes n.0) h.wrote (ap as_bytes n.1) (subst (Appends b c) e p) }
+    record {
+      left = n.rest;
+      stands = n.stands;
+      wrote = wrote-text start b c (as_bytes waiting) (as_bytes h.left) (ended_line n.text)
+          (as_bytes n.rest) h.wrote (ap as_bytes n.first) (subst (Appends b c) n.ended p);
+    }
 
-pub answered-part : (settings : Settings) (clients : List Client) (xs : List Sample) (waiting : List (List ℕ)) (start b c : Option (List ℕ)) (old new : Session) (reply : Reply) (text : List ℕ)
-    → GivesAnswer old reply new → text ≡ ended_line (line_of reply) → AppendsPart b c text → HasAnswered settings clients xs waiting start old b → AppendsPart start c (as_bytes waiting)
+pub answered-part : (settings : Settings) (clients : List Client) (xs : List Sample)
+    (waiting : List (List ℕ)) (start b c : Option (List ℕ)) (old new : Session) (line : List ℕ)
+    → Gives old line new → AppendsPart b c line
+    → HasAnswered settings clients xs waiting start old b
+    → AppendsPart start c (as_bytes waiting)
 unfolding as_bytes
-answered-part settings clients xs waiting start b c old new reply text gives e p h =
+answered-part settings clients xs waiting start b c old new line gives p h =
     let n = gives settings clients xs h.left h.stands in
-    wrote-part start b c (as_bytes waiting) (as_bytes h.left) (ended_line (line_of reply)) (as_bytes n.0) h.wrote (ap as_bytes n.1) (subst (AppendsPart b c) e p)
+    wrote-part start b c (as_bytes waiting) (as_bytes h.left) (ended_line n.text) (as_bytes n.rest)
+    h.wrote (ap as_bytes n.first) (subst (AppendsPart b c) n.ended p)
 
-pub replies-next : (replies : List Reply) (i : ℕ) (d : Reply) → i < length replies → as_bytes (map line_of (drop i replies)) ≡ ended_line (line_of (get_or replies i d)) ++ as_bytes (map line_of (drop (i + 1) replies))
+pub events-next : (events : List SlotEvent) (i : ℕ) (d : SlotEvent) → i < length events
+    → as_bytes (map line_of (drop i events))
+    ≡ ended_line (line_of (get_or events i d)) ++ as_bytes (map line_of (drop (i + 1) events))
 unfolding as_bytes
-replies-next replies i d h = rw (drop-cons replies i d h, add-one) refl
+events-next events i d h = rw (drop-cons events i d h, add-one) refl
 
 -- none are left
-pub replies-done : (replies : List Reply) (i : ℕ) → length replies ≤ i → as_bytes (map line_of (drop i replies)) ≡ []
+pub events-done : (events : List SlotEvent) (i : ℕ) → length events ≤ i → as_bytes (map line_of (drop i events)) ≡ []
 unfolding as_bytes
-replies-done replies i h = rw (drop_of_length-le replies h) refl
+events-done events i h = rw (drop_of_length-le events h) refl
 
 -- ---- a stretch: what was told, and then the answers
 pub stretch-text : (before told answers all : List (List ℕ)) → all ≡ before ++ told ++ answers → as_bytes all ≡ as_bytes before ++ (as_bytes told ++ as_bytes answers)

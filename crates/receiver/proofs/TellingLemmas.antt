@@ -6,59 +6,30 @@ use Rattle.definitions.specs.Samples.{Sample}
 use Rattle.definitions.specs.Oscillators.{Settings}
 use Rattle.definitions.specs.Scripts.{Entry}
 use Rattle.definitions.specs.Texts.{for_client, at_time, event_text, answer_text}
-use Rattle.definitions.specs.Events.{Event as ToldEvent}
-use Rattle.definitions.specs.Answers.{Answer}
-use Rattle.definitions.specs.Banks.{SlotEvent, line_of as line_of_event, bank_events_at_end, layout}
+use Rattle.definitions.specs.Banks.{SlotEvent as Told, line_of as line_of_told, bank_events_at_end, layout}
 use Rattle.definitions.specs.Receiver.{Client, body_lines, lines_at, event_lines, answer_lines, at_each_sample}
 use Rattle.definitions.proofs.BodyLemmas.{body_lines-more}
 use Rattle.definitions.proofs.TellLemmas.{printed, shares_of, at_each_sample-lines}
-use Rattle.channel_slots.specs.declared.reply.Reply.{Reply}
-use Rattle.channel_slots.specs.declared.reply.Event.{Event}
-use Rattle.channel_slots.specs.declared.reply.Event.TheVariants.{Accepted, Refused, Count, State}
-use Rattle.channel_slots.specs.Replies.{line_of, text_of, told_in, told_with, event_in, answer_in}
-use Rattle.channel_slots.specs.Banks.{AreTold}
+use Rattle.channel_slots.specs.declared.event.SlotEvent.{SlotEvent}
+use Rattle.channel_slots.specs.Events.{AreTold, line_of, told_in}
 use Rattle.receiver.specs.Offered.{offered}
 use Rattle.receiver.specs.declared.queue.Queue.{Queue}
 use Rattle.receiver.specs.Queues.{least_gap_of}
 use Rattle.receiver.specs.Sessions.{AreQueues, asked_of}
 use Rattle.receiver.proofs.SessionLemmas.{some-is, none-some, quiet, asked-each}
 
--- a reply's text is that of the event that it tells
-text-told : (slot : ℕ) (event : Event) (t : ToldEvent) → event_in event ≡ Some t → text_of slot event ≡ event_text slot t
-text-told slot Accepted t e = absurd (none-some t e)
-text-told slot (Refused n) t e = absurd (none-some t e)
-text-told slot (Count counts) t e = ap (event_text slot) (some-is _ t e)
-text-told slot (State state) t e = absurd (none-some t e)
-
--- or that of the answer
-pub text-answered : (slot : ℕ) (event : Event) (a : Answer) → answer_in event ≡ Some a → text_of slot event ≡ answer_text slot a
-text-answered slot Accepted a e = ap (answer_text slot) (some-is _ a e)
-text-answered slot (Refused n) a e = ap (answer_text slot) (some-is _ a e)
-text-answered slot (Count counts) a e = absurd (none-some a e)
-text-answered slot (State state) a e = ap (answer_text slot) (some-is _ a e)
-
-line-told : (reply : Reply) (t : SlotEvent) → told_in reply ≡ Some t → line_of reply ≡ line_of_event t
-line-told reply t e = by_event (event_in reply.event) refl e
+pub lines-told : (events : List SlotEvent) (told : List Told) → AreTold events told
+    → map line_of events ≡ map line_of_told told
+lines-told events told e = from_map events ∙ ap (map line_of_told) e
   where
-    by_event : (o : Option ToldEvent) → event_in reply.event ≡ o → told_with reply o ≡ Some t → line_of reply ≡ line_of_event t
-    by_event None is e = absurd (none-some t e)
-    by_event (Some event) is e =
-        ap (λ (text : List ℕ). for_client reply.client (at_time reply.time text)) (text-told reply.slot reply.event event is)
-        ∙ ap line_of_event (some-is (record { client = reply.client; slot = reply.slot; time = reply.time; event = event }) t e)
-
-pub lines-told : (replies : List Reply) (events : List SlotEvent) → AreTold replies events → map line_of replies ≡ map line_of_event events
-lines-told [] [] e = refl
-lines-told [] (t ∷ events) e = let one : 0 ≡ suc (length (map (λ (x : SlotEvent). Some x) events)) = ap length e in absurd (omega (arith, one))
-lines-told (r ∷ replies) [] e = let one : suc (length (map told_in replies)) ≡ 0 = ap length e in absurd (omega (arith, one))
-lines-told (r ∷ replies) (t ∷ events) e =
-    let head : told_in r ≡ Some t = ap (λ (l : List (Option SlotEvent)). get_or l 0 None) e in
-    ap (λ (x : List ℕ). x ∷ map line_of replies) (line-told r t head)
-    ∙ ap (λ (l : List (List ℕ)). line_of_event t ∷ l) (lines-told replies events (ap (λ (l : List (Option SlotEvent)). drop 1 l) e))
+    from_map : (es : List SlotEvent) → map line_of es ≡ map line_of_told (map told_in es)
+    from_map [] = refl
+    from_map (e ∷ es) = ap (λ (l : List (List ℕ)). line_of e ∷ l) (from_map es)
 
 -- all that is told is printed
-all-printed : (events : List SlotEvent) → printed offered events ≡ map line_of_event events
+all-printed : (events : List Told) → printed offered events ≡ map line_of_told events
 all-printed [] = refl
-all-printed (t ∷ events) = ap (λ (l : List (List ℕ)). line_of_event t ∷ l) (all-printed events)
+all-printed (t ∷ events) = ap (λ (l : List (List ℕ)). line_of_told t ∷ l) (all-printed events)
 
 -- the lines of a stretch of samples before the last of which nothing is answered
 stretch : (settings : Settings) (cs : List Client) (xs ys : List Sample) → 0 < length ys → ((j : ℕ) → 0 < j → j < length ys → answer_lines offered settings cs (xs ++ take j ys) ≡ [])
@@ -85,13 +56,13 @@ stretch settings cs xs (y ∷ z ∷ ys) some quiet =
     ∙ ap (λ (l : List (List ℕ)). l ++ answer_lines offered settings cs (one ++ (z ∷ ys))) (append_assoc (body_lines offered settings xs cs) told tells)
     ∙ ap (λ (l : List Sample). body_lines offered settings xs cs ++ (told ++ tells) ++ answer_lines offered settings cs l) whole
 
-pub told-stretch : (settings : Settings) (cs : List Client) (qs : List Queue) (done : ℕ → List Entry) (xs ys : List Sample) (replies : List Reply) → 0 < length ys → AreQueues xs done 1 cs qs → length ys ≤ least_gap_of (length xs) qs
-    → AreTold replies (at_each_sample (bank_events_at_end settings (layout (shares_of cs)) (asked_of done)) xs ys)
-    → body_lines offered settings (xs ++ ys) cs ≡ body_lines offered settings xs cs ++ map line_of replies ++ answer_lines offered settings cs (xs ++ ys)
-told-stretch settings cs qs done xs ys replies some all free told =
-    let events : List SlotEvent = at_each_sample (bank_events_at_end settings (layout (shares_of cs)) (asked_of done)) xs ys in
-    let lines : map line_of replies ≡ at_each_sample (event_lines offered settings cs) xs ys =
-    lines-told replies events told ∙ sym (all-printed events)
+pub told-stretch : (settings : Settings) (cs : List Client) (qs : List Queue) (done : ℕ → List Entry) (xs ys : List Sample) (events_told : List SlotEvent) → 0 < length ys → AreQueues xs done 1 cs qs → length ys ≤ least_gap_of (length xs) qs
+    → AreTold events_told (at_each_sample (bank_events_at_end settings (layout (shares_of cs)) (asked_of done)) xs ys)
+    → body_lines offered settings (xs ++ ys) cs ≡ body_lines offered settings xs cs ++ map line_of events_told ++ answer_lines offered settings cs (xs ++ ys)
+told-stretch settings cs qs done xs ys events_told some all free told =
+    let events : List Told = at_each_sample (bank_events_at_end settings (layout (shares_of cs)) (asked_of done)) xs ys in
+    let lines : map line_of events_told ≡ at_each_sample (event_lines offered settings cs) xs ys =
+    lines-told events_told events told ∙ sym (all-printed events)
     ∙ at_each_sample-lines offered settings (asked_of done) cs xs ys
     (λ j more within k client found s. asked-each settings xs ys done some (take j ys) (omega (arith, length-take j ys)) (omega (arith, length-take j ys)) 1 cs qs all free k client found s) in
     stretch settings cs xs ys some (λ j f b. quiet settings xs ys done some (take j ys) (omega (arith, length-take j ys)) (omega (arith, length-take j ys)) cs qs all free)

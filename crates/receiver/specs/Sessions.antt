@@ -6,11 +6,10 @@ use Rattle.definitions.specs.Oscillators.{Settings}
 use Rattle.definitions.specs.Scripts.{Entry}
 use Rattle.definitions.specs.Receiver.{Client, entries_of, commands_to, reply_text, timed_texts}
 use Rattle.definitions.specs.Texts.{for_client, at_time}
+use Rattle.definitions.specs.Lines.{ended_line}
 use Rattle.definitions.proofs.EntryLemmas.{NoneBefore, answers_left}
 use Rattle.channel_slots.specs.BankStates.{StandsFor as BankStandsFor, settings_of, clients_of, time_of as time_of_bank}
 use Rattle.channel_slots.specs.declared.bank.Bank.{Bank}
-use Rattle.channel_slots.specs.declared.reply.Reply.{Reply}
-use Rattle.channel_slots.specs.Replies.{line_of}
 use Rattle.client_commands.specs.Entries.{result_in}
 use Rattle.definitions.specs.Commands.{TimedRequest}
 use Rattle.receiver.specs.declared.due.Due.{Due}
@@ -35,7 +34,8 @@ until_next session = least_gap_of (time_of session) session.queues.items
 unfoldable pub lines_left : Session → ℕ
 lines_left session = all_left session.queues.items
 
--- a client's entries are those that were answered and those that are left, which stand at the time of the last sample or after it
+-- a client's entries are those that were answered and those that are left, which stand at the time
+-- of the last sample or after it
 pub record IsQueue (xs : List Sample) (client : Client) (done left : List Entry) : Type 0 where
   pub slots : client.slots ≡ 4
   pub all : entries_of offered client ≡ done ++ left
@@ -50,7 +50,8 @@ AreQueues xs done b (c ∷ cs) [] = ⊥
 AreQueues xs done b (c ∷ cs) (q ∷ qs) = IsQueue xs c (done b) (left_of q) × AreQueues xs done (b + 1) cs qs
 
 -- the lines of the answers that they have still to get at this time
-abbrev pub answers_waiting : Settings → List Sample → (ℕ → List Entry) → ℕ → List Queue → List (List ℕ)
+abbrev pub answers_waiting : Settings → List Sample → (ℕ → List Entry) → ℕ → List Queue
+    → List (List ℕ)
 answers_waiting settings xs done b [] = []
 answers_waiting settings xs done b (q ∷ qs) =
     map (for_client b) (timed_texts xs (answers_left settings xs (done b) (left_of q)))
@@ -68,19 +69,38 @@ with_entry done client entry c = if nat_eq c client then done c ++ entry ∷ [] 
 abbrev pub entry_now : List Sample → Due → Entry
 entry_now xs due = record { time = length xs; what = result_in due.what }
 
--- a bank answers an entry, which then has been answered
-pub record Answers (old new : Bank) (due : Due) (reply : Reply) : Type 0 where
+-- a bank answers an entry by a line with its end, and then it has been answered
+pub record Answers (old new : Bank) (due : Due) (printed : List ℕ) : Type 0 where
   pub settings : settings_of new ≡ settings_of old
   pub clients : clients_of new ≡ clients_of old
   pub time : time_of_bank new ≡ time_of_bank old
-  pub line : (settings : Settings) (xs : List Sample) (done : ℕ → List Entry) → BankStandsFor settings xs (asked_of done) old
-      → line_of reply ≡ for_client due.client (at_time (length xs) (reply_text settings xs (done due.client) (result_in due.what)))
-  pub stands : (settings : Settings) (xs : List Sample) (done : ℕ → List Entry) → BankStandsFor settings xs (asked_of done) old
+  pub line : (settings : Settings) (xs : List Sample) (done : ℕ → List Entry)
+      → BankStandsFor settings xs (asked_of done) old
+      → printed ≡ ended_line (for_client due.client (at_time (length xs)
+      (reply_text settings xs (done due.client) (result_in due.what))))
+  pub stands : (settings : Settings) (xs : List Sample) (done : ℕ → List Entry)
+      → BankStandsFor settings xs (asked_of done) old
       → BankStandsFor settings xs (asked_of (with_entry done due.client (entry_now xs due))) new
 
 -- the session has come to the end of these samples, and has still to give these lines at this time
-pub record StandsFor (settings : Settings) (clients : List Client) (session : Session) (xs : List Sample) (waiting : List (List ℕ)) : Type 0 where
+pub record StandsFor (settings : Settings) (clients : List Client) (session : Session)
+    (xs : List Sample) (waiting : List (List ℕ)) : Type 0 where
   pub done : ℕ → List Entry
   pub bank : BankStandsFor settings xs (asked_of done) session.bank
   pub queues : AreQueues xs done 1 clients session.queues.items
   pub waits : waiting ≡ answers_waiting settings xs done 1 session.queues.items
+
+-- a line of those that wait was given, with its end, and the others wait
+pub record GaveLine (settings : Settings) (clients : List Client) (xs : List Sample)
+    (waiting : List (List ℕ)) (line : List ℕ) (new : Session) : Type 0 where
+  pub text : List ℕ
+  pub rest : List (List ℕ)
+  pub first : waiting ≡ text ∷ rest
+  pub ended : line ≡ ended_line text
+  pub stands : StandsFor settings clients new xs rest
+
+-- whatever a session stood for, it gave the first of the lines that wait
+abbrev pub Gives : Session → List ℕ → Session → Type 0
+Gives old line new =
+    (settings : Settings) (clients : List Client) (xs : List Sample) (waiting : List (List ℕ))
+    → StandsFor settings clients old xs waiting → GaveLine settings clients xs waiting line new

@@ -4,8 +4,9 @@ ghost use Rattle.std.specs.Prelude.{◌≤◌};
 ghost use Rattle.channel_slots.specs.BankStates.{clients_of};
 ghost use Rattle.receiver.specs.Sessions.{Answers};
 
-use channel_slots::{Bank, Command, Event, Reply};
+use channel_slots::{Bank, Command};
 use client_commands::Refusal;
+use printed_lines::{Line, answer_line, refusal_line};
 
 /// An entry of a client's script that is to be answered now.
 #[derive(Drop)]
@@ -15,21 +16,21 @@ pub struct Due {
 }
 
 impl Due {
-    /// Answers it. A refused line never reaches the bank.
-    pub fn answer(self, bank: &mut Bank) -> Reply
+    /// Answers it, by the line of the answer with its end. A refused line never reaches the bank.
+    pub fn answer(self, bank: &mut Bank) -> Line
         requires first { 1 ≤ self.client }
         requires last { self.client ≤ clients_of bank.old }
         ensures { Answers bank.old bank.new self result }
     {
         let Due { client, what } = self;
+        let time = bank.time();
         match what {
-            Ok(command) => bank.command(client, command),
-            Err(refusal) => Reply {
-                client,
-                slot: 0,
-                time: bank.time(),
-                event: Event::Refused(refusal.number()),
-            },
+            Ok(command) => {
+                let slot = command.slot().get();
+                let answer = bank.command(client, command);
+                answer_line(client, time, slot, &answer)
+            }
+            Err(refusal) => refusal_line(client, time, refusal.number()),
         }
     }
 }

@@ -15,10 +15,10 @@ ghost use Rattle.receiver.specs.declared.reading.TheConstants.{READ_BYTES};
 use crate::devices::{DeviceFault, Sink, Source};
 use crate::faults::Stop;
 use crate::held_text::HeldText;
-use crate::session::{MOST_REPLIES, Session};
-use crate::writing::{put_answers, put_replies};
+use crate::session::Session;
+use crate::writing::{put_answers, put_events};
 use arrayvec::ArrayVec;
-use channel_slots::Reply;
+use channel_slots::{RUN_EVENTS, SlotEvent};
 
 /// The most bytes of a read.
 const READ_BYTES: usize = 65_536;
@@ -29,17 +29,17 @@ fn take_samples<W: Sink>(
     bytes: &[u8],
     first: usize,
     len: usize,
-    replies: &mut ArrayVec<Reply, MOST_REPLIES>,
+    events: &mut ArrayVec<SlotEvent, RUN_EVENTS>,
     text: &mut HeldText,
     writer: &mut W,
 ) -> Result<(), DeviceFault>
-    requires empty { replies.old.items ≡ [] }
+    requires empty { events.old.items ≡ [] }
     requires within { first + len ≤ sample_count (packing_in session.old) bytes.now }
     requires some { 0 < len }
     requires short { len ≤ 1024 }
     requires quiet { len ≤ until_next session.old }
     requires room { time_of session.old + len ≤ 2 ^ 40 }
-    ensures empty { OnOk result (replies.new.items ≡ []) }
+    ensures empty { OnOk result (events.new.items ≡ []) }
     ensures packing { packing_in session.new ≡ packing_in session.old }
     ensures time { time_of session.new ≡ time_of session.old + len }
     ensures ready { OnOk result (0 < until_next session.new) }
@@ -58,9 +58,9 @@ fn take_samples<W: Sink>(
     ensures grows { Grows (W.contents writer.old) (W.contents writer.new) }
     ensures failure { TellsFailure (W.has_failed writer.old) (W.has_failed writer.new) result }
 {
-    session.feed(bytes, first, len, replies);
-    put_replies(replies, text, writer)?;
-    replies.clear();
+    session.feed(bytes, first, len, events);
+    put_events(events, text, writer)?;
+    events.clear();
     put_answers(session, text, writer)
 }
 
@@ -69,16 +69,16 @@ fn take_piece<W: Sink>(
     session: &mut Session,
     bytes: &[u8],
     per_byte: usize,
-    replies: &mut ArrayVec<Reply, MOST_REPLIES>,
+    events: &mut ArrayVec<SlotEvent, RUN_EVENTS>,
     text: &mut HeldText,
     writer: &mut W,
 ) -> Result<(), DeviceFault>
-    requires empty { replies.old.items ≡ [] }
+    requires empty { events.old.items ≡ [] }
     requires short { length bytes.now ≤ READ_BYTES }
     requires per_byte { per_byte ≡ samples_per_byte (packing_in session.old) }
     requires room { time_of session.old + sample_count (packing_in session.old) bytes.now ≤ 2 ^ 40 }
     requires ready { 0 < until_next session.old }
-    ensures empty { OnOk result (replies.new.items ≡ []) }
+    ensures empty { OnOk result (events.new.items ≡ []) }
     ensures packing { packing_in session.new ≡ packing_in session.old }
     ensures time { OnOk result (time_of session.new
         ≡ time_of session.old + sample_count (packing_in session.old) bytes.now) }
@@ -102,7 +102,7 @@ fn take_piece<W: Sink>(
     let mut first = 0;
     while first < count {
         let len = ((count - first) as u64).min(1024).min(session.until_next()) as usize;
-        take_samples(session, bytes, first, len, replies, text, writer)?;
+        take_samples(session, bytes, first, len, events, text, writer)?;
         first += len;
     }
     Ok(())
@@ -147,7 +147,7 @@ pub fn read_all<R: Source, W: Sink>(
     ensures failure { TellsFailure (W.has_failed writer.old) (W.has_failed writer.new) result }
 {
     let mut buffer = [0; READ_BYTES];
-    let mut replies = ArrayVec::new();
+    let mut events = ArrayVec::new();
     loop {
         // Nothing is held back while the run waits for bytes.
         text.send(writer)?;
@@ -163,7 +163,7 @@ pub fn read_all<R: Source, W: Sink>(
             session,
             &buffer[..used],
             per_byte,
-            &mut replies,
+            &mut events,
             text,
             writer,
         )?;

@@ -6,15 +6,13 @@ ghost use Rattle.channel_slots.specs.BankStates.{clients_of};
 use crate::queue::Queue;
 use crate::queues::{least_gap, queues_of, take_due};
 use arrayvec::ArrayVec;
-use channel_slots::{Bank, OpenFault, Reply};
+use channel_slots::{Bank, OpenFault, RUN_EVENTS, SlotEvent};
 use oscillators::Settings;
+use printed_lines::Line;
 use std::alloc::Global;
 
 /// The most clients.
 pub const MOST_CLIENTS: usize = 8;
-
-/// The most replies of a run of samples.
-pub const MOST_REPLIES: usize = 256;
 
 /// The slots of all clients, and beside them what is left of the clients' scripts.
 #[derive(Drop)]
@@ -29,9 +27,9 @@ impl<'a> Session<'a> {
     ghost use Rattle.definitions.specs.Oscillators.{Settings as Recording};
     ghost use Rattle.definitions.specs.Samples.{Sample, sample_count, samples_from};
     ghost use Rattle.definitions.specs.Receiver.{Client, body_lines, answer_lines};
-    ghost use Rattle.channel_slots.specs.Replies.{line_of};
+    ghost use Rattle.channel_slots.specs.Events.{line_of};
     ghost use Rattle.receiver.specs.Offered.{offered, client_with};
-    ghost use Rattle.receiver.specs.Sessions.{StandsFor, packing_in, time_of, until_next, lines_left};
+    ghost use Rattle.receiver.specs.Sessions.{StandsFor, Gives, packing_in, time_of, until_next, lines_left};
 
     /// A session before the first sample. It takes the memory of the slots.
     pub fn open(
@@ -85,14 +83,14 @@ impl<'a> Session<'a> {
         bytes: &[u8],
         first: usize,
         len: usize,
-        replies: &mut ArrayVec<Reply, MOST_REPLIES>,
+        events: &mut ArrayVec<SlotEvent, RUN_EVENTS>,
     )
         requires within { first + len ≤ sample_count (packing_in self.old) bytes.now }
         requires some { 0 < len }
         requires short { len ≤ 1024 }
         requires quiet { len ≤ until_next self.old }
         requires room { time_of self.old + len ≤ 2 ^ 40 }
-        requires empty { replies.old.items ≡ [] }
+        requires empty { events.old.items ≡ [] }
         ensures packing { packing_in self.new ≡ packing_in self.old }
         ensures time { time_of self.new ≡ time_of self.old + len }
         ensures stands { (settings : Recording) (clients : List Client) (xs : List Sample)
@@ -105,28 +103,24 @@ impl<'a> Session<'a> {
             → StandsFor settings clients self.old xs []
             → body_lines offered settings
             (xs ++ samples_from settings.packing bytes.now first len) clients
-            ≡ body_lines offered settings xs clients ++ map line_of replies.new.items
+            ≡ body_lines offered settings xs clients ++ map line_of events.new.items
             ++ answer_lines offered settings clients
             (xs ++ samples_from settings.packing bytes.now first len) }
     {
-        self.bank.feed_into(bytes, first, len, replies);
+        self.bank.feed_into(bytes, first, len, events);
     }
 
-    /// The next answer at this time.
+    /// The line of the next answer at this time, with its end.
     #[tactic(auto, unfolding(crate::specs::Sessions::until_next, crate::specs::Sessions::lines_left))]
-    pub fn answer(&mut self) -> Option<Reply>
+    pub fn answer(&mut self) -> Option<Line>
         ensures packing { packing_in self.new ≡ packing_in self.old }
         ensures time { time_of self.new ≡ time_of self.old }
         ensures ready { IsNone result → 0 < until_next self.new }
         ensures fewer { IfSome result (λ _. lines_left self.new < lines_left self.old) }
-        ensures some { IfSome result (λ reply. (settings : Recording) (clients : List Client)
-            (xs : List Sample) (waiting : List (List ℕ))
-            → StandsFor settings clients self.old xs waiting
-            → (rest : List (List ℕ)) × (waiting ≡ line_of reply ∷ rest)
-            × StandsFor settings clients self.new xs rest) }
+        ensures some { IfSome result (λ line. Gives self.old line self.new) }
         ensures none { IsNone result
-            → (settings : Recording) (clients : List Client) (xs : List Sample) (waiting : List
-            (List ℕ)) → StandsFor settings clients self.old xs waiting
+            → (settings : Recording) (clients : List Client) (xs : List Sample)
+            (waiting : List (List ℕ)) → StandsFor settings clients self.old xs waiting
             → (waiting ≡ []) × StandsFor settings clients self.new xs [] }
     {
         let now = self.bank.time();

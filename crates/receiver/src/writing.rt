@@ -6,7 +6,7 @@ ghost use Rattle.definitions.specs.Oscillators.{Settings as Recording};
 ghost use Rattle.definitions.specs.Samples.{Sample};
 ghost use Rattle.definitions.specs.Lines.{as_bytes};
 ghost use Rattle.definitions.specs.Receiver.{Client, full};
-ghost use Rattle.channel_slots.specs.Replies.{line_of};
+ghost use Rattle.channel_slots.specs.Events.{line_of};
 ghost use Rattle.receiver.specs.Devices.{TellsFailure};
 ghost use Rattle.receiver.specs.HeldTexts.{promised};
 ghost use Rattle.receiver.specs.Offered.{offered};
@@ -18,24 +18,24 @@ use crate::devices::{DeviceFault, Sink};
 use crate::faults::Stop;
 use crate::held_text::HeldText;
 use crate::session::Session;
-use channel_slots::Reply;
-use printed_lines::{end_line, line};
+use channel_slots::SlotEvent;
+use printed_lines::{end_line, event_line};
 
-/// Puts the lines of replies.
-pub fn put_replies<W: Sink>(
-    replies: &[Reply],
+/// Puts the lines of what the slots tell.
+pub fn put_events<W: Sink>(
+    events: &[SlotEvent],
     text: &mut HeldText,
     writer: &mut W,
 ) -> Result<(), DeviceFault>
     ensures ok { OnOk result (Appends (promised (W.contents writer.old) text.old)
-        (promised (W.contents writer.new) text.new) (as_bytes (map line_of replies.now))) }
+        (promised (W.contents writer.new) text.new) (as_bytes (map line_of events.now))) }
     ensures err { OnErr result (AppendsPart (promised (W.contents writer.old) text.old)
-        (promised (W.contents writer.new) text.new) (as_bytes (map line_of replies.now))) }
+        (promised (W.contents writer.new) text.new) (as_bytes (map line_of events.now))) }
     ensures grows { Grows (W.contents writer.old) (W.contents writer.new) }
     ensures failure { TellsFailure (W.has_failed writer.old) (W.has_failed writer.new) result }
 {
-    for reply in replies {
-        text.put(writer, &line(reply))?;
+    for event in events {
+        text.put(writer, &event_line(event))?;
     }
     Ok(())
 }
@@ -61,8 +61,8 @@ pub fn put_answers<W: Sink>(
     ensures grows { Grows (W.contents writer.old) (W.contents writer.new) }
     ensures failure { TellsFailure (W.has_failed writer.old) (W.has_failed writer.new) result }
 {
-    while let Some(reply) = session.answer() {
-        text.put(writer, &line(&reply))?;
+    while let Some(line) = session.answer() {
+        text.put(writer, &line)?;
     }
     Ok(())
 }

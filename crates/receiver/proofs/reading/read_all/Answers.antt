@@ -92,7 +92,7 @@ loop-reader-preserved g c = let s = g.W.Sink in let r = g.R.Source in let i = c.
 
 pub loop-reader-init : goal.loop-reader-init
 loop-reader-init g c = record {
-  empty = c.new-replies.ensures;
+  empty = c.new-events.ensures;
   format = refl;
   ready = c.requires.ready;
   within = omega (arith, c.requires.start);

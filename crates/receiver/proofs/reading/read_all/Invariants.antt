@@ -13,7 +13,7 @@ use Rattle.receiver.proofs.reading.read_all.Given as goal
 
 abbrev pub invariant-loop-reader : goal.invariant-loop-reader
 invariant-loop-reader g l = let source = g.R.Source in let sink = g.W.Sink in record {
-  empty : l.replies.items ≡ [];
+  empty : l.events.items ≡ [];
   format : packing_in l.session ≡ packing_in l.fn.session;
   ready : 0 < until_next l.session;
   within : time_of l.session ≤ l.limit;

@@ -12,7 +12,7 @@ use Rattle.receiver.proofs.reading.take_piece.Given as goal
 
 abbrev pub invariant-loop-first : goal.invariant-loop-first
 invariant-loop-first g l = let sink = g.W.Sink in record {
-  empty : l.replies.items ≡ [];
+  empty : l.events.items ≡ [];
   count : l.count ≡ sample_count (packing_in l.fn.session) l.bytes;
   within : l.first ≤ l.count;
   format : packing_in l.session ≡ packing_in l.fn.session;

@@ -8,8 +8,8 @@ use Rattle.receiver.specs.Texts.{Grows}
 use Rattle.receiver.specs.HeldTexts.{promised}
 use Rattle.receiver.proofs.writing.put_answers.Given as goal
 
-abbrev pub invariant-loop-reply : goal.invariant-loop-reply
-invariant-loop-reply g l = let sink = g.W.Sink in record {
+abbrev pub invariant-loop-line : goal.invariant-loop-line
+invariant-loop-line g l = let sink = g.W.Sink in record {
   format : packing_in l.session ≡ packing_in l.fn.session;
   time : time_of l.session ≡ time_of l.fn.session;
   grows : Grows (sink.contents l.fn.writer) (sink.contents l.writer);
@@ -18,5 +18,5 @@ invariant-loop-reply g l = let sink = g.W.Sink in record {
       → HasAnswered settings clients xs waiting (promised (sink.contents l.fn.writer) l.fn.text) l.session (promised (sink.contents l.writer) l.text);
 }
 
-abbrev pub decreases-loop-reply : goal.decreases-loop-reply
-decreases-loop-reply g l = lines_left l.session
+abbrev pub decreases-loop-line : goal.decreases-loop-line
+decreases-loop-line g l = lines_left l.session

@@ -48,13 +48,15 @@ returns-clause-some c settings clients xs waiting s =
     let taken : TakesDue (length xs) 1 old new due = subst (λ (t : ℕ). TakesDue t 1 old new due) now (rw c.deref_mut.ensures.value at c.in_ok-due.ensures.some) in
     let whole = written-back c.args.self.now.queues new (as-many (length xs) 1 old new due taken) in
     let then : ℕ → _ = with_entry s.done due.client (entry_now xs due) in
-    let line = c.answer.ensures.line settings xs s.done s.bank in (
-      answers_waiting settings xs then 1 new,
-      s.waits ∙ waiting-then settings xs s.done due 1 clients old new s.queues taken ∙ ap (λ (l : List ℕ). l ∷ answers_waiting settings xs then 1 new) (sym line),
-      record {
+    record {
+      text = _;
+      rest = answers_waiting settings xs then 1 new;
+      first = s.waits ∙ waiting-then settings xs s.done due 1 clients old new s.queues taken;
+      ended = c.answer.ensures.line settings xs s.done s.bank;
+      stands = record {
         done = then;
         bank = c.answer.ensures.stands settings xs s.done s.bank;
         queues = rw whole (queues-then settings xs s.done due 1 clients old new s.queues taken);
         waits = rw whole refl;
-      },
-    )
+      };
+    }

@@ -5,7 +5,7 @@ use Rattle.definitions.specs.Banks.{bank_events_at_end, layout}
 use Rattle.definitions.specs.Receiver.{at_each_sample}
 use Rattle.definitions.proofs.SampleLemmas.{samples_from-length}
 use Rattle.definitions.proofs.TellLemmas.{shares_of, shares-equal}
-use Rattle.channel_slots.specs.Banks.{AreTold}
+use Rattle.channel_slots.specs.Events.{AreTold}
 use Rattle.receiver.specs.declared.queue.Queue.{Queue}
 use Rattle.receiver.specs.Queues.{least_gap_of}
 use Rattle.receiver.specs.Sessions.{until_next, asked_of}
@@ -42,5 +42,5 @@ returns-clause-told c settings clients xs s =
     let some : 0 < length ys = omega (arith, many, c.requires.some) in
     let number : c.args.self.now.bank.clients ≡ length clients = omega (arith, same-number xs s.done 1 clients queues s.queues, c.args.self.now.clients) in
     let shares : replicate c.args.self.now.bank.clients 4 ≡ shares_of clients = ap (λ n. replicate n 4) number ∙ sym (shares-equal 4 clients (slots-each xs s.done 1 clients queues s.queues)) in
-    told-stretch settings clients queues s.done xs ys c.feed_into.new.replies.items some s.queues free
-    (subst (λ (l : List ℕ). AreTold c.feed_into.new.replies.items (at_each_sample (bank_events_at_end settings (layout l) (asked_of s.done)) xs ys)) shares (c.feed_into.ensures.told settings xs (asked_of s.done) s.bank))
+    told-stretch settings clients queues s.done xs ys c.feed_into.new.events.items some s.queues free
+    (subst (λ (l : List ℕ). AreTold c.feed_into.new.events.items (at_each_sample (bank_events_at_end settings (layout l) (asked_of s.done)) xs ys)) shares (c.feed_into.ensures.told settings xs (asked_of s.done) s.bank))
