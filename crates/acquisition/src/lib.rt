@@ -35,5 +35,9 @@ mod tally;
 mod tests;
 
 pub use cell::Cell;
-pub use plan::{Plan, PlanFault};
+pub use dwell::MOST_START;
+pub use plan::{
+    MOST_BINS, MOST_CELLS, MOST_CENTRE, MOST_DWELL, MOST_SIDE_BINS, MOST_THRESHOLD, Plan, PlanFault,
+};
 pub use search::Search;
+pub use tally::MOST_POWER;

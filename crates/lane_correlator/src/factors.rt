@@ -1,6 +1,7 @@
 //! The factors of products: samples and carriers, by the bits of words.
 
-ghost use Rattle.std.specs.Prelude.{◌≡◌, ◌-◌, ◌*◌, ◌<◌, ◌≤◌, ℕ, pos, ◌-ℤ◌, unsigned_abs, false, IfSome, IfNone};
+ghost use Rattle.std.specs.Prelude.{◌≡◌, ◌-◌, ◌*◌, ◌<◌, ◌≤◌, ℕ, pos, ◌-ℤ◌, unsigned_abs, false};
+ghost use Rattle.std.specs.Prelude.{IfSome, IfNone};
 ghost use Rattle.std.specs.Int.{bit_at};
 ghost use Rattle.sample_planes.specs.Signs.{IsWord, IsQuadratureWord, AreReal, AreOneBit};
 ghost use Rattle.oscillators.specs.Signs.{signed};

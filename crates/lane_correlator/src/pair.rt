@@ -1,6 +1,7 @@
 //! The two sums with the prompt chips, word by word.
 
-ghost use Rattle.std.specs.Prelude.{◌≡◌, ◌+◌, ◌-◌, ◌*◌, ◌^◌, ◌<◌, ◌≤◌, ℤ, ◌+ℤ◌, unsigned_abs, false};
+ghost use Rattle.std.specs.Prelude.{◌≡◌, ◌+◌, ◌-◌, ◌*◌, ◌^◌, ◌<◌, ◌≤◌, ℤ, ◌+ℤ◌, unsigned_abs};
+ghost use Rattle.std.specs.Prelude.{false};
 ghost use Rattle.sample_planes.specs.Signs.{AreOneBit};
 ghost use Rattle.lane_correlator.specs.Factors.{IsSumOf};
 ghost use Rattle.lane_correlator.specs.Products.{AreLongEnough, prompt_in_phase, prompt_quadrature};

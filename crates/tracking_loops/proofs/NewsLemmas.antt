@@ -1,15 +1,20 @@
 -- The lock and its news with one more dump.
-use Rattle.std.proofs.Common.{◌≡◌, ℕ, suc, ◌+◌, ◌-◌, ◌%◌, ◌<◌, ◌≤◌, min, List, [], ◌∷◌, ◌++◌, length, refl, ap, ◌∙◌, sym, arith, inl, inr, add-one}
-use Rattle.std.specs.Prelude.{Bool, true, false, ◌&&◌, ◌||◌, not, ◌==◌, nat_le, nat_lt, if◌then◌else◌, Some, None, ◌⊎◌}
+use Rattle.std.proofs.Common.{◌≡◌, ℕ, suc, ◌+◌, ◌-◌, ◌%◌, ◌<◌, ◌≤◌, min, List, [], ◌∷◌, ◌++◌}
+use Rattle.std.proofs.Common.{length, refl, ap, ◌∙◌, sym, arith, inl, inr, add-one}
+use Rattle.std.specs.Prelude.{Bool, true, false, ◌&&◌, ◌||◌, not, ◌==◌, nat_le, nat_lt}
+use Rattle.std.specs.Prelude.{if◌then◌else◌, Some, None, ◌⊎◌}
 use Rattle.std.proofs.Math.Path.{ap₂}
-use Rattle.std.proofs.lemmas.Bool.{and_left, and_right, and_from, and_parts, le-leb, lt-leb, eq-eqb, eqb-true, ne_eqb, lt-ltb, le-ltb, cases_lt, both_ways}
+use Rattle.std.proofs.lemmas.Bool.{and_left, and_right, and_from, and_parts, le-leb, lt-leb, eq-eqb}
+use Rattle.std.proofs.lemmas.Bool.{eqb-true, ne_eqb, lt-ltb, le-ltb, cases_lt, both_ways}
 use Rattle.definitions.specs.Correlation.{Counts}
-use Rattle.definitions.specs.Lock.{is_good, window_count, is_locked_after, is_lost_after, is_locked, news_of, nothing}
+use Rattle.definitions.specs.Lock.{is_good, window_count, is_locked_after, is_lost_after, is_locked}
+use Rattle.definitions.specs.Lock.{news_of, nothing}
 use Rattle.tracking_loops.specs.NewsIn.{news_by}
 use Rattle.tracking_loops.specs.Windows.{ends_window, good_window, bad_run}
 use Rattle.tracking_loops.specs.Standing.{IsFilling, IsWatching}
 use Rattle.tracking_loops.specs.declared.lock.Lock.{Lock}
-use Rattle.tracking_loops.proofs.WindowLemmas.{longer, early-count, early-filling, bad_run-append, bad_run-le, any_good-run}
+use Rattle.tracking_loops.proofs.WindowLemmas.{longer, early-count, early-filling, bad_run-append}
+use Rattle.tracking_loops.proofs.WindowLemmas.{bad_run-le, any_good-run}
 
 -- ---- what a window that ends means
 

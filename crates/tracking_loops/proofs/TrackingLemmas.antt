@@ -1,10 +1,12 @@
 -- The loops with one more dump.
-use Rattle.std.proofs.Common.{◌≡◌, ◌+◌, List, [], ◌∷◌, ◌++◌, length, refl, ap, ◌∙◌, sym, length-append}
+use Rattle.std.proofs.Common.{◌≡◌, ◌+◌, List, [], ◌∷◌, ◌++◌, length, refl, ap, ◌∙◌, sym}
+use Rattle.std.proofs.Common.{length-append}
 use Rattle.std.specs.Prelude.{ℤ}
 use Rattle.definitions.specs.Correlation.{Counts}
 use Rattle.definitions.specs.Loops.{Loops as DefinedLoops, loops_after_dump}
 use Rattle.definitions.proofs.LoopLemmas.{loops_after-more}
-use Rattle.tracking_loops.specs.Standing.{steering_in, IsWatching, IsTracking, StandsFor, dump_count}
+use Rattle.tracking_loops.specs.Standing.{steering_in, IsWatching, IsTracking, StandsFor}
+use Rattle.tracking_loops.specs.Standing.{dump_count}
 use Rattle.tracking_loops.specs.declared.loops.Loops.{Loops}
 use Rattle.tracking_loops.specs.declared.steering.Steering.{Steering}
 

@@ -1,5 +1,6 @@
 -- Windows of dumps, as the last of the dumps leaves them.
-use Rattle.std.specs.Prelude.{ℕ, zero, suc, ◌+◌, ◌-◌, ◌*◌, ◌%◌, ◌==◌, ◌&&◌, Bool, nat_le, if◌then◌else◌, List, length, drop, Option, Some, None}
+use Rattle.std.specs.Prelude.{ℕ, zero, suc, ◌+◌, ◌-◌, ◌*◌, ◌%◌, ◌==◌, ◌&&◌, Bool, nat_le}
+use Rattle.std.specs.Prelude.{if◌then◌else◌, List, length, drop, Option, Some, None}
 use Rattle.definitions.specs.Correlation.{Counts}
 use Rattle.definitions.specs.Lock.{is_good, window_count}
 

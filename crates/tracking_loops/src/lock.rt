@@ -1,8 +1,12 @@
-ghost use Rattle.std.specs.Prelude.{◌≡◌, ◌^◌, ◌≤◌, List, [], ◌∷◌, ◌++◌, length, unsigned_abs, min, nat_lt, ◌+◌, ◌==◌, ◌&&◌, ◌||◌, if◌then◌else◌, false};
+//! Whether a channel is locked to its signal.
+
+ghost use Rattle.std.specs.Prelude.{◌≡◌, ◌^◌, ◌≤◌, List, [], ◌∷◌, ◌++◌, length, unsigned_abs, min};
+ghost use Rattle.std.specs.Prelude.{nat_lt, ◌+◌, ◌==◌, ◌&&◌, ◌||◌, if◌then◌else◌, false};
 ghost use Rattle.definitions.specs.Correlation.{Counts as DefinedCounts};
 ghost use Rattle.definitions.specs.Lock.{news_of};
 ghost use Rattle.lane_correlator.specs.Counting.{counts_in};
 ghost use Rattle.tracking_loops.specs.NewsIn.{news_in, news_by};
+ghost use Rattle.tracking_loops.specs.declared.limits.TheConstants.{MOST_SUM};
 
 use crate::news::News;
 use crate::window::Window;
@@ -40,8 +44,8 @@ impl Lock {
 
     /// Takes the next dump, which isn't one of the first 199.
     pub fn take(&mut self, counts: &Counts) -> News
-        requires ip { unsigned_abs counts.now.ip ≤ 2 ^ 18 }
-        requires qp { unsigned_abs counts.now.qp ≤ 2 ^ 18 }
+        requires ip { unsigned_abs counts.now.ip ≤ MOST_SUM }
+        requires qp { unsigned_abs counts.now.qp ≤ MOST_SUM }
         ensures goes_on { (dumps : List DefinedCounts) → 199 ≤ length dumps → IsWatching dumps self.old
             → IsWatching (dumps ++ counts_in counts.now ∷ []) self.new }
         ensures news { (dumps : List DefinedCounts) → 199 ≤ length dumps → IsWatching dumps self.old

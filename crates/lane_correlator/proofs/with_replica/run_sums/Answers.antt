@@ -10,7 +10,8 @@ use Rattle.lane_correlator.specs.Tallies.{tally_in}
 use Rattle.lane_correlator.specs.ReplicaWords.{AreOf, phases_of}
 use Rattle.lane_correlator.proofs.SumLemmas.{six_sums-none, none_within, added_within}
 use Rattle.lane_correlator.proofs.TallyLemmas.{none_few, few_more}
-use Rattle.lane_correlator.proofs.ReplicaLemmas.{placed, words_of_placed, carrier_word_on, code_word_on, sums_from}
+use Rattle.lane_correlator.proofs.ReplicaLemmas.{placed, words_of_placed, carrier_word_on}
+use Rattle.lane_correlator.proofs.ReplicaLemmas.{code_word_on, sums_from}
 use Rattle.lane_correlator.proofs.with_replica.run_sums.Goals as goal
 
 pub loop-w-init : goal.loop-w-init

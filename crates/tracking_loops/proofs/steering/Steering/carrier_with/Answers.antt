@@ -5,7 +5,8 @@ use Rattle.std.proofs.lemmas.Int.{to_z-of_z, fits_signed_from_abs}
 use Rattle.definitions.specs.Loops.{clamped}
 use Rattle.lane_correlator.specs.Counting.{counts_in}
 use Rattle.tracking_loops.specs.Standing.{steering_in}
-use Rattle.tracking_loops.proofs.SteeringLemmas.{pulled-u, pulled-v, held-u, held-v, pull_is, slow_is, fast_is}
+use Rattle.tracking_loops.proofs.SteeringLemmas.{pulled-u, pulled-v, held-u, held-v, pull_is}
+use Rattle.tracking_loops.proofs.SteeringLemmas.{slow_is, fast_is}
 use Rattle.tracking_loops.proofs.steering.Steering.carrier_with.Goals as goal
 
 pub returns-then-self-lt-FIRST_HOLDING-clause-u : goal.returns-then-self-lt-FIRST_HOLDING-clause-u
