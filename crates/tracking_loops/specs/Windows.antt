@@ -14,7 +14,8 @@ ends_window dumps = nat_le 219 (length dumps) && ((length dumps - 199) % 20 == 0
 
 -- whether the window that is whole with the last of the dumps is good, if one is
 unfoldable pub good_window : List Counts → Option Bool
-good_window dumps = if ends_window dumps then Some (is_good dumps (window_count dumps - 1)) else None
+good_window dumps = if ends_window dumps then Some (is_good dumps (window_count dumps - 1)) else
+    None
 
 -- how many of the first n windows are bad behind the last good one
 unfoldable pub bad_run : List Counts → ℕ → ℕ

@@ -67,7 +67,8 @@ impl Steering {
     pub fn take(&mut self, counts: Counts)
         requires small { AreWithin MOST_SUM (counts_in counts) }
         requires room { self.old.dumps < MOST_DUMPS }
-        ensures { steering_in self.new ≡ loops_after_dump (steering_in self.old) (counts_in counts) }
+        ensures { steering_in self.new ≡ loops_after_dump (steering_in self.old)
+            (counts_in counts) }
     {
         (self.u, self.v) = self.carrier_with(&counts);
         self.dumps += 1;

@@ -45,7 +45,8 @@ impl Window {
     pub fn take(&mut self, counts: &Counts) -> Option<bool>
         requires ip { unsigned_abs counts.now.ip ≤ MOST_SUM }
         requires qp { unsigned_abs counts.now.qp ≤ MOST_SUM }
-        ensures goes_on { (dumps : List DefinedCounts) → 199 ≤ length dumps → IsFilling dumps self.old
+        ensures goes_on { (dumps : List DefinedCounts) → 199 ≤ length dumps
+            → IsFilling dumps self.old
             → IsFilling (dumps ++ counts_in counts.now ∷ []) self.new }
         ensures whole { (dumps : List DefinedCounts) → 199 ≤ length dumps → IsFilling dumps self.old
             → result ≡ good_window (dumps ++ counts_in counts.now ∷ []) }

@@ -119,6 +119,7 @@ add-requires-clause-these c = few_more 448 1000000 c.six_of_part-in_phase.result
 
 pub add-requires-clause-those : goal.add-requires-clause-those
 add-requires-clause-those c = elim c.match-quadrature.branch [
-  | in-Some w ↦ rw w.quadrature-is (few_more 448 1000000 w.six_of_part-quadrature.result (lit≤ tt) w.six_of_part-quadrature.ensures.few)
+  | in-Some w ↦ rw w.quadrature-is (few_more 448 1000000 w.six_of_part-quadrature.result (lit≤ tt)
+      w.six_of_part-quadrature.ensures.few)
   | in-None w ↦ rw w.quadrature-is (none_few 1000000)
 ]
