@@ -1,5 +1,4 @@
 pub mod PlanLemmas
-pub mod PackedLemmas
 pub mod ReplicaLemmas
 pub mod TallyLemmas
 pub mod SearchLemmas

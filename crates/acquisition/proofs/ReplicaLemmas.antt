@@ -1,17 +1,21 @@
 -- The prompt sums of a run of samples are a part of those from the beginning, and periods add up.
-use Rattle.std.proofs.Common.{◌≡◌, ℕ, ◌+◌, ◌-◌, ◌*◌, ◌%◌, ◌^◌, ◌<◌, ◌≤◌, List, map, length, refl, sym, ap, ◌∙◌, arith}
+use Rattle.std.proofs.Common.{◌≡◌, ℕ, ◌+◌, ◌-◌, ◌*◌, ◌%◌, ◌^◌, ◌<◌, ◌≤◌, List, map, length, refl}
+use Rattle.std.proofs.Common.{sym, ap, ◌∙◌, arith}
 use Rattle.std.specs.Prelude.{ℤ, pos, ◌+ℤ◌, ◌*ℤ◌}
 use Rattle.std.specs.List.{range_with_len}
 use Rattle.std.proofs.Math.Nat.{mod-add-mod, mul-le-mul_right}
 use Rattle.std.proofs.lemmas.List.FromFn.{get_or-map-range_with_len, length-map-range_with_len}
 use Rattle.definitions.specs.Samples.{Sample, sample_at, real}
-use Rattle.definitions.specs.Oscillators.{code_phase_after, carrier_phase_after, cosine, sine, prompt_sign}
-use Rattle.definitions.specs.Correlation.{Replica, Phases, replica_of, in_phase_sum, quadrature_sum, wiped_in_phase, wiped_quadrature}
+use Rattle.definitions.specs.Oscillators.{code_phase_after, carrier_phase_after, cosine, sine}
+use Rattle.definitions.specs.Oscillators.{prompt_sign}
+use Rattle.definitions.specs.Correlation.{Replica, Phases, replica_of, in_phase_sum, quadrature_sum}
+use Rattle.definitions.specs.Correlation.{wiped_in_phase, wiped_quadrature}
 use Rattle.definitions.specs.Acquisition.{square, power_over}
 use Rattle.definitions.specs.Sums.{sum_between}
 use Rattle.definitions.proofs.SumsLemmas.{total-same}
 use Rattle.definitions.proofs.SplitLemmas.{carrier_on}
-use Rattle.definitions.proofs.CorrelationLemmas.{in_phase-none, quadrature-none, in_phase-split, quadrature-split}
+use Rattle.definitions.proofs.CorrelationLemmas.{in_phase-none, quadrature-none, in_phase-split}
+use Rattle.definitions.proofs.CorrelationLemmas.{quadrature-split}
 use Rattle.oscillators.specs.Views.{CarrierViews, CodeViews}
 use Rattle.lane_correlator.specs.Products.{view_at}
 use Rattle.acquisition.specs.declared.sums.Sums.{Sums}

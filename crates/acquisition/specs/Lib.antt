@@ -1,5 +1,4 @@
 pub mod Plans
-pub mod Sources
 pub mod Replicas
 pub mod Steps
 pub mod Tallies

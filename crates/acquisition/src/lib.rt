@@ -7,14 +7,16 @@
 //! that it has done. Once all are done it names the first greatest cell. (IS-GPS-200 has the signal
 //! alone; the search is this project's own.)
 //!
-//!     use acquisition::{PackedSamples, Plan, Search};
+//!     use acquisition::{Plan, Search};
 //!     use ca_codes::{CodeBook, Prn};
+//!     use sample_planes::{NumberedSamples, PackedSamples};
 //!
 //!     // Satellite 5 within 4 kHz of 0, over 2 ms of samples from the first one on.
 //!     let plan = Plan::new(Prn::new(5)?, 0, 16, 2, 25)?;
 //!     let mut search = Search::new(plan, &settings, 0);
-//!     let samples = PackedSamples::new(settings.format(), &bytes, 0);
-//!     search.advance(plan.cells(), &samples, &mut CodeBook::new());
+//!     let samples = PackedSamples::new(settings.format(), &bytes);
+//!     let numbered = NumberedSamples::new(samples, 0);
+//!     search.advance(plan.cells(), &numbered, &mut CodeBook::new());
 //!     if let Some(cell) = search.result().filter(|cell| cell.found) {
 //!         // The signal is followed from the dwell's first sample on at this shift and half chip.
 //!         let start = (plan.doppler(&cell), cell.half);
@@ -24,18 +26,18 @@
 mod bin_steps;
 mod cell;
 mod dwell;
-mod packed;
 mod plan;
 mod replica;
 mod search;
-mod source;
 mod sums;
 mod tally;
 #[cfg(test)]
 mod tests;
 
 pub use cell::Cell;
-pub use packed::PackedSamples;
-pub use plan::{Plan, PlanFault};
+pub use dwell::MOST_START;
+pub use plan::{
+    MOST_BINS, MOST_CELLS, MOST_CENTRE, MOST_DWELL, MOST_SIDE_BINS, MOST_THRESHOLD, Plan, PlanFault,
+};
 pub use search::Search;
-pub use source::SampleSource;
+pub use tally::MOST_POWER;

@@ -2,6 +2,7 @@
 use Rattle.std.specs.Prelude.{◌≡◌, ℕ, ◌-◌, ◌/◌, ◌%◌, ◌^◌, ◌<◌, ◌≤◌, List, slice_index}
 use Rattle.std.specs.Int.{bit_at}
 use Rattle.bit_planes.specs.declared.plane.Plane.{Plane}
+use Rattle.bit_planes.specs.declared.plane.TheConstants.{PLACES}
 
 -- the bit at place i of words of 64, the first place of a word being its top bit
 abbrev pub bit_of : List ℕ → ℕ → ℕ
@@ -12,8 +13,8 @@ bit p i = bit_of p.words i
 
 -- the first n places hold f, and all others 0
 pub record IsDrawn (f : ℕ → ℕ) (n : ℕ) (p : Plane) : Type 0 where
-  pub drawn : (i : ℕ) → i < n → i < 1024 → bit p i ≡ f i
-  pub clear : (i : ℕ) → n ≤ i → i < 1024 → bit p i ≡ 0
+  pub drawn : (i : ℕ) → i < n → i < PLACES → bit p i ≡ f i
+  pub clear : (i : ℕ) → n ≤ i → i < PLACES → bit p i ≡ 0
 
 -- a word that holds f at n places so far, the last of them in its lowest bit
 pub record IsBegun (f : ℕ → ℕ) (n : ℕ) (word : ℕ) : Type 0 where

@@ -13,5 +13,5 @@ mod tests;
 mod words;
 
 pub use lanes::{masked_bits, pick_bytes, second_bits, third_bits, top_bits};
-pub use plane::{PLACES, Plane};
+pub use plane::{GROUPS, PLACES, Plane, WORDS};
 pub use words::with_sixteen;

@@ -1,11 +1,17 @@
+//! A bit for each sample of a run.
+
 ghost use Rattle.std.specs.Prelude.{◌≡◌, ◌+◌, ◌-◌, ◌*◌, ◌<◌, ◌^◌, ℕ, length};
 ghost use Rattle.std.specs.Int.{bit_at};
+ghost use Rattle.bit_planes.specs.declared.plane.TheConstants.{PLACES, WORDS, GROUPS};
 
 /// The places of a plane.
 pub const PLACES: usize = 1024;
 
-/// The words of 64 bits that hold them.
-const WORDS: usize = 16;
+/// The words of 64 places of a plane.
+pub const WORDS: usize = 16;
+
+/// The groups of sixteen places of a plane.
+pub const GROUPS: usize = 64;
 
 /// A bit for each of 1,024 places.
 #[derive(Clone, Copy, Debug)]
@@ -27,7 +33,7 @@ impl Plane {
     /// Sets the sixteen places from `16 * group` on, all of which are 0, as all behind them are:
     /// the first of them is the highest bit.
     pub fn put(&mut self, group: usize, bits: u64)
-        requires group { group < 64 }
+        requires group { group < GROUPS }
         requires bits { bits < 2 ^ 16 }
         ensures { (f : ℕ → ℕ) → IsDrawn f (16 * group) self.old
             → ((r : ℕ) → r < 16 → bit_at bits (15 - r) ≡ f (16 * group + r))
@@ -39,7 +45,7 @@ impl Plane {
     /// Sets the 64 places from `64 * w` on, behind which all are 0: the first of them is the top
     /// bit.
     pub fn set_word(&mut self, w: usize, word: u64)
-        requires { w < 16 }
+        requires { w < WORDS }
         ensures { (f : ℕ → ℕ) → IsDrawn f (64 * w) self.old
             → ((j : ℕ) → j < 64 → bit_at word (63 - j) ≡ f (64 * w + j))
             → IsDrawn f (64 * w + 64) self.new }
@@ -49,7 +55,7 @@ impl Plane {
 
     /// The bit at a place, 0 or 1.
     pub fn bit(&self, place: usize) -> u64
-        requires { place < 1024 }
+        requires { place < PLACES }
         ensures value { result ≡ bit self.now place }
         ensures small { result < 2 }
     {
@@ -58,7 +64,7 @@ impl Plane {
 
     /// The 64 places from `64 * w` on, the first of them in the top bit.
     pub fn word(&self, w: usize) -> u64
-        requires { w < 16 }
+        requires { w < WORDS }
         ensures { (j : ℕ) → j < 64 → bit_at result (63 - j) ≡ bit self.now (64 * w + j) }
     {
         self.words[w]

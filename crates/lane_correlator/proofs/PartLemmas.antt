@@ -1,5 +1,6 @@
 -- The sums of a correlator by the parts of its samples.
-use Rattle.std.proofs.Common.{◌≡◌, ℕ, zero, suc, ◌+◌, ◌-◌, ◌*◌, ◌<◌, ◌≤◌, refl, sym, ap, ◌∙◌, arith, lit≤, inl, inr}
+use Rattle.std.proofs.Common.{◌≡◌, ℕ, zero, suc, ◌+◌, ◌-◌, ◌*◌, ◌<◌, ◌≤◌, refl, sym, ap, ◌∙◌, arith}
+use Rattle.std.proofs.Common.{lit≤, inl, inr}
 use Rattle.std.specs.Prelude.{ℤ, pos, negsuc, ◌*ℤ◌, ◌+ℤ◌, ◌-ℤ◌, unsigned_abs, ◌⊎◌}
 use Rattle.std.specs.Int.{bit_at}
 use Rattle.std.proofs.Math.IntN.{zero-*ℤ}
@@ -9,7 +10,8 @@ use Rattle.std.proofs.lemmas.Nat.Bits.{bit_at-lt, bit_at-zero}
 use Rattle.definitions.specs.Samples.{Sample, sign_of}
 use Rattle.definitions.specs.Sums.{total}
 use Rattle.definitions.proofs.SumsLemmas.{total-same, total-bound}
-use Rattle.definitions.specs.Correlation.{Replica, six_sums, in_phase_sum, quadrature_sum, wiped_in_phase, wiped_quadrature, added, no_counts}
+use Rattle.definitions.specs.Correlation.{Replica, six_sums, in_phase_sum, quadrature_sum}
+use Rattle.definitions.specs.Correlation.{wiped_in_phase, wiped_quadrature, added, no_counts}
 use Rattle.sample_planes.specs.Signs.{part_of}
 use Rattle.oscillators.specs.Signs.{signed}
 use Rattle.lane_correlator.specs.Counting.{AreWithin}

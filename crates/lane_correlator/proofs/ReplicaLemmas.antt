@@ -1,12 +1,15 @@
 -- Sums with a replica that is moved to the beginning of a word, and the replica of words.
-use Rattle.std.proofs.Common.{List, length, ◌≡◌, ℕ, ◌+◌, ◌-◌, ◌*◌, ◌/◌, ◌%◌, ◌<◌, ◌≤◌, refl, sym, ap, ◌∙◌, arith}
+use Rattle.std.proofs.Common.{List, length, ◌≡◌, ℕ, ◌+◌, ◌-◌, ◌*◌, ◌/◌, ◌%◌, ◌<◌, ◌≤◌, refl, sym}
+use Rattle.std.proofs.Common.{ap, ◌∙◌, arith}
 use Rattle.std.specs.Prelude.{ℤ, ◌*ℤ◌, unsigned_abs}
 use Rattle.std.proofs.lemmas.Nat.Bits.{bit_at-lt}
 use Rattle.std.specs.Int.{bit_at}
 use Rattle.definitions.specs.Samples.{Sample, sample_at, sign_of}
 use Rattle.sample_planes.specs.Signs.{IsWord}
-use Rattle.definitions.specs.Oscillators.{carrier_phase_after, code_phase_after, cosine, sine, early_sign, prompt_sign, late_sign}
-use Rattle.definitions.specs.Correlation.{Replica, Phases, replica_of, six_sums, in_phase_sum, quadrature_sum, wiped_in_phase, wiped_quadrature}
+use Rattle.definitions.specs.Oscillators.{carrier_phase_after, code_phase_after, cosine, sine}
+use Rattle.definitions.specs.Oscillators.{early_sign, prompt_sign, late_sign}
+use Rattle.definitions.specs.Correlation.{Replica, Phases, replica_of, six_sums, in_phase_sum}
+use Rattle.definitions.specs.Correlation.{quadrature_sum, wiped_in_phase, wiped_quadrature}
 use Rattle.definitions.proofs.SumsLemmas.{total-same}
 use Rattle.oscillators.specs.declared.carrier.CarrierWord.{CarrierWord}
 use Rattle.oscillators.specs.declared.code.ChipWord.{ChipWord}
@@ -17,7 +20,8 @@ use Rattle.oscillators.proofs.PlaneLemmas.{carrier_behind, code_behind}
 use Rattle.lane_correlator.specs.ReplicaWords.{AreOf}
 use Rattle.lane_correlator.specs.Factors.{AreChips as AreFactors, AreThreeChips}
 use Rattle.lane_correlator.specs.declared.factors.Factors.{Factors}
-use Rattle.lane_correlator.proofs.PartLemmas.{AreSmall, HasSigns, chips_are_signs, part_small, wave_small}
+use Rattle.lane_correlator.proofs.PartLemmas.{AreSmall, HasSigns, chips_are_signs, part_small}
+use Rattle.lane_correlator.proofs.PartLemmas.{wave_small}
 
 -- ---- a replica that words are of
 of_words : CarrierWord → ChipWord → ℕ → Replica

@@ -8,10 +8,12 @@ use Rattle.sample_planes.specs.Signs.{IsWord, IsQuadratureWord, AreReal}
 use Rattle.oscillators.specs.Signs.{IsChipWord}
 use Rattle.oscillators.specs.Views.{CarrierViews, CodeViews}
 use Rattle.lane_correlator.specs.Products.{view_at, replica_in}
-use Rattle.lane_correlator.specs.Factors.{IsCosine, IsSine, IsMinusSine, ArePart, AreWave, AreChips, AreThreeChips}
+use Rattle.lane_correlator.specs.Factors.{IsCosine, IsSine, IsMinusSine, ArePart, AreWave, AreChips}
+use Rattle.lane_correlator.specs.Factors.{AreThreeChips}
 use Rattle.lane_correlator.specs.declared.factors.Factors.{Factors}
 use Rattle.lane_correlator.specs.declared.factors.Wave.{Wave}
-use Rattle.lane_correlator.proofs.PartLemmas.{AreSmall, AreRealIn, HasSigns, chips_are_signs, part_small, wave_small}
+use Rattle.lane_correlator.proofs.PartLemmas.{AreSmall, AreRealIn, HasSigns, chips_are_signs}
+use Rattle.lane_correlator.proofs.PartLemmas.{part_small, wave_small}
 
 -- the first places of a word, as far as a run goes
 module _ (w end : ℕ) (room : end ≤ 64) where

@@ -1,5 +1,6 @@
 -- Factors of products by the bits of words: samples, carrier and chips.
-use Rattle.std.specs.Prelude.{◌≡◌, ℕ, ◌+◌, ◌-◌, ◌*◌, ◌<◌, ◌≤◌, ℤ, pos, ◌-ℤ◌, ◌*ℤ◌, List, length, get_or}
+use Rattle.std.specs.Prelude.{◌≡◌, ℕ, ◌+◌, ◌-◌, ◌*◌, ◌<◌, ◌≤◌, ℤ, pos, ◌-ℤ◌, ◌*ℤ◌, List, length}
+use Rattle.std.specs.Prelude.{get_or}
 use Rattle.std.specs.Int.{bit_at}
 use Rattle.definitions.specs.Samples.{sign_of}
 use Rattle.definitions.specs.Sums.{sum_between}

@@ -1,9 +1,14 @@
-ghost use Rattle.std.specs.Prelude.{◌≡◌, ◌-◌, ◌*◌, ◌<◌, ◌≤◌, ℕ, pos, ◌-ℤ◌, unsigned_abs, false, IfSome, IfNone};
+//! The factors of products: samples and carriers, by the bits of words.
+
+ghost use Rattle.std.specs.Prelude.{◌≡◌, ◌-◌, ◌*◌, ◌<◌, ◌≤◌, ℕ, pos, ◌-ℤ◌, unsigned_abs, false};
+ghost use Rattle.std.specs.Prelude.{IfSome, IfNone};
 ghost use Rattle.std.specs.Int.{bit_at};
 ghost use Rattle.sample_planes.specs.Signs.{IsWord, IsQuadratureWord, AreReal, AreOneBit};
 ghost use Rattle.oscillators.specs.Signs.{signed};
 ghost use Rattle.lane_correlator.specs.Factors.{IsCosine, IsSine, IsMinusSine, IsSumOf, wave_bits};
 ghost use Rattle.lane_correlator.specs.Words.{sizes_in};
+ghost use Rattle.bit_planes.specs.declared.plane.TheConstants.{WORDS};
+ghost use Rattle.lane_correlator.specs.declared.word.TheConstants.{MOST_OF_WORD, MOST_SUM_OF_WORD};
 
 use crate::word::{products, sizes_below};
 use oscillators::{CarrierPlanes, CarrierWord};
@@ -21,7 +26,7 @@ pub(crate) struct Factors {
 impl Factors {
     /// The parts in phase of the samples from `64 * w` on.
     pub(crate) fn in_phase(samples: &Planes, w: usize, has_sizes: bool) -> Factors
-        requires word { w < 16 }
+        requires word { w < WORDS }
         requires one_bit { has_sizes ≡ false → AreOneBit samples.now }
         ensures { IsWord samples.now w result.negative result.large }
     {
@@ -32,7 +37,7 @@ impl Factors {
 
     /// Their parts in quadrature, or None where the samples are real.
     pub(crate) fn quadrature(samples: &Planes, w: usize, has_sizes: bool) -> Option<Factors>
-        requires word { w < 16 }
+        requires word { w < WORDS }
         requires one_bit { has_sizes ≡ false → AreOneBit samples.now }
         ensures word { IfSome result (λ f. IsQuadratureWord samples.now w f.negative f.large) }
         ensures real { IfNone result (AreReal samples.now) }
@@ -54,7 +59,7 @@ pub(crate) struct Wave {
 impl Wave {
     /// That of the samples from `64 * w` on.
     pub(crate) fn new(carrier: &CarrierPlanes, w: usize) -> Wave
-        requires { w < 16 }
+        requires { w < WORDS }
         ensures cos { IsCosine carrier.now.cos w result.cos }
         ensures sin { IsSine carrier.now.sin w result.sin }
         ensures minus_sin { IsMinusSine carrier.now.sin w result.minus_sin }
@@ -108,7 +113,7 @@ impl Wave {
 #[inline(always)]
 pub(crate) fn sum_of_part(part: Factors, wave: Factors, chips: u64, mask: u64) -> i32
     ensures sum { IsSumOf part wave chips mask result }
-    ensures small { unsigned_abs result ≤ 384 }
+    ensures small { unsigned_abs result ≤ MOST_SUM_OF_WORD }
 {
     products(
         part.negative ^ wave.negative ^ chips,
@@ -123,7 +128,7 @@ pub(crate) fn sum_of_part(part: Factors, wave: Factors, chips: u64, mask: u64) -
 pub(crate) fn below_of_part(part: Factors, wave: Factors, chips: u64, mask: u64) -> u32
     ensures sum { IsSumOf part wave chips mask
         (pos (sizes_in part.large wave.large mask) -ℤ pos (2 * result)) }
-    ensures small { result ≤ 448 }
+    ensures small { result ≤ MOST_OF_WORD }
 {
     sizes_below(
         part.negative ^ wave.negative ^ chips,

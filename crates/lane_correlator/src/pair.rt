@@ -1,7 +1,12 @@
-ghost use Rattle.std.specs.Prelude.{◌≡◌, ◌+◌, ◌-◌, ◌*◌, ◌^◌, ◌<◌, ◌≤◌, ℤ, ◌+ℤ◌, unsigned_abs, false};
+//! The two sums with the prompt chips, word by word.
+
+ghost use Rattle.std.specs.Prelude.{◌≡◌, ◌+◌, ◌-◌, ◌*◌, ◌^◌, ◌<◌, ◌≤◌, ℤ, ◌+ℤ◌, unsigned_abs};
+ghost use Rattle.std.specs.Prelude.{false};
 ghost use Rattle.sample_planes.specs.Signs.{AreOneBit};
 ghost use Rattle.lane_correlator.specs.Factors.{IsSumOf};
 ghost use Rattle.lane_correlator.specs.Products.{AreLongEnough, prompt_in_phase, prompt_quadrature};
+ghost use Rattle.bit_planes.specs.declared.plane.TheConstants.{WORDS};
+ghost use Rattle.lane_correlator.specs.declared.word.TheConstants.{MOST_SUM_OF_WORD};
 
 use crate::factors::{Factors, Wave, sum_of_part};
 use crate::word::places;
@@ -48,7 +53,7 @@ fn pair_of_word(
     end: usize,
     has_sizes: bool,
 ) -> (i32, i32)
-    requires word { w < 16 }
+    requires word { w < WORDS }
     requires ordered { first ≤ end }
     requires within { end ≤ 64 }
     requires long_enough { AreLongEnough (64 * w + end) samples.now carrier.now code.now }
@@ -78,8 +83,8 @@ fn pair_of_word(
 fn pair_of_part(part: Factors, i: Factors, q: Factors, chips: u64, mask: u64) -> (i32, i32)
     ensures in_phase { IsSumOf part i chips mask result.0 }
     ensures quadrature { IsSumOf part q chips mask result.1 }
-    ensures small_in_phase { unsigned_abs result.0 ≤ 384 }
-    ensures small_quadrature { unsigned_abs result.1 ≤ 384 }
+    ensures small_in_phase { unsigned_abs result.0 ≤ MOST_SUM_OF_WORD }
+    ensures small_quadrature { unsigned_abs result.1 ≤ MOST_SUM_OF_WORD }
 {
     (
         sum_of_part(part, i, chips, mask),

@@ -1,3 +1,5 @@
+//! The six sums, word by word.
+
 ghost use Rattle.std.specs.Prelude.{◌≡◌, ◌+◌, ◌-◌, ◌*◌, ◌<◌, ◌≤◌, ℕ, ℤ, false};
 ghost use Rattle.definitions.specs.Samples.{sample_at};
 ghost use Rattle.definitions.specs.Correlation.{Replica, six_sums};
@@ -6,6 +8,8 @@ ghost use Rattle.lane_correlator.specs.Counting.{counts_in, AreWithin};
 ghost use Rattle.lane_correlator.specs.Products.{AreLongEnough, replica_in};
 ghost use Rattle.lane_correlator.specs.Tallies.{tally_in, AreFew};
 ghost use Rattle.lane_correlator.specs.Factors.{ArePart, AreWave, AreThreeChips, IsMask, part_sums};
+ghost use Rattle.bit_planes.specs.declared.plane.TheConstants.{WORDS};
+ghost use Rattle.lane_correlator.specs.declared.word.TheConstants.{MOST_OF_WORD};
 
 use crate::counts::Counts;
 use crate::factors::{Factors, Wave, below_of_part};
@@ -52,7 +56,7 @@ fn six_of_word(
     end: usize,
     has_sizes: bool,
 ) -> Counts
-    requires word { w < 16 }
+    requires word { w < WORDS }
     requires ordered { first ≤ end }
     requires within { end ≤ 64 }
     requires long_enough { AreLongEnough (64 * w + end) samples.now carrier.now code.now }
@@ -88,7 +92,7 @@ pub(crate) fn six_of_part(
         → IsMask first end mask → ArePart x base end part → AreWave wave_i base end i
         → AreWave wave_q base end q → AreThreeChips r base end chips
         → tally_in result ≡ part_sums x wave_i wave_q r (base + first) (base + end) }
-    ensures few { AreFew 448 result }
+    ensures few { AreFew MOST_OF_WORD result }
 {
     Tally {
         all_i: sizes(part.large, i.large, mask),

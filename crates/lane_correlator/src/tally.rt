@@ -1,8 +1,14 @@
+//! Six sums while they are added up.
+
 ghost use Rattle.std.specs.Prelude.{◌≡◌, ◌+◌, ◌*◌, ◌≤◌, ℕ, pos, ◌-ℤ◌, unsigned_abs};
 ghost use Rattle.definitions.specs.Correlation.{added};
 ghost use Rattle.lane_correlator.specs.Counting.{counts_in};
+ghost use Rattle.lane_correlator.specs.declared.tally.TheConstants.{MOST_SIZES};
 
 use crate::counts::Counts;
+
+/// The most that a sum of sizes may come to, so that the sums fit in an `i32`. A run has less.
+pub(crate) const MOST_SIZES: u32 = 1_000_000;
 
 /// Six sums of products by their sizes, which take fewer steps to add up than numbers with a sign:
 /// each sum is all sizes less twice those that are below 0.
@@ -37,8 +43,8 @@ impl Tally {
 
     /// Adds place by place.
     pub(crate) fn add(&self, other: &Tally) -> Tally
-        requires these { AreFew 1000000 self.now }
-        requires those { AreFew 1000000 other.now }
+        requires these { AreFew MOST_SIZES self.now }
+        requires those { AreFew MOST_SIZES other.now }
         ensures sums { tally_in result ≡ added (tally_in self.now) (tally_in other.now) }
         ensures few { (m n : ℕ) → AreFew m self.now → AreFew n other.now → AreFew (m + n) result }
     {
@@ -56,7 +62,7 @@ impl Tally {
 
     /// The sums.
     pub(crate) fn counts(&self) -> Counts
-        requires { AreFew 1000000 self.now }
+        requires { AreFew MOST_SIZES self.now }
         ensures { counts_in result ≡ tally_in self.now }
     {
         Counts {
@@ -72,10 +78,10 @@ impl Tally {
 
 /// A sum by all sizes and those below 0.
 fn sum(all: u32, below: u32) -> i32
-    requires all { all ≤ 1000000 }
-    requires below { below ≤ 1000000 }
+    requires all { all ≤ MOST_SIZES }
+    requires below { below ≤ MOST_SIZES }
     ensures value { result ≡ pos all -ℤ pos (2 * below) }
-    ensures small { unsigned_abs result ≤ 2000000 }
+    ensures small { unsigned_abs result ≤ 2 * MOST_SIZES }
 {
     all as i32 - (2 * below) as i32
 }

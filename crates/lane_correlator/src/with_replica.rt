@@ -7,6 +7,9 @@ ghost use Rattle.sample_planes.specs.Signs.{AreOneBit};
 ghost use Rattle.lane_correlator.specs.Counting.{counts_in, AreWithin};
 ghost use Rattle.lane_correlator.specs.Tallies.{tally_in, AreFew};
 ghost use Rattle.lane_correlator.specs.ReplicaWords.{AreOf, phases_of};
+ghost use Rattle.bit_planes.specs.declared.plane.TheConstants.{WORDS};
+ghost use Rattle.sample_planes.specs.declared.planes.TheConstants.{MAX_SAMPLES};
+ghost use Rattle.lane_correlator.specs.declared.word.TheConstants.{MOST_OF_WORD};
 
 use crate::counts::Counts;
 use crate::factors::{Factors, Wave};
@@ -34,7 +37,7 @@ pub fn replica_sums(
     ensures sums { counts_in result ≡ six_sums (λ j. sample_at samples.now (from + j))
         (replica_of prn (phases_of carrier.now code.now)) 0 count }
     ensures small { AreWithin (9 * count) (counts_in result) }
-    ensures few { count ≤ 1024 }
+    ensures few { count ≤ MAX_SAMPLES }
 {
     // Two calls, so that the sums over samples of one bit are made without their sizes.
     if samples.has_sizes() {
@@ -61,7 +64,7 @@ fn run_sums(
     ensures sums { counts_in result ≡ six_sums (λ j. sample_at samples.now (from + j))
         (replica_of prn (phases_of carrier.now code.now)) 0 count }
     ensures small { AreWithin (9 * count) (counts_in result) }
-    ensures few { count ≤ 1024 }
+    ensures few { count ≤ MAX_SAMPLES }
 {
     let len = samples.len();
     let to = from + count;
@@ -91,7 +94,7 @@ fn word_sums(
     end: usize,
     has_sizes: bool,
 ) -> Tally
-    requires word { w < 16 }
+    requires word { w < WORDS }
     requires ordered { first ≤ end }
     requires within { end ≤ 64 }
     requires reach { 64 * w + end ≤ length samples.now }
@@ -99,7 +102,7 @@ fn word_sums(
     ensures sums { (r : Replica) → AreOf r (64 * w) end carrier chips
         → tally_in result ≡ six_sums (sample_at samples.now) r (64 * w + first) (64 * w + end) }
     ensures small { AreWithin (9 * (end - first)) (tally_in result) }
-    ensures few { AreFew 896 result }
+    ensures few { AreFew (2 * MOST_OF_WORD) result }
 {
     let mask = places(first, end);
     let wave = Wave::of_word(carrier);

@@ -1,3 +1,5 @@
+//! The oscillator at the frequency of the carrier.
+
 ghost use Rattle.std.specs.Prelude.{◌≡◌, ◌*◌, ◌+◌, ◌<◌, ◌≤◌, ◌^◌, ◌/◌, ℤ, List, pos, map, take, length, get_or, unsigned_abs, All};
 ghost use Rattle.std.specs.List.{range_with_len};
 ghost use Rattle.definitions.specs.Oscillators.{carrier_phase_after, cosine, sine};
@@ -5,6 +7,7 @@ ghost use Rattle.bit_planes.specs.Bits.{bit};
 ghost use Rattle.oscillators.specs.Views.{Oscillation, CarrierViews};
 ghost use Rattle.oscillators.specs.Signs.{signed, cos_in, sin_in, IsCosWord, IsSinWord};
 ghost use Rattle.oscillators.specs.CarrierWords.{AreEighths, IsCarrier};
+ghost use Rattle.bit_planes.specs.declared.plane.TheConstants.{PLACES, WORDS};
 
 use crate::strides::Strides;
 use bit_planes::{Plane, pick_bytes, second_bits, third_bits, top_bits, with_sixteen};
@@ -125,7 +128,7 @@ impl CarrierOsc {
     /// Cosine and sine at this sample and the `n` - 1 that follow; `n` is at most 1,024. The
     /// oscillator stays where it is.
     pub fn planes(&self, n: usize) -> CarrierPlanes
-        requires { n ≤ 1024 }
+        requires { n ≤ PLACES }
         ensures cos_len { length result.cos ≡ n }
         ensures sin_len { length result.sin ≡ n }
         ensures cos { result.cos ≡ map (λ j. cosine
@@ -184,7 +187,7 @@ impl Model for CarrierPlanes {
           (range_with_len 0 p.len);
     } };
 
-    ghost invariant = { λ p. p.len ≤ 1024 };
+    ghost invariant = { λ p. p.len ≤ PLACES };
 }
 
 impl CarrierPlanes {
@@ -217,7 +220,7 @@ impl CarrierPlanes {
     /// From sample `64 * w` on, the first in the top bits: where the cosine is below 0, where the
     /// sine is, and where the sine is 2 in size and the cosine 1.
     pub fn word(&self, w: usize) -> (u64, u64, u64)
-        requires { w < 16 }
+        requires { w < WORDS }
         ensures cos { IsCosWord self.now.cos w result.0 result.2 }
         ensures sin { IsSinWord self.now.sin w result.1 result.2 }
     {

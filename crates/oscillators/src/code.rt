@@ -1,3 +1,5 @@
+//! The oscillator at the rate of the code.
+
 ghost use Rattle.std.specs.Prelude.{◌≡◌, ◌+◌, ◌-◌, ◌*◌, ◌/◌, ◌%◌, ◌^◌, ◌<◌, ◌≤◌, ℕ, ℤ, List, pos, map, take, length, get_or, unsigned_abs, All};
 ghost use Rattle.std.specs.List.{range_with_len};
 ghost use Rattle.definitions.specs.Oscillators.{code_cycle, code_phase_after, early_sign, prompt_sign, late_sign};
@@ -6,6 +8,7 @@ ghost use Rattle.bit_planes.specs.Bits.{bit};
 ghost use Rattle.oscillators.specs.Views.{Oscillation, CodeViews};
 ghost use Rattle.oscillators.specs.Signs.{sign_in, IsChipWord};
 ghost use Rattle.oscillators.specs.ChipWords.{AreChips, AreChipBits};
+ghost use Rattle.bit_planes.specs.declared.plane.TheConstants.{PLACES, WORDS};
 
 use crate::half_chip::HalfChip;
 use crate::strides::{Strides, second_halves, whole_chips};
@@ -165,7 +168,7 @@ impl CodeOsc {
     /// often as the samples take it round. The oscillator stays where it is, and the book stands
     /// for the codes as before.
     pub fn planes(&self, n: usize, book: &mut CodeBook, prn: Prn) -> CodePlanes
-        requires { n ≤ 1024 }
+        requires { n ≤ PLACES }
         ensures early_len { length result.early ≡ n }
         ensures prompt_len { length result.prompt ≡ n }
         ensures late_len { length result.late ≡ n }
@@ -240,7 +243,7 @@ impl Model for CodePlanes {
       late = map (sign_in p.late) (range_with_len 0 p.len);
     } };
 
-    ghost invariant = { λ p. p.len ≤ 1024 };
+    ghost invariant = { λ p. p.len ≤ PLACES };
 }
 
 impl CodePlanes {
@@ -282,7 +285,7 @@ impl CodePlanes {
 
     /// The chips from sample `64 * w` on, the first in the top bits: early, prompt and late.
     pub fn word(&self, w: usize) -> (u64, u64, u64)
-        requires { w < 16 }
+        requires { w < WORDS }
         ensures early { IsChipWord self.now.early w result.0 }
         ensures prompt { IsChipWord self.now.prompt w result.1 }
         ensures late { IsChipWord self.now.late w result.2 }

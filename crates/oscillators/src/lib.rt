@@ -17,6 +17,9 @@ mod tests;
 
 pub use carrier::{CarrierOsc, CarrierPlanes, CarrierWord};
 pub use code::{ChipWord, CodeOsc, CodePlanes};
-pub use doppler::{Doppler, DopplerFault};
-pub use half_chip::{HalfChip, HalfChipFault};
-pub use settings::{Settings, SettingsFault};
+pub use doppler::{Doppler, DopplerFault, MOST_DOPPLER};
+pub use half_chip::{HalfChip, HalfChipFault, LAST_HALF_CHIP};
+pub use settings::{
+    LEAST_CODE_STEP, LEAST_PER_MS, LEAST_RATE, MOST_CODE_STEP, MOST_CORRECTION, MOST_PER_MS,
+    MOST_RATE, MOST_SHIFT, Settings, SettingsFault,
+};

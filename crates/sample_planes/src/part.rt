@@ -1,8 +1,14 @@
-ghost use Rattle.std.specs.Prelude.{◌≡◌, ◌+◌, ◌-◌, ◌*◌, ◌<◌, ◌≤◌, ℕ, length, unsigned_abs, true, false};
+//! One part of a run of samples, in phase or in quadrature, by its signs and sizes.
+
+ghost use Rattle.std.specs.Prelude.{◌≡◌, ◌+◌, ◌-◌, ◌*◌, ◌<◌, ◌≤◌, ℕ, length, unsigned_abs, true};
+ghost use Rattle.std.specs.Prelude.{false};
 ghost use Rattle.std.specs.Int.{bit_at};
 ghost use Rattle.bit_planes.specs.Bits.{bit};
 ghost use Rattle.definitions.specs.Samples.{samples_per_byte};
 ghost use Rattle.sample_planes.specs.Packings.{packing_of, width_of, has_sizes};
+ghost use Rattle.bit_planes.specs.declared.plane.TheConstants.{WORDS};
+ghost use Rattle.sample_planes.specs.declared.layout.TheConstants.{NEAR_BYTES};
+ghost use Rattle.sample_planes.specs.declared.planes.TheConstants.{MAX_SAMPLES};
 
 use crate::format::Format;
 use crate::layout::Layout;
@@ -26,8 +32,8 @@ impl Part {
         requires size { has_sizes (packing_of format) ≡ true
             → at + 1 < width_of (packing_of format) }
         requires start { start < samples_per_byte (packing_of format) }
-        requires short { len ≤ 1024 }
-        requires long { 520 ≤ length near.now }
+        requires short { len ≤ MAX_SAMPLES }
+        requires long { NEAR_BYTES ≤ length near.now }
         ensures parts { (i : ℕ) → i < len
             → part_at result i ≡ part_in (has_sizes (packing_of format)) near.now (width_of
             (packing_of format) * (start + i) + at) }
@@ -44,7 +50,7 @@ impl Part {
 
     /// The part of sample `i`: 1 or -1, and of two bits also 3 or -3.
     pub(crate) fn value(&self, i: usize) -> i8
-        requires { i < 1024 }
+        requires { i < MAX_SAMPLES }
         ensures value { result ≡ part_at self.now i }
         ensures small { unsigned_abs result ≤ 3 }
     {
@@ -54,7 +60,7 @@ impl Part {
 
     /// The signs and the sizes of the samples from `64 * w` on, the first of them in the top bits.
     pub(crate) fn word(&self, w: usize) -> (u64, u64)
-        requires { w < 16 }
+        requires { w < WORDS }
         ensures { (j : ℕ) → j < 64 → part_of (bit_at result.0 (63 - j)) (bit_at result.1 (63 - j))
             ≡ part_at self.now (64 * w + j) }
     {

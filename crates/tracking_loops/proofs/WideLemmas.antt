@@ -20,16 +20,20 @@ module _ (x y : ℤ) (x_in : unsigned_abs x ≤ 2 ^ 38) (y_in : unsigned_abs y �
   sum_fits = rw (to_z-of_z w64 x x_fits, to_z-of_z w64 y y_fits) sum_plain_fits
 
   pub sum_is : to_z w64 (of_z w64 (to_z w64 (of_z w64 x) +ℤ to_z w64 (of_z w64 y))) ≡ x +ℤ y
-  sum_is = rw (to_z-of_z w64 x x_fits, to_z-of_z w64 y y_fits) (to_z-of_z w64 (x +ℤ y) sum_plain_fits)
+  sum_is = rw (to_z-of_z w64 x x_fits, to_z-of_z w64 y y_fits)
+      (to_z-of_z w64 (x +ℤ y) sum_plain_fits)
 
   pub difference_fits : FitsSigned w64 (to_z w64 (of_z w64 x) -ℤ to_z w64 (of_z w64 y))
   difference_fits = rw (to_z-of_z w64 x x_fits, to_z-of_z w64 y y_fits) difference_plain_fits
 
   pub difference_is : to_z w64 (of_z w64 (to_z w64 (of_z w64 x) -ℤ to_z w64 (of_z w64 y))) ≡ x -ℤ y
-  difference_is = rw (to_z-of_z w64 x x_fits, to_z-of_z w64 y y_fits) (to_z-of_z w64 (x -ℤ y) difference_plain_fits)
+  difference_is = rw (to_z-of_z w64 x x_fits, to_z-of_z w64 y y_fits)
+      (to_z-of_z w64 (x -ℤ y) difference_plain_fits)
 
-  pub difference_small : (n : ℕ) → unsigned_abs x + unsigned_abs y ≤ n → unsigned_abs (to_z w64 (of_z w64 (to_z w64 (of_z w64 x) -ℤ to_z w64 (of_z w64 y)))) ≤ n
+  pub difference_small : (n : ℕ) → unsigned_abs x + unsigned_abs y ≤ n
+      → unsigned_abs (to_z w64 (of_z w64 (to_z w64 (of_z w64 x) -ℤ to_z w64 (of_z w64 y)))) ≤ n
   difference_small n h = rw difference_is (omega (arith, ints))
 
-  pub sum_small : (n : ℕ) → unsigned_abs x + unsigned_abs y ≤ n → unsigned_abs (to_z w64 (of_z w64 (to_z w64 (of_z w64 x) +ℤ to_z w64 (of_z w64 y)))) ≤ n
+  pub sum_small : (n : ℕ) → unsigned_abs x + unsigned_abs y ≤ n
+      → unsigned_abs (to_z w64 (of_z w64 (to_z w64 (of_z w64 x) +ℤ to_z w64 (of_z w64 y)))) ≤ n
   sum_small n h = rw sum_is (omega (arith, ints))

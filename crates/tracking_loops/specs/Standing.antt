@@ -17,8 +17,10 @@ steering_in s = record { taken = s.dumps; last = counts_in s.last; u = s.u; v = 
 -- what is kept of the dumps behind the last whole window
 pub record IsFilling (dumps : List Counts) (window : Window) : Type 0 where
   pub count : window.count ≡ (length dumps - 199) % 20
-  pub in_phase : window.in_phase ≡ sum_by (λ (d : Counts). unsigned_abs d.ip) (unfinished_window dumps)
-  pub quadrature : window.quadrature ≡ sum_by (λ (d : Counts). unsigned_abs d.qp) (unfinished_window dumps)
+  pub in_phase : window.in_phase ≡ sum_by (λ (d : Counts). unsigned_abs d.ip)
+      (unfinished_window dumps)
+  pub quadrature : window.quadrature ≡ sum_by (λ (d : Counts). unsigned_abs d.qp)
+      (unfinished_window dumps)
 
 -- the run of bad windows is followed as far as the signal's loss
 pub record IsWatching (dumps : List Counts) (lock : Lock) : Type 0 where

@@ -1,5 +1,6 @@
 -- Windows of dumps, as the last of the dumps leaves them.
-use Rattle.std.specs.Prelude.{ℕ, zero, suc, ◌+◌, ◌-◌, ◌*◌, ◌%◌, ◌==◌, ◌&&◌, Bool, nat_le, if◌then◌else◌, List, length, drop, Option, Some, None}
+use Rattle.std.specs.Prelude.{ℕ, zero, suc, ◌+◌, ◌-◌, ◌*◌, ◌%◌, ◌==◌, ◌&&◌, Bool, nat_le}
+use Rattle.std.specs.Prelude.{if◌then◌else◌, List, length, drop, Option, Some, None}
 use Rattle.definitions.specs.Correlation.{Counts}
 use Rattle.definitions.specs.Lock.{is_good, window_count}
 
@@ -13,7 +14,8 @@ ends_window dumps = nat_le 219 (length dumps) && ((length dumps - 199) % 20 == 0
 
 -- whether the window that is whole with the last of the dumps is good, if one is
 unfoldable pub good_window : List Counts → Option Bool
-good_window dumps = if ends_window dumps then Some (is_good dumps (window_count dumps - 1)) else None
+good_window dumps = if ends_window dumps then Some (is_good dumps (window_count dumps - 1)) else
+    None
 
 -- how many of the first n windows are bad behind the last good one
 unfoldable pub bad_run : List Counts → ℕ → ℕ

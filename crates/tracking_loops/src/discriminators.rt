@@ -1,6 +1,13 @@
+//! What a dump says of the frequency, the phase and the code.
+
 ghost use Rattle.std.specs.Prelude.{◌≡◌, ◌^◌, ◌≤◌, ◌+◌, ◌*◌, ℤ, ◌*ℤ◌, ◌+ℤ◌, ◌-ℤ◌, unsigned_abs};
-ghost use Rattle.definitions.specs.Loops.{sgn, ratio as ratio_of, frequency_error as frequency_error_of, phase_error as phase_error_of, code_error as code_error_of};
+ghost use Rattle.definitions.specs.Loops.{sgn, ratio as ratio_of};
+ghost use Rattle.definitions.specs.Loops.{frequency_error as frequency_error_of};
+ghost use Rattle.definitions.specs.Loops.{phase_error as phase_error_of};
+ghost use Rattle.definitions.specs.Loops.{code_error as code_error_of};
 ghost use Rattle.lane_correlator.specs.Counting.{counts_in, AreWithin};
+ghost use Rattle.tracking_loops.specs.declared.limits.TheConstants.{MOST_SUM};
+ghost use Rattle.tracking_loops.specs.declared.limits.TheConstants.{MOST_ERROR};
 
 use lane_correlator::Counts;
 
@@ -9,10 +16,10 @@ const UNITS: i64 = 4096;
 
 /// The turn of the carrier from one dump to the next.
 pub fn frequency_error(before: &Counts, counts: &Counts) -> i64
-    requires before_small { AreWithin (2 ^ 18) (counts_in before.now) }
-    requires counts_small { AreWithin (2 ^ 18) (counts_in counts.now) }
+    requires before_small { AreWithin MOST_SUM (counts_in before.now) }
+    requires counts_small { AreWithin MOST_SUM (counts_in counts.now) }
     ensures is { result ≡ frequency_error_of (counts_in before.now) (counts_in counts.now) }
-    ensures small { unsigned_abs result ≤ 4096 }
+    ensures small { unsigned_abs result ≤ MOST_ERROR }
 {
     let cross = cross(before, counts);
     let dot = dot(before, counts);
@@ -22,9 +29,9 @@ pub fn frequency_error(before: &Counts, counts: &Counts) -> i64
 
 /// How far the prompt sum is turned away from the in-phase axis.
 pub fn phase_error(counts: &Counts) -> i64
-    requires { AreWithin (2 ^ 18) (counts_in counts.now) }
+    requires { AreWithin MOST_SUM (counts_in counts.now) }
     ensures is { result ≡ phase_error_of (counts_in counts.now) }
-    ensures small { unsigned_abs result ≤ 4096 }
+    ensures small { unsigned_abs result ≤ MOST_ERROR }
 {
     let in_phase = i64::from(counts.ip);
     let quadrature = i64::from(counts.qp);
@@ -34,9 +41,9 @@ pub fn phase_error(counts: &Counts) -> i64
 
 /// How much more power the early chips have than the late ones.
 pub fn code_error(counts: &Counts) -> i64
-    requires { AreWithin (2 ^ 18) (counts_in counts.now) }
+    requires { AreWithin MOST_SUM (counts_in counts.now) }
     ensures is { result ≡ code_error_of (counts_in counts.now) }
-    ensures small { unsigned_abs result ≤ 4096 }
+    ensures small { unsigned_abs result ≤ MOST_ERROR }
 {
     let early = power(counts.ie, counts.qe);
     let late = power(counts.il, counts.ql);
@@ -49,7 +56,7 @@ fn ratio(a: i64, size: u64) -> i64
     requires within { unsigned_abs a ≤ size }
     requires fits { size ≤ 2 ^ 38 }
     ensures is { result ≡ ratio_of a size }
-    ensures small { unsigned_abs result ≤ 4096 }
+    ensures small { unsigned_abs result ≤ MOST_ERROR }
 {
     (UNITS * a).div_euclid(size.max(1) as i64)
 }
@@ -65,8 +72,8 @@ fn signed(a: i64, by: i64) -> i64
 
 /// The cross product of two prompt sums.
 fn cross(before: &Counts, counts: &Counts) -> i64
-    requires before_small { AreWithin (2 ^ 18) (counts_in before.now) }
-    requires counts_small { AreWithin (2 ^ 18) (counts_in counts.now) }
+    requires before_small { AreWithin MOST_SUM (counts_in before.now) }
+    requires counts_small { AreWithin MOST_SUM (counts_in counts.now) }
     ensures is { result ≡ before.now.ip *ℤ counts.now.qp -ℤ counts.now.ip *ℤ before.now.qp }
     ensures small { unsigned_abs result ≤ 2 ^ 37 }
 {
@@ -75,8 +82,8 @@ fn cross(before: &Counts, counts: &Counts) -> i64
 
 /// Their scalar product.
 fn dot(before: &Counts, counts: &Counts) -> i64
-    requires before_small { AreWithin (2 ^ 18) (counts_in before.now) }
-    requires counts_small { AreWithin (2 ^ 18) (counts_in counts.now) }
+    requires before_small { AreWithin MOST_SUM (counts_in before.now) }
+    requires counts_small { AreWithin MOST_SUM (counts_in counts.now) }
     ensures is { result ≡ before.now.ip *ℤ counts.now.ip +ℤ before.now.qp *ℤ counts.now.qp }
     ensures small { unsigned_abs result ≤ 2 ^ 37 }
 {
@@ -85,8 +92,8 @@ fn dot(before: &Counts, counts: &Counts) -> i64
 
 /// The power of a sum with these parts.
 fn power(in_phase: i32, quadrature: i32) -> i64
-    requires in_phase_in { unsigned_abs in_phase ≤ 2 ^ 18 }
-    requires quadrature_in { unsigned_abs quadrature ≤ 2 ^ 18 }
+    requires in_phase_in { unsigned_abs in_phase ≤ MOST_SUM }
+    requires quadrature_in { unsigned_abs quadrature ≤ MOST_SUM }
     ensures is { result ≡ in_phase *ℤ in_phase +ℤ quadrature *ℤ quadrature }
     ensures small { unsigned_abs result ≤ 2 ^ 37 }
 {
@@ -94,8 +101,8 @@ fn power(in_phase: i32, quadrature: i32) -> i64
 }
 
 fn product(a: i32, b: i32) -> i64
-    requires a_in { unsigned_abs a ≤ 2 ^ 18 }
-    requires b_in { unsigned_abs b ≤ 2 ^ 18 }
+    requires a_in { unsigned_abs a ≤ MOST_SUM }
+    requires b_in { unsigned_abs b ≤ MOST_SUM }
     ensures is { result ≡ a *ℤ b }
     ensures small { unsigned_abs result ≤ 2 ^ 36 }
 {

@@ -1,6 +1,7 @@
-//! The loops that steer a tracking channel of a GPS L1 C/A receiver by its dumps, and the news of whether it is locked to its signal.
-//! All of it is this project's own, in exact whole numbers, with quotients that round toward minus infinity. The crate promises that
-//! the channel's shift, its count of dumps and its news are what the definition says of the list of all dumps taken.
+//! The loops that steer a tracking channel of a GPS L1 C/A receiver by its dumps, and the news of
+//! whether it is locked to its signal. All of it is this project's own, in exact whole numbers,
+//! with quotients that round toward minus infinity. The crate promises that the channel's shift,
+//! its count of dumps and its news are what the definition says of the list of all dumps taken.
 //!
 //!     use tracking_loops::{Loops, News};
 //!
@@ -15,6 +16,7 @@
 #![tactic(auto)]
 
 mod discriminators;
+mod limits;
 mod lock;
 mod loops;
 mod news;
@@ -23,5 +25,6 @@ mod steering;
 mod tests;
 mod window;
 
+pub use limits::{MOST_CORRECTION, MOST_DUMPS, MOST_ERROR, MOST_SHIFT, MOST_SUM};
 pub use loops::Loops;
 pub use news::News;

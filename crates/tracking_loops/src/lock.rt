@@ -1,8 +1,12 @@
-ghost use Rattle.std.specs.Prelude.{◌≡◌, ◌^◌, ◌≤◌, List, [], ◌∷◌, ◌++◌, length, unsigned_abs, min, nat_lt, ◌+◌, ◌==◌, ◌&&◌, ◌||◌, if◌then◌else◌, false};
+//! Whether a channel is locked to its signal.
+
+ghost use Rattle.std.specs.Prelude.{◌≡◌, ◌^◌, ◌≤◌, List, [], ◌∷◌, ◌++◌, length, unsigned_abs, min};
+ghost use Rattle.std.specs.Prelude.{nat_lt, ◌+◌, ◌==◌, ◌&&◌, ◌||◌, if◌then◌else◌, false};
 ghost use Rattle.definitions.specs.Correlation.{Counts as DefinedCounts};
 ghost use Rattle.definitions.specs.Lock.{news_of};
 ghost use Rattle.lane_correlator.specs.Counting.{counts_in};
 ghost use Rattle.tracking_loops.specs.NewsIn.{news_in, news_by};
+ghost use Rattle.tracking_loops.specs.declared.limits.TheConstants.{MOST_SUM};
 
 use crate::news::News;
 use crate::window::Window;
@@ -40,9 +44,10 @@ impl Lock {
 
     /// Takes the next dump, which isn't one of the first 199.
     pub fn take(&mut self, counts: &Counts) -> News
-        requires ip { unsigned_abs counts.now.ip ≤ 2 ^ 18 }
-        requires qp { unsigned_abs counts.now.qp ≤ 2 ^ 18 }
-        ensures goes_on { (dumps : List DefinedCounts) → 199 ≤ length dumps → IsWatching dumps self.old
+        requires ip { unsigned_abs counts.now.ip ≤ MOST_SUM }
+        requires qp { unsigned_abs counts.now.qp ≤ MOST_SUM }
+        ensures goes_on { (dumps : List DefinedCounts) → 199 ≤ length dumps
+            → IsWatching dumps self.old
             → IsWatching (dumps ++ counts_in counts.now ∷ []) self.new }
         ensures news { (dumps : List DefinedCounts) → 199 ≤ length dumps → IsWatching dumps self.old
             → news_in result ≡ news_of (dumps ++ counts_in counts.now ∷ []) }
@@ -55,10 +60,13 @@ impl Lock {
 
     /// Takes a whole window.
     fn take_window(&mut self, is_good: bool) -> News
-        ensures run { self.new.bad_windows ≡ (if is_good then 0 else min 50 (self.old.bad_windows + 1)) }
-        ensures locked { self.new.is_locked ≡ (is_good || (self.old.is_locked && nat_lt self.new.bad_windows 10)) }
+        ensures run { self.new.bad_windows ≡ (if is_good then 0 else min 50
+            (self.old.bad_windows + 1)) }
+        ensures locked { self.new.is_locked ≡ (is_good ||
+            (self.old.is_locked && nat_lt self.new.bad_windows 10)) }
         ensures window { self.new.window ≡ self.old.window }
-        ensures news { news_in result ≡ news_by (self.new.bad_windows == 50) self.old.is_locked self.new.is_locked }
+        ensures news { news_in result ≡ news_by (self.new.bad_windows == 50) self.old.is_locked
+            self.new.is_locked }
     {
         let was_locked = self.is_locked;
         if is_good {

@@ -1,9 +1,14 @@
-ghost use Rattle.std.specs.Prelude.{◌≡◌, ◌^◌, ◌≤◌, ◌<◌, ◌+◌, ℤ, List, [], ◌∷◌, ◌++◌, length, unsigned_abs};
+//! The loops of a tracking channel.
+
+ghost use Rattle.std.specs.Prelude.{◌≡◌, ◌^◌, ◌≤◌, ◌<◌, ◌+◌, ℤ, List, [], ◌∷◌, ◌++◌, length};
+ghost use Rattle.std.specs.Prelude.{unsigned_abs};
 ghost use Rattle.definitions.specs.Correlation.{Counts as DefinedCounts};
 ghost use Rattle.definitions.specs.Loops.{loops_after};
 ghost use Rattle.definitions.specs.Lock.{is_locked, news_of};
 ghost use Rattle.lane_correlator.specs.Counting.{counts_in, AreWithin};
 ghost use Rattle.tracking_loops.specs.NewsIn.{news_in};
+ghost use Rattle.tracking_loops.specs.declared.limits.TheConstants.{MOST_SUM, MOST_SHIFT};
+ghost use Rattle.tracking_loops.specs.declared.limits.TheConstants.{MOST_DUMPS, MOST_CORRECTION};
 
 use crate::lock::Lock;
 use crate::news::News;
@@ -12,9 +17,10 @@ use lane_correlator::Counts;
 
 /// The loops of one tracking channel, from its first dump on. (This project's own.)
 ///
-/// Dumps, numbered from 1, come about once a code period (1 ms). Up to dump 199 the turn of the carrier between two dumps pulls the
-/// frequency in, and from dump 200 on the phase is held. From there on each 20 dumps are a window, which is good where the sizes of
-/// the prompt sums in phase add up to at least twice those in quadrature.
+/// Dumps, numbered from 1, come about once a code period (1 ms). Up to dump 199 the turn of the
+/// carrier between two dumps pulls the frequency in, and from dump 200 on the phase is held. From
+/// there on each 20 dumps are a window, which is good where the sizes of the prompt sums in phase
+/// add up to at least twice those in quadrature.
 #[derive(Debug, Drop)]
 pub struct Loops {
     steering: Steering,
@@ -24,9 +30,10 @@ pub struct Loops {
 impl Loops {
     ghost use Rattle.tracking_loops.specs.Standing.{StandsFor, dump_count};
 
-    /// Begins with the carrier's shift `v`, in 1/65536 Hz, at most 2^30 in size, and no dumps.
+    /// Begins with the carrier's shift `v`, in 1/65536 Hz, at most `MOST_SHIFT` in size, and no
+    /// dumps.
     pub fn start(v: i64) -> Self
-        requires { unsigned_abs v ≤ 2 ^ 30 }
+        requires { unsigned_abs v ≤ MOST_SHIFT }
         ensures stands { StandsFor v [] result }
         ensures none { dump_count result ≡ 0 }
     {
@@ -36,11 +43,11 @@ impl Loops {
         }
     }
 
-    /// Takes the sums of the next dump, each at most 2^18 in size, and tells what they make of the lock. After `Lost` the rules stay
-    /// the same; a channel ends there.
+    /// Takes the sums of the next dump, each at most `MOST_SUM` in size, and tells what they make
+    /// of the lock. After `Lost` the rules stay the same; a channel ends there.
     pub fn take(&mut self, counts: Counts) -> News
-        requires small { AreWithin (2 ^ 18) (counts_in counts) }
-        requires room { dump_count self.old < 2 ^ 40 }
+        requires small { AreWithin MOST_SUM (counts_in counts) }
+        requires room { dump_count self.old < MOST_DUMPS }
         ensures counted { dump_count self.new ≡ dump_count self.old + 1 }
         ensures stands { (start : ℤ) (dumps : List DefinedCounts) → StandsFor start dumps self.old
             → StandsFor start (dumps ++ counts_in counts ∷ []) self.new }
@@ -58,7 +65,7 @@ impl Loops {
     pub fn v(&self) -> i64
         ensures is { (start : ℤ) (dumps : List DefinedCounts) → StandsFor start dumps self.now
             → result ≡ (loops_after start dumps).v }
-        ensures small { unsigned_abs result ≤ 2 ^ 30 }
+        ensures small { unsigned_abs result ≤ MOST_SHIFT }
     {
         self.steering.v
     }
@@ -67,7 +74,7 @@ impl Loops {
     pub fn w(&self) -> i64
         ensures is { (start : ℤ) (dumps : List DefinedCounts) → StandsFor start dumps self.now
             → result ≡ (loops_after start dumps).w }
-        ensures small { unsigned_abs result ≤ 2 ^ 16 }
+        ensures small { unsigned_abs result ≤ MOST_CORRECTION }
     {
         self.steering.w
     }

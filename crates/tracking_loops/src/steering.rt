@@ -1,6 +1,10 @@
+//! The carrier's shift and the code's rate, dump by dump.
+
 ghost use Rattle.std.specs.Prelude.{◌≡◌, ◌^◌, ◌≤◌, ◌<◌, unsigned_abs};
 ghost use Rattle.definitions.specs.Loops.{loops_start, loops_after_dump, clamped as clamped_to};
 ghost use Rattle.lane_correlator.specs.Counting.{counts_in, AreWithin};
+ghost use Rattle.tracking_loops.specs.declared.limits.TheConstants.{MOST_SUM, MOST_SHIFT};
+ghost use Rattle.tracking_loops.specs.declared.limits.TheConstants.{MOST_DUMPS, MOST_CORRECTION};
 
 use crate::discriminators::{code_error, frequency_error, phase_error};
 use lane_correlator::Counts;
@@ -36,10 +40,10 @@ pub struct Steering {
     pub v: i64,
     /// The correction of the code's rate, in 1/65536 chip a second.
     pub w: i64,
-    ghost last_is_small: { AreWithin (2 ^ 18) (counts_in last) },
-    ghost u_in_range: { unsigned_abs u ≤ 2 ^ 30 },
-    ghost v_in_range: { unsigned_abs v ≤ 2 ^ 30 },
-    ghost w_in_range: { unsigned_abs w ≤ 2 ^ 16 },
+    ghost last_is_small: { AreWithin MOST_SUM (counts_in last) },
+    ghost u_in_range: { unsigned_abs u ≤ MOST_SHIFT },
+    ghost v_in_range: { unsigned_abs v ≤ MOST_SHIFT },
+    ghost w_in_range: { unsigned_abs w ≤ MOST_CORRECTION },
 }
 
 impl Steering {
@@ -47,7 +51,7 @@ impl Steering {
 
     /// Begins with the shift `v`, and no dumps.
     pub fn start(v: i64) -> Self
-        requires { unsigned_abs v ≤ 2 ^ 30 }
+        requires { unsigned_abs v ≤ MOST_SHIFT }
         ensures { steering_in result ≡ loops_start v }
     {
         Steering {
@@ -61,9 +65,10 @@ impl Steering {
 
     /// Takes the next dump.
     pub fn take(&mut self, counts: Counts)
-        requires small { AreWithin (2 ^ 18) (counts_in counts) }
-        requires room { self.old.dumps < 2 ^ 40 }
-        ensures { steering_in self.new ≡ loops_after_dump (steering_in self.old) (counts_in counts) }
+        requires small { AreWithin MOST_SUM (counts_in counts) }
+        requires room { self.old.dumps < MOST_DUMPS }
+        ensures { steering_in self.new ≡ loops_after_dump (steering_in self.old)
+            (counts_in counts) }
     {
         (self.u, self.v) = self.carrier_with(&counts);
         self.dumps += 1;
@@ -73,12 +78,12 @@ impl Steering {
 
     /// The new `u` and `v`, with one more dump.
     fn carrier_with(&self, counts: &Counts) -> (i64, i64)
-        requires small { AreWithin (2 ^ 18) (counts_in counts.now) }
-        requires room { self.now.dumps < 2 ^ 40 }
+        requires small { AreWithin MOST_SUM (counts_in counts.now) }
+        requires room { self.now.dumps < MOST_DUMPS }
         ensures u { result.0 ≡ (loops_after_dump (steering_in self.now) (counts_in counts.now)).u }
         ensures v { result.1 ≡ (loops_after_dump (steering_in self.now) (counts_in counts.now)).v }
-        ensures u_small { unsigned_abs result.0 ≤ 2 ^ 30 }
-        ensures v_small { unsigned_abs result.1 ≤ 2 ^ 30 }
+        ensures u_small { unsigned_abs result.0 ≤ MOST_SHIFT }
+        ensures v_small { unsigned_abs result.1 ≤ MOST_SHIFT }
     {
         if self.dumps + 1 < FIRST_HOLDING {
             let u = clamped(self.u + PULLING_GAIN * frequency_error(&self.last, counts));
@@ -92,7 +97,7 @@ impl Steering {
 
 fn clamped(shift: i64) -> i64
     ensures is { result ≡ clamped_to shift }
-    ensures small { unsigned_abs result ≤ 2 ^ 30 }
+    ensures small { unsigned_abs result ≤ MOST_SHIFT }
 {
     shift.clamp(-SHIFT_LIMIT, SHIFT_LIMIT)
 }

@@ -6,7 +6,8 @@ use lane_correlator::Counts;
 fn prompt(ip: i32, qp: i32) -> Counts
     ensures ip { result.ip ≡ ip }
     ensures qp { result.qp ≡ qp }
-    ensures others { (result.ie ≡ pos 0) × (result.qe ≡ pos 0) × (result.il ≡ pos 0) × (result.ql ≡ pos 0) }
+    ensures others { (result.ie ≡ pos 0) × (result.qe ≡ pos 0) × (result.il ≡ pos 0)
+        × (result.ql ≡ pos 0) }
 {
     Counts {
         ie: 0,
@@ -18,7 +19,8 @@ fn prompt(ip: i32, qp: i32) -> Counts
     }
 }
 
-// Errors of -1 and of -3 rounded toward minus infinity: 160 * floor(-4096 / 3) and 16 * floor(-4096 * 3 / 5).
+// Errors of -1 and of -3 rounded toward minus infinity: 160 * floor(-4096 / 3) and 16 * floor(-4096
+// * 3 / 5).
 #[test]
 fn loop_steps(rt: HostRuntime) {
     let mut loops = Loops::start(0);
@@ -47,7 +49,8 @@ fn loop_steps(rt: HostRuntime) {
     assert_eq!(rt; loops.dumps(), 2);
 }
 
-// Windows that are all bad: 50 of them end with dump 199 + 50 * 20. The carrier doesn't turn, and a phase of 45 degrees is an error
+// Windows that are all bad: 50 of them end with dump 199 + 50 * 20. The carrier doesn't turn, and a
+// phase of 45 degrees is an error
 // of 2048, so that dump 200 makes v 6 * 2048 + 170 * 2048.
 #[test]
 fn loop_steps_never_locked(rt: HostRuntime) {
@@ -74,7 +77,8 @@ fn loop_steps_never_locked(rt: HostRuntime) {
     }
 }
 
-// One good window, and then bad ones: ten end with dump 219 + 10 * 20, and fifty with dump 219 + 50 * 20.
+// One good window, and then bad ones: ten end with dump 219 + 10 * 20, and fifty with dump 219 + 50
+// * 20.
 #[test]
 fn loop_steps_locked_once(rt: HostRuntime) {
     let mut loops = Loops::start(0);
@@ -96,7 +100,8 @@ fn loop_steps_locked_once(rt: HostRuntime) {
     }
 }
 
-// A good window after nine bad ones begins the run anew, so that the lock ends ten windows behind it: 219 + (9 + 1 + 10) * 20. A window
+// A good window after nine bad ones begins the run anew, so that the lock ends ten windows behind
+// it: 219 + (9 + 1 + 10) * 20. A window
 // of zeros is good.
 #[test]
 fn good_window_ends_the_run(rt: HostRuntime) {
@@ -114,7 +119,8 @@ fn good_window_ends_the_run(rt: HostRuntime) {
     }
 }
 
-// At the limit of 2^30 errors of +1 are lost: in the frequency (a turn by 90 degrees from dump 1 to dump 2, where the scalar product
+// At the limit of 2^30 errors of +1 are lost: in the frequency (a turn by 90 degrees from dump 1 to
+// dump 2, where the scalar product
 // is 0), and in the phase, from dump 200 on.
 #[test]
 fn shift_is_limited(rt: HostRuntime) {

@@ -1,6 +1,10 @@
-ghost use Rattle.std.specs.Prelude.{◌≡◌, ◌^◌, ◌≤◌, ◌<◌, ◌*◌, List, [], ◌∷◌, ◌++◌, length, unsigned_abs, ◌+◌};
+//! The windows of dumps by which a lock is told.
+
+ghost use Rattle.std.specs.Prelude.{◌≡◌, ◌^◌, ◌≤◌, ◌<◌, ◌*◌, List, [], ◌∷◌, ◌++◌, length};
+ghost use Rattle.std.specs.Prelude.{unsigned_abs, ◌+◌};
 ghost use Rattle.definitions.specs.Correlation.{Counts as DefinedCounts};
 ghost use Rattle.lane_correlator.specs.Counting.{counts_in};
+ghost use Rattle.tracking_loops.specs.declared.limits.TheConstants.{MOST_SUM};
 
 use lane_correlator::Counts;
 
@@ -17,8 +21,8 @@ pub struct Window {
     /// And in quadrature.
     quadrature: u32,
     ghost count_in_range: { count < 20 },
-    ghost in_phase_in_range: { in_phase ≤ count * 2 ^ 18 },
-    ghost quadrature_in_range: { quadrature ≤ count * 2 ^ 18 },
+    ghost in_phase_in_range: { in_phase ≤ count * MOST_SUM },
+    ghost quadrature_in_range: { quadrature ≤ count * MOST_SUM },
 }
 
 impl Window {
@@ -36,11 +40,13 @@ impl Window {
         }
     }
 
-    /// Takes the next dump and, where it makes the window whole, says whether that is good. Then the next window begins.
+    /// Takes the next dump and, where it makes the window whole, says whether that is good. Then
+    /// the next window begins.
     pub fn take(&mut self, counts: &Counts) -> Option<bool>
-        requires ip { unsigned_abs counts.now.ip ≤ 2 ^ 18 }
-        requires qp { unsigned_abs counts.now.qp ≤ 2 ^ 18 }
-        ensures goes_on { (dumps : List DefinedCounts) → 199 ≤ length dumps → IsFilling dumps self.old
+        requires ip { unsigned_abs counts.now.ip ≤ MOST_SUM }
+        requires qp { unsigned_abs counts.now.qp ≤ MOST_SUM }
+        ensures goes_on { (dumps : List DefinedCounts) → 199 ≤ length dumps
+            → IsFilling dumps self.old
             → IsFilling (dumps ++ counts_in counts.now ∷ []) self.new }
         ensures whole { (dumps : List DefinedCounts) → 199 ≤ length dumps → IsFilling dumps self.old
             → result ≡ good_window (dumps ++ counts_in counts.now ∷ []) }

@@ -3,7 +3,8 @@ use Rattle.std.specs.Prelude.{min, max, ◌+ℤ◌}
 use Rattle.std.proofs.Math.Path.{ap₂}
 use Rattle.definitions.specs.Samples.{sample_at}
 use Rattle.definitions.specs.Correlation.{in_phase_sum, quadrature_sum}
-use Rattle.definitions.proofs.CorrelationLemmas.{in_phase-none, quadrature-none, in_phase-split, quadrature-split}
+use Rattle.definitions.proofs.CorrelationLemmas.{in_phase-none, quadrature-none, in_phase-split}
+use Rattle.definitions.proofs.CorrelationLemmas.{quadrature-split}
 use Rattle.lane_correlator.specs.Products.{view_at}
 use Rattle.lane_correlator.proofs.SumLemmas.{abs_add}
 use Rattle.lane_correlator.proofs.pair.pair_of_run.Goals as goal

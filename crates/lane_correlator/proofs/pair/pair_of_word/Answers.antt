@@ -4,8 +4,12 @@ use Rattle.std.proofs.Math.Path.{ap₂}
 use Rattle.definitions.specs.Samples.{sample_at}
 use Rattle.lane_correlator.specs.Products.{view_at, prompt_in_phase, prompt_quadrature}
 use Rattle.lane_correlator.specs.Factors.{IsMask, AreChips, IsSumOf}
-use Rattle.lane_correlator.proofs.PartLemmas.{AreSigns, AreSmall, chips_are_signs, in_phase_by_parts, quadrature_by_parts, part_sum-none, in_phase-small, quadrature-small}
-use Rattle.lane_correlator.proofs.RunLemmas.{part_of_run, quadrature_of_run, cos_of_run, sin_of_run, minus_sin_of_run, chips_of_run, real_in_run, quadrature_small, real_small, word_is_small}
+use Rattle.lane_correlator.proofs.PartLemmas.{AreSigns, AreSmall, chips_are_signs}
+use Rattle.lane_correlator.proofs.PartLemmas.{in_phase_by_parts, quadrature_by_parts, part_sum-none}
+use Rattle.lane_correlator.proofs.PartLemmas.{in_phase-small, quadrature-small}
+use Rattle.lane_correlator.proofs.RunLemmas.{part_of_run, quadrature_of_run, cos_of_run, sin_of_run}
+use Rattle.lane_correlator.proofs.RunLemmas.{minus_sin_of_run, chips_of_run, real_in_run}
+use Rattle.lane_correlator.proofs.RunLemmas.{quadrature_small, real_small, word_is_small}
 use Rattle.lane_correlator.proofs.pair.pair_of_word.Goals as goal
 use Rattle.lane_correlator.proofs.pair.pair_of_word.Goals.{After-added, in-Some, in-None}
 

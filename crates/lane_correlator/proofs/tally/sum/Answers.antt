@@ -11,4 +11,5 @@ pub returns-clause-value : goal.returns-clause-value
 returns-clause-value c = written c.args.all c.args.below c.requires.all c.requires.below
 
 pub returns-clause-small : goal.returns-clause-small
-returns-clause-small c = rw (written c.args.all c.args.below c.requires.all c.requires.below) (size c.args.all c.args.below c.requires.all c.requires.below)
+returns-clause-small c = rw (written c.args.all c.args.below c.requires.all c.requires.below)
+    (size c.args.all c.args.below c.requires.all c.requires.below)

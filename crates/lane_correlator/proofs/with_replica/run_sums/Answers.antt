@@ -10,7 +10,8 @@ use Rattle.lane_correlator.specs.Tallies.{tally_in}
 use Rattle.lane_correlator.specs.ReplicaWords.{AreOf, phases_of}
 use Rattle.lane_correlator.proofs.SumLemmas.{six_sums-none, none_within, added_within}
 use Rattle.lane_correlator.proofs.TallyLemmas.{none_few, few_more}
-use Rattle.lane_correlator.proofs.ReplicaLemmas.{placed, words_of_placed, carrier_word_on, code_word_on, sums_from}
+use Rattle.lane_correlator.proofs.ReplicaLemmas.{placed, words_of_placed, carrier_word_on}
+use Rattle.lane_correlator.proofs.ReplicaLemmas.{code_word_on, sums_from}
 use Rattle.lane_correlator.proofs.with_replica.run_sums.Goals as goal
 
 pub loop-w-init : goal.loop-w-init
@@ -35,15 +36,24 @@ loop-w-init c =
     }
 
 pub add-sums-requires-clause-these : goal.add-sums-requires-clause-these
-add-sums-requires-clause-these c = few_more (896 * (c.loop-w.w - c.args.from / 64)) 1000000 c.loop-w.sums
-    (omega (arith, c.loop-w-test.true, c.len-len.ensures.count, c.len-len.ensures.most, c.min.ensures)) c.loop-w.invariant.few
+add-sums-requires-clause-these c = few_more (896 * (c.loop-w.w - c.args.from / 64)) 1000000
+    c.loop-w.sums
+    (omega (
+      arith,
+      c.loop-w-test.true,
+      c.len-len.ensures.count,
+      c.len-len.ensures.most,
+      c.min.ensures,
+    )) c.loop-w.invariant.few
 
 pub add-sums-requires-clause-those : goal.add-sums-requires-clause-those
-add-sums-requires-clause-those c = few_more 896 1000000 c.word_sums.result (lit≤ tt) c.word_sums.ensures.few
+add-sums-requires-clause-those c = few_more 896 1000000 c.word_sums.result (lit≤ tt)
+    c.word_sums.ensures.few
 
 pub counts-requires : goal.counts-requires
 counts-requires c = few_more (896 * (c.loop-w.w - c.args.from / 64)) 1000000 c.loop-w.sums
-    (omega (arith, c.loop-w.auto.w, c.len-len.ensures.count, c.len-len.ensures.most, c.min.ensures)) c.loop-w.invariant.few
+    (omega (arith, c.loop-w.auto.w, c.len-len.ensures.count, c.len-len.ensures.most, c.min.ensures))
+    c.loop-w.invariant.few
 
 pub loop-w-preserved : goal.loop-w-preserved
 loop-w-preserved c =
@@ -107,7 +117,8 @@ loop-w-preserved c =
           (9 * (c.min-in-loop-w.result - 64 * w - (c.max.result - 64 * w))) (9 * (q - from))
           (tally_in c.loop-w.sums) (tally_in c.word_sums.result) i.small c.word_sums.ensures.small
           (omega (arith, a_is, b_is, low, high)));
-      few = few_more _ _ _ (omega (arith, i.from)) (c.add-sums.ensures.few (896 * (w - from / 64)) 896 i.few c.word_sums.ensures.few);
+      few = few_more _ _ _ (omega (arith, i.from))
+          (c.add-sums.ensures.few (896 * (w - from / 64)) 896 i.few c.word_sums.ensures.few);
     }
 
 pub returns-clause-sums : goal.returns-clause-sums

@@ -6,10 +6,13 @@ use Rattle.definitions.specs.Correlation.{Replica, six_sums, added}
 use Rattle.lane_correlator.specs.Tallies.{tally_in}
 use Rattle.lane_correlator.specs.ReplicaWords.{AreOf}
 use Rattle.lane_correlator.specs.Factors.{IsMask, AreThreeChips, AreWave, part_sums}
-use Rattle.lane_correlator.proofs.PartLemmas.{HasSigns, AreSmall, six_by_parts, part_sums-none, six-small}
-use Rattle.lane_correlator.proofs.RunLemmas.{part_of_run, quadrature_of_run, real_in_run, quadrature_small, real_small}
+use Rattle.lane_correlator.proofs.PartLemmas.{HasSigns, AreSmall, six_by_parts, part_sums-none}
+use Rattle.lane_correlator.proofs.PartLemmas.{six-small}
+use Rattle.lane_correlator.proofs.RunLemmas.{part_of_run, quadrature_of_run, real_in_run}
+use Rattle.lane_correlator.proofs.RunLemmas.{quadrature_small, real_small}
 use Rattle.lane_correlator.proofs.TallyLemmas.{none_few, few_more}
-use Rattle.lane_correlator.proofs.ReplicaLemmas.{own_replica, chips_of_replica, signs_of_replica, small_of_replica}
+use Rattle.lane_correlator.proofs.ReplicaLemmas.{own_replica, chips_of_replica, signs_of_replica}
+use Rattle.lane_correlator.proofs.ReplicaLemmas.{small_of_replica}
 use Rattle.lane_correlator.proofs.with_replica.word_sums.Goals as goal
 use Rattle.lane_correlator.proofs.with_replica.word_sums.Goals.{After-add, in-Some, in-None}
 
@@ -116,6 +119,7 @@ add-requires-clause-these c = few_more 448 1000000 c.six_of_part-in_phase.result
 
 pub add-requires-clause-those : goal.add-requires-clause-those
 add-requires-clause-those c = elim c.match-quadrature.branch [
-  | in-Some w ↦ rw w.quadrature-is (few_more 448 1000000 w.six_of_part-quadrature.result (lit≤ tt) w.six_of_part-quadrature.ensures.few)
+  | in-Some w ↦ rw w.quadrature-is (few_more 448 1000000 w.six_of_part-quadrature.result (lit≤ tt)
+      w.six_of_part-quadrature.ensures.few)
   | in-None w ↦ rw w.quadrature-is (none_few 1000000)
 ]

@@ -6,7 +6,8 @@ use Rattle.tracking_loops.proofs.WideLemmas.{difference_fits, difference_is, dif
 use Rattle.tracking_loops.proofs.discriminators.cross.Goals as goal
 
 pub overflow_sub-result : goal.overflow_sub-result
-overflow_sub-result c = difference_fits c.product.result c.product-2.result (omega (arith, c.product.ensures.small)) (omega (arith, c.product-2.ensures.small))
+overflow_sub-result c = difference_fits c.product.result c.product-2.result
+    (omega (arith, c.product.ensures.small)) (omega (arith, c.product-2.ensures.small))
 
 pub returns-clause-is : goal.returns-clause-is
 returns-clause-is c =
@@ -16,8 +17,11 @@ returns-clause-is c =
     let qp : FitsSigned w32 c.args.counts.now.qp = search rules in
     let first = simp to_z-of_z at c.product.ensures.is in
     let second = simp to_z-of_z at c.product-2.ensures.is in
-    difference_is c.product.result c.product-2.result (omega (arith, c.product.ensures.small)) (omega (arith, c.product-2.ensures.small))
+    difference_is c.product.result c.product-2.result (omega (arith, c.product.ensures.small))
+    (omega (arith, c.product-2.ensures.small))
     ∙ ap₂ (λ (x y : ℤ). x -ℤ y) first second
 
 pub returns-clause-small : goal.returns-clause-small
-returns-clause-small c = difference_small c.product.result c.product-2.result (omega (arith, c.product.ensures.small)) (omega (arith, c.product-2.ensures.small)) (2 ^ 37) (omega (arith, c.product.ensures.small, c.product-2.ensures.small))
+returns-clause-small c = difference_small c.product.result c.product-2.result
+    (omega (arith, c.product.ensures.small)) (omega (arith, c.product-2.ensures.small)) (2 ^ 37)
+    (omega (arith, c.product.ensures.small, c.product-2.ensures.small))

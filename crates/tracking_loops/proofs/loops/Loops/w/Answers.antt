@@ -7,5 +7,6 @@ use Rattle.tracking_loops.proofs.loops.Loops.w.Goals as goal
 pub returns-clause-is : goal.returns-clause-is
 unfolding StandsFor
 returns-clause-is c start dumps h =
-    to_z-of_z w64 c.args.self.now.steering.w (fits_signed_from_abs w64 c.args.self.now.steering.w (omega (arith, c.args.self.now.steering.w_in_range)))
+    to_z-of_z w64 c.args.self.now.steering.w (fits_signed_from_abs w64 c.args.self.now.steering.w
+    (omega (arith, c.args.self.now.steering.w_in_range)))
     ∙ ap (λ (l : Loops). l.w) h.steering
