@@ -1,6 +1,6 @@
 -- What a bank stands for.
 use Rattle.std.specs.Prelude.{◌≡◌, ◌++◌, ℕ, List, length, replicate}
-use Rattle.definitions.specs.Samples.{Sample, Packing}
+use Rattle.definitions.specs.Samples.{Sample}
 use Rattle.definitions.specs.Receiver.{at_each_sample}
 use Rattle.definitions.specs.Banks.{bank_events_at_end, layout}
 use Rattle.definitions.specs.Oscillators.{Settings}
@@ -9,6 +9,7 @@ use Rattle.channel_slots.specs.declared.bank.Bank.{Bank}
 use Rattle.channel_slots.specs.declared.event.SlotEvent.{SlotEvent}
 use Rattle.channel_slots.specs.Banks.{BankStands}
 use Rattle.channel_slots.specs.Events.{AreTold}
+use Rattle.channel_slots.specs.declared.command.TheConstants.{CLIENT_SLOTS}
 
 -- how many samples there were
 abbrev pub time_of : Bank → ℕ
@@ -29,19 +30,16 @@ pub record StandsFor (settings : Settings) (xs : List Sample)
   pub now : bank.time ≡ length xs
   pub slots : BankStands settings xs asked bank.time bank.places.items
 
--- whatever a bank stood for: these events are what its slots tell over a run of samples, which it
--- knows by its packing
-abbrev pub Tells : Bank → (Packing → List Sample) → List SlotEvent → Type 0
+-- whatever a bank stood for: these events are what its slots tell over a run of samples
+abbrev pub Tells : Bank → List Sample → List SlotEvent → Type 0
 Tells old run events =
     (settings : Settings) (xs : List Sample) (asked : ℕ → ℕ → List TimedRequest)
     → StandsFor settings xs asked old
-    → AreTold events
-    (at_each_sample (bank_events_at_end settings (layout (replicate (clients_of old) 4)) asked) xs
-    (run settings.packing))
+    → AreTold events (at_each_sample
+    (bank_events_at_end settings (layout (replicate (clients_of old) CLIENT_SLOTS)) asked) xs run)
 
 -- and behind the run it stands for the same with these samples
-abbrev pub Takes : Bank → (Packing → List Sample) → Bank → Type 0
+abbrev pub Takes : Bank → List Sample → Bank → Type 0
 Takes old run new =
     (settings : Settings) (xs : List Sample) (asked : ℕ → ℕ → List TimedRequest)
-    → StandsFor settings xs asked old
-    → StandsFor settings (xs ++ run settings.packing) asked new
+    → StandsFor settings xs asked old → StandsFor settings (xs ++ run) asked new

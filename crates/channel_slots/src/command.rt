@@ -1,8 +1,14 @@
+//! What a client asks of one of its slots.
+
 ghost use Rattle.std.specs.Prelude.{◌≡◌, ◌<◌, ◌↔◌, ℕ, IsSome, IfSome};
+ghost use Rattle.channel_slots.specs.declared.command.TheConstants.{CLIENT_SLOTS};
 
 use ca_codes::Prn;
 use oscillators::{Doppler, HalfChip};
 use std::marker::Model;
+
+/// How many slots a client has.
+pub const CLIENT_SLOTS: u8 = 4;
 
 /// The number of a client's slot, 0 to 3. Clauses see it as a number.
 #[derive(Clone, Copy, Debug, PartialEq, Eq)]
@@ -13,7 +19,7 @@ impl Model for SlotNo {
 
     ghost view = { λ s. s.0 };
 
-    ghost invariant = { λ s. s.0 < 4 };
+    ghost invariant = { λ s. s.0 < CLIENT_SLOTS };
 
     ghost inverse = { λ n. record { 0 = n } };
 }
@@ -21,10 +27,10 @@ impl Model for SlotNo {
 impl SlotNo {
     /// The slot of that number, or `None` outside 0 to 3.
     pub fn new(number: u8) -> Option<SlotNo>
-        ensures valid { IsSome result ↔ (number < 4) }
+        ensures valid { IsSome result ↔ (number < CLIENT_SLOTS) }
         ensures same { IfSome result (λ slot. slot ≡ number) }
     {
-        if number < 4 {
+        if number < CLIENT_SLOTS {
             Some(SlotNo(number))
         } else {
             None
@@ -34,7 +40,7 @@ impl SlotNo {
     /// Its number.
     pub fn get(self) -> u8
         ensures same { result ≡ self }
-        ensures range { result < 4 }
+        ensures range { result < CLIENT_SLOTS }
     {
         self.0
     }

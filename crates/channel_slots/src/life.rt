@@ -1,6 +1,8 @@
 //! A slot that is on.
 
 ghost use Rattle.std.specs.Prelude.{◌≡◌, ◌≤◌, ◌<◌, ◌+◌, ◌-◌, ◌^◌};
+ghost use Rattle.channels.specs.declared.held.TheConstants.{MOST_DUMPS};
+ghost use Rattle.sample_planes.specs.declared.planes.TheConstants.{MAX_SAMPLES};
 
 use crate::answer::SlotState;
 use ca_codes::{CodeBook, Prn};
@@ -89,12 +91,12 @@ impl Life {
         requires some { 0 < count }
         requires within { from + count ≤ length run.now }
         requires before { MayTake self.old.stage count }
-        requires few { dumps_of self.old.stage < 2 ^ 62 }
+        requires few { dumps_of self.old.stage < MOST_DUMPS }
         ensures steps { (settings : Recording) (xs : List Sample) (life : defined.Life)
             → StandsFor settings xs life self.old
             → Steps settings xs (part run.now from count) life self.new result }
         ensures dumps { dumps_of self.new.stage ≤ dumps_of self.old.stage + 1 }
-        ensures chance { (left : ℕ) → count ≤ left → left ≤ 1024
+        ensures chance { (left : ℕ) → count ≤ left → left ≤ MAX_SAMPLES
             → chance self.new.stage (left - count) + how_many result
             ≤ chance self.old.stage left }
     {

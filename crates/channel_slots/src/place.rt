@@ -8,11 +8,17 @@ ghost use Rattle.channel_slots.specs.Slots.{StandsFor};
 ghost use Rattle.arrayvec.specs.ArrayVec.{array_vec_len};
 ghost use Rattle.channel_slots.specs.Banks.{keys_of, AllFew, RunsAll, IsCommanded};
 ghost use Rattle.channel_slots.specs.Commands.{request_in};
+ghost use Rattle.channel_slots.specs.declared.bank.TheConstants.{MOST_TIME};
+ghost use Rattle.channel_slots.specs.declared.command.TheConstants.{CLIENT_SLOTS};
+ghost use Rattle.channel_slots.specs.declared.place.TheConstants.{MOST_CLIENTS, RUN_EVENTS};
+ghost use Rattle.channel_slots.specs.declared.slot.TheConstants.{SLOT_EVENTS};
+ghost use Rattle.channels.specs.declared.held.TheConstants.{MOST_DUMPS};
+ghost use Rattle.sample_planes.specs.declared.planes.TheConstants.{MAX_SAMPLES};
 
 use crate::answer::Answer;
-use crate::command::Command;
+use crate::command::{CLIENT_SLOTS, Command};
 use crate::event::SlotEvent;
-use crate::slot::Slot;
+use crate::slot::{SLOT_EVENTS, Slot};
 use crate::timeline::put_in_time;
 use arrayvec::ArrayVec;
 use ca_codes::CodeBook;
@@ -20,7 +26,11 @@ use oscillators::Settings;
 use sample_planes::Planes;
 use std::alloc::{AllocError, Global};
 
-/// The most events of a run of samples.
+/// The most clients.
+pub const MOST_CLIENTS: u8 = 8;
+
+/// The most events of a run of samples: at most one dump in each slot, and what else comes with
+/// it.
 pub const RUN_EVENTS: usize = 256;
 
 /// A client's slot: clients are numbered from 1, their slots from 0.
@@ -55,8 +65,8 @@ impl Place {
         requires some { 0 < count }
         requires within { from + count ≤ length run.now }
         requires may { MayStep self.old.slot count }
-        requires few { dumps_of self.old.slot < 2 ^ 62 }
-        requires fits { array_vec_len events.old ≤ 252 }
+        requires few { dumps_of self.old.slot < MOST_DUMPS }
+        requires fits { array_vec_len events.old + SLOT_EVENTS ≤ RUN_EVENTS }
         ensures { PlaceAdds (part run.now from count) time self.old self.new events.old.items
             events.new.items }
     {
@@ -80,10 +90,10 @@ impl Place {
         time: u64,
         events: &mut ArrayVec<SlotEvent, RUN_EVENTS>,
     )
-        requires short { length run.now ≤ 1024 }
-        requires room { time + length run.now ≤ 2 ^ 40 }
-        requires few { dumps_of self.old.slot ≤ 2 ^ 61 }
-        requires fits { array_vec_len events.old ≤ 251 }
+        requires short { length run.now ≤ MAX_SAMPLES }
+        requires room { time + length run.now ≤ MOST_TIME }
+        requires few { dumps_of self.old.slot ≤ MOST_TIME }
+        requires fits { array_vec_len events.old + SLOT_EVENTS < RUN_EVENTS }
         ensures { PlaceGoes 0 run.now time self.old self.new events.old.items events.new.items }
     {
         let len = run.len();
@@ -116,17 +126,18 @@ impl Place {
 
 /// Idle slots for each of so many clients, by client and then by slot.
 pub fn idle_places(alloc: Global, clients: u8) -> Result<Vec<Place>, AllocError>
-    requires { clients ≤ 8 }
-    ensures keys { IfOk result (λ places. keys_of places.items ≡ layout (replicate clients 4)) }
+    requires { clients ≤ MOST_CLIENTS }
+    ensures keys { IfOk result (λ places. keys_of places.items
+        ≡ layout (replicate clients CLIENT_SLOTS)) }
     ensures few { IfOk result (λ places. AllFew 0 places.items) }
     ensures stand { IfOk result (λ places. (settings : Recording)
         → AllByRecursion (λ p. StandsFor settings [] [] p.slot) places.items) }
 {
-    let mut places = Vec::with_capacity(alloc, 4 * clients as usize)?;
-    for place in 0..4 * clients {
+    let mut places = Vec::with_capacity(alloc, (CLIENT_SLOTS * clients) as usize)?;
+    for place in 0..CLIENT_SLOTS * clients {
         places.push(Place {
-            client: place / 4 + 1,
-            number: place % 4,
+            client: place / CLIENT_SLOTS + 1,
+            number: place % CLIENT_SLOTS,
             slot: Slot::new(),
         })?;
     }
@@ -141,10 +152,10 @@ pub fn run_all(
     time: u64,
     events: &mut ArrayVec<SlotEvent, RUN_EVENTS>,
 )
-    requires short { length run.now ≤ 1024 }
-    requires room { time + length run.now ≤ 2 ^ 40 }
-    requires few { AllFew (2 ^ 61) places.old }
-    requires fits { array_vec_len events.old + length places.old ≤ 251 }
+    requires short { length run.now ≤ MAX_SAMPLES }
+    requires room { time + length run.now ≤ MOST_TIME }
+    requires few { AllFew MOST_TIME places.old }
+    requires fits { array_vec_len events.old + length places.old + SLOT_EVENTS < RUN_EVENTS }
     ensures { RunsAll run.now time places.old places.new events.old.items events.new.items }
 {
     for place in places.iter_mut() {

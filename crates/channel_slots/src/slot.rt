@@ -1,6 +1,8 @@
 //! One slot: what it tells of the samples, and what it answers to its client.
 
 ghost use Rattle.std.specs.Prelude.{◌≡◌, ◌≤◌, ◌<◌, ◌+◌, ◌-◌, ◌*◌, ◌^◌, [], ◌∷◌};
+ghost use Rattle.channels.specs.declared.held.TheConstants.{MOST_DUMPS};
+ghost use Rattle.sample_planes.specs.declared.planes.TheConstants.{MAX_SAMPLES};
 ghost use Rattle.channel_slots.specs.declared.event.Event.TheVariants.{Count};
 
 use crate::answer::{Answer, Refusal, SlotState};
@@ -77,12 +79,12 @@ impl Slot {
         requires some { 0 < count }
         requires within { from + count ≤ length run.now }
         requires may { MayStep self.old count }
-        requires few { dumps_of self.old < 2 ^ 62 }
+        requires few { dumps_of self.old < MOST_DUMPS }
         ensures tells { (settings : Recording) (xs : List Sample) (commands : List TimedRequest)
             → StandsFor settings xs commands self.old
             → Tells settings xs (part run.now from count) commands self.new result.items }
         ensures dumps { dumps_of self.new ≤ dumps_of self.old + 1 }
-        ensures chances { (left : ℕ) → count ≤ left → left ≤ 1024
+        ensures chances { (left : ℕ) → count ≤ left → left ≤ MAX_SAMPLES
             → chances self.new (left - count) + length result.items ≤ chances self.old left }
     {
         match self {

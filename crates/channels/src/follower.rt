@@ -1,4 +1,7 @@
+//! One segment of a satellite.
+
 ghost use Rattle.std.specs.Prelude.{◌≡◌, ◌≤◌, ◌<◌, ◌+◌, ◌-◌, ◌*◌};
+ghost use Rattle.sample_planes.specs.declared.planes.TheConstants.{MAX_SAMPLES};
 ghost use Rattle.definitions.specs.Oscillators.{code_cycle};
 ghost use Rattle.channels.specs.Sizes.{GrowWith};
 
@@ -83,7 +86,7 @@ impl Follower {
             (xs : List Sample)
             → Follows settings channel xs self.old
             → Closes settings channel xs (part run.now from count) (counts_in c) self.new) }
-        ensures chance { (left : ℕ) → count ≤ left → left ≤ 1024
+        ensures chance { (left : ℕ) → count ≤ left → left ≤ MAX_SAMPLES
             → chance self.new (left - count) + how_many result ≤ chance self.old left }
     {
         let more = replica_sums(run, from, count, &self.carrier, &self.code, book, self.prn);

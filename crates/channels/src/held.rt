@@ -1,10 +1,17 @@
+//! A satellite at a fixed Doppler shift.
+
 ghost use Rattle.std.specs.Prelude.{◌≡◌, ◌≤◌, ◌<◌, ◌+◌, ◌-◌, ◌^◌};
+ghost use Rattle.channels.specs.declared.held.TheConstants.{MOST_DUMPS};
+ghost use Rattle.sample_planes.specs.declared.planes.TheConstants.{MAX_SAMPLES};
 
 use crate::follower::Follower;
 use ca_codes::{CodeBook, Prn};
 use lane_correlator::Counts;
 use oscillators::{Doppler, HalfChip, Settings};
 use sample_planes::Planes;
+
+/// The most dumps that a channel counts.
+pub const MOST_DUMPS: u64 = 1 << 62;
 
 /// A satellite that is followed at a fixed Doppler shift, and the number of its dumps. It stands
 /// for its channel and the samples so far.
@@ -72,12 +79,12 @@ impl Held {
         requires some { 0 < count }
         requires within { from + count ≤ length run.now }
         requires before { MayTake self.old count }
-        requires few { dumps_of self.old < 2 ^ 62 }
+        requires few { dumps_of self.old < MOST_DUMPS }
         ensures takes { (settings : Recording) (channel : Channel) (xs : List Sample)
             → Holds settings channel xs self.old
             → Takes settings channel xs (part run.now from count) self.new result }
         ensures dumps { dumps_of self.new ≡ dumps_of self.old + how_many result }
-        ensures chance { (left : ℕ) → count ≤ left → left ≤ 1024
+        ensures chance { (left : ℕ) → count ≤ left → left ≤ MAX_SAMPLES
             → chance self.new (left - count) + how_many result ≤ chance self.old left }
     {
         let counts = self.follower.advance(run, from, count, book)?;

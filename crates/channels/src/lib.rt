@@ -21,4 +21,4 @@ mod held;
 mod tests;
 
 pub use follower::Follower;
-pub use held::Held;
+pub use held::{Held, MOST_DUMPS};

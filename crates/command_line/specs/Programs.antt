@@ -9,6 +9,7 @@ use Rattle.definitions.specs.Oscillators.{Settings as Recording}
 use Rattle.definitions.specs.Samples.{Packing, real1, real2}
 use Rattle.oscillators.specs.Limits.{IsRate}
 use Rattle.oscillators.specs.declared.settings.SettingsFault.TheVariants.{Rate, Offset}
+use Rattle.channel_slots.specs.declared.bank.TheConstants.{MOST_TIME}
 use Rattle.receiver.specs.declared.faults.RunFault.{RunFault}
 use Rattle.receiver.specs.Runs.{Devices, IsRun, task_of}
 use Rattle.command_line.specs.declared.failure.Failure.{Failure}
@@ -100,8 +101,8 @@ one_or_more (text ∷ texts) = text ∷ texts
 
 -- a run of these scripts, one for each client, or no run for want of memory, with nothing read or written
 abbrev pub RunsTexts : Recording → List (List ℕ) → Devices → Devices → Result ℕ Failure → Type 0
-RunsTexts settings texts old new (Ok n) = IsRun (task_of settings (one_or_more texts) (2 ^ 40)) old new (Ok n)
-RunsTexts settings texts old new (Err (Run fault)) = IsRun (task_of settings (one_or_more texts) (2 ^ 40)) old new (Err fault)
+RunsTexts settings texts old new (Ok n) = IsRun (task_of settings (one_or_more texts) MOST_TIME) old new (Ok n)
+RunsTexts settings texts old new (Err (Run fault)) = IsRun (task_of settings (one_or_more texts) MOST_TIME) old new (Err fault)
 RunsTexts settings texts old new (Err NoMemory) = new ≡ old
 RunsTexts settings texts old new (Err Script) = ⊥
 RunsTexts settings texts old new (Err (Settings fault)) = ⊥
@@ -111,7 +112,7 @@ pub record RunsFiles (asked : Asked) (files : List (Option (List ℕ))) (old new
   pub allowed : IsAllowed asked
   pub scripts : List (List ℕ)
   pub texts : AreTextsOf files scripts
-  pub is_run : IsRun (task_of (recording_of asked) (one_or_more scripts) (2 ^ 40)) old new answer
+  pub is_run : IsRun (task_of (recording_of asked) (one_or_more scripts) MOST_TIME) old new answer
 
 -- by its answer: such a run, to its end or to a fault; or the first failure before it, with nothing read or written
 abbrev pub Receives : Asked → List (Option (List ℕ)) → Devices → Devices → Result ℕ Failure → Type 0

@@ -4,16 +4,17 @@ ghost use Rattle.std.specs.Prelude.{◌≡◌, ◌≤◌, length, map, IfSome, I
 ghost use Rattle.std.specs.List.{AllByRecursion};
 ghost use Rattle.definitions.specs.Receiver.{entries_of};
 ghost use Rattle.receiver.specs.Offered.{offered, client_with};
+ghost use Rattle.receiver.specs.declared.session.TheConstants.{QUEUES};
 ghost use Rattle.receiver.specs.Queues.{TakesDue, NoneDue, left_of, least_gap_of};
 
 use crate::due::Due;
 use crate::queue::Queue;
-use crate::session::MOST_CLIENTS;
+use crate::session::QUEUES;
 use arrayvec::ArrayVec;
 
 /// All entries of each script.
-pub fn queues_of<'a>(scripts: &'a [&'a [u8]]) -> ArrayVec<Queue<'a>, MOST_CLIENTS>
-    requires { length scripts.now ≤ 8 }
+pub fn queues_of<'a>(scripts: &'a [&'a [u8]]) -> ArrayVec<Queue<'a>, QUEUES>
+    requires { length scripts.now ≤ QUEUES }
     ensures { map left_of result.items
         ≡ map (λ script. entries_of offered (client_with script.now)) scripts.now }
 {
@@ -37,7 +38,7 @@ pub fn least_gap(queues: &[Queue], now: u64) -> u64
 
 /// Takes the first entry that stands at this time, by client.
 pub fn take_due(queues: &mut [Queue], now: u64) -> Option<Due>
-    requires { length queues.old ≤ 8 }
+    requires { length queues.old ≤ QUEUES }
     ensures some { IfSome result (λ due. TakesDue now 1 queues.old queues.new due) }
     ensures none { IsNone result
         → AllByRecursion (λ queue. NoneDue now (left_of queue)) queues.old }

@@ -2,7 +2,9 @@
 
 ghost use Rattle.std.specs.Prelude.{◌≡◌, ◌≤◌, ◌<◌, ◌+◌, ◌%◌, ◌^◌, ℕ, Option, List, [], ◌++◌, length, false, OnOk, OnErr, IfOk};
 ghost use Rattle.definitions.specs.Oscillators.{Settings as Recording};
-ghost use Rattle.definitions.specs.Samples.{Sample, sample_count, samples_from, samples, samples_per_byte};
+ghost use Rattle.definitions.specs.Samples.{Sample};
+ghost use Rattle.channel_slots.specs.declared.bank.TheConstants.{MOST_TIME};
+ghost use Rattle.sample_planes.specs.declared.planes.TheConstants.{MAX_SAMPLES};
 ghost use Rattle.definitions.specs.Receiver.{Client, body};
 ghost use Rattle.receiver.specs.Devices.{TellsFailure};
 ghost use Rattle.receiver.specs.HeldTexts.{held, promised};
@@ -10,7 +12,6 @@ ghost use Rattle.receiver.specs.Offered.{offered};
 ghost use Rattle.receiver.specs.Runs.{seen, IsWrittenTo, HasRead, BrokeOffReading};
 ghost use Rattle.receiver.specs.Sessions.{packing_in, time_of, until_next};
 ghost use Rattle.receiver.specs.Texts.{AppendsPart, Grows};
-ghost use Rattle.receiver.specs.declared.reading.TheConstants.{READ_BYTES};
 
 use crate::devices::{DeviceFault, Sink, Source};
 use crate::faults::Stop;
@@ -19,90 +20,84 @@ use crate::session::Session;
 use crate::writing::{put_answers, put_events};
 use arrayvec::ArrayVec;
 use channel_slots::{RUN_EVENTS, SlotEvent};
+use sample_planes::{MAX_SAMPLES, PackedSamples};
 
 /// The most bytes of a read.
 const READ_BYTES: usize = 65_536;
 
-/// Takes samples, none of them past the next command's time, and puts the lines of each time.
+/// Takes a run of samples, none of them past the next command's time, and puts the lines of each
+/// time.
 fn take_samples<W: Sink>(
     session: &mut Session,
-    bytes: &[u8],
-    first: usize,
-    len: usize,
+    run: &PackedSamples,
     events: &mut ArrayVec<SlotEvent, RUN_EVENTS>,
     text: &mut HeldText,
     writer: &mut W,
 ) -> Result<(), DeviceFault>
     requires empty { events.old.items ≡ [] }
-    requires within { first + len ≤ sample_count (packing_in session.old) bytes.now }
-    requires some { 0 < len }
-    requires short { len ≤ 1024 }
-    requires quiet { len ≤ until_next session.old }
-    requires room { time_of session.old + len ≤ 2 ^ 40 }
+    requires some { 0 < length run.now }
+    requires short { length run.now ≤ MAX_SAMPLES }
+    requires quiet { length run.now ≤ until_next session.old }
+    requires room { time_of session.old + length run.now ≤ MOST_TIME }
     ensures empty { OnOk result (events.new.items ≡ []) }
     ensures packing { packing_in session.new ≡ packing_in session.old }
-    ensures time { time_of session.new ≡ time_of session.old + len }
+    ensures time { time_of session.new ≡ time_of session.old + length run.now }
     ensures ready { OnOk result (0 < until_next session.new) }
     ensures ok { OnOk result ((settings : Recording) (clients : List Client)
         (start : Option (List ℕ)) (xs : List Sample)
         → IsWrittenTo settings clients start session.old
         (promised (W.contents writer.old) text.old) xs → IsWrittenTo settings clients start
-        session.new (promised (W.contents writer.new) text.new)
-        (xs ++ samples_from settings.packing bytes.now first len)) }
+        session.new (promised (W.contents writer.new) text.new) (xs ++ run.now)) }
     ensures err { OnErr result ((settings : Recording) (clients : List Client)
         (start : Option (List ℕ)) (xs : List Sample)
         → IsWrittenTo settings clients start session.old
         (promised (W.contents writer.old) text.old) xs →
-        AppendsPart start (promised (W.contents writer.new) text.new) (body offered settings
-        (xs ++ samples_from settings.packing bytes.now first len) clients)) }
+        AppendsPart start (promised (W.contents writer.new) text.new)
+        (body offered settings (xs ++ run.now) clients)) }
     ensures grows { Grows (W.contents writer.old) (W.contents writer.new) }
     ensures failure { TellsFailure (W.has_failed writer.old) (W.has_failed writer.new) result }
 {
-    session.feed(bytes, first, len, events);
+    session.feed(run, events);
     put_events(events, text, writer)?;
     events.clear();
     put_answers(session, text, writer)
 }
 
-/// Takes all samples of bytes, and puts the lines of each time.
+/// Takes a piece of any length, and puts the lines of each time.
 fn take_piece<W: Sink>(
     session: &mut Session,
-    bytes: &[u8],
-    per_byte: usize,
+    piece: &PackedSamples,
     events: &mut ArrayVec<SlotEvent, RUN_EVENTS>,
     text: &mut HeldText,
     writer: &mut W,
 ) -> Result<(), DeviceFault>
     requires empty { events.old.items ≡ [] }
-    requires short { length bytes.now ≤ READ_BYTES }
-    requires per_byte { per_byte ≡ samples_per_byte (packing_in session.old) }
-    requires room { time_of session.old + sample_count (packing_in session.old) bytes.now ≤ 2 ^ 40 }
+    requires room { time_of session.old + length piece.now ≤ MOST_TIME }
     requires ready { 0 < until_next session.old }
     ensures empty { OnOk result (events.new.items ≡ []) }
     ensures packing { packing_in session.new ≡ packing_in session.old }
-    ensures time { OnOk result (time_of session.new
-        ≡ time_of session.old + sample_count (packing_in session.old) bytes.now) }
+    ensures time { OnOk result (time_of session.new ≡ time_of session.old + length piece.now) }
     ensures ready { OnOk result (0 < until_next session.new) }
     ensures ok { OnOk result ((settings : Recording) (clients : List Client)
         (start : Option (List ℕ)) (xs : List Sample)
         → IsWrittenTo settings clients start session.old
         (promised (W.contents writer.old) text.old) xs → IsWrittenTo settings clients start
-        session.new (promised (W.contents writer.new) text.new)
-        (xs ++ samples settings.packing bytes.now)) }
+        session.new (promised (W.contents writer.new) text.new) (xs ++ piece.now)) }
     ensures err { OnErr result ((settings : Recording) (clients : List Client)
         (start : Option (List ℕ)) (xs : List Sample)
         → IsWrittenTo settings clients start session.old
         (promised (W.contents writer.old) text.old) xs →
-        AppendsPart start (promised (W.contents writer.new) text.new) (body offered settings
-        (xs ++ samples settings.packing bytes.now) clients)) }
+        AppendsPart start (promised (W.contents writer.new) text.new)
+        (body offered settings (xs ++ piece.now) clients)) }
     ensures grows { Grows (W.contents writer.old) (W.contents writer.new) }
     ensures failure { TellsFailure (W.has_failed writer.old) (W.has_failed writer.new) result }
 {
-    let count = bytes.len() * per_byte;
+    let count = piece.len();
     let mut first = 0;
     while first < count {
-        let len = ((count - first) as u64).min(1024).min(session.until_next()) as usize;
-        take_samples(session, bytes, first, len, events, text, writer)?;
+        let most = (count - first).min(MAX_SAMPLES) as u64;
+        let len = most.min(session.until_next()) as usize;
+        take_samples(session, &piece.part(first, len), events, text, writer)?;
         first += len;
     }
     Ok(())
@@ -112,14 +107,12 @@ fn take_piece<W: Sink>(
 /// that was put is written before each read.
 pub fn read_all<R: Source, W: Sink>(
     session: &mut Session,
-    per_byte: usize,
     limit: u64,
     reader: &mut R,
     text: &mut HeldText,
     writer: &mut W,
 ) -> Result<Stop, DeviceFault>
-    requires per_byte { per_byte ≡ samples_per_byte (packing_in session.old) }
-    requires limit { limit ≤ 2 ^ 40 }
+    requires limit { limit ≤ MOST_TIME }
     requires whole { limit % 8 ≡ 0 }
     requires start { time_of session.old ≡ 0 }
     requires ready { 0 < until_next session.old }
@@ -146,6 +139,8 @@ pub fn read_all<R: Source, W: Sink>(
     ensures grows { Grows (W.contents writer.old) (W.contents writer.new) }
     ensures failure { TellsFailure (W.has_failed writer.old) (W.has_failed writer.new) result }
 {
+    let format = session.format();
+    let per_byte = format.per_byte() as u64;
     let mut buffer = [0; READ_BYTES];
     let mut events = ArrayVec::new();
     loop {
@@ -157,16 +152,10 @@ pub fn read_all<R: Source, W: Sink>(
         if count == 0 {
             return Ok(Stop::AtEnd);
         }
-        let room = (limit - session.time()) / per_byte as u64;
+        let room = (limit - session.time()) / per_byte;
         let used = (count as u64).min(room) as usize;
-        take_piece(
-            session,
-            &buffer[..used],
-            per_byte,
-            &mut events,
-            text,
-            writer,
-        )?;
+        let piece = PackedSamples::new(format, &buffer[..used]);
+        take_piece(session, &piece, &mut events, text, writer)?;
         if used < count {
             return Ok(Stop::PastLimit);
         }

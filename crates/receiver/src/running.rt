@@ -2,13 +2,14 @@
 
 ghost use Rattle.std.specs.Prelude.{◌≡◌, ◌≤◌, ◌<◌, ◌%◌, ◌^◌, ℕ, List, length, map, false, OnErr, IfOk, Err, IsErrOf, ◌⊎◌, ◌↔◌};
 ghost use Rattle.definitions.specs.Oscillators.{Settings as Recording};
-ghost use Rattle.definitions.specs.Samples.{samples_per_byte};
+ghost use Rattle.channel_slots.specs.declared.bank.TheConstants.{MOST_TIME};
+ghost use Rattle.channel_slots.specs.declared.place.TheConstants.{MOST_CLIENTS};
 ghost use Rattle.definitions.specs.Runs.{clients_of};
 ghost use Rattle.receiver.specs.Offered.{client_with};
 ghost use Rattle.receiver.specs.Printed.{CountsAreSums, AcquisitionsNameTheGreatest, WordsPass};
 ghost use Rattle.receiver.specs.Printed.{PagesPass, AlmanacsAgree};
 ghost use Rattle.receiver.specs.Runs.{seen, task_of, IsOpen, Ran, BrokeOff, IsRun, ServesEachAlone};
-ghost use Rattle.receiver.specs.Sessions.{packing_in, time_of};
+ghost use Rattle.receiver.specs.Sessions.{time_of};
 
 use crate::devices::{DeviceFault, Sink, Source};
 use crate::faults::{RunFault, Stop};
@@ -16,23 +17,18 @@ use crate::held_text::HeldText;
 use crate::reading::read_all;
 use crate::session::Session;
 use crate::writing::{finish, put_answers};
-use channel_slots::OpenFault;
+use channel_slots::{MOST_TIME, OpenFault};
 use oscillators::Settings;
 use std::alloc::Global;
-
-/// The most samples of a run: 2^40.
-const MOST_SAMPLES: u64 = 1 << 40;
 
 /// Runs a session over a reader and a writer, from its first line to the flush.
 fn run_session<R: Source, W: Sink>(
     session: &mut Session,
-    per_byte: usize,
     limit: u64,
     reader: &mut R,
     writer: &mut W,
 ) -> Result<Stop, DeviceFault>
-    requires per_byte { per_byte ≡ samples_per_byte (packing_in session.old) }
-    requires limit { limit ≤ 2 ^ 40 }
+    requires limit { limit ≤ MOST_TIME }
     requires whole { limit % 8 ≡ 0 }
     requires start { time_of session.old ≡ 0 }
     ensures once { R.has_failed reader.old ≡ false
@@ -54,12 +50,12 @@ fn run_session<R: Source, W: Sink>(
 {
     let mut text = HeldText::new();
     put_answers(session, &mut text, writer)?;
-    let stop = read_all(session, per_byte, limit, reader, &mut text, writer)?;
+    let stop = read_all(session, limit, reader, &mut text, writer)?;
     finish(session, stop, &mut text, writer)?;
     Ok(stop)
 }
 
-/// Runs one to eight scripts over all samples that a reader gives, at most 2^40 of them: writes the
+/// Runs one to eight scripts over all samples that a reader gives, at most `MOST_TIME` of them: writes the
 /// lines of all clients, time by time, with an `end` for each behind the last, and answers the
 /// number of samples. However reads cut the bytes, and whatever the other clients ask, each
 /// client's lines are those of a receiver with that client alone. Each count is the plain sum over
@@ -73,12 +69,12 @@ pub fn run<R: Source, W: Sink>(
     writer: &mut W,
 ) -> Result<u64, RunFault>
     ensures clients { (result ≡ Err RunFault.Clients)
-        ↔ ((length scripts.now ≡ 0) ⊎ (8 < length scripts.now)) }
+        ↔ ((length scripts.now ≡ 0) ⊎ (MOST_CLIENTS < length scripts.now)) }
     ensures untouched { IsErrOf result RunFault.Clients ⊎ IsErrOf result RunFault.NoMemory
         → (reader.new ≡ reader.old) × (writer.new ≡ writer.old) }
     ensures once { R.has_failed reader.old ≡ false
         → R.was_asked_again reader.new ≡ R.was_asked_again reader.old }
-    ensures run { IsRun (task_of settings (map (λ script. script.now) scripts.now) (2 ^ 40))
+    ensures run { IsRun (task_of settings (map (λ script. script.now) scripts.now) MOST_TIME)
         (seen (R.remaining reader.old) (R.has_failed reader.old)
         (W.contents writer.old) (W.has_failed writer.old))
         (seen (R.remaining reader.new) (R.has_failed reader.new)
@@ -120,10 +116,10 @@ pub fn run<R: Source, W: Sink>(
         (seen (R.remaining reader.new) (R.has_failed reader.new)
         (W.contents writer.new) (W.has_failed writer.new))) }
 {
-    run_to(alloc, settings, scripts, MOST_SAMPLES, reader, writer)
+    run_to(alloc, settings, scripts, MOST_TIME, reader, writer)
 }
 
-/// The same over at most `limit` samples, a multiple of 8 of at most 2^40.
+/// The same over at most `limit` samples, a multiple of 8 of at most `MOST_TIME`.
 pub fn run_to<R: Source, W: Sink>(
     alloc: Global,
     settings: Settings,
@@ -132,10 +128,10 @@ pub fn run_to<R: Source, W: Sink>(
     reader: &mut R,
     writer: &mut W,
 ) -> Result<u64, RunFault>
-    requires limit { limit ≤ 2 ^ 40 }
+    requires limit { limit ≤ MOST_TIME }
     requires whole { limit % 8 ≡ 0 }
     ensures clients { (result ≡ Err RunFault.Clients)
-        ↔ ((length scripts.now ≡ 0) ⊎ (8 < length scripts.now)) }
+        ↔ ((length scripts.now ≡ 0) ⊎ (MOST_CLIENTS < length scripts.now)) }
     ensures untouched { IsErrOf result RunFault.Clients ⊎ IsErrOf result RunFault.NoMemory
         → (reader.new ≡ reader.old) × (writer.new ≡ writer.old) }
     ensures once { R.has_failed reader.old ≡ false
@@ -182,13 +178,12 @@ pub fn run_to<R: Source, W: Sink>(
         (seen (R.remaining reader.new) (R.has_failed reader.new)
         (W.contents writer.new) (W.has_failed writer.new))) }
 {
-    let per_byte = settings.format().per_byte();
     let mut session = match Session::open(alloc, settings, scripts) {
         Ok(session) => session,
         Err(OpenFault::NoMemory) => return Err(RunFault::NoMemory),
         Err(OpenFault::Clients) => return Err(RunFault::Clients),
     };
-    match run_session(&mut session, per_byte, limit, reader, writer) {
+    match run_session(&mut session, limit, reader, writer) {
         Ok(Stop::AtEnd) => Ok(session.time()),
         Ok(Stop::ReadFailed) => Err(RunFault::Read),
         Ok(Stop::PastLimit) => Err(RunFault::TooLong),

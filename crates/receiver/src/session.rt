@@ -2,30 +2,35 @@
 
 ghost use Rattle.std.specs.Prelude.{◌≡◌, length};
 ghost use Rattle.channel_slots.specs.BankStates.{clients_of};
+ghost use Rattle.channel_slots.specs.declared.bank.TheConstants.{MOST_TIME};
+ghost use Rattle.channel_slots.specs.declared.place.TheConstants.{MOST_CLIENTS};
+ghost use Rattle.sample_planes.specs.Packings.{packing_of};
+ghost use Rattle.sample_planes.specs.declared.planes.TheConstants.{MAX_SAMPLES};
 
 use crate::queue::Queue;
 use crate::queues::{least_gap, queues_of, take_due};
 use arrayvec::ArrayVec;
-use channel_slots::{Bank, OpenFault, RUN_EVENTS, SlotEvent};
+use channel_slots::{Bank, MOST_CLIENTS, OpenFault, RUN_EVENTS, SlotEvent};
 use oscillators::Settings;
 use printed_lines::Line;
+use sample_planes::{Format, PackedSamples};
 use std::alloc::Global;
 
-/// The most clients.
-pub const MOST_CLIENTS: usize = 8;
+/// Room for the script of each client.
+pub const QUEUES: usize = MOST_CLIENTS as usize;
 
 /// The slots of all clients, and beside them what is left of the clients' scripts.
 #[derive(Drop)]
 pub struct Session<'a> {
     bank: Bank,
-    queues: ArrayVec<Queue<'a>, MOST_CLIENTS>,
+    queues: ArrayVec<Queue<'a>, QUEUES>,
     ghost clients: { length queues.items ≡ clients_of bank },
 }
 
 impl<'a> Session<'a> {
     ghost use Rattle.std.specs.Prelude.{◌≤◌, ◌<◌, ◌+◌, ◌^◌, ◌⊎◌, ◌↔◌, ℕ, List, [], ◌∷◌, ◌++◌, map, IfSome, IsNone, IfOk, Err};
     ghost use Rattle.definitions.specs.Oscillators.{Settings as Recording};
-    ghost use Rattle.definitions.specs.Samples.{Sample, sample_count, samples_from};
+    ghost use Rattle.definitions.specs.Samples.{Sample};
     ghost use Rattle.definitions.specs.Receiver.{Client, body_lines, answer_lines};
     ghost use Rattle.channel_slots.specs.Events.{line_of};
     ghost use Rattle.receiver.specs.Offered.{offered, client_with};
@@ -38,7 +43,7 @@ impl<'a> Session<'a> {
         scripts: &'a [&'a [u8]],
     ) -> Result<Session<'a>, OpenFault>
         ensures clients { (result ≡ Err OpenFault.Clients) ↔ ((length scripts.now
-            ≡ 0) ⊎ (8 < length scripts.now)) }
+            ≡ 0) ⊎ (MOST_CLIENTS < length scripts.now)) }
         ensures packing { IfOk result (λ session. packing_in session ≡ settings.packing) }
         ensures time { IfOk result (λ session. time_of session ≡ 0) }
         ensures stands { IfOk result (λ session. StandsFor settings (map
@@ -46,7 +51,7 @@ impl<'a> Session<'a> {
             (answer_lines offered settings
             (map (λ script. client_with script.now) scripts.now) [])) }
     {
-        let clients = scripts.len().min(MOST_CLIENTS + 1);
+        let clients = scripts.len().min(QUEUES + 1);
         let bank = Bank::open(alloc, settings, clients as u8)?;
         Ok(Session {
             bank,
@@ -64,7 +69,7 @@ impl<'a> Session<'a> {
     /// How many clients it has.
     pub fn clients(&self) -> u8
         ensures number { result ≡ clients_of self.now.bank }
-        ensures few { result ≤ 8 }
+        ensures few { result ≤ MOST_CLIENTS }
     {
         self.queues.len() as u8
     }
@@ -77,37 +82,34 @@ impl<'a> Session<'a> {
         least_gap(&self.queues, self.bank.time())
     }
 
-    /// Takes samples, none of them past the next command's time, and puts what they make the slots tell into an empty list.
-    pub fn feed(
-        &mut self,
-        bytes: &[u8],
-        first: usize,
-        len: usize,
-        events: &mut ArrayVec<SlotEvent, RUN_EVENTS>,
-    )
-        requires within { first + len ≤ sample_count (packing_in self.old) bytes.now }
-        requires some { 0 < len }
-        requires short { len ≤ 1024 }
-        requires quiet { len ≤ until_next self.old }
-        requires room { time_of self.old + len ≤ 2 ^ 40 }
+    /// How the samples are packed.
+    pub fn format(&self) -> Format
+        ensures { packing_of result ≡ packing_in self.now }
+    {
+        self.bank.format()
+    }
+
+    /// Takes a run of samples, none of them past the next command's time, and puts what they make
+    /// the slots tell into an empty list.
+    pub fn feed(&mut self, run: &PackedSamples, events: &mut ArrayVec<SlotEvent, RUN_EVENTS>)
+        requires some { 0 < length run.now }
+        requires short { length run.now ≤ MAX_SAMPLES }
+        requires quiet { length run.now ≤ until_next self.old }
+        requires room { time_of self.old + length run.now ≤ MOST_TIME }
         requires empty { events.old.items ≡ [] }
         ensures packing { packing_in self.new ≡ packing_in self.old }
-        ensures time { time_of self.new ≡ time_of self.old + len }
+        ensures time { time_of self.new ≡ time_of self.old + length run.now }
         ensures stands { (settings : Recording) (clients : List Client) (xs : List Sample)
             → StandsFor settings clients self.old xs []
-            → StandsFor settings clients self.new
-            (xs ++ samples_from settings.packing bytes.now first len)
-            (answer_lines offered settings clients
-            (xs ++ samples_from settings.packing bytes.now first len)) }
+            → StandsFor settings clients self.new (xs ++ run.now)
+            (answer_lines offered settings clients (xs ++ run.now)) }
         ensures told { (settings : Recording) (clients : List Client) (xs : List Sample)
             → StandsFor settings clients self.old xs []
-            → body_lines offered settings
-            (xs ++ samples_from settings.packing bytes.now first len) clients
+            → body_lines offered settings (xs ++ run.now) clients
             ≡ body_lines offered settings xs clients ++ map line_of events.new.items
-            ++ answer_lines offered settings clients
-            (xs ++ samples_from settings.packing bytes.now first len) }
+            ++ answer_lines offered settings clients (xs ++ run.now) }
     {
-        self.bank.feed_into(bytes, first, len, events);
+        self.bank.feed_into(run, events);
     }
 
     /// The line of the next answer at this time, with its end.

@@ -2,6 +2,7 @@
 
 use super::{hold, plain_settings, slot_zero, sums};
 use crate::{Answer, Bank, Command, Event, OpenFault, SlotEvent, SlotState};
+use sample_planes::{Format, PackedSamples};
 use std::test::Fail;
 
 // Satellite 1 of client 1 and satellite 7 of client 2 as in the tests of one slot: their dumps come
@@ -17,7 +18,7 @@ fn each_client_has_its_slots(rt: HostRuntime) -> Result<(), Fail> {
     bank.command(2, hold(7, -1_000)?);
     bank.command(1, counts);
     bank.command(2, counts);
-    let events = bank.feed(&[0], 0, 8);
+    let events = bank.feed(&PackedSamples::new(Format::Real1, &[0]));
     let first = Event::Count(sums([-2, 1, 2, -1, 2, -1]));
     let second = Event::Count(sums([-4, 0, 4, 0, 4, 0]));
     let told = [
@@ -52,7 +53,7 @@ fn satellites_fill_the_book_in_either_order(rt: HostRuntime) -> Result<(), Fail>
     bank.command(2, hold(1, 0)?);
     bank.command(1, counts);
     bank.command(2, counts);
-    let events = bank.feed(&[0], 0, 8);
+    let events = bank.feed(&PackedSamples::new(Format::Real1, &[0]));
     let told = [
         SlotEvent {
             client: 2,
@@ -81,7 +82,7 @@ fn a_feed_begins_anywhere(rt: HostRuntime) -> Result<(), Fail> {
     };
     bank.command(1, hold(1, 0)?);
     bank.command(1, counts);
-    let events = bank.feed(&[255, 127], 8, 1);
+    let events = bank.feed(&PackedSamples::new(Format::Real1, &[255, 127]).part(8, 1));
     let told = [SlotEvent {
         client: 1,
         slot: 0,

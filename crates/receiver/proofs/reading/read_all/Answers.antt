@@ -27,15 +27,16 @@ returns-in_err-take_piece-clause-broken g c = let s = g.W.Sink in let r = g.R.So
     let n = c.in-Ok.count in
     let used = c.min-used.result in
     let same = (ap (λ (r : Settings). r.packing) at.stands.bank.recorded) in
-    let u : Uses settings.packing was.0 n used c.args.limit = uses settings.packing was.0 n used c.args.limit (time_of c.loop-reader.session) c.args.per_byte
-    (c.requires.per_byte ∙ ap (λ (p : Packing). samples_per_byte p) same) c.requires.whole (was.2 ∙ ap (λ (p : Packing). sample_count p was.0) same) c.loop-reader.invariant.within
-    (c.min-used.ensures ∙ ap (λ t. min n ((c.args.limit - t) / c.args.per_byte)) c.time.ensures) in
+    let u : Uses settings.packing was.0 n used c.args.limit = uses settings.packing was.0 n used c.args.limit (time_of c.loop-reader.session) c.per_byte-per_byte.result
+    (c.per_byte-per_byte.ensures ∙ ap (λ (p : Packing). samples_per_byte p) (c.format-format.ensures ∙ same)) c.requires.whole (was.2 ∙ ap (λ (p : Packing). sample_count p was.0) same) c.loop-reader.invariant.within
+    (c.min-used.ensures ∙ ap (λ t. min n ((c.args.limit - t) / c.per_byte-per_byte.result)) c.time.ensures) in
+    let is : c.new-piece.result ≡ samples settings.packing (take used buffer) = c.new-piece.ensures.samples ∙ ap (λ (p : Packing). samples p (take used buffer)) (c.format-format.ensures ∙ same) in
     let Q : List Sample → Type 0 = λ ys. AppendsPart start (promised (s.contents c.take_piece.new.writer) c.take_piece.new.text) (body offered settings ys clients) in
     record {
       read = was.0 ++ take n buffer;
       consumed = Consumes-trans (r.remaining c.args.reader.now) (r.remaining c.loop-reader.reader) (r.remaining c.read.new.self) was.0 (take n buffer) was.1 c.in-Ok.ensures.bytes.0;
       read_failed = c.in-Ok.ensures.failure ∙ c.loop-reader.invariant.read_failed;
-      written = subst Q (sym (up_to-used settings.packing was.0 buffer n used c.args.limit u.at_most c.in-Ok.ensures.bound.0 u.within u.reached)) (c.in_err-take_piece.ensures.err settings clients start (samples settings.packing was.0) (written-kept settings clients start c.loop-reader.session _ _ (samples settings.packing was.0) (was.3 settings clients start at) c.send.ensures.same));
+      written = subst Q (ap (λ (l : List Sample). samples settings.packing was.0 ++ l) is ∙ sym (up_to-used settings.packing was.0 buffer n used c.args.limit u.at_most c.in-Ok.ensures.bound.0 u.within u.reached)) (c.in_err-take_piece.ensures.err settings clients start (samples settings.packing was.0) (written-kept settings clients start c.loop-reader.session _ _ (samples settings.packing was.0) (was.3 settings clients start at) c.send.ensures.same));
     })
 
 pub returns-then-used-count-clause-read : goal.returns-then-used-count-clause-read
@@ -45,15 +46,16 @@ returns-then-used-count-clause-read g c = let s = g.W.Sink in let r = g.R.Source
     let n = c.in-Ok.count in
     let used = c.min-used.result in
     let same = (ap (λ (r : Settings). r.packing) at.stands.bank.recorded) in
-    let u : Uses settings.packing was.0 n used c.args.limit = uses settings.packing was.0 n used c.args.limit (time_of c.loop-reader.session) c.args.per_byte
-    (c.requires.per_byte ∙ ap (λ (p : Packing). samples_per_byte p) same) c.requires.whole (was.2 ∙ ap (λ (p : Packing). sample_count p was.0) same) c.loop-reader.invariant.within
-    (c.min-used.ensures ∙ ap (λ t. min n ((c.args.limit - t) / c.args.per_byte)) c.time.ensures) in
+    let u : Uses settings.packing was.0 n used c.args.limit = uses settings.packing was.0 n used c.args.limit (time_of c.loop-reader.session) c.per_byte-per_byte.result
+    (c.per_byte-per_byte.ensures ∙ ap (λ (p : Packing). samples_per_byte p) (c.format-format.ensures ∙ same)) c.requires.whole (was.2 ∙ ap (λ (p : Packing). sample_count p was.0) same) c.loop-reader.invariant.within
+    (c.min-used.ensures ∙ ap (λ t. min n ((c.args.limit - t) / c.per_byte-per_byte.result)) c.time.ensures) in
+    let is : c.new-piece.result ≡ samples settings.packing (take used buffer) = c.new-piece.ensures.samples ∙ ap (λ (p : Packing). samples p (take used buffer)) (c.format-format.ensures ∙ same) in
     let Q : List Sample → Type 0 = λ ys. IsWrittenTo settings clients start c.take_piece.new.session (promised (s.contents c.take_piece.new.writer) c.take_piece.new.text) ys in
     record {
       read = was.0 ++ take n buffer;
       consumed = Consumes-trans (r.remaining c.args.reader.now) (r.remaining c.loop-reader.reader) (r.remaining c.read.new.self) was.0 (take n buffer) was.1 c.in-Ok.ensures.bytes.0;
       why = (beyond-limit settings.packing was.0 buffer n used c.args.limit c.if-used-count.true c.in-Ok.ensures.bound.0 (u.reached c.if-used-count.true), c.in-Ok.ensures.failure ∙ c.loop-reader.invariant.read_failed);
-      at = subst Q (sym (up_to-used settings.packing was.0 buffer n used c.args.limit u.at_most c.in-Ok.ensures.bound.0 u.within u.reached)) (c.in_ok-take_piece.ensures.ok settings clients start (samples settings.packing was.0) (written-kept settings clients start c.loop-reader.session _ _ (samples settings.packing was.0) (was.3 settings clients start at) c.send.ensures.same));
+      at = subst Q (ap (λ (l : List Sample). samples settings.packing was.0 ++ l) is ∙ sym (up_to-used settings.packing was.0 buffer n used c.args.limit u.at_most c.in-Ok.ensures.bound.0 u.within u.reached)) (c.in_ok-take_piece.ensures.ok settings clients start (samples settings.packing was.0) (written-kept settings clients start c.loop-reader.session _ _ (samples settings.packing was.0) (was.3 settings clients start at) c.send.ensures.same));
     }
 
 pub loop-reader-preserved : goal.loop-reader-preserved
@@ -63,13 +65,16 @@ loop-reader-preserved g c = let s = g.W.Sink in let r = g.R.Source in let i = c.
     let n = c.in-Ok.count in
     let used = c.min-used.result in
     let packing : Packing = packing_in c.args.session.now in
-    let u : Uses packing was.0 n used c.args.limit = uses packing was.0 n used c.args.limit (time_of c.loop-reader.session) c.args.per_byte c.requires.per_byte c.requires.whole was.2 i.within
-    (c.min-used.ensures ∙ ap (λ t. min n ((c.args.limit - t) / c.args.per_byte)) c.time.ensures) in
+    let u : Uses packing was.0 n used c.args.limit = uses packing was.0 n used c.args.limit (time_of c.loop-reader.session) c.per_byte-per_byte.result
+    (c.per_byte-per_byte.ensures ∙ ap (λ (p : Packing). samples_per_byte p) c.format-format.ensures) c.requires.whole was.2 i.within
+    (c.min-used.ensures ∙ ap (λ t. min n ((c.args.limit - t) / c.per_byte-per_byte.result)) c.time.ensures) in
     let all : used ≡ n = omega (arith, u.at_most, c.if-used-count.false) in
     let piece : List ℕ = take used buffer in
     let len : length piece ≡ used = length-take-le used buffer (subst (λ k. k ≤ length buffer) (sym all) c.in-Ok.ensures.bound.0) in
+    let many : length c.new-piece.result ≡ sample_count packing piece =
+    c.new-piece.ensures.count ∙ ap (λ (p : Packing). sample_count p piece) c.format-format.ensures in
     let time : time_of c.take_piece.new.session ≡ sample_count packing was.0 + sample_count packing piece =
-    e.time ∙ ap (λ (f : Packing). (time_of c.loop-reader.session) + sample_count f piece) i.format ∙ ap (λ t. t + sample_count packing piece) was.2 in
+    e.time ∙ ap (λ k. time_of c.loop-reader.session + k) many ∙ ap (λ t. t + sample_count packing piece) was.2 in
     record {
       empty = e.empty;
       format = e.packing ∙ i.format;
@@ -85,8 +90,10 @@ loop-reader-preserved g c = let s = g.W.Sink in let r = g.R.Source in let i = c.
         Consumes-trans (r.remaining c.args.reader.now) (r.remaining c.loop-reader.reader) (r.remaining c.read.new.self) was.0 (take n buffer) was.1 c.in-Ok.ensures.bytes.0,
         time ∙ sym (sample_count-append packing was.0 piece) ∙ ap (λ k. sample_count packing (was.0 ++ take k buffer)) all,
         λ settings clients start at.
+            let same = ap (λ (r : Settings). r.packing) at.stands.bank.recorded in
+            let is : c.new-piece.result ≡ samples settings.packing piece = c.new-piece.ensures.samples ∙ ap (λ (p : Packing). samples p piece) (c.format-format.ensures ∙ same) in
             let Q : List Sample → Type 0 = λ ys. IsWrittenTo settings clients start c.take_piece.new.session (promised (s.contents c.take_piece.new.writer) c.take_piece.new.text) ys in
-            subst Q (sym (samples-append settings.packing was.0 piece) ∙ ap (λ k. samples settings.packing (was.0 ++ take k buffer)) all) (e.ok settings clients start (samples settings.packing was.0) (written-kept settings clients start c.loop-reader.session _ _ (samples settings.packing was.0) (was.3 settings clients start at) c.send.ensures.same)),
+            subst Q (ap (λ (l : List Sample). samples settings.packing was.0 ++ l) is ∙ sym (samples-append settings.packing was.0 piece) ∙ ap (λ k. samples settings.packing (was.0 ++ take k buffer)) all) (e.ok settings clients start (samples settings.packing was.0) (written-kept settings clients start c.loop-reader.session _ _ (samples settings.packing was.0) (was.3 settings clients start at) c.send.ensures.same)),
       );
     }
 

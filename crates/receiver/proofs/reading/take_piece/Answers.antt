@@ -1,57 +1,49 @@
-use Rattle.definitions.specs.Oscillators.{Settings}
-use Rattle.std.proofs.Common.{◌≡◌, ◌∙◌, ℕ, ◌+◌, ◌-◌, ◌*◌, ◌≤◌, List, ◌++◌, length, ap, refl, subst, append-nil, arith}
-use Rattle.std.proofs.Math.Nat.{mul_comm}
-use Rattle.definitions.specs.Samples.{Sample, Packing, samples_from, sample_count}
+use Rattle.std.proofs.Common.{◌≡◌, ◌∙◌, ℕ, ◌+◌, ◌≤◌, List, [], ◌++◌, length, take, drop, ap, sym}
+use Rattle.std.proofs.Common.{subst, append-nil, append_assoc, arith, refl}
+use Rattle.std.proofs.lemmas.List.{take-append-drop}
+use Rattle.definitions.specs.Samples.{Sample}
+use Rattle.channel_slots.proofs.TellingLemmas.{take_part}
+use Rattle.channels.proofs.PartLemmas.{part-length}
 use Rattle.receiver.specs.Runs.{IsWrittenTo}
 use Rattle.receiver.proofs.TextLemmas.{on_err}
-use Rattle.definitions.proofs.SampleLemmas.{samples-next}
 use Rattle.receiver.proofs.PartLemmas.{body-part-longer}
+use Rattle.receiver.specs.Sessions.{time_of}
 use Rattle.receiver.specs.HeldTexts.{promised}
 use Rattle.receiver.proofs.HeldLemmas.{grows-none, grows-on}
 use Rattle.receiver.proofs.reading.take_piece.Goals as goal
 
-pub returns-in_err-take_samples-clause-err : goal.returns-in_err-take_samples-clause-err
-returns-in_err-take_samples-clause-err g c = let s = g.W.Sink in on_err c.from_residual.result _ (λ settings clients start xs at.
-    let bytes = c.args.bytes.now in
-    let packing = settings.packing in
-    let first = c.loop-first.first in
-    let len = c.min-len.result in
-    let next : ℕ = first + len in
-    let total : ℕ = sample_count packing bytes in
-    let same : length bytes * c.args.per_byte ≡ total = c.loop-first.invariant.count ∙ ap (λ (p : Packing). sample_count p bytes) (ap (λ (r : Settings). r.packing) at.stands.bank.recorded) in
-    let short = c.min.ensures in
-    let shorter = c.min-len.ensures in
-    let within : next ≤ length bytes * c.args.per_byte = omega (arith, short, shorter) in
-    let rest : next + (total - next) ≡ total = omega arith in
-    body-part-longer settings clients start (promised (s.contents c.take_samples.new.writer) c.take_samples.new.text) ((xs ++ samples_from packing bytes 0 first) ++ samples_from packing bytes first len) (samples_from packing bytes next (total - next)) (xs ++ samples_from packing bytes 0 total)
-    (ap (λ r. r ++ samples_from packing bytes next (total - next)) (samples-next packing bytes xs first len next refl) ∙ samples-next packing bytes xs next (total - next) total rest)
-    (c.in_err-take_samples.ensures.err settings clients start (xs ++ samples_from packing bytes 0 first) (c.loop-first.invariant.written settings clients start xs at)))
+-- a part of the piece behind those before it
+behind : (xs piece : List Sample) (n m : ℕ)
+    → (xs ++ take n piece) ++ take m (drop n piece) ≡ xs ++ take (n + m) piece
+behind xs piece n m =
+    append_assoc xs (take n piece) (take m (drop n piece))
+    ∙ ap (λ (l : List Sample). xs ++ l) (sym (take_part piece n m))
 
-pub loop-first-preserved : goal.loop-first-preserved
-loop-first-preserved g c = let s = g.W.Sink in let i = c.loop-first.invariant in let e = c.in_ok-take_samples.ensures in
-    let short = c.min.ensures in
-    let shorter = c.min-len.ensures in
-    let later = e.time in
-    record {
-      empty = e.empty;
-      count = i.count;
-      within = omega (arith, short, shorter);
-      format = e.packing ∙ i.format;
-      time = omega (arith, later, i.time);
-      ready = e.ready;
-      failure = e.failure ∙ i.failure;
-      grows = grows-on (s.contents c.args.writer.now) (s.contents c.loop-first.writer) (s.contents c.take_samples.new.writer) i.grows e.grows;
-      written = λ settings clients start xs at.
-          let P : List Sample → Type 0 = λ ys. IsWrittenTo settings clients start c.take_samples.new.session (promised (s.contents c.take_samples.new.writer) c.take_samples.new.text) ys in
-          subst P (samples-next settings.packing c.args.bytes.now xs c.loop-first.first c.min-len.result (c.loop-first.first + c.min-len.result) refl)
-          (e.ok settings clients start (xs ++ samples_from settings.packing c.args.bytes.now 0 c.loop-first.first) (i.written settings clients start xs at));
-    }
+-- and the rest of it behind that part
+all-of : (xs piece : List Sample) (n : ℕ) → (xs ++ take n piece) ++ drop n piece ≡ xs ++ piece
+all-of xs piece n =
+    append_assoc xs (take n piece) (drop n piece)
+    ∙ ap (λ (l : List Sample). xs ++ l) (take-append-drop n piece)
+
+pub returns-in_err-take_samples-clause-err : goal.returns-in_err-take_samples-clause-err
+returns-in_err-take_samples-clause-err g c =
+    let s = g.W.Sink in
+    let piece = c.args.piece.now in
+    let first = c.loop-first.first in
+    let next : ℕ = first + c.min-len.result in
+    on_err c.from_residual.result _ (λ settings clients start xs at.
+    body-part-longer settings clients start
+    (promised (s.contents c.take_samples.new.writer) c.take_samples.new.text)
+    ((xs ++ take first piece) ++ c.part.result) (drop next piece) (xs ++ piece)
+    (ap (λ (l : List Sample). ((xs ++ take first piece) ++ l) ++ drop next piece) c.part.ensures
+    ∙ ap (λ (l : List Sample). l ++ drop next piece) (behind xs piece first c.min-len.result)
+    ∙ all-of xs piece next)
+    (c.in_err-take_samples.ensures.err settings clients start (xs ++ take first piece)
+    (c.loop-first.invariant.written settings clients start xs at)))
 
 pub loop-first-init : goal.loop-first-init
-unfolding samples_from
 loop-first-init g c = record {
   empty = c.requires.empty;
-  count = mul_comm (length c.args.bytes.now) c.args.per_byte ∙ ap (λ (k : ℕ). k * length c.args.bytes.now) c.requires.per_byte;
   within = omega arith;
   format = refl;
   time = omega arith;
@@ -61,9 +53,41 @@ loop-first-init g c = record {
   written = λ settings clients start xs at. rw append-nil at;
 }
 
-pub returns-in_err-take_samples-clause-grows : goal.returns-in_err-take_samples-clause-grows
-returns-in_err-take_samples-clause-grows g c = let s = g.W.Sink in
-    grows-on (s.contents c.args.writer.now) (s.contents c.loop-first.writer) (s.contents c.take_samples.new.writer) c.loop-first.invariant.grows c.take_samples.ensures.grows
+pub loop-first-preserved : goal.loop-first-preserved
+loop-first-preserved g c =
+    let s = g.W.Sink in
+    let i = c.loop-first.invariant in
+    let e = c.in_ok-take_samples.ensures in
+    let piece = c.args.piece.now in
+    let first = c.loop-first.first in
+    let len = c.min-len.result in
+    let within : first + len ≤ length piece =
+    omega (arith, c.len-count.ensures, c.min-most.ensures, c.min-len.ensures) in
+    let many : length c.part.result ≡ len =
+    ap length c.part.ensures ∙ part-length piece first len within in
+    let more : time_of c.take_samples.new.session
+    ≡ time_of c.loop-first.session + length c.part.result = e.time in
+    record {
+      empty = e.empty;
+      within = omega (arith, within, c.len-count.ensures);
+      format = e.packing ∙ i.format;
+      time = omega (arith, more, many, i.time);
+      ready = e.ready;
+      failure = e.failure ∙ i.failure;
+      grows = grows-on (s.contents c.args.writer.now) (s.contents c.loop-first.writer)
+          (s.contents c.take_samples.new.writer) i.grows e.grows;
+      written = λ settings clients start xs at.
+          subst (IsWrittenTo settings clients start c.take_samples.new.session
+          (promised (s.contents c.take_samples.new.writer) c.take_samples.new.text))
+          (ap (λ (l : List Sample). (xs ++ take first piece) ++ l) c.part.ensures
+          ∙ behind xs piece first len)
+          (e.ok settings clients start (xs ++ take first piece)
+          (i.written settings clients start xs at));
+    }
 
-pub returns-clause-grows : goal.returns-clause-grows
-returns-clause-grows g c = c.loop-first.invariant.grows
+pub returns-in_err-take_samples-clause-grows : goal.returns-in_err-take_samples-clause-grows
+returns-in_err-take_samples-clause-grows g c =
+    let s = g.W.Sink in
+    grows-on (s.contents c.args.writer.now) (s.contents c.loop-first.writer)
+    (s.contents c.take_samples.new.writer) c.loop-first.invariant.grows
+    c.take_samples.ensures.grows

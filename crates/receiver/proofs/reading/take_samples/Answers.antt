@@ -1,7 +1,6 @@
 use Rattle.std.proofs.Common.{◌∙◌, ◌++◌, ap, sym}
 use Rattle.std.specs.Prelude.{map}
 use Rattle.std.proofs.lemmas.Result.{IfOk-weaker, IfErr-weaker}
-use Rattle.definitions.specs.Samples.{samples_from}
 use Rattle.definitions.specs.Receiver.{body_lines, body}
 use Rattle.definitions.specs.Receiver.{answer_lines}
 use Rattle.receiver.specs.Offered.{offered}
@@ -15,7 +14,7 @@ use Rattle.receiver.proofs.reading.take_samples.Goals as goal
 pub returns-in_err-put_events-clause-err : goal.returns-in_err-put_events-clause-err
 unfolding body
 returns-in_err-put_events-clause-err g c = let s = g.W.Sink in on_err c.from_residual.result _ (λ settings clients start xs at.
-    let more = xs ++ samples_from settings.packing c.args.bytes.now c.args.first c.args.len in
+    let more = xs ++ c.args.run.now in
     stretch-part-told start (promised (s.contents c.args.writer.now) c.args.text.now) (promised (s.contents c.put_events.new.writer) c.put_events.new.text) (body_lines offered settings xs clients) (map line_of c.deref.result.now) (answer_lines offered settings clients more)
     (body_lines offered settings more clients)
     (c.feed.ensures.told settings clients xs at.stands ∙ ap (λ r. body_lines offered settings xs clients ++ map line_of r ++ answer_lines offered settings clients more) (sym c.deref.ensures.0))
@@ -24,7 +23,7 @@ returns-in_err-put_events-clause-err g c = let s = g.W.Sink in on_err c.from_res
 pub returns-clause-ok : goal.returns-clause-ok
 unfolding body
 returns-clause-ok g c = let s = g.W.Sink in IfOk-weaker c.put_answers.result _ _ (λ _ answered. λ settings clients start xs at.
-    let more = xs ++ samples_from settings.packing c.args.bytes.now c.args.first c.args.len in
+    let more = xs ++ c.args.run.now in
     let said = answered settings clients more (answer_lines offered settings clients more) (c.feed.ensures.stands settings clients xs at.stands) in
     record {
       stands = said.1;
@@ -37,7 +36,7 @@ returns-clause-ok g c = let s = g.W.Sink in IfOk-weaker c.put_answers.result _ _
 pub returns-clause-err : goal.returns-clause-err
 unfolding body
 returns-clause-err g c = let s = g.W.Sink in IfErr-weaker c.put_answers.result _ _ (λ _ answered. λ settings clients start xs at.
-    let more = xs ++ samples_from settings.packing c.args.bytes.now c.args.first c.args.len in
+    let more = xs ++ c.args.run.now in
     stretch-part-answers start (promised (s.contents c.args.writer.now) c.args.text.now) (promised (s.contents c.put_events.new.writer) c.put_events.new.text) (promised (s.contents c.put_answers.new.writer) c.put_answers.new.text) (body_lines offered settings xs clients) (map line_of c.deref.result.now) (answer_lines offered settings clients more)
     (body_lines offered settings more clients)
     (c.feed.ensures.told settings clients xs at.stands ∙ ap (λ r. body_lines offered settings xs clients ++ map line_of r ++ answer_lines offered settings clients more) (sym c.deref.ensures.0))

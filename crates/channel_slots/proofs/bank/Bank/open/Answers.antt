@@ -5,7 +5,7 @@ use Rattle.channel_slots.proofs.bank.Bank.open.Goals as goal
 pub invariant_of-result : goal.invariant_of-result
 invariant_of-result c = record {
   few = most-from_few 0 c.in-Ok.places.items c.in-Ok.ensures.few;
-  size = omega (arith, c.if-clients-gt8.false);
+  size = omega (arith, c.if-clients-gt-MOST_CLIENTS.false);
   keys = c.in-Ok.ensures.keys;
 }
 

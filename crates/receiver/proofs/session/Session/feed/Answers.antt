@@ -1,9 +1,8 @@
 use Rattle.std.proofs.Common.{◌≡◌, ◌≤◌, ◌<◌, ℕ, List, length, subst, sym, ap, ◌∙◌, arith}
 use Rattle.std.specs.Prelude.{replicate}
-use Rattle.definitions.specs.Samples.{Sample, samples_from}
+use Rattle.definitions.specs.Samples.{Sample}
 use Rattle.definitions.specs.Banks.{bank_events_at_end, layout}
 use Rattle.definitions.specs.Receiver.{at_each_sample}
-use Rattle.definitions.proofs.SampleLemmas.{samples_from-length}
 use Rattle.definitions.proofs.TellLemmas.{shares_of, shares-equal}
 use Rattle.channel_slots.specs.Events.{AreTold}
 use Rattle.receiver.specs.declared.queue.Queue.{Queue}
@@ -14,33 +13,32 @@ use Rattle.receiver.proofs.TellingLemmas.{told-stretch}
 use Rattle.receiver.proofs.session.Session.feed.Goals as goal
 
 -- the samples come before the entry that is next
-before-next : (queues : List Queue) (time len n m : ℕ) → len ≤ least_gap_of time queues → time ≡ n → m ≡ len → m ≤ least_gap_of n queues
-before-next queues time len n m h same many = rw (many, ← same) h
+before-next : (queues : List Queue) (time n len : ℕ) → len ≤ least_gap_of time queues → time ≡ n
+    → len ≤ least_gap_of n queues
+before-next queues time n len h same = rw (← same) h
 
 pub returns-clause-stands : goal.returns-clause-stands
 unfolding until_next
 returns-clause-stands c settings clients xs s =
-    let ys : List Sample = samples_from settings.packing c.args.bytes.now c.args.first c.args.len in
-    let many : length ys ≡ c.args.len = samples_from-length settings.packing c.args.bytes.now c.args.first c.args.len in
+    let ys : List Sample = c.args.run.now in
     let queues : List Queue = c.args.self.now.queues.items in
-    let free = before-next queues c.args.self.now.bank.time c.args.len (length xs) (length ys) c.requires.quiet s.bank.now many in
-    let some : 0 < length ys = omega (arith, many, c.requires.some) in
+    let free = before-next queues c.args.self.now.bank.time (length xs) (length ys) c.requires.quiet
+    s.bank.now in
     record {
       done = s.done;
       bank = c.feed_into.ensures.stands settings xs (asked_of s.done) s.bank;
-      queues = queues-later settings xs ys s.done some 1 clients queues s.queues free;
-      waits = waiting-later settings xs ys s.done some clients queues s.queues free;
+      queues = queues-later settings xs ys s.done c.requires.some 1 clients queues s.queues free;
+      waits = waiting-later settings xs ys s.done c.requires.some clients queues s.queues free;
     }
 
 pub returns-clause-told : goal.returns-clause-told
 unfolding until_next
 returns-clause-told c settings clients xs s =
-    let ys : List Sample = samples_from settings.packing c.args.bytes.now c.args.first c.args.len in
-    let many : length ys ≡ c.args.len = samples_from-length settings.packing c.args.bytes.now c.args.first c.args.len in
+    let ys : List Sample = c.args.run.now in
     let queues : List Queue = c.args.self.now.queues.items in
-    let free = before-next queues c.args.self.now.bank.time c.args.len (length xs) (length ys) c.requires.quiet s.bank.now many in
-    let some : 0 < length ys = omega (arith, many, c.requires.some) in
+    let free = before-next queues c.args.self.now.bank.time (length xs) (length ys) c.requires.quiet
+    s.bank.now in
     let number : c.args.self.now.bank.clients ≡ length clients = omega (arith, same-number xs s.done 1 clients queues s.queues, c.args.self.now.clients) in
     let shares : replicate c.args.self.now.bank.clients 4 ≡ shares_of clients = ap (λ n. replicate n 4) number ∙ sym (shares-equal 4 clients (slots-each xs s.done 1 clients queues s.queues)) in
-    told-stretch settings clients queues s.done xs ys c.feed_into.new.events.items some s.queues free
+    told-stretch settings clients queues s.done xs ys c.feed_into.new.events.items c.requires.some s.queues free
     (subst (λ (l : List ℕ). AreTold c.feed_into.new.events.items (at_each_sample (bank_events_at_end settings (layout l) (asked_of s.done)) xs ys)) shares (c.feed_into.ensures.told settings xs (asked_of s.done) s.bank))
