@@ -1,11 +1,13 @@
 -- Sixteen bits set in a word of 64.
-use Rattle.std.proofs.Common.{◌≡◌, ◌≢◌, ℕ, ◌+◌, ◌-◌, ◌*◌, ◌/◌, ◌%◌, ◌^◌, ◌<◌, ◌≤◌, List, length, get_or, refl, sym, ap, ◌∙◌, arith, inl, inr}
+use Rattle.std.proofs.Common.{◌≡◌, ◌≢◌, ℕ, ◌+◌, ◌-◌, ◌*◌, ◌/◌, ◌%◌, ◌^◌, ◌<◌, ◌≤◌, List, length}
+use Rattle.std.proofs.Common.{get_or, refl, sym, ap, ◌∙◌, arith, inl, inr}
 use Rattle.std.specs.Prelude.{bit_or, slice_set, slice_index, max}
 use Rattle.std.specs.Int.{bit_at}
 use Rattle.std.proofs.Math.Nat.{mul_comm, mod-eq_of_lt, mul-lt-mul_of_pos_right}
 use Rattle.std.proofs.Math.Pow.{pow_mono}
 use Rattle.std.proofs.lemmas.Nat.{pow_pos, pow-add}
-use Rattle.std.proofs.lemmas.Nat.Bits.{bit_at_or, bit_at-zero, bit_at_above, bit_at_cat_low, bit_at_cat_high}
+use Rattle.std.proofs.lemmas.Nat.Bits.{bit_at_or, bit_at-zero, bit_at_above, bit_at_cat_low}
+use Rattle.std.proofs.lemmas.Nat.Bits.{bit_at_cat_high}
 use Rattle.std.proofs.lemmas.List.{get_or-set_other, get_or-set_same}
 use Rattle.std.proofs.lemmas.Bool.{cases_lt}
 use Rattle.bit_planes.specs.Bits.{bit, bit_of, IsDrawn}
@@ -59,8 +61,7 @@ pub put_drawn : (words : List ℕ) (g b : ℕ) (f : ℕ → ℕ) → length word
     → ((r : ℕ) → r < 16 → bit_at b (15 - r) ≡ f (16 * g + r))
     → IsDrawn f (16 * g + 16)
     (record {
-      words = slice_set words (g / 4) (laid (slice_index words (g / 4)) b
-          (48 - 16 * (g % 4)));
+      words = slice_set words (g / 4) (laid (slice_index words (g / 4)) b (48 - 16 * (g % 4)));
     })
 unfolding bit
 put_drawn words g b f long few small old bits = record { drawn = drawn; clear = clear }

@@ -5,3 +5,4 @@ pub mod RunLemmas
 pub mod SumLemmas
 mod ReplicaLemmas
 mod TallyLemmas
+pub mod WordOfRunLemmas

@@ -20,7 +20,7 @@ use Rattle.oscillators.proofs.PlaneLemmas.{carrier_behind, code_behind}
 use Rattle.lane_correlator.specs.ReplicaWords.{AreOf}
 use Rattle.lane_correlator.specs.Factors.{AreChips as AreFactors, AreThreeChips}
 use Rattle.lane_correlator.specs.declared.factors.Factors.{Factors}
-use Rattle.lane_correlator.proofs.PartLemmas.{AreSmall, HasSigns, chips_are_signs, part_small}
+use Rattle.lane_correlator.proofs.PartLemmas.{AreSmall, part_small}
 use Rattle.lane_correlator.proofs.PartLemmas.{wave_small}
 
 -- ---- a replica that words are of
@@ -65,17 +65,6 @@ pub chips_of_replica : (r : Replica) (base end : ℕ) (carrier : CarrierWord) (c
 unfolding AreFactors
 chips_of_replica r base end carrier chips of =
     record { early = of.early; prompt = of.prompt; late = of.late }
-
-pub signs_of_replica : (r : Replica) (base first end : ℕ) (carrier : CarrierWord) (chips : ChipWord)
-    → AreOf r base end carrier chips
-    → HasSigns r (base + first) (base + end)
-signs_of_replica r base first end carrier chips of =
-    let three = chips_of_replica r base end carrier chips of in
-    record {
-      early_signs = chips_are_signs r.early base first end chips.early three.early;
-      prompt_signs = chips_are_signs r.prompt base first end chips.prompt three.prompt;
-      late_signs = chips_are_signs r.late base first end chips.late three.late;
-    }
 
 pub small_of_replica : (samples : List Sample) (r : Replica) (w first end : ℕ) → end ≤ 64
     → (i : Factors) (carrier : CarrierWord) (chips : ChipWord) → 64 * w + end ≤ length samples

@@ -6,13 +6,12 @@ use Rattle.std.proofs.lemmas.Nat.Bits.{bit_at-lt}
 use Rattle.definitions.specs.Samples.{Sample, sample_at}
 use Rattle.sample_planes.specs.Signs.{IsWord, IsQuadratureWord, AreReal}
 use Rattle.oscillators.specs.Signs.{IsChipWord}
-use Rattle.oscillators.specs.Views.{CarrierViews, CodeViews}
-use Rattle.lane_correlator.specs.Products.{view_at, replica_in}
+use Rattle.oscillators.specs.Views.{CarrierViews}
+use Rattle.lane_correlator.specs.Products.{view_at}
 use Rattle.lane_correlator.specs.Factors.{IsCosine, IsSine, IsMinusSine, ArePart, AreWave, AreChips}
-use Rattle.lane_correlator.specs.Factors.{AreThreeChips}
 use Rattle.lane_correlator.specs.declared.factors.Factors.{Factors}
 use Rattle.lane_correlator.specs.declared.factors.Wave.{Wave}
-use Rattle.lane_correlator.proofs.PartLemmas.{AreSmall, AreRealIn, HasSigns, chips_are_signs}
+use Rattle.lane_correlator.proofs.PartLemmas.{AreSmall, AreRealIn}
 use Rattle.lane_correlator.proofs.PartLemmas.{part_small, wave_small}
 
 -- the first places of a word, as far as a run goes
@@ -68,15 +67,6 @@ module _ (w end : ℕ) (room : end ≤ 64) where
       → unsigned_abs (sample_at xs (64 * w + j)).quadrature ≤ 3
   unfolding AreReal
   real_small xs long are j h = rw (are (64 * w + j) (omega arith)) (omega arith)
-
-pub signs_of_run : (carrier : CarrierViews) (code : CodeViews) (w first end : ℕ) (chips : ℕ × ℕ × ℕ)
-    → AreThreeChips (replica_in carrier code) (64 * w) end chips
-    → HasSigns (replica_in carrier code) (64 * w + first) (64 * w + end)
-signs_of_run carrier code w first end chips are = record {
-  early_signs = chips_are_signs (view_at code.early) (64 * w) first end chips.0 are.early;
-  prompt_signs = chips_are_signs (view_at code.prompt) (64 * w) first end chips.1 are.prompt;
-  late_signs = chips_are_signs (view_at code.late) (64 * w) first end chips.2 are.late;
-}
 
 -- ---- a word of a run
 

@@ -1,5 +1,7 @@
 -- Planes that are filled sixteen samples at a time.
-use Rattle.std.proofs.Common.{inl, inr, ◌≡◌, ℕ, zero, suc, ◌+◌, ◌-◌, ◌*◌, ◌/◌, ◌%◌, ◌^◌, ◌<◌, ◌≤◌, List, ◌∷◌, ◌++◌, length, map, get_or, refl, sym, ap, ◌∙◌, arith, ℤ, pos, mul-le-mul}
+use Rattle.std.proofs.Common.{inl, inr, ◌≡◌, ℕ, zero, suc, ◌+◌, ◌-◌, ◌*◌, ◌/◌, ◌%◌, ◌^◌, ◌<◌, ◌≤◌}
+use Rattle.std.proofs.Common.{List, ◌∷◌, ◌++◌, length, map, get_or, refl, sym, ap, ◌∙◌, arith, ℤ}
+use Rattle.std.proofs.Common.{pos, mul-le-mul}
 use Rattle.std.specs.Int.{bit_at}
 use Rattle.std.specs.Prelude.{bit_xor, bit_and, min}
 use Rattle.std.proofs.lemmas.Nat.Bits.{bit_at_xor, bit_at_and}
@@ -12,7 +14,8 @@ use Rattle.std.proofs.lemmas.List.FromFn.{get_or-map-range_with_len, length-map-
 use Rattle.std.specs.List.{range_with_len}
 use Rattle.definitions.specs.Samples.{sign_of}
 use Rattle.definitions.specs.Codes.{chip, chip_after}
-use Rattle.definitions.specs.Oscillators.{carrier_phase_after, code_phase_after, code_cycle, cosine, sine, early_sign, late_sign}
+use Rattle.definitions.specs.Oscillators.{carrier_phase_after, code_phase_after, code_cycle, cosine}
+use Rattle.definitions.specs.Oscillators.{sine, early_sign, late_sign}
 use Rattle.oscillators.specs.Eighths.{eighths, eighth_at}
 use Rattle.oscillators.specs.Signs.{signed}
 
@@ -24,14 +27,17 @@ run_length f n = length-map-range_with_len f 0 n
 pub run_at : (f : ℕ → ℤ) (n i : ℕ) → i < n → get_or (map f (range_with_len 0 n)) i (pos 0) ≡ f i
 run_at f n i h = get_or-map-range_with_len f 0 n i i (pos 0) h (omega arith)
 
-pub in_run : (f : ℕ → ℤ) (n i : ℕ) (xs : List ℤ) → map f (range_with_len 0 n) ≡ xs → i < length xs → i < n
+pub in_run : (f : ℕ → ℤ) (n i : ℕ) (xs : List ℤ) → map f (range_with_len 0 n) ≡ xs → i < length xs
+    → i < n
 in_run f n i xs is h = rw (← is, run_length f n) at h
 
-pub read_run : (f : ℕ → ℤ) (n i : ℕ) (xs : List ℤ) → map f (range_with_len 0 n) ≡ xs → i < length xs → get_or xs i (pos 0) ≡ f i
+pub read_run : (f : ℕ → ℤ) (n i : ℕ) (xs : List ℤ) → map f (range_with_len 0 n) ≡ xs → i < length xs
+    → get_or xs i (pos 0) ≡ f i
 read_run f n i xs is h = rw (← is) (run_at f n i (in_run f n i xs is h))
 
 -- runs that are the same place by place
-pub runs_agree : (f g : ℕ → ℤ) (a n : ℕ) → ((i : ℕ) → i < n → f (a + i) ≡ g (a + i)) → map f (range_with_len a n) ≡ map g (range_with_len a n)
+pub runs_agree : (f g : ℕ → ℤ) (a n : ℕ) → ((i : ℕ) → i < n → f (a + i) ≡ g (a + i))
+    → map f (range_with_len a n) ≡ map g (range_with_len a n)
 runs_agree f g a zero h = refl
 runs_agree f g a (suc n) h =
     let first : a + 0 ≡ a = omega arith in
@@ -44,63 +50,84 @@ runs_agree f g a (suc n) h =
 -- ---- the carrier
 
 -- the carrier after n samples, where the whole cycles of n are left out
-pub carrier_advanced : (phase n step : ℕ) → (phase + n % 2 ^ 32 * step % 2 ^ 32) % 2 ^ 32 ≡ carrier_phase_after phase step n
-carrier_advanced phase n step = rw (mul-mod_first n step (2 ^ 32)) (add-mod-mod phase (n * step) (2 ^ 32))
+pub carrier_advanced : (phase n step : ℕ) → (phase + n % 2 ^ 32 * step % 2 ^ 32) % 2 ^ 32
+    ≡ carrier_phase_after phase step n
+carrier_advanced phase n step = rw (mul-mod_first n step (2 ^ 32))
+    (add-mod-mod phase (n * step) (2 ^ 32))
 
 -- the phase r samples behind another
-pub carrier_behind : (phase step j r here : ℕ) → here ≡ carrier_phase_after phase step j → (here + r * step) % 2 ^ 32 ≡ carrier_phase_after phase step (j + r)
+pub carrier_behind : (phase step j r here : ℕ) → here ≡ carrier_phase_after phase step j
+    → (here + r * step) % 2 ^ 32 ≡ carrier_phase_after phase step (j + r)
 carrier_behind phase step j r here e =
     let more : phase + j * step + r * step ≡ phase + (j + r) * step = omega arith in
     rw e (mod-add-mod (phase + j * step) (2 ^ 32) (r * step) ∙ ap (λ n. n % 2 ^ 32) more)
 
 -- sixteen samples on, as they are computed
-pub carrier_turned : (phase step g here : ℕ) → here ≡ carrier_phase_after phase step (16 * g) → (here + step * 16 % 2 ^ 32) % 2 ^ 32 ≡ carrier_phase_after phase step (16 * (g + 1))
+pub carrier_turned : (phase step g here : ℕ) → here ≡ carrier_phase_after phase step (16 * g)
+    → (here + step * 16 % 2 ^ 32) % 2 ^ 32 ≡ carrier_phase_after phase step (16 * (g + 1))
 carrier_turned phase step g here e =
     let way : step * 16 ≡ 16 * step = omega arith in
     let next : 16 * g + 16 ≡ 16 * (g + 1) = omega arith in
-    add-mod-mod here (step * 16) (2 ^ 32) ∙ ap (λ (n : ℕ). (here + n) % 2 ^ 32) way ∙ carrier_behind phase step (16 * g) 16 here e ∙ ap (carrier_phase_after phase step) next
+    add-mod-mod here (step * 16) (2 ^ 32) ∙ ap (λ (n : ℕ). (here + n) % 2 ^ 32) way
+    ∙ carrier_behind phase step (16 * g) 16 here e ∙ ap (carrier_phase_after phase step) next
 
 -- the table is four cycles long
-table_around : (e : ℕ) → e < 32 → get_or (eighths ++ eighths ++ eighths ++ eighths) e 0 ≡ get_or eighths (e % 8) 0
-table_around e h = get_or-map-range_with_len (λ (n : ℕ). get_or eighths (n % 8) 0) 0 32 e e 0 h (omega arith)
+table_around : (e : ℕ) → e < 32 → get_or (eighths ++ eighths ++ eighths ++ eighths) e 0
+    ≡ get_or eighths (e % 8) 0
+table_around e h = get_or-map-range_with_len (λ (n : ℕ). get_or eighths (n % 8) 0) 0 32 e e 0 h
+    (omega arith)
 
-eighth_number : (here w : ℕ) → here < 2 ^ 32 → (here / 536870912 + (here % 536870912 + w) / 536870912 % 16) % 8 ≡ (here + w) % 4294967296 / 536870912
+eighth_number : (here w : ℕ) → here < 2 ^ 32 → (here / 536870912 + (here % 536870912 + w) /
+    536870912 % 16) % 8 ≡ (here + w) % 4294967296 / 536870912
 eighth_number here w h = omega arith
 
 -- what sixteen lanes find in it
-pub eighth_found : (phase step g r here cell : ℕ) → here ≡ carrier_phase_after phase step (16 * g) → cell ≡ (here % 536870912 + r * step) / 536870912 % 16
-    → get_or (eighths ++ eighths ++ eighths ++ eighths) (here / 536870912 + cell) 0 ≡ eighth_at (carrier_phase_after phase step (16 * g + r))
+pub eighth_found : (phase step g r here cell : ℕ) → here ≡ carrier_phase_after phase step (16 * g)
+    → cell ≡ (here % 536870912 + r * step) / 536870912 % 16
+    → get_or (eighths ++ eighths ++ eighths ++ eighths) (here / 536870912 + cell) 0
+    ≡ eighth_at (carrier_phase_after phase step (16 * g + r))
 eighth_found phase step g r here cell is cell_is =
     let below : here < 2 ^ 32 = omega (arith, is) in
-    rw cell_is (table_around (here / 536870912 + (here % 536870912 + r * step) / 536870912 % 16) (omega arith)
-    ∙ ap (λ (e : ℕ). get_or eighths e 0) (eighth_number here (r * step) below ∙ ap (λ (p : ℕ). p / 536870912) (carrier_behind phase step (16 * g) r here is)))
+    rw cell_is (table_around (here / 536870912 + (here % 536870912 + r * step) / 536870912 % 16)
+    (omega arith)
+    ∙ ap (λ (e : ℕ). get_or eighths e 0) (eighth_number here (r * step) below
+    ∙ ap (λ (p : ℕ). p / 536870912) (carrier_behind phase step (16 * g) r here is)))
 
 -- cosine and sine by the bits of an eighth
-pub cosine_by_bits : (p : ℕ) → p < 2 ^ 32 → signed (bit_at (eighth_at p) 7) (1 - bit_at (eighth_at p) 5) ≡ cosine p
-cosine_by_bits p h = sym (get_or-map (λ (b : ℕ). signed (bit_at b 7) (1 - bit_at b 5)) eighths (p / 2 ^ 29) 0 (pos 0) (omega arith))
+pub cosine_by_bits : (p : ℕ) → p < 2 ^ 32 → signed (bit_at (eighth_at p) 7)
+    (1 - bit_at (eighth_at p) 5) ≡ cosine p
+cosine_by_bits p h = sym (get_or-map (λ (b : ℕ). signed (bit_at b 7) (1 - bit_at b 5)) eighths
+    (p / 2 ^ 29) 0 (pos 0) (omega arith))
 
-pub sine_by_bits : (p : ℕ) → p < 2 ^ 32 → signed (bit_at (eighth_at p) 6) (bit_at (eighth_at p) 5) ≡ sine p
-sine_by_bits p h = sym (get_or-map (λ (b : ℕ). signed (bit_at b 6) (bit_at b 5)) eighths (p / 2 ^ 29) 0 (pos 0) (omega arith))
+pub sine_by_bits : (p : ℕ) → p < 2 ^ 32 → signed (bit_at (eighth_at p) 6) (bit_at (eighth_at p) 5)
+    ≡ sine p
+sine_by_bits p h = sym (get_or-map (λ (b : ℕ). signed (bit_at b 6) (bit_at b 5)) eighths
+    (p / 2 ^ 29) 0 (pos 0) (omega arith))
 
 -- ---- the code
 
 -- the phase r samples behind another
-pub code_behind : (phase step j r here : ℕ) → here ≡ code_phase_after phase step j → (here + r * step) % (1023 * 2 ^ 32) ≡ code_phase_after phase step (j + r)
+pub code_behind : (phase step j r here : ℕ) → here ≡ code_phase_after phase step j
+    → (here + r * step) % (1023 * 2 ^ 32) ≡ code_phase_after phase step (j + r)
 code_behind phase step j r here e =
     let more : phase + j * step + r * step ≡ phase + (j + r) * step = omega arith in
-    rw e (mod-add-mod (phase + j * step) (1023 * 2 ^ 32) (r * step) ∙ ap (λ n. n % (1023 * 2 ^ 32)) more)
+    rw e (mod-add-mod (phase + j * step) (1023 * 2 ^ 32) (r * step)
+    ∙ ap (λ n. n % (1023 * 2 ^ 32)) more)
 
 -- the same half a chip ahead
 pub code_behind_ahead : (phase step j r here : ℕ) → here ≡ code_phase_after phase step j
     → code_phase_after (here + 2 ^ 31) step r ≡ code_phase_after (phase + 2 ^ 31) step (j + r)
 code_behind_ahead phase step j r here e =
     let way : here + 2 ^ 31 + r * step ≡ here + (2 ^ 31 + r * step) = omega arith in
-    let more : phase + j * step + (2 ^ 31 + r * step) ≡ phase + 2 ^ 31 + (j + r) * step = omega arith in
+    let more : phase + j * step + (2 ^ 31 + r * step)
+    ≡ phase + 2 ^ 31 + (j + r) * step = omega arith in
     ap (λ (n : ℕ). n % (1023 * 2 ^ 32)) way
-    ∙ rw e (mod-add-mod (phase + j * step) (1023 * 2 ^ 32) (2 ^ 31 + r * step) ∙ ap (λ (n : ℕ). n % (1023 * 2 ^ 32)) more)
+    ∙ rw e (mod-add-mod (phase + j * step) (1023 * 2 ^ 32) (2 ^ 31 + r * step)
+    ∙ ap (λ (n : ℕ). n % (1023 * 2 ^ 32)) more)
 
 -- n samples behind where it was n samples ago
-pub code_back : (phase way : ℕ) → phase < 4393751543808 → way ≤ 4393751543808 → ((phase + (4393751543808 - way)) % 4393751543808 + way) % 4393751543808 ≡ phase
+pub code_back : (phase way : ℕ) → phase < 4393751543808 → way ≤ 4393751543808
+    → ((phase + (4393751543808 - way)) % 4393751543808 + way) % 4393751543808 ≡ phase
 code_back phase way below short = omega arith
 
 -- no step of the code, and sixteen more
@@ -109,13 +136,15 @@ code_here phase step below =
     let none : phase + 0 * step ≡ phase = omega arith in
     sym (ap (λ n. n % (1023 * 2 ^ 32)) none ∙ mod-eq_of_lt below)
 
-pub code_turned : (phase step g here : ℕ) → here ≡ code_phase_after phase step (16 * g) → (here + 16 * step) % (1023 * 2 ^ 32) ≡ code_phase_after phase step (16 * (g + 1))
+pub code_turned : (phase step g here : ℕ) → here ≡ code_phase_after phase step (16 * g)
+    → (here + 16 * step) % (1023 * 2 ^ 32) ≡ code_phase_after phase step (16 * (g + 1))
 code_turned phase step g here e =
     let next : 16 * g + 16 ≡ 16 * (g + 1) = omega arith in
     code_behind phase step (16 * g) 16 here e ∙ ap (code_phase_after phase step) next
 
 -- 64 samples on
-pub code_on : (phase step : ℕ) → (phase + 4 * (16 * step)) % (1023 * 2 ^ 32) ≡ code_phase_after phase step 64
+pub code_on : (phase step : ℕ) → (phase + 4 * (16 * step)) % (1023 * 2 ^ 32)
+    ≡ code_phase_after phase step 64
 code_on phase step = let way : 4 * (16 * step) ≡ 64 * step = omega arith in rw way refl
 
 -- chips are told apart by their numbers within a period
@@ -123,62 +152,86 @@ pub same_chip : (prn m n : ℕ) → m % 1023 ≡ n % 1023 → chip prn m ≡ chi
 unfolding chip
 same_chip prn m n e = ap (chip_after prn) e
 
-chip_number : (here w : ℕ) → here < 1023 * 2 ^ 32 → w ≤ 15 * 4294967295 → (here / 4294967296 + (here % 4294967296 + w) / 4294967296 % 16) % 1023 ≡ (here + w) % 4393751543808 / 4294967296 % 1023
+chip_number : (here w : ℕ) → here < 1023 * 2 ^ 32 → w ≤ 15 * 4294967295
+    → (here / 4294967296 + (here % 4294967296 + w) / 4294967296 % 16) % 1023
+    ≡ (here + w) % 4393751543808 / 4294967296 % 1023
 chip_number here w h small = omega arith
 
-chip_number_before : (here w : ℕ) → here < 1023 * 2 ^ 32 → w ≤ 15 * 4294967295 → (here / 4294967296 + (here % 4294967296 + w) / 4294967296 % 16 + 1022) % 1023 ≡ ((here + w) % 4393751543808 / 4294967296 + 1022) % 1023
+chip_number_before : (here w : ℕ) → here < 1023 * 2 ^ 32 → w ≤ 15 * 4294967295
+    → (here / 4294967296 + (here % 4294967296 + w) / 4294967296 % 16 + 1022) % 1023
+    ≡ ((here + w) % 4393751543808 / 4294967296 + 1022) % 1023
 chip_number_before here w h small = omega arith
 
 pub few_steps : (r step : ℕ) → r < 16 → step < 2 ^ 32 → r * step ≤ 15 * 4294967295
-few_steps r step h l = mul-le-mul {n₁ = r} {m₁ = step} {n₂ = 15} {m₂ = 4294967295} (omega arith) (omega arith)
+few_steps r step h l = mul-le-mul {n₁ = r} {m₁ = step} {n₂ = 15} {m₂ = 4294967295} (omega arith)
+    (omega arith)
 
-pub chip_found : (prn phase step g r here cell : ℕ) → r < 16 → step < 2 ^ 32 → here ≡ code_phase_after phase step (16 * g) → cell ≡ (here % 4294967296 + r * step) / 4294967296 % 16
-    → chip prn (here / 4294967296 + cell) ≡ chip prn (code_phase_after phase step (16 * g + r) / 2 ^ 32)
+pub chip_found : (prn phase step g r here cell : ℕ) → r < 16 → step < 2 ^ 32 → here
+    ≡ code_phase_after phase step (16 * g) → cell ≡ (here % 4294967296 + r * step) / 4294967296 % 16
+    → chip prn (here / 4294967296 + cell) ≡ chip prn
+    (code_phase_after phase step (16 * g + r) / 2 ^ 32)
 chip_found prn phase step g r here cell h l is cell_is =
     let below : here < 1023 * 2 ^ 32 = omega (arith, is) in
-    rw cell_is (same_chip prn _ _ (chip_number here (r * step) below (few_steps r step h l) ∙ ap (λ (p : ℕ). p / 2 ^ 32 % 1023) (code_behind phase step (16 * g) r here is)))
+    rw cell_is (same_chip prn _ _ (chip_number here (r * step) below (few_steps r step h l)
+    ∙ ap (λ (p : ℕ). p / 2 ^ 32 % 1023) (code_behind phase step (16 * g) r here is)))
 
-pub chip_before_found : (prn phase step g r here cell : ℕ) → r < 16 → step < 2 ^ 32 → here ≡ code_phase_after phase step (16 * g) → cell ≡ (here % 4294967296 + r * step) / 4294967296 % 16
-    → chip prn (here / 4294967296 + cell + 1022) ≡ chip prn (code_phase_after phase step (16 * g + r) / 2 ^ 32 + 1022)
+pub chip_before_found : (prn phase step g r here cell : ℕ) → r < 16 → step < 2 ^ 32 → here
+    ≡ code_phase_after phase step (16 * g) → cell ≡ (here % 4294967296 + r * step) / 4294967296 % 16
+    → chip prn (here / 4294967296 + cell + 1022) ≡ chip prn
+    (code_phase_after phase step (16 * g + r) / 2 ^ 32 + 1022)
 chip_before_found prn phase step g r here cell h l is cell_is =
     let below : here < 1023 * 2 ^ 32 = omega (arith, is) in
-    rw cell_is (same_chip prn _ _ (chip_number_before here (r * step) below (few_steps r step h l) ∙ ap (λ (p : ℕ). (p / 2 ^ 32 + 1022) % 1023) (code_behind phase step (16 * g) r here is)))
+    rw cell_is (same_chip prn _ _ (chip_number_before here (r * step) below (few_steps r step h l)
+    ∙ ap (λ (p : ℕ). (p / 2 ^ 32 + 1022) % 1023) (code_behind phase step (16 * g) r here is)))
 
 -- whether a sample lies in the second half of its chip
-half_number : (here w : ℕ) → here < 1023 * 2 ^ 32 → (here % 4294967296 + w) % 4294967296 / 2147483648 ≡ (here + w) % 4393751543808 % 4294967296 / 2147483648
+half_number : (here w : ℕ) → here < 1023 * 2 ^ 32 → (here % 4294967296 + w) % 4294967296 /
+    2147483648 ≡ (here + w) % 4393751543808 % 4294967296 / 2147483648
 half_number here w h = omega arith
 
 pub half_found : (phase step g r here : ℕ) → here ≡ code_phase_after phase step (16 * g)
-    → (here % 4294967296 + r * step) % 2 ^ 32 / 2 ^ 31 ≡ code_phase_after phase step (16 * g + r) % 2 ^ 32 / 2 ^ 31
+    → (here % 4294967296 + r * step) % 2 ^ 32 / 2 ^ 31
+    ≡ code_phase_after phase step (16 * g + r) % 2 ^ 32 / 2 ^ 31
 half_found phase step g r here is =
     let below : here < 1023 * 2 ^ 32 = omega (arith, is) in
-    half_number here (r * step) below ∙ ap (λ (p : ℕ). p % 2 ^ 32 / 2 ^ 31) (code_behind phase step (16 * g) r here is)
+    half_number here (r * step) below ∙ ap (λ (p : ℕ). p % 2 ^ 32 / 2 ^ 31)
+    (code_behind phase step (16 * g) r here is)
 
 -- half a chip ahead
-ahead_is : (phase step j : ℕ) → code_phase_after (phase + 2 ^ 31) step j ≡ (code_phase_after phase step j + 2 ^ 31) % (1023 * 2 ^ 32)
+ahead_is : (phase step j : ℕ) → code_phase_after (phase + 2 ^ 31) step j
+    ≡ (code_phase_after phase step j + 2 ^ 31) % (1023 * 2 ^ 32)
 ahead_is phase step j =
     let moved : phase + 2 ^ 31 + j * step ≡ phase + j * step + 2 ^ 31 = omega arith in
-    ap (λ n. n % (1023 * 2 ^ 32)) moved ∙ sym (mod-add-mod (phase + j * step) (1023 * 2 ^ 32) (2 ^ 31))
+    ap (λ n. n % (1023 * 2 ^ 32)) moved ∙ sym (mod-add-mod (phase + j * step) (1023 * 2 ^ 32)
+    (2 ^ 31))
 
-pub early_is : (prn phase step j : ℕ) → sign_of (chip prn (code_phase_after (phase + 2 ^ 31) step j / 2 ^ 32)) ≡ early_sign prn (code_phase_after phase step j)
+pub early_is : (prn phase step j : ℕ) → sign_of (chip prn
+    (code_phase_after (phase + 2 ^ 31) step j / 2 ^ 32))
+    ≡ early_sign prn (code_phase_after phase step j)
 early_is prn phase step j = ap (λ (p : ℕ). sign_of (chip prn (p / 2 ^ 32))) (ahead_is phase step j)
 
-behind_number : (p : ℕ) → p < 4393751543808 → ((p + 2147483648) % 4393751543808 / 4294967296 + 1022) % 1023 ≡ (p + 4393751543808 - 2147483648) % 4393751543808 / 4294967296 % 1023
+behind_number : (p : ℕ) → p < 4393751543808 → ((p + 2147483648) % 4393751543808 / 4294967296 + 1022)
+    % 1023 ≡ (p + 4393751543808 - 2147483648) % 4393751543808 / 4294967296 % 1023
 behind_number p h = omega arith
 
 -- where a word is chosen from two by the bits of a third
-pub chosen : (e l h i : ℕ) → bit_at (bit_xor l (bit_and (bit_xor e l) h)) i ≡ (bit_at l i + min ((bit_at e i + bit_at l i) % 2) (bit_at h i)) % 2
+pub chosen : (e l h i : ℕ) → bit_at (bit_xor l (bit_and (bit_xor e l) h)) i
+    ≡ (bit_at l i + min ((bit_at e i + bit_at l i) % 2) (bit_at h i)) % 2
 chosen e l h i =
     bit_at_xor l (bit_and (bit_xor e l) h) i
-    ∙ ap (λ (n : ℕ). (bit_at l i + n) % 2) (bit_at_and (bit_xor e l) h i ∙ ap (λ (n : ℕ). min n (bit_at h i)) (bit_at_xor e l i))
+    ∙ ap (λ (n : ℕ). (bit_at l i + n) % 2) (bit_at_and (bit_xor e l) h i
+    ∙ ap (λ (n : ℕ). min n (bit_at h i)) (bit_at_xor e l i))
 
-second_number : (p a : ℕ) → p < 4393751543808 → a ≡ (p + 2147483648) % 4393751543808 → a % 4294967296 / 2147483648 ≡ 1 → a / 4294967296 % 1023 ≡ p / 4294967296 % 1023
+second_number : (p a : ℕ) → p < 4393751543808 → a ≡ (p + 2147483648) % 4393751543808
+    → a % 4294967296 / 2147483648 ≡ 1 → a / 4294967296 % 1023 ≡ p / 4294967296 % 1023
 second_number p a h is half = omega arith
 
-first_number : (p a : ℕ) → p < 4393751543808 → a ≡ (p + 2147483648) % 4393751543808 → a % 4294967296 / 2147483648 ≡ 0 → (a / 4294967296 + 1022) % 1023 ≡ p / 4294967296 % 1023
+first_number : (p a : ℕ) → p < 4393751543808 → a ≡ (p + 2147483648) % 4393751543808
+    → a % 4294967296 / 2147483648 ≡ 0 → (a / 4294967296 + 1022) % 1023 ≡ p / 4294967296 % 1023
 first_number p a h is half = omega arith
 
--- the chip in time is the early one in the second half of that, and in the first half the one before
+-- the chip in time is the early one in the second half of that, and in the first half the one
+-- before
 pub prompt_between : (prn phase step j e l h : ℕ) → e < 2 → l < 2 → h < 2
     → e ≡ chip prn (code_phase_after (phase + 2 ^ 31) step j / 2 ^ 32)
     → l ≡ chip prn (code_phase_after (phase + 2 ^ 31) step j / 2 ^ 32 + 1022)
@@ -196,10 +249,14 @@ prompt_between prn phase step j e l h he hl hh early late half =
       | inr one ↦
           let one_is : a % 4294967296 / 2147483648 ≡ 1 = omega (arith, one, hh, half) in
           let second : (l + min ((e + l) % 2) h) % 2 ≡ e = omega (arith, one, hh, he, hl) in
-          second ∙ early ∙ same_chip prn _ _ (second_number p a below (ahead_is phase step j) one_is)
+          second ∙ early ∙ same_chip prn _ _ (second_number p a below (ahead_is phase step j)
+          one_is)
     ]
 
-pub late_is : (prn phase step j : ℕ) → sign_of (chip prn (code_phase_after (phase + 2 ^ 31) step j / 2 ^ 32 + 1022)) ≡ late_sign prn (code_phase_after phase step j)
+pub late_is : (prn phase step j : ℕ) → sign_of (chip prn
+    (code_phase_after (phase + 2 ^ 31) step j / 2 ^ 32 + 1022))
+    ≡ late_sign prn (code_phase_after phase step j)
 late_is prn phase step j =
     let p : ℕ = code_phase_after phase step j in
-    ap sign_of (ap (λ (q : ℕ). chip prn (q / 2 ^ 32 + 1022)) (ahead_is phase step j) ∙ same_chip prn _ _ (behind_number p (omega arith)))
+    ap sign_of (ap (λ (q : ℕ). chip prn (q / 2 ^ 32 + 1022)) (ahead_is phase step j)
+    ∙ same_chip prn _ _ (behind_number p (omega arith)))

@@ -1,4 +1,5 @@
--- The chips of a satellite at 64 samples in a row, place j of a word being the sample j behind the first.
+-- The chips of a satellite at 64 samples in a row, place j of a word being the sample j behind the
+-- first.
 use Rattle.std.specs.Prelude.{◌≡◌, ℕ, ◌+◌, ◌-◌, ◌/◌, ◌^◌, ◌<◌}
 use Rattle.std.specs.Int.{bit_at}
 use Rattle.definitions.specs.Samples.{sign_of}
@@ -8,12 +9,18 @@ use Rattle.oscillators.specs.declared.code.ChipWord.{ChipWord}
 
 -- the signs at the 64 samples from a phase on
 pub record AreChips (prn phase step : ℕ) (w : ChipWord) : Type 0 where
-  pub early : (j : ℕ) → j < 64 → sign_of (bit_at w.early (63 - j)) ≡ early_sign prn (code_phase_after phase step j)
-  pub prompt : (j : ℕ) → j < 64 → sign_of (bit_at w.prompt (63 - j)) ≡ prompt_sign prn (code_phase_after phase step j)
-  pub late : (j : ℕ) → j < 64 → sign_of (bit_at w.late (63 - j)) ≡ late_sign prn (code_phase_after phase step j)
+  pub early : (j : ℕ) → j < 64 → sign_of (bit_at w.early (63 - j))
+      ≡ early_sign prn (code_phase_after phase step j)
+  pub prompt : (j : ℕ) → j < 64 → sign_of (bit_at w.prompt (63 - j))
+      ≡ prompt_sign prn (code_phase_after phase step j)
+  pub late : (j : ℕ) → j < 64 → sign_of (bit_at w.late (63 - j))
+      ≡ late_sign prn (code_phase_after phase step j)
 
 -- and the chips themselves, those ahead and behind by the phase half a chip ahead
 pub record AreChipBits (prn phase step : ℕ) (w : ChipWord) : Type 0 where
-  pub early : (j : ℕ) → j < 64 → bit_at w.early (63 - j) ≡ chip prn (code_phase_after (phase + 2 ^ 31) step j / 2 ^ 32)
-  pub prompt : (j : ℕ) → j < 64 → bit_at w.prompt (63 - j) ≡ chip prn (code_phase_after phase step j / 2 ^ 32)
-  pub late : (j : ℕ) → j < 64 → bit_at w.late (63 - j) ≡ chip prn (code_phase_after (phase + 2 ^ 31) step j / 2 ^ 32 + 1022)
+  pub early : (j : ℕ) → j < 64 → bit_at w.early (63 - j)
+      ≡ chip prn (code_phase_after (phase + 2 ^ 31) step j / 2 ^ 32)
+  pub prompt : (j : ℕ) → j < 64 → bit_at w.prompt (63 - j)
+      ≡ chip prn (code_phase_after phase step j / 2 ^ 32)
+  pub late : (j : ℕ) → j < 64 → bit_at w.late (63 - j)
+      ≡ chip prn (code_phase_after (phase + 2 ^ 31) step j / 2 ^ 32 + 1022)

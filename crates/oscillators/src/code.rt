@@ -1,8 +1,10 @@
 //! The oscillator at the rate of the code.
 
-ghost use Rattle.std.specs.Prelude.{◌≡◌, ◌+◌, ◌-◌, ◌*◌, ◌/◌, ◌%◌, ◌^◌, ◌<◌, ◌≤◌, ℕ, ℤ, List, pos, map, take, length, get_or, unsigned_abs, All};
+ghost use Rattle.std.specs.Prelude.{◌≡◌, ◌+◌, ◌-◌, ◌*◌, ◌/◌, ◌%◌, ◌^◌, ◌<◌, ◌≤◌, ℕ, ℤ, List, pos};
+ghost use Rattle.std.specs.Prelude.{map, take, length, get_or, unsigned_abs, All};
 ghost use Rattle.std.specs.List.{range_with_len};
-ghost use Rattle.definitions.specs.Oscillators.{code_cycle, code_phase_after, early_sign, prompt_sign, late_sign};
+ghost use Rattle.definitions.specs.Oscillators.{code_cycle, code_phase_after, early_sign};
+ghost use Rattle.definitions.specs.Oscillators.{prompt_sign, late_sign};
 ghost use Rattle.definitions.specs.Samples.{sign_of};
 ghost use Rattle.bit_planes.specs.Bits.{bit};
 ghost use Rattle.oscillators.specs.Views.{Oscillation, CodeViews};

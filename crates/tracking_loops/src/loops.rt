@@ -20,7 +20,7 @@ use lane_correlator::Counts;
 /// Dumps, numbered from 1, come about once a code period (1 ms). Up to dump 199 the turn of the
 /// carrier between two dumps pulls the frequency in, and from dump 200 on the phase is held. From
 /// there on each 20 dumps are a window, which is good where the sizes of the prompt sums in phase
-/// add up to at least twice those in quadrature.
+/// add up to at least twice those in quadrature; a window whose sums are all 0 is good.
 #[derive(Debug, Drop)]
 pub struct Loops {
     steering: Steering,

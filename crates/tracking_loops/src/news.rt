@@ -1,3 +1,5 @@
+//! What a dump changes of the lock.
+
 /// What a dump tells of the lock.
 #[derive(Debug, Clone, Copy, PartialEq, Eq)]
 pub enum News {

@@ -1,3 +1,5 @@
+//! Loops over dumps worked out by hand, and the ends of the lock.
+
 ghost use Rattle.std.specs.Prelude.{◌≡◌, pos};
 
 use crate::{Loops, News};

@@ -1,29 +1,19 @@
-use Rattle.std.proofs.Common.{◌≡◌, ℤ, ◌+◌, ◌-◌, ◌*◌, ◌∙◌, sym, ap, arith, lit≤}
+use Rattle.std.proofs.Common.{◌≡◌, ℤ, ◌*◌, ◌∙◌, sym, ap, arith, lit≤}
 use Rattle.std.specs.Prelude.{pos, ◌-ℤ◌}
-use Rattle.std.proofs.Math.Path.{ap₂}
 use Rattle.definitions.specs.Samples.{sample_at}
-use Rattle.definitions.specs.Correlation.{Replica, six_sums, added}
+use Rattle.definitions.specs.Correlation.{Replica}
 use Rattle.lane_correlator.specs.Tallies.{tally_in}
 use Rattle.lane_correlator.specs.ReplicaWords.{AreOf}
-use Rattle.lane_correlator.specs.Factors.{IsMask, AreThreeChips, AreWave, part_sums}
-use Rattle.lane_correlator.proofs.PartLemmas.{HasSigns, AreSmall, six_by_parts, part_sums-none}
-use Rattle.lane_correlator.proofs.PartLemmas.{six-small}
-use Rattle.lane_correlator.proofs.RunLemmas.{part_of_run, quadrature_of_run, real_in_run}
+use Rattle.lane_correlator.specs.Factors.{AreWave}
+use Rattle.lane_correlator.proofs.PartLemmas.{AreSmall}
 use Rattle.lane_correlator.proofs.RunLemmas.{quadrature_small, real_small}
 use Rattle.lane_correlator.proofs.TallyLemmas.{none_few, few_more}
-use Rattle.lane_correlator.proofs.ReplicaLemmas.{own_replica, chips_of_replica, signs_of_replica}
-use Rattle.lane_correlator.proofs.ReplicaLemmas.{small_of_replica}
+use Rattle.lane_correlator.proofs.ReplicaLemmas.{own_replica, chips_of_replica, small_of_replica}
+use Rattle.lane_correlator.proofs.WordOfRunLemmas.{RunWord, from, to, quadrature_part, word_sums_of}
+use Rattle.lane_correlator.proofs.WordOfRunLemmas.{in_phase_is, quadrature_is, no_quadrature}
+use Rattle.lane_correlator.proofs.WordOfRunLemmas.{sums_are, sums_small}
 use Rattle.lane_correlator.proofs.with_replica.word_sums.Goals as goal
 use Rattle.lane_correlator.proofs.with_replica.word_sums.Goals.{After-add, in-Some, in-None}
-
-mask_is : (c : After-add) → IsMask c.args.first c.args.end c.places-mask.result
-mask_is c = record {
-  ordered = c.requires.ordered;
-  within = c.requires.within;
-  before = c.places-mask.ensures.before;
-  inside = c.places-mask.ensures.inside;
-  behind = c.places-mask.ensures.behind;
-}
 
 module _ (c : After-add) (r : Replica)
     (of : AreOf r (64 * c.args.w) c.args.end c.args.carrier c.args.chips) where
@@ -41,40 +31,41 @@ module _ (c : After-add) (r : Replica)
   minus_sin_is j h = ap (λ (z : ℤ). pos 0 -ℤ z) (of.sin j h)
       ∙ sym (c.of_word-wave.ensures.minus_sin j (omega (arith, c.requires.within, h)))
 
-  chips_are : AreThreeChips r (64 * c.args.w) c.args.end
-      (c.args.chips.early, c.args.chips.prompt, c.args.chips.late)
-  chips_are = chips_of_replica r (64 * c.args.w) c.args.end c.args.carrier c.args.chips of
+  abbrev word_of : RunWord
+  word_of = record {
+    run = c.args.samples.now;
+    replica = r;
+    w = c.args.w;
+    first = c.args.first;
+    end = c.args.end;
+    mask = c.places-mask.result;
+    part = c.in_phase-part.result;
+    wave = c.of_word-wave.result;
+    chips = (c.args.chips.early, c.args.chips.prompt, c.args.chips.late);
+    places = record {
+      ordered = c.requires.ordered;
+      within = c.requires.within;
+      before = c.places-mask.ensures.before;
+      inside = c.places-mask.ensures.inside;
+      behind = c.places-mask.ensures.behind;
+    };
+    reach = c.requires.reach;
+    samples = c.in_phase-part.ensures;
+    cos = cos_is;
+    sin = sin_is;
+    minus_sin = minus_sin_is;
+    three = chips_of_replica r (64 * c.args.w) c.args.end c.args.carrier c.args.chips of;
+  }
 
-  signs : HasSigns r (64 * c.args.w + c.args.first) (64 * c.args.w + c.args.end)
-  signs = signs_of_replica r (64 * c.args.w) c.args.first c.args.end c.args.carrier c.args.chips of
-
-  in_phase_is : tally_in c.six_of_part-in_phase.result
-      ≡ part_sums (λ j. (sample_at c.args.samples.now j).in_phase) r.cos (λ j. pos 0 -ℤ r.sin j) r
-      (64 * c.args.w + c.args.first) (64 * c.args.w + c.args.end)
-  in_phase_is =
-      c.six_of_part-in_phase.ensures.sums (λ j. (sample_at c.args.samples.now j).in_phase) r.cos
-      (λ j. pos 0 -ℤ r.sin j) r (64 * c.args.w) c.args.first c.args.end (mask_is c)
-      (part_of_run c.args.w c.args.end c.requires.within c.args.samples.now c.in_phase-part.result
-      c.requires.reach c.in_phase-part.ensures) cos_is minus_sin_is chips_are
-
-  quadrature_is : tally_in c.match-quadrature.quadrature
-      ≡ part_sums (λ j. (sample_at c.args.samples.now j).quadrature) r.sin r.cos r
-      (64 * c.args.w + c.args.first) (64 * c.args.w + c.args.end)
-  quadrature_is = elim c.match-quadrature.branch [
-    | in-Some w ↦ rw w.quadrature-is
-        (w.six_of_part-quadrature.ensures.sums (λ j. (sample_at c.args.samples.now j).quadrature)
-        r.sin r.cos r (64 * c.args.w) c.args.first c.args.end (mask_is c)
-        (quadrature_of_run c.args.w c.args.end c.requires.within c.args.samples.now w.in-Some.part
-        c.requires.reach w.in-Some.ensures.word) sin_is cos_is chips_are)
-    | in-None w ↦ rw w.quadrature-is
-        (sym (part_sums-none (λ j. (sample_at c.args.samples.now j).quadrature) r.sin r.cos r
-        (64 * c.args.w + c.args.first) (64 * c.args.w + c.args.end)
-        (real_in_run c.args.w c.args.end c.requires.within c.args.samples.now c.args.first
-        c.requires.reach w.in-None.ensures.real)))
+  quadrature_sums : tally_in c.match-quadrature.quadrature ≡ quadrature_part word_of
+  quadrature_sums = elim c.match-quadrature.branch [
+    | in-Some w ↦ rw w.quadrature-is (quadrature_is word_of w.in-Some.part
+        w.six_of_part-quadrature.result w.in-Some.ensures.word
+        w.six_of_part-quadrature.ensures.sums)
+    | in-None w ↦ rw w.quadrature-is (no_quadrature word_of w.in-None.ensures.real)
   ]
 
-  small : AreSmall (sample_at c.args.samples.now) r.cos r.sin (64 * c.args.w + c.args.first)
-      (64 * c.args.w + c.args.end)
+  small : AreSmall (sample_at c.args.samples.now) r.cos r.sin (from word_of) (to word_of)
   small =
       small_of_replica c.args.samples.now r c.args.w c.args.first c.args.end c.requires.within
       c.in_phase-part.result c.args.carrier c.args.chips c.requires.reach
@@ -86,25 +77,20 @@ module _ (c : After-add) (r : Replica)
             c.requires.reach w.in-None.ensures.real
       ]) of
 
-  sums_are : tally_in c.add.result ≡ six_sums (sample_at c.args.samples.now) r
-      (64 * c.args.w + c.args.first) (64 * c.args.w + c.args.end)
-  sums_are =
-      c.add.ensures.sums ∙ ap₂ added in_phase_is quadrature_is
-      ∙ sym (six_by_parts (sample_at c.args.samples.now) r (64 * c.args.w + c.args.first)
-      (64 * c.args.w + c.args.end) signs)
+  sums : tally_in c.add.result ≡ word_sums_of word_of
+  sums = sums_are word_of (tally_in c.six_of_part-in_phase.result)
+      (tally_in c.match-quadrature.quadrature) (tally_in c.add.result) c.add.ensures.sums
+      (in_phase_is word_of c.six_of_part-in_phase.result c.six_of_part-in_phase.ensures.sums)
+      quadrature_sums
 
 pub returns-clause-sums : goal.returns-clause-sums
-returns-clause-sums c r of = sums_are c r of
+returns-clause-sums c r of = sums c r of
 
 pub returns-clause-small : goal.returns-clause-small
 returns-clause-small c =
     let own = own_replica (64 * c.args.w) c.args.end c.args.carrier c.args.chips in
-    let many : 64 * c.args.w + c.args.end - (64 * c.args.w + c.args.first)
-    ≡ c.args.end - c.args.first = omega arith in
-    rw (sums_are c own.replica own.own)
-    (rw many at (six-small (sample_at c.args.samples.now) own.replica
-    (64 * c.args.w + c.args.first) (64 * c.args.w + c.args.end) (small c own.replica own.own)
-    (signs c own.replica own.own)))
+    rw (sums c own.replica own.own)
+    (sums_small (word_of c own.replica own.own) (small c own.replica own.own))
 
 pub returns-clause-few : goal.returns-clause-few
 returns-clause-few c = c.add.ensures.few 448 448 c.six_of_part-in_phase.ensures.few

@@ -20,8 +20,7 @@ returns-clause-few c m n these those = record {
   all_i = omega (arith, these.all_i, those.all_i);
   all_q = omega (arith, these.all_q, those.all_q);
   ie = omega (arith, these.ie, those.ie);
-  qe =
-      omega (arith, these.qe, those.qe);
+  qe = omega (arith, these.qe, those.qe);
   ip = omega (arith, these.ip, those.ip);
   qp = omega (arith, these.qp, those.qp);
   il = omega (arith, these.il, those.il);

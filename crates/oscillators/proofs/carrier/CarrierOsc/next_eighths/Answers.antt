@@ -1,4 +1,5 @@
-use Rattle.std.proofs.Common.{◌≡◌, ◌*◌, ◌+◌, ◌-◌, ◌<◌, ◌≤◌, ◌%◌, ◌^◌, ℕ, get_or, refl, ap, ◌∙◌, arith, rules}
+use Rattle.std.proofs.Common.{◌≡◌, ◌*◌, ◌+◌, ◌-◌, ◌<◌, ◌≤◌, ◌%◌, ◌^◌, ℕ, get_or, refl, ap, ◌∙◌}
+use Rattle.std.proofs.Common.{arith, rules}
 use Rattle.std.specs.Int.{bit_at}
 use Rattle.definitions.specs.Oscillators.{carrier_phase_after}
 use Rattle.oscillators.specs.Views.{Oscillation}
@@ -17,18 +18,30 @@ loop-group-preserved c =
     let here : ℕ = c.loop-group.here in
     let few : 16 * g ≤ 48 = omega arith in
     let next : 16 * g + 16 ≡ 16 * (g + 1) = omega arith in
-    let found : (r : ℕ) → r < 16 → get_or c.pick_bytes-found.result (15 - r) 0 ≡ eighth_at (carrier_phase_after phase step (16 * g + r)) = λ r h.
+    let found : (r : ℕ) → r < 16 → get_or c.pick_bytes-found.result (15 - r) 0
+    ≡ eighth_at (carrier_phase_after phase step (16 * g + r)) = λ r h.
     let lane : 15 - (15 - r) ≡ r = omega arith in
     c.pick_bytes-found.ensures.picked (15 - r) (omega arith)
     ∙ eighth_found phase step g r here (get_or c.cells_mod_16-eighths.result (15 - r) 0) i.here
-    (c.cells_mod_16-eighths.ensures.cells c.self.inside.step short c.self.invariant (15 - r) (omega arith) ∙ rw (lane, step_is) refl)
+    (c.cells_mod_16-eighths.ensures.cells c.self.inside.step short c.self.invariant (15 - r)
+    (omega arith) ∙ rw (lane, step_is) refl)
     in
     record {
-      here = ap (λ (s : ℕ). (here + s * 16 % 4294967296) % 4294967296) step_is ∙ carrier_turned phase step g here i.here;
-      cos_sign = rw next at (c.with_sixteen.ensures (λ (n : ℕ). bit_at (eighth_at (carrier_phase_after phase step n)) 7) (16 * g) few i.cos_sign
-          (λ r h. c.top_bits.ensures.bits (15 - r) (omega arith) ∙ ap (λ (b : ℕ). bit_at b 7) (found r h)));
-      sin_sign = rw next at (c.with_sixteen-in-loop-group.ensures (λ (n : ℕ). bit_at (eighth_at (carrier_phase_after phase step n)) 6) (16 * g) few i.sin_sign
-          (λ r h. c.second_bits.ensures.bits (15 - r) (omega arith) ∙ ap (λ (b : ℕ). bit_at b 6) (found r h)));
-      sin_size = rw next at (c.with_sixteen-in-loop-group-2.ensures (λ (n : ℕ). bit_at (eighth_at (carrier_phase_after phase step n)) 5) (16 * g) few i.sin_size
-          (λ r h. c.third_bits.ensures.bits (15 - r) (omega arith) ∙ ap (λ (b : ℕ). bit_at b 5) (found r h)));
+      here = ap (λ (s : ℕ). (here + s * 16 % 4294967296) % 4294967296) step_is
+          ∙ carrier_turned phase step g here i.here;
+      cos_sign = rw next at (c.with_sixteen.ensures
+          (λ (n : ℕ). bit_at (eighth_at (carrier_phase_after phase step n)) 7) (16 * g) few
+          i.cos_sign
+          (λ r h. c.top_bits.ensures.bits (15 - r) (omega arith)
+          ∙ ap (λ (b : ℕ). bit_at b 7) (found r h)));
+      sin_sign = rw next at (c.with_sixteen-in-loop-group.ensures
+          (λ (n : ℕ). bit_at (eighth_at (carrier_phase_after phase step n)) 6) (16 * g) few
+          i.sin_sign
+          (λ r h. c.second_bits.ensures.bits (15 - r) (omega arith)
+          ∙ ap (λ (b : ℕ). bit_at b 6) (found r h)));
+      sin_size = rw next at (c.with_sixteen-in-loop-group-2.ensures
+          (λ (n : ℕ). bit_at (eighth_at (carrier_phase_after phase step n)) 5) (16 * g) few
+          i.sin_size
+          (λ r h. c.third_bits.ensures.bits (15 - r) (omega arith)
+          ∙ ap (λ (b : ℕ). bit_at b 5) (found r h)));
     }

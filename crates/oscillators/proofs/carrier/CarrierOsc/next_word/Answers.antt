@@ -11,6 +11,8 @@ returns-clause-word c =
     let step : ℕ = c.args.self.now.step in
     let word = c.next_eighths.ensures.word in
     record {
-      cos = λ j h. ap₂ (λ (s z : ℕ). signed s (1 - z)) (word.cos_sign j h) (word.sin_size j h) ∙ cosine_by_bits (carrier_phase_after phase step j) (omega arith);
-      sin = λ j h. ap₂ signed (word.sin_sign j h) (word.sin_size j h) ∙ sine_by_bits (carrier_phase_after phase step j) (omega arith);
+      cos = λ j h. ap₂ (λ (s z : ℕ). signed s (1 - z)) (word.cos_sign j h) (word.sin_size j h)
+          ∙ cosine_by_bits (carrier_phase_after phase step j) (omega arith);
+      sin = λ j h. ap₂ signed (word.sin_sign j h) (word.sin_size j h)
+          ∙ sine_by_bits (carrier_phase_after phase step j) (omega arith);
     }

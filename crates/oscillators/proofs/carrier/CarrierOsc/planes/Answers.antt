@@ -5,7 +5,8 @@ use Rattle.definitions.specs.Oscillators.{carrier_phase_after, cosine, sine}
 use Rattle.oscillators.specs.Views.{Oscillation}
 use Rattle.oscillators.specs.Signs.{signed, cos_in, sin_in}
 use Rattle.oscillators.specs.Eighths.{eighth_at}
-use Rattle.oscillators.proofs.PlaneLemmas.{carrier_behind, cosine_by_bits, sine_by_bits, runs_agree, run_length}
+use Rattle.oscillators.proofs.PlaneLemmas.{carrier_behind, cosine_by_bits, sine_by_bits, runs_agree}
+use Rattle.oscillators.proofs.PlaneLemmas.{run_length}
 use Rattle.oscillators.proofs.carrier.CarrierOsc.planes.Goals as goal
 
 pub loop-w-preserved : goal.loop-w-preserved
@@ -18,15 +19,24 @@ loop-w-preserved c =
     let next : 64 * w + 64 ≡ 64 * (w + 1) = omega arith in
     let word = c.next_eighths-word.ensures.word in
     let moved = c.next_eighths-word.ensures.moved in
-    let behind : (j : ℕ) → carrier_phase_after here c.loop-w.here.step j ≡ carrier_phase_after phase step (64 * w + j) = λ j.
-    ap (λ (s : ℕ). carrier_phase_after here s j) i.step ∙ carrier_behind phase step (64 * w) j here i.phase
+    let behind : (j : ℕ) → carrier_phase_after here c.loop-w.here.step j
+    ≡ carrier_phase_after phase step (64 * w + j) = λ j.
+    ap (λ (s : ℕ). carrier_phase_after here s j) i.step
+    ∙ carrier_behind phase step (64 * w) j here i.phase
     in
     record {
-      phase = ap (λ (o : Oscillation). o.phase) moved ∙ behind 64 ∙ ap (carrier_phase_after phase step) next;
+      phase = ap (λ (o : Oscillation). o.phase) moved ∙ behind 64
+          ∙ ap (carrier_phase_after phase step) next;
       step = ap (λ (o : Oscillation). o.step) moved ∙ i.step;
-      cos_sign = rw next at (c.set_word.ensures (λ (n : ℕ). bit_at (eighth_at (carrier_phase_after phase step n)) 7) i.cos_sign (λ j h. word.cos_sign j h ∙ ap (λ (p : ℕ). bit_at (eighth_at p) 7) (behind j)));
-      sin_sign = rw next at (c.set_word-in-loop-w.ensures (λ (n : ℕ). bit_at (eighth_at (carrier_phase_after phase step n)) 6) i.sin_sign (λ j h. word.sin_sign j h ∙ ap (λ (p : ℕ). bit_at (eighth_at p) 6) (behind j)));
-      sin_size = rw next at (c.set_word-in-loop-w-2.ensures (λ (n : ℕ). bit_at (eighth_at (carrier_phase_after phase step n)) 5) i.sin_size (λ j h. word.sin_size j h ∙ ap (λ (p : ℕ). bit_at (eighth_at p) 5) (behind j)));
+      cos_sign = rw next at (c.set_word.ensures (λ (n : ℕ). bit_at
+          (eighth_at (carrier_phase_after phase step n)) 7) i.cos_sign
+          (λ j h. word.cos_sign j h ∙ ap (λ (p : ℕ). bit_at (eighth_at p) 7) (behind j)));
+      sin_sign = rw next at (c.set_word-in-loop-w.ensures
+          (λ (n : ℕ). bit_at (eighth_at (carrier_phase_after phase step n)) 6) i.sin_sign
+          (λ j h. word.sin_sign j h ∙ ap (λ (p : ℕ). bit_at (eighth_at p) 6) (behind j)));
+      sin_size = rw next at (c.set_word-in-loop-w-2.ensures
+          (λ (n : ℕ). bit_at (eighth_at (carrier_phase_after phase step n)) 5) i.sin_size
+          (λ j h. word.sin_size j h ∙ ap (λ (p : ℕ). bit_at (eighth_at p) 5) (behind j)));
     }
 
 pub returns-clause-cos_len : goal.returns-clause-cos_len
@@ -40,19 +50,24 @@ returns-clause-cos c =
     let phase : ℕ = c.args.self.now.phase in
     let step : ℕ = c.args.self.now.step in
     let i = c.loop-w.invariant in
-    runs_agree (cos_in c.loop-w.cos_sign c.loop-w.sin_size) (λ (j : ℕ). cosine (carrier_phase_after phase step j)) 0 c.args.n (λ k below.
+    runs_agree (cos_in c.loop-w.cos_sign c.loop-w.sin_size)
+    (λ (j : ℕ). cosine (carrier_phase_after phase step j)) 0 c.args.n (λ k below.
     let start : 0 + k ≡ k = omega arith in
     let behind : k < 64 * c.loop-w.w = omega arith in
     let room : k < 1024 = omega (arith, c.requires) in
-    rw start (ap₂ (λ (s z : ℕ). signed s (1 - z)) (i.cos_sign.drawn k behind room) (i.sin_size.drawn k behind room) ∙ cosine_by_bits (carrier_phase_after phase step k) (omega arith)))
+    rw start (ap₂ (λ (s z : ℕ). signed s (1 - z)) (i.cos_sign.drawn k behind room)
+    (i.sin_size.drawn k behind room) ∙ cosine_by_bits (carrier_phase_after phase step k)
+    (omega arith)))
 
 pub returns-clause-sin : goal.returns-clause-sin
 returns-clause-sin c =
     let phase : ℕ = c.args.self.now.phase in
     let step : ℕ = c.args.self.now.step in
     let i = c.loop-w.invariant in
-    runs_agree (sin_in c.loop-w.sin_sign c.loop-w.sin_size) (λ (j : ℕ). sine (carrier_phase_after phase step j)) 0 c.args.n (λ k below.
+    runs_agree (sin_in c.loop-w.sin_sign c.loop-w.sin_size)
+    (λ (j : ℕ). sine (carrier_phase_after phase step j)) 0 c.args.n (λ k below.
     let start : 0 + k ≡ k = omega arith in
     let behind : k < 64 * c.loop-w.w = omega arith in
     let room : k < 1024 = omega (arith, c.requires) in
-    rw start (ap₂ signed (i.sin_sign.drawn k behind room) (i.sin_size.drawn k behind room) ∙ sine_by_bits (carrier_phase_after phase step k) (omega arith)))
+    rw start (ap₂ signed (i.sin_sign.drawn k behind room) (i.sin_size.drawn k behind room)
+    ∙ sine_by_bits (carrier_phase_after phase step k) (omega arith)))

@@ -9,7 +9,10 @@ abbrev pub invariant-loop-w : goal.invariant-loop-w
 invariant-loop-w l = record {
   phase : l.here.phase ≡ carrier_phase_after l.self.phase l.self.step (64 * l.w);
   step : l.here.step ≡ l.self.step;
-  cos_sign : IsDrawn (λ i. bit_at (eighth_at (carrier_phase_after l.self.phase l.self.step i)) 7) (64 * l.w) l.cos_sign;
-  sin_sign : IsDrawn (λ i. bit_at (eighth_at (carrier_phase_after l.self.phase l.self.step i)) 6) (64 * l.w) l.sin_sign;
-  sin_size : IsDrawn (λ i. bit_at (eighth_at (carrier_phase_after l.self.phase l.self.step i)) 5) (64 * l.w) l.sin_size;
+  cos_sign : IsDrawn (λ i. bit_at (eighth_at (carrier_phase_after l.self.phase l.self.step i)) 7)
+      (64 * l.w) l.cos_sign;
+  sin_sign : IsDrawn (λ i. bit_at (eighth_at (carrier_phase_after l.self.phase l.self.step i)) 6)
+      (64 * l.w) l.sin_sign;
+  sin_size : IsDrawn (λ i. bit_at (eighth_at (carrier_phase_after l.self.phase l.self.step i)) 5)
+      (64 * l.w) l.sin_size;
 }

@@ -1,10 +1,12 @@
-use Rattle.std.proofs.Common.{◌≡◌, ◌*◌, ◌+◌, ◌-◌, ◌<◌, ◌≤◌, ◌^◌, ◌/◌, ◌%◌, ℕ, get_or, refl, ap, ◌∙◌, arith, rules}
+use Rattle.std.proofs.Common.{◌≡◌, ◌*◌, ◌+◌, ◌-◌, ◌<◌, ◌≤◌, ◌^◌, ◌/◌, ◌%◌, ℕ, get_or, refl, ap, ◌∙◌}
+use Rattle.std.proofs.Common.{arith, rules}
 use Rattle.std.specs.Int.{bit_at}
 use Rattle.std.proofs.lemmas.Nat.Bits.{bit_at-lt}
 use Rattle.definitions.specs.Codes.{chip}
 use Rattle.definitions.specs.Oscillators.{code_phase_after}
 use Rattle.oscillators.specs.Views.{Oscillation}
-use Rattle.oscillators.proofs.PlaneLemmas.{code_turned, code_on, chip_found, chip_before_found, half_found, chosen, prompt_between, few_steps}
+use Rattle.oscillators.proofs.PlaneLemmas.{code_turned, code_on, chip_found, chip_before_found}
+use Rattle.oscillators.proofs.PlaneLemmas.{half_found, chosen, prompt_between, few_steps}
 use Rattle.oscillators.proofs.StrideLemmas.{chip_of_half, few_chips, few_ways, half_bit}
 use Rattle.oscillators.proofs.code.CodeOsc.next_chips.Goals as goal
 
@@ -23,24 +25,40 @@ loop-group-preserved c =
     let next : 16 * g + 16 ≡ 16 * (g + 1) = omega arith in
     let part : ℕ = ahead % 4294967296 in
     let within : part < 4294967296 = omega arith in
-    let half : (r : ℕ) → r < 16 → get_or c.half_chips-halves.result (15 - r) 0 ≡ (part + r * step) / 2147483648 = λ r h.
+    let half : (r : ℕ) → r < 16 → get_or c.half_chips-halves.result (15 - r) 0
+    ≡ (part + r * step) / 2147483648 = λ r h.
     let lane : 15 - (15 - r) ≡ r = omega arith in
-    c.half_chips-halves.ensures.halves c.self.inside.step short strides (15 - r) (omega arith) ∙ rw (lane, step_is) refl
+    c.half_chips-halves.ensures.halves c.self.inside.step short strides (15 - r) (omega arith)
+    ∙ rw (lane, step_is) refl
     in
-    let cell : (r : ℕ) → r < 16 → get_or c.whole_chips.result (15 - r) 0 ≡ (part + r * step) / 4294967296 % 16 = λ r h.
+    let cell : (r : ℕ) → r < 16 → get_or c.whole_chips.result (15 - r) 0
+    ≡ (part + r * step) / 4294967296 % 16 = λ r h.
     c.whole_chips.ensures.chips (15 - r) (omega arith) ∙ ap (λ (n : ℕ). n / 2) (half r h)
     ∙ chip_of_half part (r * step) within (few_steps r step h small)
     in
     record {
-      ahead = c.in_cycle-ahead-in-loop-group.ensures ∙ ap (λ (s : ℕ). (ahead + 16 * s) % (1023 * 2 ^ 32)) step_is ∙ code_turned (phase + 2 ^ 31) step g ahead i.ahead;
-      early = rw next at (c.with_sixteen-early.ensures (λ (n : ℕ). chip c.args.prn (code_phase_after (phase + 2 ^ 31) step n / 2 ^ 32)) (16 * g) few i.early (λ r h.
-          c.top_bits.ensures.bits (15 - r) (omega arith) ∙ c.look_up-chips.ensures.chips (15 - r) (omega arith)
-          ∙ chip_found c.args.prn (phase + 2 ^ 31) step g r ahead (get_or c.whole_chips.result (15 - r) 0) h small i.ahead (cell r h)));
-      late = rw next at (c.with_sixteen-late.ensures (λ (n : ℕ). chip c.args.prn (code_phase_after (phase + 2 ^ 31) step n / 2 ^ 32 + 1022)) (16 * g) few i.late (λ r h.
-          c.second_bits.ensures.bits (15 - r) (omega arith) ∙ c.look_up-chips.ensures.before (15 - r) (omega arith)
-          ∙ chip_before_found c.args.prn (phase + 2 ^ 31) step g r ahead (get_or c.whole_chips.result (15 - r) 0) h small i.ahead (cell r h)));
-      second_half = rw next at (c.with_sixteen-second_half.ensures (λ (n : ℕ). code_phase_after (phase + 2 ^ 31) step n % 2 ^ 32 / 2 ^ 31) (16 * g) few i.second_half (λ r h.
-          c.second_halves.ensures.halves (15 - r) (omega arith) ∙ ap (λ (n : ℕ). n % 2) (half r h) ∙ half_bit part (r * step)
+      ahead = c.in_cycle-ahead-in-loop-group.ensures
+          ∙ ap (λ (s : ℕ). (ahead + 16 * s) % (1023 * 2 ^ 32)) step_is
+          ∙ code_turned (phase + 2 ^ 31) step g ahead i.ahead;
+      early = rw next at (c.with_sixteen-early.ensures
+          (λ (n : ℕ). chip c.args.prn (code_phase_after (phase + 2 ^ 31) step n / 2 ^ 32)) (16 * g)
+          few i.early (λ r h.
+          c.top_bits.ensures.bits (15 - r) (omega arith)
+          ∙ c.look_up-chips.ensures.chips (15 - r) (omega arith)
+          ∙ chip_found c.args.prn (phase + 2 ^ 31) step g r ahead
+          (get_or c.whole_chips.result (15 - r) 0) h small i.ahead (cell r h)));
+      late = rw next at (c.with_sixteen-late.ensures
+          (λ (n : ℕ). chip c.args.prn (code_phase_after (phase + 2 ^ 31) step n / 2 ^ 32 + 1022))
+          (16 * g) few i.late (λ r h.
+          c.second_bits.ensures.bits (15 - r) (omega arith)
+          ∙ c.look_up-chips.ensures.before (15 - r) (omega arith)
+          ∙ chip_before_found c.args.prn (phase + 2 ^ 31) step g r ahead
+          (get_or c.whole_chips.result (15 - r) 0) h small i.ahead (cell r h)));
+      second_half = rw next at (c.with_sixteen-second_half.ensures
+          (λ (n : ℕ). code_phase_after (phase + 2 ^ 31) step n % 2 ^ 32 / 2 ^ 31) (16 * g) few
+          i.second_half (λ r h.
+          c.second_halves.ensures.halves (15 - r) (omega arith) ∙ ap (λ (n : ℕ). n % 2) (half r h)
+          ∙ half_bit part (r * step)
           ∙ half_found (phase + 2 ^ 31) step g r ahead i.ahead));
     }
 
@@ -61,8 +79,11 @@ returns-clause-word c =
           let e : ℕ = c.loop-group.early in
           let l : ℕ = c.loop-group.late in
           let m : ℕ = c.loop-group.second_half in
-          chosen e l m (63 - j) ∙ prompt_between c.args.prn phase step j (bit_at e (63 - j)) (bit_at l (63 - j)) (bit_at m (63 - j)) (bit_at-lt e (63 - j)) (bit_at-lt l (63 - j)) (bit_at-lt m (63 - j))
-          (rw (place j) at (early j h)) (rw (place j) at (late j h)) (rw (place j) at (second_half j h));
+          chosen e l m (63 - j) ∙ prompt_between c.args.prn phase step j (bit_at e (63 - j))
+          (bit_at l (63 - j)) (bit_at m (63 - j)) (bit_at-lt e (63 - j)) (bit_at-lt l (63 - j))
+          (bit_at-lt m (63 - j))
+          (rw (place j) at (early j h)) (rw (place j) at (late j h))
+          (rw (place j) at (second_half j h));
     }
 
 pub returns-clause-moved : goal.returns-clause-moved
