@@ -7,8 +7,8 @@ use Rattle.std.specs.List.{range_with_len}
 use Rattle.std.proofs.lemmas.Bool.{cases_lt, lt-ltb, le-ltb, cond-true, cond-false}
 use Rattle.std.proofs.lemmas.Fmt.{decimal_digit, decimal_step}
 use Rattle.definitions.specs.Fields as fields
-use Rattle.definitions.specs.Fields.{unsigned, bits, health_field, health_fields}
-use Rattle.subframes.specs.Entries.{health_line, health_entry, health_name, named}
+use Rattle.definitions.specs.Fields.{unsigned, bits, place_of, health_field, health_fields}
+use Rattle.subframes.specs.Entries.{health_entry, health_name, named}
 use Rattle.subframes.specs.declared.health.HealthField.{HealthField}
 use Rattle.subframes.specs.declared.health.HealthField.TheVariants as health
 
@@ -33,51 +33,41 @@ all_written a (suc n) h =
     (ap (λ ds. let first = 91 + 30 * (a / 4) + 6 * (a % 4) in unsigned (codes "h" ++ ds) (bits first (first + 5) ∷ []) (pos 0)) (decimal-written (a + 1) (omega arith)))
     (all_written (a + 1) n (omega arith))
 
-abbrev written_fields : List fields.Field
-written_fields = health_line health.Data ∷ health_line health.Sv ∷ health_line health.Toa ∷ health_line health.Wna ∷ map written_field (range_with_len 0 24)
+-- the table of health with the names as they are written
+abbrev pub written_fields : List fields.Field
+written_fields = unsigned (codes "data") (bits 61 62 ∷ []) (pos 0)
+    ∷ unsigned (codes "sv") (bits 63 68 ∷ []) (pos 0)
+    ∷ unsigned (codes "toa") (bits 69 76 ∷ []) (pos 12)
+    ∷ unsigned (codes "wna") (bits 77 84 ∷ []) (pos 0)
+    ∷ map written_field (range_with_len 0 24)
 
 pub health_fields-written : health_fields ≡ written_fields
-health_fields-written = ap (λ fs. health_line health.Data ∷ health_line health.Sv ∷ health_line health.Toa ∷ health_line health.Wna ∷ fs) (all_written 0 24 (omega arith))
+health_fields-written =
+    ap (λ fs. unsigned (codes "data") (bits 61 62 ∷ []) (pos 0)
+    ∷ unsigned (codes "sv") (bits 63 68 ∷ []) (pos 0)
+    ∷ unsigned (codes "toa") (bits 69 76 ∷ []) (pos 12)
+    ∷ unsigned (codes "wna") (bits 77 84 ∷ []) (pos 0) ∷ fs)
+    (all_written 0 24 (omega arith))
 
-health_line-named : (f : HealthField) → health_line f ≡ named written_fields (health_name f)
-health_line-named health.Data = refl
-health_line-named health.Sv = refl
-health_line-named health.Toa = refl
-health_line-named health.Wna = refl
-health_line-named health.H1 = refl
-health_line-named health.H2 = refl
-health_line-named health.H3 = refl
-health_line-named health.H4 = refl
-health_line-named health.H5 = refl
-health_line-named health.H6 = refl
-health_line-named health.H7 = refl
-health_line-named health.H8 = refl
-health_line-named health.H9 = refl
-health_line-named health.H10 = refl
-health_line-named health.H11 = refl
-health_line-named health.H12 = refl
-health_line-named health.H13 = refl
-health_line-named health.H14 = refl
-health_line-named health.H15 = refl
-health_line-named health.H16 = refl
-health_line-named health.H17 = refl
-health_line-named health.H18 = refl
-health_line-named health.H19 = refl
-health_line-named health.H20 = refl
-health_line-named health.H21 = refl
-health_line-named health.H22 = refl
-health_line-named health.H23 = refl
-health_line-named health.H24 = refl
+-- a line, and a place, that is found there by its name
+pub written_line : (f : HealthField) (line : fields.Field)
+    → line ≡ named written_fields (health_name f) → line ≡ health_entry f
+written_line f line e = e ∙ ap (λ table. named table (health_name f)) (sym health_fields-written)
 
-pub health_line-is : (f : HealthField) → health_line f ≡ health_entry f
-health_line-is f = health_line-named f ∙ ap (λ table. named table (health_name f)) (sym health_fields-written)
-
-lines-are : (fs : List HealthField) → map health_entry fs ≡ map health_line fs
-lines-are [] = refl
-lines-are (f ∷ fs) = ap₂ (λ (g : fields.Field) (gs : List fields.Field). g ∷ gs) (sym (health_line-is f)) (lines-are fs)
+pub written_place : (f : HealthField) (place : ℕ)
+    → place ≡ place_of (health_name f) written_fields → place ≡ place_of (health_name f) health_fields
+written_place f place e = e ∙ ap (place_of (health_name f)) (sym health_fields-written)
 
 abbrev in_order : List HealthField
-in_order = health.Data ∷ health.Sv ∷ health.Toa ∷ health.Wna ∷ health.H1 ∷ health.H2 ∷ health.H3 ∷ health.H4 ∷ health.H5 ∷ health.H6 ∷ health.H7 ∷ health.H8 ∷ health.H9 ∷ health.H10 ∷ health.H11 ∷ health.H12 ∷ health.H13 ∷ health.H14 ∷ health.H15 ∷ health.H16 ∷ health.H17 ∷ health.H18 ∷ health.H19 ∷ health.H20 ∷ health.H21 ∷ health.H22 ∷ health.H23 ∷ health.H24 ∷ []
+in_order = health.Data ∷ health.Sv ∷ health.Toa ∷ health.Wna
+    ∷ health.H1 ∷ health.H2 ∷ health.H3 ∷ health.H4 ∷ health.H5 ∷ health.H6
+    ∷ health.H7 ∷ health.H8 ∷ health.H9 ∷ health.H10 ∷ health.H11 ∷ health.H12
+    ∷ health.H13 ∷ health.H14 ∷ health.H15 ∷ health.H16 ∷ health.H17 ∷ health.H18
+    ∷ health.H19 ∷ health.H20 ∷ health.H21 ∷ health.H22 ∷ health.H23 ∷ health.H24 ∷ []
+
+found_in_order : (table : List fields.Field) → table ≡ written_fields
+    → map (λ f. named table (health_name f)) in_order ≡ table
+found_in_order table e = rw e refl
 
 pub entries_in_order : map health_entry in_order ≡ health_fields
-entries_in_order = lines-are in_order ∙ sym health_fields-written
+entries_in_order = found_in_order health_fields health_fields-written

@@ -119,37 +119,6 @@ health_name health.H22 = codes "h22"
 health_name health.H23 = codes "h23"
 health_name health.H24 = codes "h24"
 
--- the lines of the table of health, with the numbers of the names written out
-abbrev pub health_line : HealthField → fields.Field
-health_line health.Data = unsigned (codes "data") (bits 61 62 ∷ []) (pos 0)
-health_line health.Sv = unsigned (codes "sv") (bits 63 68 ∷ []) (pos 0)
-health_line health.Toa = unsigned (codes "toa") (bits 69 76 ∷ []) (pos 12)
-health_line health.Wna = unsigned (codes "wna") (bits 77 84 ∷ []) (pos 0)
-health_line health.H1 = unsigned (codes "h1") (bits 91 96 ∷ []) (pos 0)
-health_line health.H2 = unsigned (codes "h2") (bits 97 102 ∷ []) (pos 0)
-health_line health.H3 = unsigned (codes "h3") (bits 103 108 ∷ []) (pos 0)
-health_line health.H4 = unsigned (codes "h4") (bits 109 114 ∷ []) (pos 0)
-health_line health.H5 = unsigned (codes "h5") (bits 121 126 ∷ []) (pos 0)
-health_line health.H6 = unsigned (codes "h6") (bits 127 132 ∷ []) (pos 0)
-health_line health.H7 = unsigned (codes "h7") (bits 133 138 ∷ []) (pos 0)
-health_line health.H8 = unsigned (codes "h8") (bits 139 144 ∷ []) (pos 0)
-health_line health.H9 = unsigned (codes "h9") (bits 151 156 ∷ []) (pos 0)
-health_line health.H10 = unsigned (codes "h10") (bits 157 162 ∷ []) (pos 0)
-health_line health.H11 = unsigned (codes "h11") (bits 163 168 ∷ []) (pos 0)
-health_line health.H12 = unsigned (codes "h12") (bits 169 174 ∷ []) (pos 0)
-health_line health.H13 = unsigned (codes "h13") (bits 181 186 ∷ []) (pos 0)
-health_line health.H14 = unsigned (codes "h14") (bits 187 192 ∷ []) (pos 0)
-health_line health.H15 = unsigned (codes "h15") (bits 193 198 ∷ []) (pos 0)
-health_line health.H16 = unsigned (codes "h16") (bits 199 204 ∷ []) (pos 0)
-health_line health.H17 = unsigned (codes "h17") (bits 211 216 ∷ []) (pos 0)
-health_line health.H18 = unsigned (codes "h18") (bits 217 222 ∷ []) (pos 0)
-health_line health.H19 = unsigned (codes "h19") (bits 223 228 ∷ []) (pos 0)
-health_line health.H20 = unsigned (codes "h20") (bits 229 234 ∷ []) (pos 0)
-health_line health.H21 = unsigned (codes "h21") (bits 241 246 ∷ []) (pos 0)
-health_line health.H22 = unsigned (codes "h22") (bits 247 252 ∷ []) (pos 0)
-health_line health.H23 = unsigned (codes "h23") (bits 253 258 ∷ []) (pos 0)
-health_line health.H24 = unsigned (codes "h24") (bits 259 264 ∷ []) (pos 0)
-
 -- the entry of a table with a name
 abbrev pub named : List fields.Field → List ℕ → fields.Field
 named table name = unwrap_or (find (λ (f : fields.Field). bytes_eq f.name name) table) (unsigned [] [] (pos 0))

@@ -4,7 +4,8 @@ ghost use Rattle.std.specs.Prelude.{◌≡◌, IsTrue};
 ghost use Rattle.subframes.specs.Entries.{almanac_name, almanac_entry};
 ghost use Rattle.subframes.specs.Layouts.{layout_in, is_readable};
 
-use crate::layout::{Bits, Layout, layout, signed, unsigned};
+use crate::fields::Field;
+use crate::layout::{Bits, Layout, fields_of, layout, layout_of, signed, unsigned};
 
 /// A field of an almanac page (IS-GPS-200, section 20.3.3.5.1.2, table 20-VI).
 #[derive(Clone, Copy, Debug, PartialEq, Eq)]
@@ -37,6 +38,27 @@ pub enum AlmanacField {
     Af1,
 }
 
+/// The table of the field's rows.
+macro_rules! almanac_rows {
+    ($made:ident $($with:tt)*) => {
+        $made! { $($with)* { Almanac AlmanacField
+            Data: unsigned!("data", 61..=62; 0),
+            Sv: unsigned!("sv", 63..=68; 0),
+            E: unsigned!("e", 69..=84; -21),
+            Toa: unsigned!("toa", 91..=98; 12),
+            Di: signed!("di", 99..=114; -19),
+            Omdot: signed!("omdot", 121..=136; -38),
+            Health: unsigned!("health", 137..=144; 0),
+            Sqrta: unsigned!("sqrta", 151..=174; -11),
+            Om0: signed!("om0", 181..=204; -23),
+            W: signed!("w", 211..=234; -23),
+            M0: signed!("m0", 241..=264; -23),
+            Af0: signed!("af0", 271..=278, 290..=292; -20),
+            Af1: signed!("af1", 279..=289; -38),
+        } }
+    };
+}
+
 impl AlmanacField {
     /// Where the field stands, and the power of two of its scale factor. The parts of
     /// af0 stand before and behind af1.
@@ -45,20 +67,9 @@ impl AlmanacField {
         ensures entry { layout_in result ≡ almanac_entry self }
         ensures readable { IsTrue (is_readable (layout_in result)) }
     {
-        match self {
-            AlmanacField::Data => unsigned!("data", 61..=62; 0),
-            AlmanacField::Sv => unsigned!("sv", 63..=68; 0),
-            AlmanacField::E => unsigned!("e", 69..=84; -21),
-            AlmanacField::Toa => unsigned!("toa", 91..=98; 12),
-            AlmanacField::Di => signed!("di", 99..=114; -19),
-            AlmanacField::Omdot => signed!("omdot", 121..=136; -38),
-            AlmanacField::Health => unsigned!("health", 137..=144; 0),
-            AlmanacField::Sqrta => unsigned!("sqrta", 151..=174; -11),
-            AlmanacField::Om0 => signed!("om0", 181..=204; -23),
-            AlmanacField::W => signed!("w", 211..=234; -23),
-            AlmanacField::M0 => signed!("m0", 241..=264; -23),
-            AlmanacField::Af0 => signed!("af0", 271..=278, 290..=292; -20),
-            AlmanacField::Af1 => signed!("af1", 279..=289; -38),
-        }
+        almanac_rows!(layout_of self)
     }
 }
+
+/// The fields in the order of the table.
+pub(crate) static ALMANAC_FIELDS: [Field; 13] = almanac_rows!(fields_of);

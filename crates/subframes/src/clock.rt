@@ -4,7 +4,8 @@ ghost use Rattle.std.specs.Prelude.{◌≡◌, IsTrue};
 ghost use Rattle.subframes.specs.Entries.{clock_name, clock_entry};
 ghost use Rattle.subframes.specs.Layouts.{layout_in, is_readable};
 
-use crate::layout::{Bits, Layout, layout, signed, unsigned};
+use crate::fields::Field;
+use crate::layout::{Bits, Layout, fields_of, layout, layout_of, signed, unsigned};
 
 /// A field of subframe 1, in the table's order (IS-GPS-200, section 20.3.3.3.1, table 20-I).
 #[derive(Clone, Copy, Debug, PartialEq, Eq)]
@@ -33,6 +34,25 @@ pub enum ClockField {
     Af0,
 }
 
+/// The table of the field's rows.
+macro_rules! clock_rows {
+    ($made:ident $($with:tt)*) => {
+        $made! { $($with)* { Clock ClockField
+            Wn: unsigned!("wn", 61..=70; 0),
+            L2: unsigned!("l2", 71..=72; 0),
+            Ura: unsigned!("ura", 73..=76; 0),
+            Health: unsigned!("health", 77..=82; 0),
+            Iodc: unsigned!("iodc", 83..=84, 211..=218; 0),
+            L2p: unsigned!("l2p", 91..=91; 0),
+            Tgd: signed!("tgd", 197..=204; -31),
+            Toc: unsigned!("toc", 219..=234; 4),
+            Af2: signed!("af2", 241..=248; -55),
+            Af1: signed!("af1", 249..=264; -43),
+            Af0: signed!("af0", 271..=292; -31),
+        } }
+    };
+}
+
 impl ClockField {
     /// Where the field stands, and the power of two of its scale factor.
     pub(crate) fn layout(self) -> Layout
@@ -40,18 +60,9 @@ impl ClockField {
         ensures entry { layout_in result ≡ clock_entry self }
         ensures readable { IsTrue (is_readable (layout_in result)) }
     {
-        match self {
-            ClockField::Wn => unsigned!("wn", 61..=70; 0),
-            ClockField::L2 => unsigned!("l2", 71..=72; 0),
-            ClockField::Ura => unsigned!("ura", 73..=76; 0),
-            ClockField::Health => unsigned!("health", 77..=82; 0),
-            ClockField::Iodc => unsigned!("iodc", 83..=84, 211..=218; 0),
-            ClockField::L2p => unsigned!("l2p", 91..=91; 0),
-            ClockField::Tgd => signed!("tgd", 197..=204; -31),
-            ClockField::Toc => unsigned!("toc", 219..=234; 4),
-            ClockField::Af2 => signed!("af2", 241..=248; -55),
-            ClockField::Af1 => signed!("af1", 249..=264; -43),
-            ClockField::Af0 => signed!("af0", 271..=292; -31),
-        }
+        clock_rows!(layout_of self)
     }
 }
+
+/// The fields in the order of the table.
+pub(crate) static CLOCK_FIELDS: [Field; 11] = clock_rows!(fields_of);

@@ -5,7 +5,8 @@ ghost use Rattle.std.specs.Prelude.{◌≡◌, IsTrue};
 ghost use Rattle.subframes.specs.Entries.{eph2_name, eph2_entry, eph3_name, eph3_entry};
 ghost use Rattle.subframes.specs.Layouts.{layout_in, is_readable};
 
-use crate::layout::{Bits, Layout, layout, signed, unsigned};
+use crate::fields::Field;
+use crate::layout::{Bits, Layout, fields_of, layout, layout_of, signed, unsigned};
 
 /// A field of subframe 2, in the order of its bits (IS-GPS-200, section 20.3.3.4.1, table 20-III).
 #[derive(Clone, Copy, Debug, PartialEq, Eq)]
@@ -34,6 +35,25 @@ pub enum Eph2Field {
     Aodo,
 }
 
+/// The table of the field's rows.
+macro_rules! eph2_rows {
+    ($made:ident $($with:tt)*) => {
+        $made! { $($with)* { Eph2 Eph2Field
+            Iode: unsigned!("iode", 61..=68; 0),
+            Crs: signed!("crs", 69..=84; -5),
+            Dn: signed!("dn", 91..=106; -43),
+            M0: signed!("m0", 107..=114, 121..=144; -31),
+            Cuc: signed!("cuc", 151..=166; -29),
+            E: unsigned!("e", 167..=174, 181..=204; -33),
+            Cus: signed!("cus", 211..=226; -29),
+            Sqrta: unsigned!("sqrta", 227..=234, 241..=264; -19),
+            Toe: unsigned!("toe", 271..=286; 4),
+            Fit: unsigned!("fit", 287..=287; 0),
+            Aodo: unsigned!("aodo", 288..=292; 0),
+        } }
+    };
+}
+
 impl Eph2Field {
     /// Where the field stands, and the power of two of its scale factor.
     pub(crate) fn layout(self) -> Layout
@@ -41,21 +61,12 @@ impl Eph2Field {
         ensures entry { layout_in result ≡ eph2_entry self }
         ensures readable { IsTrue (is_readable (layout_in result)) }
     {
-        match self {
-            Eph2Field::Iode => unsigned!("iode", 61..=68; 0),
-            Eph2Field::Crs => signed!("crs", 69..=84; -5),
-            Eph2Field::Dn => signed!("dn", 91..=106; -43),
-            Eph2Field::M0 => signed!("m0", 107..=114, 121..=144; -31),
-            Eph2Field::Cuc => signed!("cuc", 151..=166; -29),
-            Eph2Field::E => unsigned!("e", 167..=174, 181..=204; -33),
-            Eph2Field::Cus => signed!("cus", 211..=226; -29),
-            Eph2Field::Sqrta => unsigned!("sqrta", 227..=234, 241..=264; -19),
-            Eph2Field::Toe => unsigned!("toe", 271..=286; 4),
-            Eph2Field::Fit => unsigned!("fit", 287..=287; 0),
-            Eph2Field::Aodo => unsigned!("aodo", 288..=292; 0),
-        }
+        eph2_rows!(layout_of self)
     }
 }
+
+/// The fields in the order of the table.
+pub(crate) static EPH2_FIELDS: [Field; 11] = eph2_rows!(fields_of);
 
 /// A field of subframe 3, in the order of its bits (IS-GPS-200, section 20.3.3.4.1, table 20-III).
 #[derive(Clone, Copy, Debug, PartialEq, Eq)]
@@ -80,6 +91,23 @@ pub enum Eph3Field {
     Idot,
 }
 
+/// The table of the field's rows.
+macro_rules! eph3_rows {
+    ($made:ident $($with:tt)*) => {
+        $made! { $($with)* { Eph3 Eph3Field
+            Cic: signed!("cic", 61..=76; -29),
+            Om0: signed!("om0", 77..=84, 91..=114; -31),
+            Cis: signed!("cis", 121..=136; -29),
+            I0: signed!("i0", 137..=144, 151..=174; -31),
+            Crc: signed!("crc", 181..=196; -5),
+            W: signed!("w", 197..=204, 211..=234; -31),
+            Omdot: signed!("omdot", 241..=264; -43),
+            Iode: unsigned!("iode3", 271..=278; 0),
+            Idot: signed!("idot", 279..=292; -43),
+        } }
+    };
+}
+
 impl Eph3Field {
     /// Where the field stands, and the power of two of its scale factor.
     pub(crate) fn layout(self) -> Layout
@@ -87,16 +115,9 @@ impl Eph3Field {
         ensures entry { layout_in result ≡ eph3_entry self }
         ensures readable { IsTrue (is_readable (layout_in result)) }
     {
-        match self {
-            Eph3Field::Cic => signed!("cic", 61..=76; -29),
-            Eph3Field::Om0 => signed!("om0", 77..=84, 91..=114; -31),
-            Eph3Field::Cis => signed!("cis", 121..=136; -29),
-            Eph3Field::I0 => signed!("i0", 137..=144, 151..=174; -31),
-            Eph3Field::Crc => signed!("crc", 181..=196; -5),
-            Eph3Field::W => signed!("w", 197..=204, 211..=234; -31),
-            Eph3Field::Omdot => signed!("omdot", 241..=264; -43),
-            Eph3Field::Iode => unsigned!("iode3", 271..=278; 0),
-            Eph3Field::Idot => signed!("idot", 279..=292; -43),
-        }
+        eph3_rows!(layout_of self)
     }
 }
+
+/// The fields in the order of the table.
+pub(crate) static EPH3_FIELDS: [Field; 9] = eph3_rows!(fields_of);

@@ -156,6 +156,24 @@ macro_rules! signed {
     ($($field:tt)*) => { layout!(true, $($field)*) };
 }
 
+/// The line of a field, from the rows of its table.
+macro_rules! layout_of {
+    ($field:tt { $kind:ident $names:ident $($name:ident: $layout:expr,)* }) => {
+        match $field {
+            $($names::$name => $layout,)*
+        }
+    };
+}
+
+/// The fields of some tables, one table behind the other, from their rows.
+macro_rules! fields_of {
+    ($({ $kind:ident $names:ident $($name:ident: $layout:expr,)* })*) => {
+        [$($(Field::$kind($names::$name),)*)*]
+    };
+}
+
+pub(crate) use fields_of;
 pub(crate) use layout;
+pub(crate) use layout_of;
 pub(crate) use signed;
 pub(crate) use unsigned;

@@ -6,12 +6,15 @@ ghost use Rattle.definitions.specs.Pages.{page_of};
 ghost use Rattle.subframes.specs.Entries.{entry_of};
 ghost use Rattle.subframes.specs.PageViews.{kind_in, page_in};
 
+use crate::almanac::ALMANAC_FIELDS;
+use crate::clock::CLOCK_FIELDS;
+use crate::ephemeris::{EPH2_FIELDS, EPH3_FIELDS};
 use crate::fields::Field;
-use crate::kind::{
-    ALMANAC_FIELDS, CLOCK_FIELDS, EPH2_FIELDS, EPH3_FIELDS, HEALTH_FIELDS, Kind, UTC_FIELDS,
-};
+use crate::health::HEALTH_FIELDS;
+use crate::kind::Kind;
 use crate::message::{CHARACTERS, characters};
 use crate::reading::value;
+use crate::utc::UTC_FIELDS;
 use frame_sync::Subframe;
 
 /// The page of a complete subframe: the numbers of its fields in the order of its table, each from
