@@ -66,3 +66,5 @@ impl ClockField {
 
 /// The fields in the order of the table.
 pub(crate) static CLOCK_FIELDS: [Field; 11] = clock_rows!(fields_of);
+
+pub(crate) use clock_rows;

@@ -1,10 +1,12 @@
 //! The two pages of the ephemeris, subframes 2 and 3 (IS-GPS-200, section 20.3.3.4.1, table
 //! 20-III).
 
-ghost use Rattle.std.specs.Prelude.{◌≡◌, IsTrue};
-ghost use Rattle.subframes.specs.Entries.{eph2_name, eph2_entry, eph3_name, eph3_entry};
+ghost use Rattle.std.specs.Prelude.{◌≡◌, ◌++◌, IsTrue, map};
+ghost use Rattle.definitions.specs.Fields.{clock_fields, eph2_fields, eph3_fields};
+ghost use Rattle.subframes.specs.Entries.{entry_of, eph2_name, eph2_entry, eph3_name, eph3_entry};
 ghost use Rattle.subframes.specs.Layouts.{layout_in, is_readable};
 
+use crate::clock::{ClockField, clock_rows};
 use crate::fields::Field;
 use crate::layout::{Bits, Layout, fields_of, layout, layout_of, signed, unsigned};
 
@@ -121,3 +123,15 @@ impl Eph3Field {
 
 /// The fields in the order of the table.
 pub(crate) static EPH3_FIELDS: [Field; 9] = eph3_rows!(fields_of);
+
+/// The fields of a clock and ephemeris.
+static EPHEMERIS_FIELDS: [Field; 31] = clock_rows!(eph2_rows eph3_rows fields_of);
+
+/// The fields of a clock and ephemeris, those of the three pages one behind the other: subframe 1,
+/// subframe 2, subframe 3 (IS-GPS-200, sections 20.3.3.3.1 and 20.3.3.4.1).
+#[tactic(auto, unfolding(crate::specs::Entries::entry_of))]
+pub fn ephemeris_fields() -> &'static [Field]
+    ensures { map entry_of result.now ≡ clock_fields ++ eph2_fields ++ eph3_fields }
+{
+    &EPHEMERIS_FIELDS
+}

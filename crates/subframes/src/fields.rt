@@ -65,11 +65,7 @@ impl Field {
     }
 
     /// Its place among the fields of its kind, from 0.
-    #[tactic(
-        auto,
-        using(crate::proofs::HealthLines::written_place),
-        unfolding(crate::specs::Entries::name_of)
-    )]
+    #[tactic(auto, using(crate::proofs::Written::place), unfolding(crate::specs::Entries::name_of))]
     pub(crate) fn place(self) -> usize
         ensures place { result ≡ place_of (name_of self) (fields_of (kind_with self)) }
         ensures within { result < length (fields_of (kind_with self)) }

@@ -107,7 +107,7 @@ macro_rules! health_rows {
 impl HealthField {
     /// Where the field stands, and the power of two of its scale factor.
     /// Words 4 to 9 have four satellites each.
-    #[tactic(auto, using(crate::proofs::HealthLines::written_line))]
+    #[tactic(auto, using(crate::proofs::Written::line))]
     pub(crate) fn layout(self) -> Layout
         ensures name { result.name.now ≡ health_name self }
         ensures entry { layout_in result ≡ health_entry self }

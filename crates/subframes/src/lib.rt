@@ -31,7 +31,7 @@ mod utc;
 
 pub use almanac::AlmanacField;
 pub use clock::ClockField;
-pub use ephemeris::{Eph2Field, Eph3Field};
+pub use ephemeris::{Eph2Field, Eph3Field, ephemeris_fields};
 pub use fields::Field;
 pub use health::HealthField;
 pub use kind::Kind;

@@ -1,10 +1,11 @@
 //! The page that a subframe holds.
 
-ghost use Rattle.std.specs.Prelude.{◌≡◌, map, option_map};
+ghost use Rattle.std.specs.Prelude.{◌≡◌, length, map, option_map};
 ghost use Rattle.definitions.specs.Fields.{value_of};
 ghost use Rattle.definitions.specs.Pages.{page_of};
 ghost use Rattle.subframes.specs.Entries.{entry_of};
-ghost use Rattle.subframes.specs.PageViews.{kind_in, page_in};
+ghost use Rattle.subframes.specs.PageViews.{kind_in, named_fields_of, page_in};
+ghost use Rattle.subframes.specs.Values.{number_named, numbers_of};
 
 use crate::almanac::ALMANAC_FIELDS;
 use crate::clock::CLOCK_FIELDS;
@@ -70,6 +71,35 @@ impl Page {
             Page::Utc(_) => Kind::Utc,
             Page::Health(_) => Kind::Health,
             Page::Message(_) => Kind::Message,
+        }
+    }
+
+    /// The numbers of its fields, in the order of its kind's [`fields`](Kind::fields). A message has
+    /// none: its characters are no fields.
+    pub fn values(&self) -> &[i64]
+        ensures numbers { result.now ≡ numbers_of (page_in self.now) }
+        ensures one_each { length result.now ≡ length (named_fields_of (page_in self.now).kind) }
+    {
+        match self {
+            Page::Clock(numbers) => numbers,
+            Page::Eph2(numbers) => numbers,
+            Page::Eph3(numbers) => numbers,
+            Page::Almanac(numbers) => numbers,
+            Page::Utc(numbers) => numbers,
+            Page::Health(numbers) => numbers,
+            Page::Message(_) => &[],
+        }
+    }
+
+    /// The number of a field, in units of two to the power of its [`exponent`](Field::exponent), or
+    /// `None` where the page is of another kind.
+    pub fn value(&self, field: Field) -> Option<i64>
+        ensures { result ≡ number_named field (page_in self.now) }
+    {
+        if field.kind() == self.kind() {
+            Some(self.values()[field.place()])
+        } else {
+            None
         }
     }
 }

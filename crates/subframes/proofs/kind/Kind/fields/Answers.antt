@@ -1,7 +1,7 @@
 use Rattle.std.proofs.Common.{sym, ap, ◌∙◌}
 use Rattle.subframes.specs.Entries.{entry_of}
 use Rattle.subframes.specs.PageViews.{kind_in, named_fields_of}
-use Rattle.subframes.proofs.HealthLines.{entries_in_order}
+use Rattle.subframes.proofs.Written.{entries_in_order}
 use Rattle.subframes.proofs.kind.Kind.fields.Goals as goal
 
 pub returns-in-Health : goal.returns-in-Health

@@ -4,7 +4,7 @@ use Rattle.definitions.specs.Fields.{value_of}
 use Rattle.definitions.specs.Pages.{clock, eph2, eph3, almanac, utc, health, message}
 use Rattle.subframes.specs.Entries.{entry_of}
 use Rattle.subframes.specs.PageViews.{kind_in, page_in}
-use Rattle.subframes.proofs.HealthLines.{entries_in_order}
+use Rattle.subframes.proofs.Written.{entries_in_order}
 use Rattle.subframes.proofs.PageSteps.{page_of-incomplete, page_of-unknown, page_of-known}
 use Rattle.subframes.proofs.page.Page.read.Goals as goal
 

@@ -50,13 +50,14 @@ health_fields-written =
     (all_written 0 24 (omega arith))
 
 -- a line, and a place, that is found there by its name
-pub written_line : (f : HealthField) (line : fields.Field)
-    → line ≡ named written_fields (health_name f) → line ≡ health_entry f
-written_line f line e = e ∙ ap (λ table. named table (health_name f)) (sym health_fields-written)
+pub line : (f : HealthField) (found : fields.Field)
+    → found ≡ named written_fields (health_name f) → found ≡ health_entry f
+line f found e = e ∙ ap (λ table. named table (health_name f)) (sym health_fields-written)
 
-pub written_place : (f : HealthField) (place : ℕ)
-    → place ≡ place_of (health_name f) written_fields → place ≡ place_of (health_name f) health_fields
-written_place f place e = e ∙ ap (place_of (health_name f)) (sym health_fields-written)
+pub place : (f : HealthField) (found : ℕ)
+    → found ≡ place_of (health_name f) written_fields
+    → found ≡ place_of (health_name f) health_fields
+place f found e = e ∙ ap (place_of (health_name f)) (sym health_fields-written)
 
 abbrev in_order : List HealthField
 in_order = health.Data ∷ health.Sv ∷ health.Toa ∷ health.Wna
