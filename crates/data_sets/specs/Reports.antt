@@ -7,10 +7,10 @@ use Rattle.definitions.specs.Pages.{almanac, utc, health, message}
 use Rattle.definitions.specs.DataSets as sets
 use Rattle.definitions.specs.DataSets.{ephemeris, single, is_ephemeris}
 use Rattle.subframes.specs.declared.fields.Field.{Field}
-use Rattle.subframes.specs.Entries.{name_of}
+use Rattle.subframes.specs.Entries.{kind_with, name_of}
 use Rattle.subframes.specs.PageViews.{named_fields_of}
 use Rattle.subframes.specs.Values as pages
-use Rattle.subframes.specs.Values.{kind_with, numbers_of}
+use Rattle.subframes.specs.Values.{numbers_of}
 use Rattle.data_sets.specs.declared.report.Report.{Report}
 use Rattle.data_sets.specs.declared.report.Report.TheVariants.{Eph, Alm, Utc, Hlt, Msg}
 

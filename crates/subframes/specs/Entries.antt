@@ -1,7 +1,9 @@
 -- The names of the code's fields, and the entries of the definitions' tables with these names.
-use Rattle.std.specs.Prelude.{ℕ, List, [], ◌∷◌, pos, find, unwrap_or, codes, bytes_eq}
+use Rattle.std.specs.Prelude.{ℕ, List, [], pos, find, unwrap_or, codes, bytes_eq}
 use Rattle.definitions.specs.Fields as fields
-use Rattle.definitions.specs.Fields.{unsigned, bits, clock_fields, eph2_fields, eph3_fields, almanac_fields, utc_fields, health_fields}
+use Rattle.definitions.specs.Fields.{unsigned}
+use Rattle.definitions.specs.Pages as pages
+use Rattle.definitions.specs.Pages.{fields_of}
 use Rattle.subframes.specs.declared.clock.ClockField.TheVariants as clock
 use Rattle.subframes.specs.declared.clock.ClockField.{ClockField}
 use Rattle.subframes.specs.declared.ephemeris.Eph2Field.TheVariants as eph2
@@ -121,25 +123,8 @@ health_name health.H24 = codes "h24"
 
 -- the entry of a table with a name
 abbrev pub named : List fields.Field → List ℕ → fields.Field
-named table name = unwrap_or (find (λ (f : fields.Field). bytes_eq f.name name) table) (unsigned [] [] (pos 0))
-
-abbrev pub clock_entry : ClockField → fields.Field
-clock_entry f = named clock_fields (clock_name f)
-
-abbrev pub eph2_entry : Eph2Field → fields.Field
-eph2_entry f = named eph2_fields (eph2_name f)
-
-abbrev pub eph3_entry : Eph3Field → fields.Field
-eph3_entry f = named eph3_fields (eph3_name f)
-
-abbrev pub almanac_entry : AlmanacField → fields.Field
-almanac_entry f = named almanac_fields (almanac_name f)
-
-abbrev pub utc_entry : UtcField → fields.Field
-utc_entry f = named utc_fields (utc_name f)
-
-abbrev pub health_entry : HealthField → fields.Field
-health_entry f = named health_fields (health_name f)
+named table name =
+    unwrap_or (find (λ (f : fields.Field). bytes_eq f.name name) table) (unsigned [] [] (pos 0))
 
 unfoldable pub name_of : Field → List ℕ
 name_of (Clock f) = clock_name f
@@ -149,11 +134,15 @@ name_of (Almanac f) = almanac_name f
 name_of (Utc f) = utc_name f
 name_of (Health f) = health_name f
 
+-- the kind of the pages that have a field
+abbrev pub kind_with : Field → pages.Kind
+kind_with (Clock f) = pages.clock
+kind_with (Eph2 f) = pages.eph2
+kind_with (Eph3 f) = pages.eph3
+kind_with (Almanac f) = pages.almanac
+kind_with (Utc f) = pages.utc
+kind_with (Health f) = pages.health
+
 -- the entry that a field is
 unfoldable pub entry_of : Field → fields.Field
-entry_of (Clock f) = clock_entry f
-entry_of (Eph2 f) = eph2_entry f
-entry_of (Eph3 f) = eph3_entry f
-entry_of (Almanac f) = almanac_entry f
-entry_of (Utc f) = utc_entry f
-entry_of (Health f) = health_entry f
+entry_of f = named (fields_of (kind_with f)) (name_of f)

@@ -1,20 +1,10 @@
 -- The numbers of a page by the names of their fields.
 use Rattle.std.specs.Prelude.{ℤ, List, [], Option, Some, None, if◌then◌else◌}
 use Rattle.definitions.specs.Pages as pages
-use Rattle.definitions.specs.Pages.{clock, eph2, eph3, almanac, utc, health, message, fields_of}
+use Rattle.definitions.specs.Pages.{message, fields_of}
 use Rattle.definitions.specs.DataSets.{is_of, value_named}
-use Rattle.subframes.specs.Entries.{name_of}
+use Rattle.subframes.specs.Entries.{kind_with, name_of}
 use Rattle.subframes.specs.declared.fields.Field.{Field}
-use Rattle.subframes.specs.declared.fields.Field.TheVariants.{Clock, Eph2, Eph3, Almanac, Utc, Health}
-
--- the kind of the pages that have a field
-abbrev pub kind_with : Field → pages.Kind
-kind_with (Clock f) = clock
-kind_with (Eph2 f) = eph2
-kind_with (Eph3 f) = eph3
-kind_with (Almanac f) = almanac
-kind_with (Utc f) = utc
-kind_with (Health f) = health
 
 -- the numbers of a page's fields. The characters of a message are no fields
 abbrev pub numbers_of : pages.Page → List ℤ

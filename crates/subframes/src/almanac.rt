@@ -1,7 +1,8 @@
 //! An almanac page, in subframe 4 or 5 (IS-GPS-200, section 20.3.3.5.1.2, table 20-VI).
 
 ghost use Rattle.std.specs.Prelude.{◌≡◌, IsTrue};
-ghost use Rattle.subframes.specs.Entries.{almanac_name, almanac_entry};
+ghost use Rattle.definitions.specs.Fields.{almanac_fields};
+ghost use Rattle.subframes.specs.Entries.{almanac_name, named};
 ghost use Rattle.subframes.specs.Layouts.{layout_in, is_readable};
 
 use crate::fields::Field;
@@ -64,7 +65,7 @@ impl AlmanacField {
     /// af0 stand before and behind af1.
     pub(crate) fn layout(self) -> Layout
         ensures name { result.name.now ≡ almanac_name self }
-        ensures entry { layout_in result ≡ almanac_entry self }
+        ensures entry { layout_in result ≡ named almanac_fields (almanac_name self) }
         ensures readable { IsTrue (is_readable (layout_in result)) }
     {
         almanac_rows!(layout_of self)

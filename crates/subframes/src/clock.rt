@@ -1,7 +1,8 @@
 //! The clock page, subframe 1 (IS-GPS-200, section 20.3.3.3.1, table 20-I).
 
 ghost use Rattle.std.specs.Prelude.{◌≡◌, IsTrue};
-ghost use Rattle.subframes.specs.Entries.{clock_name, clock_entry};
+ghost use Rattle.definitions.specs.Fields.{clock_fields};
+ghost use Rattle.subframes.specs.Entries.{clock_name, named};
 ghost use Rattle.subframes.specs.Layouts.{layout_in, is_readable};
 
 use crate::fields::Field;
@@ -57,7 +58,7 @@ impl ClockField {
     /// Where the field stands, and the power of two of its scale factor.
     pub(crate) fn layout(self) -> Layout
         ensures name { result.name.now ≡ clock_name self }
-        ensures entry { layout_in result ≡ clock_entry self }
+        ensures entry { layout_in result ≡ named clock_fields (clock_name self) }
         ensures readable { IsTrue (is_readable (layout_in result)) }
     {
         clock_rows!(layout_of self)

@@ -3,7 +3,7 @@
 
 ghost use Rattle.std.specs.Prelude.{◌≡◌, ◌++◌, IsTrue, map};
 ghost use Rattle.definitions.specs.Fields.{clock_fields, eph2_fields, eph3_fields};
-ghost use Rattle.subframes.specs.Entries.{entry_of, eph2_name, eph2_entry, eph3_name, eph3_entry};
+ghost use Rattle.subframes.specs.Entries.{entry_of, eph2_name, eph3_name, named};
 ghost use Rattle.subframes.specs.Layouts.{layout_in, is_readable};
 
 use crate::clock::{ClockField, clock_rows};
@@ -60,7 +60,7 @@ impl Eph2Field {
     /// Where the field stands, and the power of two of its scale factor.
     pub(crate) fn layout(self) -> Layout
         ensures name { result.name.now ≡ eph2_name self }
-        ensures entry { layout_in result ≡ eph2_entry self }
+        ensures entry { layout_in result ≡ named eph2_fields (eph2_name self) }
         ensures readable { IsTrue (is_readable (layout_in result)) }
     {
         eph2_rows!(layout_of self)
@@ -114,7 +114,7 @@ impl Eph3Field {
     /// Where the field stands, and the power of two of its scale factor.
     pub(crate) fn layout(self) -> Layout
         ensures name { result.name.now ≡ eph3_name self }
-        ensures entry { layout_in result ≡ eph3_entry self }
+        ensures entry { layout_in result ≡ named eph3_fields (eph3_name self) }
         ensures readable { IsTrue (is_readable (layout_in result)) }
     {
         eph3_rows!(layout_of self)
@@ -129,7 +129,7 @@ static EPHEMERIS_FIELDS: [Field; 31] = clock_rows!(eph2_rows eph3_rows fields_of
 
 /// The fields of a clock and ephemeris, those of the three pages one behind the other: subframe 1,
 /// subframe 2, subframe 3 (IS-GPS-200, sections 20.3.3.3.1 and 20.3.3.4.1).
-#[tactic(auto, unfolding(crate::specs::Entries::entry_of))]
+#[tactic(auto, unfolding(crate::specs::Entries::entry_of, crate::specs::Entries::name_of))]
 pub fn ephemeris_fields() -> &'static [Field]
     ensures { map entry_of result.now ≡ clock_fields ++ eph2_fields ++ eph3_fields }
 {

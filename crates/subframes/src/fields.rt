@@ -3,10 +3,9 @@
 ghost use Rattle.std.specs.Prelude.{◌≡◌, ◌<◌, IsTrue, length};
 ghost use Rattle.definitions.specs.Fields.{place_of};
 ghost use Rattle.definitions.specs.Pages.{fields_of};
-ghost use Rattle.subframes.specs.Entries.{entry_of, name_of};
+ghost use Rattle.subframes.specs.Entries.{entry_of, kind_with, name_of};
 ghost use Rattle.subframes.specs.Layouts.{layout_in, is_readable};
 ghost use Rattle.subframes.specs.PageViews.{kind_in};
-ghost use Rattle.subframes.specs.Values.{kind_with};
 
 use crate::almanac::AlmanacField;
 use crate::clock::ClockField;

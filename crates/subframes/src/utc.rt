@@ -2,7 +2,8 @@
 //! sections 20.3.3.5.1.6 and 20.3.3.5.1.7, tables 20-IX and 20-X).
 
 ghost use Rattle.std.specs.Prelude.{◌≡◌, IsTrue};
-ghost use Rattle.subframes.specs.Entries.{utc_name, utc_entry};
+ghost use Rattle.definitions.specs.Fields.{utc_fields};
+ghost use Rattle.subframes.specs.Entries.{utc_name, named};
 ghost use Rattle.subframes.specs.Layouts.{layout_in, is_readable};
 
 use crate::fields::Field;
@@ -79,7 +80,7 @@ impl UtcField {
     /// Where the field stands, and the power of two of its scale factor.
     pub(crate) fn layout(self) -> Layout
         ensures name { result.name.now ≡ utc_name self }
-        ensures entry { layout_in result ≡ utc_entry self }
+        ensures entry { layout_in result ≡ named utc_fields (utc_name self) }
         ensures readable { IsTrue (is_readable (layout_in result)) }
     {
         utc_rows!(layout_of self)
