@@ -9,6 +9,7 @@ use subframes::{Field, Kind, Page, ephemeris_fields};
 
 /// How many fields a clock page has, and how many a subframe 2.
 const CLOCK_FIELDS: usize = 11;
+
 const EPH2_FIELDS: usize = 11;
 
 /// A set of pages or a single page: the numbers of its fields in the order of their tables, or the

@@ -7,7 +7,8 @@ use Rattle.definitions.specs.Fields.{value_of}
 use Rattle.definitions.specs.Pages.{Kind, Page, fields_of, kind_of, page_of}
 
 abbrev page_by : Subframe → Option Kind → Option Page
-page_by s found = option_map (λ k. record { kind = k; values = map (value_of s) (fields_of k) }) found
+page_by s found = option_map
+    (λ k. record { kind = k; values = map (value_of s) (fields_of k) }) found
 
 pub page_of-incomplete : (s : Subframe) → is_complete s ≡ false → None ≡ page_of s
 unfolding page_of
@@ -15,10 +16,13 @@ page_of-incomplete s h = sym (cond-false (is_complete s) (page_by s (kind_of s))
 
 pub page_of-unknown : (s : Subframe) → is_complete s ≡ true → None ≡ kind_of s → None ≡ page_of s
 unfolding page_of
-page_of-unknown s h e = ap (page_by s) e ∙ sym (cond-true (is_complete s) (page_by s (kind_of s)) None h)
+page_of-unknown s h e = ap (page_by s) e
+    ∙ sym (cond-true (is_complete s) (page_by s (kind_of s)) None h)
 
-pub page_of-known : (s : Subframe) (k : Kind) (values : List ℤ) → is_complete s ≡ true → Some k ≡ kind_of s → values ≡ map (value_of s) (fields_of k)
+pub page_of-known : (s : Subframe) (k : Kind) (values : List ℤ) → is_complete s ≡ true
+    → Some k ≡ kind_of s → values ≡ map (value_of s) (fields_of k)
     → Some (record { kind = k; values = values }) ≡ page_of s
 unfolding page_of
 page_of-known s k values h e same =
-    ap (λ vs. Some (record { kind = k; values = vs })) same ∙ ap (page_by s) e ∙ sym (cond-true (is_complete s) (page_by s (kind_of s)) None h)
+    ap (λ vs. Some (record { kind = k; values = vs })) same ∙ ap (page_by s) e
+    ∙ sym (cond-true (is_complete s) (page_by s (kind_of s)) None h)

@@ -1,5 +1,6 @@
 -- The names that the definitions compute for the health of satellites 1 to 24 are the written ones.
-use Rattle.std.proofs.Common.{◌≡◌, ℕ, zero, suc, ◌+◌, ◌/◌, ◌%◌, ◌*◌, ◌<◌, ◌≤◌, List, [], ◌∷◌, ◌++◌, map, refl, sym, ap, ◌∙◌, arith, inl, inr}
+use Rattle.std.proofs.Common.{◌≡◌, ℕ, zero, suc, ◌+◌, ◌/◌, ◌%◌, ◌*◌, ◌<◌, ◌≤◌, List, [], ◌∷◌, ◌++◌}
+use Rattle.std.proofs.Common.{map, refl, sym, ap, ◌∙◌, arith, inl, inr}
 use Rattle.std.proofs.Math.Path.{ap₂}
 use Rattle.std.specs.Prelude.{codes, pos, nat_lt, cond}
 use Rattle.std.specs.Fmt.{decimal}
@@ -18,19 +19,27 @@ written n = cond (nat_lt n 10) ((48 + n) ∷ []) ((48 + n / 10) ∷ (48 + n % 10
 
 decimal-written : (n : ℕ) → n < 100 → decimal n ≡ written n
 decimal-written n h = elim (cases_lt n 10) [
-  | inl below ↦ decimal_digit n below ∙ sym (cond-true (nat_lt n 10) ((48 + n) ∷ []) ((48 + n / 10) ∷ (48 + n % 10) ∷ []) (lt-ltb n 10 below))
-  | inr above ↦ decimal_step n above (omega arith) ∙ ap (λ ds. ds ++ ((48 + n % 10) ∷ [])) (decimal_digit (n / 10) (omega arith))
-      ∙ sym (cond-false (nat_lt n 10) ((48 + n) ∷ []) ((48 + n / 10) ∷ (48 + n % 10) ∷ []) (le-ltb n 10 above))
+  | inl below ↦ decimal_digit n below
+      ∙ sym (cond-true (nat_lt n 10) ((48 + n) ∷ []) ((48 + n / 10) ∷ (48 + n % 10) ∷ [])
+      (lt-ltb n 10 below))
+  | inr above ↦ decimal_step n above (omega arith)
+      ∙ ap (λ ds. ds ++ ((48 + n % 10) ∷ [])) (decimal_digit (n / 10) (omega arith))
+      ∙ sym (cond-false (nat_lt n 10) ((48 + n) ∷ []) ((48 + n / 10) ∷ (48 + n % 10) ∷ [])
+      (le-ltb n 10 above))
 ]
 
 abbrev written_field : ℕ → fields.Field
-written_field k = let first = 91 + 30 * (k / 4) + 6 * (k % 4) in unsigned (codes "h" ++ written (k + 1)) (bits first (first + 5) ∷ []) (pos 0)
+written_field k = let first = 91 + 30 * (k / 4) + 6 * (k % 4) in
+    unsigned (codes "h" ++ written (k + 1)) (bits first (first + 5) ∷ []) (pos 0)
 
-all_written : (a n : ℕ) → a + n ≤ 24 → map health_field (range_with_len a n) ≡ map written_field (range_with_len a n)
+all_written : (a n : ℕ) → a + n ≤ 24
+    → map health_field (range_with_len a n) ≡ map written_field (range_with_len a n)
 all_written a zero h = refl
 all_written a (suc n) h =
     ap₂ (λ (f : fields.Field) (fs : List fields.Field). f ∷ fs)
-    (ap (λ ds. let first = 91 + 30 * (a / 4) + 6 * (a % 4) in unsigned (codes "h" ++ ds) (bits first (first + 5) ∷ []) (pos 0)) (decimal-written (a + 1) (omega arith)))
+    (ap (λ ds. let first = 91 + 30 * (a / 4) + 6 * (a % 4) in
+    unsigned (codes "h" ++ ds) (bits first (first + 5) ∷ []) (pos 0))
+    (decimal-written (a + 1) (omega arith)))
     (all_written (a + 1) n (omega arith))
 
 -- the table of health with the names as they are written

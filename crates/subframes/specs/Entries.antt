@@ -17,7 +17,8 @@ use Rattle.subframes.specs.declared.utc.UtcField.{UtcField}
 use Rattle.subframes.specs.declared.health.HealthField.TheVariants as health
 use Rattle.subframes.specs.declared.health.HealthField.{HealthField}
 use Rattle.subframes.specs.declared.fields.Field.{Field}
-use Rattle.subframes.specs.declared.fields.Field.TheVariants.{Clock, Eph2, Eph3, Almanac, Utc, Health}
+use Rattle.subframes.specs.declared.fields.Field.TheVariants.{Clock, Eph2, Eph3, Almanac, Utc}
+use Rattle.subframes.specs.declared.fields.Field.TheVariants.{Health}
 
 abbrev pub clock_name : ClockField → List ℕ
 clock_name clock.Wn = codes "wn"

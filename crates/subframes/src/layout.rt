@@ -2,7 +2,9 @@
 
 ghost use Rattle.std.specs.Prelude.{◌≡◌, ◌+◌, ◌-◌, ◌/◌, ◌^◌, ◌<◌, ◌≤◌, IsTrue, is_some, sum_by};
 ghost use Rattle.definitions.specs.Fields.{value_of, is_there, word_at_place};
-ghost use Rattle.subframes.specs.Layouts.{bits_in, parts_in, layout_in, size_of, is_in_one_word, is_readable, number_of_bits, number_of_parts};
+ghost use Rattle.subframes.specs.Layouts.{bits_in, parts_in, layout_in, size_of};
+ghost use Rattle.subframes.specs.Layouts.{is_in_one_word, is_readable};
+ghost use Rattle.subframes.specs.Layouts.{number_of_bits, number_of_parts};
 
 use frame_sync::Subframe;
 
