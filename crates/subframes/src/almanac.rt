@@ -6,7 +6,8 @@ ghost use Rattle.subframes.specs.Entries.{almanac_name, named};
 ghost use Rattle.subframes.specs.Layouts.{layout_in, is_readable};
 
 use crate::fields::Field;
-use crate::layout::{Bits, Layout, fields_of, layout, layout_of, signed, unsigned};
+use crate::layout::{Bits, Layout};
+use crate::rows::{fields_of, layout, layout_of, signed, unsigned};
 
 /// A field of an almanac page (IS-GPS-200, section 20.3.3.5.1.2, table 20-VI).
 #[derive(Clone, Copy, Debug, PartialEq, Eq)]
@@ -39,10 +40,10 @@ pub enum AlmanacField {
     Af1,
 }
 
-/// The table of the field's rows.
+/// The rows of table 20-VI: the parts of af0 stand before and behind af1.
 macro_rules! almanac_rows {
-    ($made:ident $($with:tt)*) => {
-        $made! { $($with)* { Almanac AlmanacField
+    ($maker:ident $($given:tt)*) => {
+        $maker! { $($given)* { Almanac(AlmanacField)
             Data: unsigned!("data", 61..=62; 0),
             Sv: unsigned!("sv", 63..=68; 0),
             E: unsigned!("e", 69..=84; -21),
@@ -61,8 +62,7 @@ macro_rules! almanac_rows {
 }
 
 impl AlmanacField {
-    /// Where the field stands, and the power of two of its scale factor. The parts of
-    /// af0 stand before and behind af1.
+    /// Where the field stands, and the power of two of its scale factor.
     pub(crate) fn layout(self) -> Layout
         ensures name { result.name.now ≡ almanac_name self }
         ensures entry { layout_in result ≡ named almanac_fields (almanac_name self) }

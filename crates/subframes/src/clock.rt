@@ -6,7 +6,8 @@ ghost use Rattle.subframes.specs.Entries.{clock_name, named};
 ghost use Rattle.subframes.specs.Layouts.{layout_in, is_readable};
 
 use crate::fields::Field;
-use crate::layout::{Bits, Layout, fields_of, layout, layout_of, signed, unsigned};
+use crate::layout::{Bits, Layout};
+use crate::rows::{fields_of, layout, layout_of, signed, unsigned};
 
 /// A field of subframe 1, in the table's order (IS-GPS-200, section 20.3.3.3.1, table 20-I).
 #[derive(Clone, Copy, Debug, PartialEq, Eq)]
@@ -35,10 +36,10 @@ pub enum ClockField {
     Af0,
 }
 
-/// The table of the field's rows.
+/// The rows of table 20-I.
 macro_rules! clock_rows {
-    ($made:ident $($with:tt)*) => {
-        $made! { $($with)* { Clock ClockField
+    ($maker:ident $($given:tt)*) => {
+        $maker! { $($given)* { Clock(ClockField)
             Wn: unsigned!("wn", 61..=70; 0),
             L2: unsigned!("l2", 71..=72; 0),
             Ura: unsigned!("ura", 73..=76; 0),

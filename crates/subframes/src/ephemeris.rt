@@ -8,7 +8,8 @@ ghost use Rattle.subframes.specs.Layouts.{layout_in, is_readable};
 
 use crate::clock::{ClockField, clock_rows};
 use crate::fields::Field;
-use crate::layout::{Bits, Layout, fields_of, layout, layout_of, signed, unsigned};
+use crate::layout::{Bits, Layout};
+use crate::rows::{fields_of, layout, layout_of, signed, unsigned};
 
 /// A field of subframe 2, in the order of its bits (IS-GPS-200, section 20.3.3.4.1, table 20-III).
 #[derive(Clone, Copy, Debug, PartialEq, Eq)]
@@ -37,10 +38,10 @@ pub enum Eph2Field {
     Aodo,
 }
 
-/// The table of the field's rows.
+/// The rows of table 20-III, subframe 2.
 macro_rules! eph2_rows {
-    ($made:ident $($with:tt)*) => {
-        $made! { $($with)* { Eph2 Eph2Field
+    ($maker:ident $($given:tt)*) => {
+        $maker! { $($given)* { Eph2(Eph2Field)
             Iode: unsigned!("iode", 61..=68; 0),
             Crs: signed!("crs", 69..=84; -5),
             Dn: signed!("dn", 91..=106; -43),
@@ -93,10 +94,10 @@ pub enum Eph3Field {
     Idot,
 }
 
-/// The table of the field's rows.
+/// The rows of table 20-III, subframe 3.
 macro_rules! eph3_rows {
-    ($made:ident $($with:tt)*) => {
-        $made! { $($with)* { Eph3 Eph3Field
+    ($maker:ident $($given:tt)*) => {
+        $maker! { $($given)* { Eph3(Eph3Field)
             Cic: signed!("cic", 61..=76; -29),
             Om0: signed!("om0", 77..=84, 91..=114; -31),
             Cis: signed!("cis", 121..=136; -29),

@@ -6,7 +6,8 @@ ghost use Rattle.subframes.specs.Entries.{health_name, named};
 ghost use Rattle.subframes.specs.Layouts.{layout_in, is_readable};
 
 use crate::fields::Field;
-use crate::layout::{Bits, Layout, fields_of, layout, layout_of, unsigned};
+use crate::layout::{Bits, Layout};
+use crate::rows::{fields_of, layout, layout_of, unsigned};
 
 /// A field of the page with SV ID 51 of subframe 5 (IS-GPS-200, section 20.3.3.5.1.3).
 #[derive(Clone, Copy, Debug, PartialEq, Eq)]
@@ -69,10 +70,10 @@ pub enum HealthField {
     H24,
 }
 
-/// The table of the field's rows.
+/// The rows of the page of health: words 4 to 9 have four satellites each.
 macro_rules! health_rows {
-    ($made:ident $($with:tt)*) => {
-        $made! { $($with)* { Health HealthField
+    ($maker:ident $($given:tt)*) => {
+        $maker! { $($given)* { Health(HealthField)
             Data: unsigned!("data", 61..=62; 0),
             Sv: unsigned!("sv", 63..=68; 0),
             Toa: unsigned!("toa", 69..=76; 12),
@@ -107,7 +108,6 @@ macro_rules! health_rows {
 
 impl HealthField {
     /// Where the field stands, and the power of two of its scale factor.
-    /// Words 4 to 9 have four satellites each.
     #[tactic(auto, using(crate::proofs::Written::line))]
     pub(crate) fn layout(self) -> Layout
         ensures name { result.name.now ≡ health_name self }

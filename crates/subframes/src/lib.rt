@@ -25,6 +25,7 @@ mod layout;
 mod message;
 mod page;
 mod reading;
+mod rows;
 #[cfg(test)]
 mod tests;
 mod utc;

@@ -7,7 +7,8 @@ ghost use Rattle.subframes.specs.Entries.{utc_name, named};
 ghost use Rattle.subframes.specs.Layouts.{layout_in, is_readable};
 
 use crate::fields::Field;
-use crate::layout::{Bits, Layout, fields_of, layout, layout_of, signed, unsigned};
+use crate::layout::{Bits, Layout};
+use crate::rows::{fields_of, layout, layout_of, signed, unsigned};
 
 /// A field of the page with SV ID 56 of subframe 4 (IS-GPS-200, section 20.3.3.5.1.6, table 20-IX).
 #[derive(Clone, Copy, Debug, PartialEq, Eq)]
@@ -50,10 +51,10 @@ pub enum UtcField {
     Dtlsf,
 }
 
-/// The table of the field's rows.
+/// The rows of table 20-IX.
 macro_rules! utc_rows {
-    ($made:ident $($with:tt)*) => {
-        $made! { $($with)* { Utc UtcField
+    ($maker:ident $($given:tt)*) => {
+        $maker! { $($given)* { Utc(UtcField)
             Data: unsigned!("data", 61..=62; 0),
             Sv: unsigned!("sv", 63..=68; 0),
             Al0: signed!("al0", 69..=76; -30),
