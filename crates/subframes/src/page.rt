@@ -4,7 +4,7 @@ ghost use Rattle.std.specs.Prelude.{◌≡◌, length, map, option_map};
 ghost use Rattle.definitions.specs.Fields.{value_of};
 ghost use Rattle.definitions.specs.Pages.{page_of};
 ghost use Rattle.subframes.specs.Entries.{entry_of};
-ghost use Rattle.subframes.specs.PageViews.{kind_in, named_fields_of, page_in};
+ghost use Rattle.subframes.specs.PageViews.{kind_in, named_fields_of, page_as, page_in};
 ghost use Rattle.subframes.specs.Values.{number_named, numbers_of};
 
 use crate::almanac::ALMANAC_FIELDS;
@@ -42,13 +42,22 @@ impl Page {
     /// The page that a subframe holds, by its ID and, in subframes 4 and 5, by its SV ID, whatever
     /// the data ID. `None` where a word is missing or the page is of no [`Kind`] (IS-GPS-200,
     /// section 20.3.3.5.1.1, table 20-V).
+    #[tactic(auto, using(crate::proofs::PageSteps::reading))]
     pub fn read(subframe: &Subframe) -> Option<Page>
         ensures { option_map page_in result ≡ page_of subframe.now }
     {
         if !subframe.complete() {
             return None;
         }
-        Some(match Kind::of(subframe)? {
+        Some(Page::of(Kind::of(subframe)?, subframe))
+    }
+
+    /// The page of a kind that a subframe holds, missing words read as 0.
+    #[tactic(auto, unfolding(crate::specs::Entries::entry_of, crate::specs::Entries::name_of))]
+    fn of(kind: Kind, subframe: &Subframe) -> Page
+        ensures { page_in result ≡ page_as subframe.now (kind_in kind) }
+    {
+        match kind {
             Kind::Clock => Page::Clock(values(subframe, &CLOCK_FIELDS)),
             Kind::Eph2 => Page::Eph2(values(subframe, &EPH2_FIELDS)),
             Kind::Eph3 => Page::Eph3(values(subframe, &EPH3_FIELDS)),
@@ -56,7 +65,7 @@ impl Page {
             Kind::Utc => Page::Utc(values(subframe, &UTC_FIELDS)),
             Kind::Health => Page::Health(values(subframe, &HEALTH_FIELDS)),
             Kind::Message => Page::Message(characters(subframe)),
-        })
+        }
     }
 
     /// The page's kind, whose fields name its values.
