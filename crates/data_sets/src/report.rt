@@ -7,9 +7,10 @@ ghost use Rattle.data_sets.specs.Reports.{place_in_ephemeris};
 
 use subframes::{Field, Kind, Page, ephemeris_fields};
 
-/// How many fields a clock page has, and how many a subframe 2.
+/// How many fields a clock page has.
 const CLOCK_FIELDS: usize = 11;
 
+/// How many fields a subframe 2 has.
 const EPH2_FIELDS: usize = 11;
 
 /// A set of pages or a single page: the numbers of its fields in the order of their tables, or the

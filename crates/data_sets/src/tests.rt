@@ -1,4 +1,5 @@
-//! Reports of pages whose numbers are known. What is expected was worked out by hand from the rules.
+//! Reports of pages whose numbers are known. What is expected was worked out by hand from the
+//! rules.
 
 use crate::{DataSets, Report};
 use frame_sync::Subframe;
@@ -96,8 +97,8 @@ fn low_bits_of_the_issue(rt: HostRuntime) {
     assert_eq!(rt; sets.take(&clock(775)), None);
 }
 
-// No subframe holds an issue below zero, but a page made by hand may. -249 is 7 less 256, so its low
-// eight bits are 7; and of pages that hold 0, -5 and 0 the second is of another issue.
+// No subframe holds an issue below zero, but a page made by hand may. -249 is 7 less 256, so its
+// low eight bits are 7; and of pages that hold 0, -5 and 0 the second is of another issue.
 #[test]
 fn issues_below_zero(rt: HostRuntime) {
     for (issues, is_set) in [

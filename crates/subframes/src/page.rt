@@ -83,8 +83,8 @@ impl Page {
         }
     }
 
-    /// The numbers of its fields, in the order of its kind's [`fields`](Kind::fields). A message has
-    /// none: its characters are no fields.
+    /// The numbers of its fields, in the order of its kind's [`fields`](Kind::fields). A message
+    /// has none: its characters are no fields.
     pub fn values(&self) -> &[i64]
         ensures numbers { result.now ≡ numbers_of (page_in self.now) }
         ensures one_each { length result.now ≡ length (named_fields_of (page_in self.now).kind) }
