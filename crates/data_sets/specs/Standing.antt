@@ -1,7 +1,8 @@
 -- What is kept stands for the pages so far.
 use Rattle.std.specs.Prelude.{◌≡◌, Bool, ℤ, List, Option, option_map}
 use Rattle.definitions.specs.Pages.{Kind, clock, eph2, eph3, Page}
-use Rattle.definitions.specs.DataSets.{is_of, last_page, belong_together, joined, ephemerides, reported_so_far}
+use Rattle.definitions.specs.DataSets.{is_of, last_page, belong_together, joined, ephemerides}
+use Rattle.definitions.specs.DataSets.{reported_so_far}
 use Rattle.data_sets.specs.declared.last_pages.LastPages.{LastPages}
 use Rattle.data_sets.specs.declared.ephemerides.Ephemerides.{Ephemerides}
 use Rattle.data_sets.specs.declared.data_sets.DataSets.{DataSets}
@@ -33,8 +34,10 @@ page_with kind values = record { kind = kind; values = values }
 
 -- the values of a clock page and of both ephemeris pages belong together
 abbrev pub are_of_one_issue : List ℤ → List ℤ → List ℤ → Bool
-are_of_one_issue c e2 e3 = belong_together (page_with clock c) (page_with eph2 e2) (page_with eph3 e3)
+are_of_one_issue c e2 e3 =
+    belong_together (page_with clock c) (page_with eph2 e2) (page_with eph3 e3)
 
 -- the values of all three, where these are there and belong together
 abbrev pub set_in : LastPages → Option (List ℤ)
-set_in last = joined (option_map (page_with clock) last.clock) (option_map (page_with eph2) last.eph2) (option_map (page_with eph3) last.eph3)
+set_in last = joined (option_map (page_with clock) last.clock) (option_map
+    (page_with eph2) last.eph2) (option_map (page_with eph3) last.eph3)

@@ -13,10 +13,10 @@ use subframes::Page;
 /// What is kept of a channel's pages to tell what the next one makes reported.
 ///
 /// A clock page and the two ephemeris pages (subframes 1, 2 and 3) belong together where the low
-/// eight bits of the clock's issue of data are the issue of data of both others (IS-GPS-200, section
-/// 20.3.3.4.1). When their set is reported is this project's own: with each page of the three kinds
-/// the last of each are looked at, and they are reported where they belong together and differ in
-/// any number from the set that was reported last, or none was. A report uses no page up.
+/// eight bits of the clock's issue of data are the issue of data of both others (IS-GPS-200,
+/// section 20.3.3.4.1). When their set is reported is this project's own. With each page of the
+/// three kinds the last of each are looked at. They are reported where they belong together and
+/// differ in any number from the set that was reported last, or none was. A report uses no page up.
 #[derive(Debug, Drop)]
 pub struct DataSets {
     ephemerides: Ephemerides,
@@ -34,8 +34,9 @@ impl DataSets {
         }
     }
 
-    /// Takes the next page and gives what it makes reported: with a clock or ephemeris page the set,
-    /// if there is a new one, and with any other page that page. There may be any number of pages.
+    /// Takes the next page and gives what it makes reported: with a clock or ephemeris page the
+    /// set, if there is a new one, and with any other page that page. There may be any number of
+    /// pages.
     #[tactic(auto, unfolding(crate::specs::Standing::StandsFor))]
     pub fn take(&mut self, page: &Page) -> Option<Report>
         ensures stands { (pages : List DefinedPage) → StandsFor pages self.old

@@ -43,8 +43,8 @@ impl Ephemerides {
         }
     }
 
-    /// Gives the set that is there now, if one is, where it differs from the one reported last, which
-    /// it is from then on.
+    /// Gives the set that is there now, if one is, where it differs from the one reported last. It
+    /// is the one reported last from then on.
     fn report(&mut self, set: Option<[i64; 31]>) -> Option<[i64; 31]>
         ensures set { result ≡ differing self.old.reported set }
         ensures reported { self.new.reported ≡ later self.old.reported result }

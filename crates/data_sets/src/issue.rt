@@ -4,14 +4,16 @@
 ghost use Rattle.std.specs.Prelude.{◌≡◌, ◌++◌};
 ghost use Rattle.data_sets.specs.Standing.{are_of_one_issue};
 
+use subframes::{ClockField, Eph2Field, Eph3Field};
+
 /// Where the issue of data stands among the numbers of a clock page (ten bits).
-const IODC: usize = 4;
+const IODC: usize = ClockField::Iodc as usize;
 
 /// Where it stands among those of a subframe 2 (eight bits).
-const IODE: usize = 0;
+const IODE: usize = Eph2Field::Iode as usize;
 
 /// Where it stands among those of a subframe 3 (eight bits).
-const IODE3: usize = 7;
+const IODE3: usize = Eph3Field::Iode as usize;
 
 /// Says whether the low eight bits of the clock's issue of data are that of both ephemeris pages.
 /// For a number below 0, which no subframe holds, they are its remainder modulo 256, from 0 up.

@@ -1,5 +1,18 @@
 //! What a page makes reported.
 
+ghost use Rattle.std.specs.Prelude.{◌≡◌, ◌<◌, IfSome, length, map};
+ghost use Rattle.subframes.specs.Entries.{entry_of};
+ghost use Rattle.data_sets.specs.Reports.{fields_in, number_named, numbers_in, report_in};
+ghost use Rattle.data_sets.specs.Reports.{place_in_ephemeris};
+
+use subframes::{Field, Kind, Page, ephemeris_fields};
+
+/// How many fields a clock page has.
+const CLOCK_FIELDS: usize = 11;
+
+/// How many fields a subframe 2 has.
+const EPH2_FIELDS: usize = 11;
+
 /// A set of pages or a single page: the numbers of its fields in the order of their tables, or the
 /// characters of its message (IS-GPS-200, section 20.3.3).
 #[derive(Clone, Copy, Debug, PartialEq, Eq)]
@@ -15,4 +28,61 @@ pub enum Report {
     Hlt([i64; 28]),
     /// The characters of a special message, as they are sent (section 20.3.3.5.1.8).
     Msg([u8; 22]),
+}
+
+impl Report {
+    /// The fields whose numbers are reported, in their order. The characters of a message are none.
+    pub fn fields(&self) -> &'static [Field]
+        ensures { map entry_of result.now ≡ fields_in (report_in self.now) }
+    {
+        match self {
+            Report::Eph(_) => ephemeris_fields(),
+            Report::Alm(_) => Kind::Almanac.fields(),
+            Report::Utc(_) => Kind::Utc.fields(),
+            Report::Hlt(_) => Kind::Health.fields(),
+            Report::Msg(_) => Kind::Message.fields(),
+        }
+    }
+
+    /// The numbers of the report's [`fields`](Report::fields), in their order.
+    pub fn values(&self) -> &[i64]
+        ensures numbers { result.now ≡ numbers_in (report_in self.now) }
+        ensures one_each { length result.now ≡ length (fields_in (report_in self.now)) }
+    {
+        match self {
+            Report::Eph(numbers) => numbers,
+            Report::Alm(numbers) => numbers,
+            Report::Utc(numbers) => numbers,
+            Report::Hlt(numbers) => numbers,
+            Report::Msg(_) => &[],
+        }
+    }
+
+    /// The number of a field, in units of two to the power of its [`exponent`](Field::exponent), or
+    /// `None` where the report doesn't have it.
+    pub fn value(&self, field: Field) -> Option<i64>
+        ensures { result ≡ number_named field (report_in self.now) }
+    {
+        match self {
+            Report::Eph(numbers) => Some(numbers[place(field)?]),
+            Report::Alm(numbers) => Page::Almanac(*numbers).value(field),
+            Report::Utc(numbers) => Page::Utc(*numbers).value(field),
+            Report::Hlt(numbers) => Page::Health(*numbers).value(field),
+            Report::Msg(_) => None,
+        }
+    }
+}
+
+/// The place of a field among those of a clock and ephemeris, from 0, if it is one of them.
+#[tactic(auto, unfolding(subframes::specs::Entries::name_of))]
+fn place(field: Field) -> Option<usize>
+    ensures place { result ≡ place_in_ephemeris field }
+    ensures within { IfSome result (λ place. place < 31) }
+{
+    match field {
+        Field::Clock(field) => Some(field as usize),
+        Field::Eph2(field) => Some(CLOCK_FIELDS + field as usize),
+        Field::Eph3(field) => Some(CLOCK_FIELDS + EPH2_FIELDS + field as usize),
+        _ => None,
+    }
 }

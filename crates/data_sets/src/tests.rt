@@ -1,9 +1,12 @@
-//! Reports of pages whose numbers are known. What is expected was worked out by hand from the rules.
+//! Reports of pages whose numbers are known. What is expected was worked out by hand from the
+//! rules.
 
 use crate::{DataSets, Report};
 use frame_sync::Subframe;
 use std::process::Abort;
-use subframes::Page;
+use subframes::{
+    AlmanacField, ClockField, Eph2Field, Eph3Field, Field, HealthField, Page, UtcField,
+};
 
 // Where the issues of data stand among the 31 numbers of a set: value 4 of the 11 of subframe 1,
 // value 0 of the 11 of subframe 2, and value 7 of the 9 of subframe 3.
@@ -96,8 +99,8 @@ fn low_bits_of_the_issue(rt: HostRuntime) {
     assert_eq!(rt; sets.take(&clock(775)), None);
 }
 
-// No subframe holds an issue below zero, but a page made by hand may. -249 is 7 less 256, so its low
-// eight bits are 7; and of pages that hold 0, -5 and 0 the second is of another issue.
+// No subframe holds an issue below zero, but a page made by hand may. -249 is 7 less 256, so its
+// low eight bits are 7; and of pages that hold 0, -5 and 0 the second is of another issue.
 #[test]
 fn issues_below_zero(rt: HostRuntime) {
     for (issues, is_set) in [
@@ -174,6 +177,69 @@ fn other_pages_each_time(rt: HostRuntime) {
         Some(Report::Alm(almanac))
     );
     assert_eq!(rt; sets.take(&eph3(7)), None);
+}
+
+// By its name each of the 31 numbers of a set is that of its page: 268 is 256 + 12.
+#[test]
+fn values_by_name(rt: HostRuntime) {
+    let mut sets = DataSets::new();
+    let _ = sets.take(&Page::Clock([1, 2, 3, 4, 268, 6, 7, 8, 9, 10, 11]));
+    let _ = sets.take(&Page::Eph2([12, 13, 14, 15, 16, 17, 18, 19, 20, 21, 22]));
+    let report = sets.take(&Page::Eph3([23, 24, 25, 26, 27, 28, 29, 12, 31]));
+    let set = report.expect(&rt, "a set");
+    for (field, expected) in [
+        (Field::Clock(ClockField::Wn), Some(1)),
+        (Field::Clock(ClockField::Iodc), Some(268)),
+        (Field::Clock(ClockField::Af0), Some(11)),
+        (Field::Eph2(Eph2Field::Iode), Some(12)),
+        (Field::Eph2(Eph2Field::E), Some(17)),
+        (Field::Eph2(Eph2Field::Aodo), Some(22)),
+        (Field::Eph3(Eph3Field::Cic), Some(23)),
+        (Field::Eph3(Eph3Field::Iode), Some(12)),
+        (Field::Eph3(Eph3Field::Idot), Some(31)),
+        (Field::Almanac(AlmanacField::E), None),
+        (Field::Health(HealthField::Toa), None),
+    ] {
+        assert_eq!(rt; set.value(field), expected, "at {}", field.name());
+    }
+    for (field, number) in set.fields().iter().zip(set.values()) {
+        assert_eq!(rt; set.value(*field), Some(*number), "at {}", field.name());
+    }
+    assert_eq!(rt; set.fields().len(), 31);
+}
+
+// A single page says by its fields' names what it says as a page, and a message nothing.
+#[test]
+fn values_of_single_pages(rt: HostRuntime) {
+    let mut sets = DataSets::new();
+    let almanac = [1, 5, 0, 7, -1, 0, 63, 0, 0, 0, -8_388_608, 0, 1];
+    let report = sets.take(&Page::Almanac(almanac)).expect(&rt, "a report");
+    for (field, expected) in [
+        (Field::Almanac(AlmanacField::Sv), Some(5)),
+        (Field::Almanac(AlmanacField::Health), Some(63)),
+        (Field::Almanac(AlmanacField::M0), Some(-8_388_608)),
+        (Field::Almanac(AlmanacField::Af1), Some(1)),
+        (Field::Eph2(Eph2Field::M0), None),
+    ] {
+        assert_eq!(rt; report.value(field), expected, "at {}", field.name());
+    }
+    assert_eq!(rt; report.values(), almanac.as_slice());
+
+    let utc = Report::Utc([1, 56, -1, 2, 3, 4, 5, 6, 7, 8, 9, 10, 11, 12, 18, 13, 7, 19]);
+    assert_eq!(rt; utc.value(Field::Utc(UtcField::Dtls)), Some(18));
+    assert_eq!(rt; utc.value(Field::Utc(UtcField::Dtlsf)), Some(19));
+    assert_eq!(rt; utc.fields().len(), 18);
+
+    let mut health = [0; 28];
+    health[27] = 63;
+    let health = Report::Hlt(health);
+    assert_eq!(rt; health.value(Field::Health(HealthField::H24)), Some(63));
+    assert_eq!(rt; health.fields().len(), 28);
+
+    let message = Report::Msg(*b"GPS L1 C/A TEST, 22 CH");
+    assert_eq!(rt; message.value(Field::Health(HealthField::H24)), None);
+    assert_eq!(rt; message.values().len(), 0);
+    assert_eq!(rt; message.fields().len(), 0);
 }
 
 /// The clock page of an issue whose other numbers are 0.

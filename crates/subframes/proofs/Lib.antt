@@ -1,5 +1,5 @@
 pub mod Numbers
 pub mod Parts
 pub mod Presence
-pub mod HealthLines
+pub mod Written
 pub mod PageSteps

@@ -1,7 +1,9 @@
 -- The names of the code's fields, and the entries of the definitions' tables with these names.
-use Rattle.std.specs.Prelude.{ℕ, List, [], ◌∷◌, pos, find, unwrap_or, codes, bytes_eq}
+use Rattle.std.specs.Prelude.{ℕ, List, [], pos, find, unwrap_or, codes, bytes_eq}
 use Rattle.definitions.specs.Fields as fields
-use Rattle.definitions.specs.Fields.{unsigned, bits, clock_fields, eph2_fields, eph3_fields, almanac_fields, utc_fields, health_fields}
+use Rattle.definitions.specs.Fields.{unsigned}
+use Rattle.definitions.specs.Pages as pages
+use Rattle.definitions.specs.Pages.{fields_of}
 use Rattle.subframes.specs.declared.clock.ClockField.TheVariants as clock
 use Rattle.subframes.specs.declared.clock.ClockField.{ClockField}
 use Rattle.subframes.specs.declared.ephemeris.Eph2Field.TheVariants as eph2
@@ -15,7 +17,8 @@ use Rattle.subframes.specs.declared.utc.UtcField.{UtcField}
 use Rattle.subframes.specs.declared.health.HealthField.TheVariants as health
 use Rattle.subframes.specs.declared.health.HealthField.{HealthField}
 use Rattle.subframes.specs.declared.fields.Field.{Field}
-use Rattle.subframes.specs.declared.fields.Field.TheVariants.{Clock, Eph2, Eph3, Almanac, Utc, Health}
+use Rattle.subframes.specs.declared.fields.Field.TheVariants.{Clock, Eph2, Eph3, Almanac, Utc}
+use Rattle.subframes.specs.declared.fields.Field.TheVariants.{Health}
 
 abbrev pub clock_name : ClockField → List ℕ
 clock_name clock.Wn = codes "wn"
@@ -119,58 +122,10 @@ health_name health.H22 = codes "h22"
 health_name health.H23 = codes "h23"
 health_name health.H24 = codes "h24"
 
--- the lines of the table of health, with the numbers of the names written out
-abbrev pub health_line : HealthField → fields.Field
-health_line health.Data = unsigned (codes "data") (bits 61 62 ∷ []) (pos 0)
-health_line health.Sv = unsigned (codes "sv") (bits 63 68 ∷ []) (pos 0)
-health_line health.Toa = unsigned (codes "toa") (bits 69 76 ∷ []) (pos 12)
-health_line health.Wna = unsigned (codes "wna") (bits 77 84 ∷ []) (pos 0)
-health_line health.H1 = unsigned (codes "h1") (bits 91 96 ∷ []) (pos 0)
-health_line health.H2 = unsigned (codes "h2") (bits 97 102 ∷ []) (pos 0)
-health_line health.H3 = unsigned (codes "h3") (bits 103 108 ∷ []) (pos 0)
-health_line health.H4 = unsigned (codes "h4") (bits 109 114 ∷ []) (pos 0)
-health_line health.H5 = unsigned (codes "h5") (bits 121 126 ∷ []) (pos 0)
-health_line health.H6 = unsigned (codes "h6") (bits 127 132 ∷ []) (pos 0)
-health_line health.H7 = unsigned (codes "h7") (bits 133 138 ∷ []) (pos 0)
-health_line health.H8 = unsigned (codes "h8") (bits 139 144 ∷ []) (pos 0)
-health_line health.H9 = unsigned (codes "h9") (bits 151 156 ∷ []) (pos 0)
-health_line health.H10 = unsigned (codes "h10") (bits 157 162 ∷ []) (pos 0)
-health_line health.H11 = unsigned (codes "h11") (bits 163 168 ∷ []) (pos 0)
-health_line health.H12 = unsigned (codes "h12") (bits 169 174 ∷ []) (pos 0)
-health_line health.H13 = unsigned (codes "h13") (bits 181 186 ∷ []) (pos 0)
-health_line health.H14 = unsigned (codes "h14") (bits 187 192 ∷ []) (pos 0)
-health_line health.H15 = unsigned (codes "h15") (bits 193 198 ∷ []) (pos 0)
-health_line health.H16 = unsigned (codes "h16") (bits 199 204 ∷ []) (pos 0)
-health_line health.H17 = unsigned (codes "h17") (bits 211 216 ∷ []) (pos 0)
-health_line health.H18 = unsigned (codes "h18") (bits 217 222 ∷ []) (pos 0)
-health_line health.H19 = unsigned (codes "h19") (bits 223 228 ∷ []) (pos 0)
-health_line health.H20 = unsigned (codes "h20") (bits 229 234 ∷ []) (pos 0)
-health_line health.H21 = unsigned (codes "h21") (bits 241 246 ∷ []) (pos 0)
-health_line health.H22 = unsigned (codes "h22") (bits 247 252 ∷ []) (pos 0)
-health_line health.H23 = unsigned (codes "h23") (bits 253 258 ∷ []) (pos 0)
-health_line health.H24 = unsigned (codes "h24") (bits 259 264 ∷ []) (pos 0)
-
 -- the entry of a table with a name
 abbrev pub named : List fields.Field → List ℕ → fields.Field
-named table name = unwrap_or (find (λ (f : fields.Field). bytes_eq f.name name) table) (unsigned [] [] (pos 0))
-
-abbrev pub clock_entry : ClockField → fields.Field
-clock_entry f = named clock_fields (clock_name f)
-
-abbrev pub eph2_entry : Eph2Field → fields.Field
-eph2_entry f = named eph2_fields (eph2_name f)
-
-abbrev pub eph3_entry : Eph3Field → fields.Field
-eph3_entry f = named eph3_fields (eph3_name f)
-
-abbrev pub almanac_entry : AlmanacField → fields.Field
-almanac_entry f = named almanac_fields (almanac_name f)
-
-abbrev pub utc_entry : UtcField → fields.Field
-utc_entry f = named utc_fields (utc_name f)
-
-abbrev pub health_entry : HealthField → fields.Field
-health_entry f = named health_fields (health_name f)
+named table name =
+    unwrap_or (find (λ (f : fields.Field). bytes_eq f.name name) table) (unsigned [] [] (pos 0))
 
 unfoldable pub name_of : Field → List ℕ
 name_of (Clock f) = clock_name f
@@ -180,11 +135,15 @@ name_of (Almanac f) = almanac_name f
 name_of (Utc f) = utc_name f
 name_of (Health f) = health_name f
 
+-- the kind of the pages that have a field
+abbrev pub kind_with : Field → pages.Kind
+kind_with (Clock f) = pages.clock
+kind_with (Eph2 f) = pages.eph2
+kind_with (Eph3 f) = pages.eph3
+kind_with (Almanac f) = pages.almanac
+kind_with (Utc f) = pages.utc
+kind_with (Health f) = pages.health
+
 -- the entry that a field is
 unfoldable pub entry_of : Field → fields.Field
-entry_of (Clock f) = clock_entry f
-entry_of (Eph2 f) = eph2_entry f
-entry_of (Eph3 f) = eph3_entry f
-entry_of (Almanac f) = almanac_entry f
-entry_of (Utc f) = utc_entry f
-entry_of (Health f) = health_entry f
+entry_of f = named (fields_of (kind_with f)) (name_of f)

@@ -1,5 +1,7 @@
--- Lines of the code's tables in the words of the definitions, and those that can be read a word at a time.
-use Rattle.std.specs.Prelude.{ℕ, ◌+◌, ◌-◌, ◌/◌, ◌%◌, ◌==◌, ◌&&◌, Bool, nat_le, nat_lt, sum_by, List, [], ◌∷◌, map, Option, Some, None}
+-- Lines of the code's tables in the words of the definitions, and those that can be read a word at
+-- a time.
+use Rattle.std.specs.Prelude.{ℕ, ◌+◌, ◌-◌, ◌/◌, ◌%◌, ◌==◌, ◌&&◌, Bool, nat_le, nat_lt, sum_by, List}
+use Rattle.std.specs.Prelude.{[], ◌∷◌, map, Option, Some, None}
 use Rattle.std.specs.Int.Digits.{number_from_digits}
 use Rattle.std.specs.List.{list_all}
 use Rattle.definitions.specs.Frames.{Subframe}
@@ -16,14 +18,21 @@ parts_in head None = bits_in head ∷ []
 parts_in head (Some tail) = bits_in head ∷ bits_in tail ∷ []
 
 abbrev pub layout_in : Layout → fields.Field
-layout_in l = record { name = l.name.now; parts = parts_in l.head l.tail; is_signed = l.is_signed; exponent = l.exponent }
+layout_in l = record {
+  name = l.name.now;
+  parts = parts_in l.head l.tail;
+  is_signed =
+      l.is_signed;
+  exponent = l.exponent;
+}
 
 abbrev pub size_of : fields.Bits → ℕ
 size_of b = b.last + 1 - b.first
 
 -- whether they are data bits of one word
 abbrev pub is_in_one_word : fields.Bits → Bool
-is_in_one_word b = nat_le 1 b.first && nat_le b.first b.last && nat_le b.last 300 && ((b.first - 1) / 30 == (b.last - 1) / 30) && nat_lt ((b.last - 1) % 30) 24
+is_in_one_word b = nat_le 1 b.first && nat_le b.first b.last && nat_le b.last 300
+    && ((b.first - 1) / 30 == (b.last - 1) / 30) && nat_lt ((b.last - 1) % 30) 24
 
 -- whether each part is, and at most 32 bits are in all of them
 abbrev pub is_readable : fields.Field → Bool

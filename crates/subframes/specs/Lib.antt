@@ -1,3 +1,4 @@
 pub mod Layouts
 pub mod Entries
 pub mod PageViews
+pub mod Values

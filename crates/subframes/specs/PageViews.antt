@@ -1,6 +1,8 @@
 -- Kinds and pages in the words of the definitions.
 use Rattle.std.specs.Prelude.{pos, List, [], map}
 use Rattle.definitions.specs.Fields as fields
+use Rattle.definitions.specs.Fields.{value_of}
+use Rattle.definitions.specs.Frames.{Subframe}
 use Rattle.definitions.specs.Pages as pages
 use Rattle.definitions.specs.Pages.{clock, eph2, eph3, almanac, utc, health, message, fields_of}
 use Rattle.subframes.specs.declared.kind.Kind.{Kind}
@@ -35,3 +37,7 @@ page_in (shown.Almanac values) = record { kind = almanac; values = values }
 page_in (shown.Utc values) = record { kind = utc; values = values }
 page_in (shown.Health values) = record { kind = health; values = values }
 page_in (shown.Message characters) = record { kind = message; values = map (λ c. pos c) characters }
+
+-- the page of a kind that a subframe holds, missing words read as 0
+abbrev pub page_as : Subframe → pages.Kind → pages.Page
+page_as s kind = record { kind = kind; values = map (value_of s) (fields_of kind) }

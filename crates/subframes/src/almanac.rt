@@ -1,10 +1,13 @@
 //! An almanac page, in subframe 4 or 5 (IS-GPS-200, section 20.3.3.5.1.2, table 20-VI).
 
 ghost use Rattle.std.specs.Prelude.{◌≡◌, IsTrue};
-ghost use Rattle.subframes.specs.Entries.{almanac_name, almanac_entry};
+ghost use Rattle.definitions.specs.Fields.{almanac_fields};
+ghost use Rattle.subframes.specs.Entries.{almanac_name, named};
 ghost use Rattle.subframes.specs.Layouts.{layout_in, is_readable};
 
-use crate::layout::{Bits, Layout, layout, signed, unsigned};
+use crate::fields::Field;
+use crate::layout::{Bits, Layout};
+use crate::rows::{fields_of, layout, layout_of, signed, unsigned};
 
 /// A field of an almanac page (IS-GPS-200, section 20.3.3.5.1.2, table 20-VI).
 #[derive(Clone, Copy, Debug, PartialEq, Eq)]
@@ -37,28 +40,37 @@ pub enum AlmanacField {
     Af1,
 }
 
+/// The rows of table 20-VI: the parts of af0 stand before and behind af1.
+macro_rules! almanac_rows {
+    ($maker:ident $($given:tt)*) => {
+        $maker! { $($given)* { Almanac(AlmanacField)
+            Data: unsigned!("data", 61..=62; 0),
+            Sv: unsigned!("sv", 63..=68; 0),
+            E: unsigned!("e", 69..=84; -21),
+            Toa: unsigned!("toa", 91..=98; 12),
+            Di: signed!("di", 99..=114; -19),
+            Omdot: signed!("omdot", 121..=136; -38),
+            Health: unsigned!("health", 137..=144; 0),
+            Sqrta: unsigned!("sqrta", 151..=174; -11),
+            Om0: signed!("om0", 181..=204; -23),
+            W: signed!("w", 211..=234; -23),
+            M0: signed!("m0", 241..=264; -23),
+            Af0: signed!("af0", 271..=278, 290..=292; -20),
+            Af1: signed!("af1", 279..=289; -38),
+        } }
+    };
+}
+
 impl AlmanacField {
-    /// Where the field stands, and the power of two of its scale factor. The parts of
-    /// af0 stand before and behind af1.
+    /// Where the field stands, and the power of two of its scale factor.
     pub(crate) fn layout(self) -> Layout
         ensures name { result.name.now ≡ almanac_name self }
-        ensures entry { layout_in result ≡ almanac_entry self }
+        ensures entry { layout_in result ≡ named almanac_fields (almanac_name self) }
         ensures readable { IsTrue (is_readable (layout_in result)) }
     {
-        match self {
-            AlmanacField::Data => unsigned!("data", 61..=62; 0),
-            AlmanacField::Sv => unsigned!("sv", 63..=68; 0),
-            AlmanacField::E => unsigned!("e", 69..=84; -21),
-            AlmanacField::Toa => unsigned!("toa", 91..=98; 12),
-            AlmanacField::Di => signed!("di", 99..=114; -19),
-            AlmanacField::Omdot => signed!("omdot", 121..=136; -38),
-            AlmanacField::Health => unsigned!("health", 137..=144; 0),
-            AlmanacField::Sqrta => unsigned!("sqrta", 151..=174; -11),
-            AlmanacField::Om0 => signed!("om0", 181..=204; -23),
-            AlmanacField::W => signed!("w", 211..=234; -23),
-            AlmanacField::M0 => signed!("m0", 241..=264; -23),
-            AlmanacField::Af0 => signed!("af0", 271..=278, 290..=292; -20),
-            AlmanacField::Af1 => signed!("af1", 279..=289; -38),
-        }
+        almanac_rows!(layout_of self)
     }
 }
+
+/// The fields in the order of the table.
+pub(crate) static ALMANAC_FIELDS: [Field; 13] = almanac_rows!(fields_of);

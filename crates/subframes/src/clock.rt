@@ -1,10 +1,13 @@
 //! The clock page, subframe 1 (IS-GPS-200, section 20.3.3.3.1, table 20-I).
 
 ghost use Rattle.std.specs.Prelude.{◌≡◌, IsTrue};
-ghost use Rattle.subframes.specs.Entries.{clock_name, clock_entry};
+ghost use Rattle.definitions.specs.Fields.{clock_fields};
+ghost use Rattle.subframes.specs.Entries.{clock_name, named};
 ghost use Rattle.subframes.specs.Layouts.{layout_in, is_readable};
 
-use crate::layout::{Bits, Layout, layout, signed, unsigned};
+use crate::fields::Field;
+use crate::layout::{Bits, Layout};
+use crate::rows::{fields_of, layout, layout_of, signed, unsigned};
 
 /// A field of subframe 1, in the table's order (IS-GPS-200, section 20.3.3.3.1, table 20-I).
 #[derive(Clone, Copy, Debug, PartialEq, Eq)]
@@ -33,25 +36,37 @@ pub enum ClockField {
     Af0,
 }
 
+/// The rows of table 20-I.
+macro_rules! clock_rows {
+    ($maker:ident $($given:tt)*) => {
+        $maker! { $($given)* { Clock(ClockField)
+            Wn: unsigned!("wn", 61..=70; 0),
+            L2: unsigned!("l2", 71..=72; 0),
+            Ura: unsigned!("ura", 73..=76; 0),
+            Health: unsigned!("health", 77..=82; 0),
+            Iodc: unsigned!("iodc", 83..=84, 211..=218; 0),
+            L2p: unsigned!("l2p", 91..=91; 0),
+            Tgd: signed!("tgd", 197..=204; -31),
+            Toc: unsigned!("toc", 219..=234; 4),
+            Af2: signed!("af2", 241..=248; -55),
+            Af1: signed!("af1", 249..=264; -43),
+            Af0: signed!("af0", 271..=292; -31),
+        } }
+    };
+}
+
 impl ClockField {
     /// Where the field stands, and the power of two of its scale factor.
     pub(crate) fn layout(self) -> Layout
         ensures name { result.name.now ≡ clock_name self }
-        ensures entry { layout_in result ≡ clock_entry self }
+        ensures entry { layout_in result ≡ named clock_fields (clock_name self) }
         ensures readable { IsTrue (is_readable (layout_in result)) }
     {
-        match self {
-            ClockField::Wn => unsigned!("wn", 61..=70; 0),
-            ClockField::L2 => unsigned!("l2", 71..=72; 0),
-            ClockField::Ura => unsigned!("ura", 73..=76; 0),
-            ClockField::Health => unsigned!("health", 77..=82; 0),
-            ClockField::Iodc => unsigned!("iodc", 83..=84, 211..=218; 0),
-            ClockField::L2p => unsigned!("l2p", 91..=91; 0),
-            ClockField::Tgd => signed!("tgd", 197..=204; -31),
-            ClockField::Toc => unsigned!("toc", 219..=234; 4),
-            ClockField::Af2 => signed!("af2", 241..=248; -55),
-            ClockField::Af1 => signed!("af1", 249..=264; -43),
-            ClockField::Af0 => signed!("af0", 271..=292; -31),
-        }
+        clock_rows!(layout_of self)
     }
 }
+
+/// The fields in the order of the table.
+pub(crate) static CLOCK_FIELDS: [Field; 11] = clock_rows!(fields_of);
+
+pub(crate) use clock_rows;

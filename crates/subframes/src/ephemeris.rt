@@ -1,11 +1,15 @@
 //! The two pages of the ephemeris, subframes 2 and 3 (IS-GPS-200, section 20.3.3.4.1, table
 //! 20-III).
 
-ghost use Rattle.std.specs.Prelude.{◌≡◌, IsTrue};
-ghost use Rattle.subframes.specs.Entries.{eph2_name, eph2_entry, eph3_name, eph3_entry};
+ghost use Rattle.std.specs.Prelude.{◌≡◌, ◌++◌, IsTrue, map};
+ghost use Rattle.definitions.specs.Fields.{clock_fields, eph2_fields, eph3_fields};
+ghost use Rattle.subframes.specs.Entries.{entry_of, eph2_name, eph3_name, named};
 ghost use Rattle.subframes.specs.Layouts.{layout_in, is_readable};
 
-use crate::layout::{Bits, Layout, layout, signed, unsigned};
+use crate::clock::{ClockField, clock_rows};
+use crate::fields::Field;
+use crate::layout::{Bits, Layout};
+use crate::rows::{fields_of, layout, layout_of, signed, unsigned};
 
 /// A field of subframe 2, in the order of its bits (IS-GPS-200, section 20.3.3.4.1, table 20-III).
 #[derive(Clone, Copy, Debug, PartialEq, Eq)]
@@ -34,28 +38,38 @@ pub enum Eph2Field {
     Aodo,
 }
 
+/// The rows of table 20-III, subframe 2.
+macro_rules! eph2_rows {
+    ($maker:ident $($given:tt)*) => {
+        $maker! { $($given)* { Eph2(Eph2Field)
+            Iode: unsigned!("iode", 61..=68; 0),
+            Crs: signed!("crs", 69..=84; -5),
+            Dn: signed!("dn", 91..=106; -43),
+            M0: signed!("m0", 107..=114, 121..=144; -31),
+            Cuc: signed!("cuc", 151..=166; -29),
+            E: unsigned!("e", 167..=174, 181..=204; -33),
+            Cus: signed!("cus", 211..=226; -29),
+            Sqrta: unsigned!("sqrta", 227..=234, 241..=264; -19),
+            Toe: unsigned!("toe", 271..=286; 4),
+            Fit: unsigned!("fit", 287..=287; 0),
+            Aodo: unsigned!("aodo", 288..=292; 0),
+        } }
+    };
+}
+
 impl Eph2Field {
     /// Where the field stands, and the power of two of its scale factor.
     pub(crate) fn layout(self) -> Layout
         ensures name { result.name.now ≡ eph2_name self }
-        ensures entry { layout_in result ≡ eph2_entry self }
+        ensures entry { layout_in result ≡ named eph2_fields (eph2_name self) }
         ensures readable { IsTrue (is_readable (layout_in result)) }
     {
-        match self {
-            Eph2Field::Iode => unsigned!("iode", 61..=68; 0),
-            Eph2Field::Crs => signed!("crs", 69..=84; -5),
-            Eph2Field::Dn => signed!("dn", 91..=106; -43),
-            Eph2Field::M0 => signed!("m0", 107..=114, 121..=144; -31),
-            Eph2Field::Cuc => signed!("cuc", 151..=166; -29),
-            Eph2Field::E => unsigned!("e", 167..=174, 181..=204; -33),
-            Eph2Field::Cus => signed!("cus", 211..=226; -29),
-            Eph2Field::Sqrta => unsigned!("sqrta", 227..=234, 241..=264; -19),
-            Eph2Field::Toe => unsigned!("toe", 271..=286; 4),
-            Eph2Field::Fit => unsigned!("fit", 287..=287; 0),
-            Eph2Field::Aodo => unsigned!("aodo", 288..=292; 0),
-        }
+        eph2_rows!(layout_of self)
     }
 }
+
+/// The fields in the order of the table.
+pub(crate) static EPH2_FIELDS: [Field; 11] = eph2_rows!(fields_of);
 
 /// A field of subframe 3, in the order of its bits (IS-GPS-200, section 20.3.3.4.1, table 20-III).
 #[derive(Clone, Copy, Debug, PartialEq, Eq)]
@@ -80,23 +94,45 @@ pub enum Eph3Field {
     Idot,
 }
 
+/// The rows of table 20-III, subframe 3.
+macro_rules! eph3_rows {
+    ($maker:ident $($given:tt)*) => {
+        $maker! { $($given)* { Eph3(Eph3Field)
+            Cic: signed!("cic", 61..=76; -29),
+            Om0: signed!("om0", 77..=84, 91..=114; -31),
+            Cis: signed!("cis", 121..=136; -29),
+            I0: signed!("i0", 137..=144, 151..=174; -31),
+            Crc: signed!("crc", 181..=196; -5),
+            W: signed!("w", 197..=204, 211..=234; -31),
+            Omdot: signed!("omdot", 241..=264; -43),
+            Iode: unsigned!("iode3", 271..=278; 0),
+            Idot: signed!("idot", 279..=292; -43),
+        } }
+    };
+}
+
 impl Eph3Field {
     /// Where the field stands, and the power of two of its scale factor.
     pub(crate) fn layout(self) -> Layout
         ensures name { result.name.now ≡ eph3_name self }
-        ensures entry { layout_in result ≡ eph3_entry self }
+        ensures entry { layout_in result ≡ named eph3_fields (eph3_name self) }
         ensures readable { IsTrue (is_readable (layout_in result)) }
     {
-        match self {
-            Eph3Field::Cic => signed!("cic", 61..=76; -29),
-            Eph3Field::Om0 => signed!("om0", 77..=84, 91..=114; -31),
-            Eph3Field::Cis => signed!("cis", 121..=136; -29),
-            Eph3Field::I0 => signed!("i0", 137..=144, 151..=174; -31),
-            Eph3Field::Crc => signed!("crc", 181..=196; -5),
-            Eph3Field::W => signed!("w", 197..=204, 211..=234; -31),
-            Eph3Field::Omdot => signed!("omdot", 241..=264; -43),
-            Eph3Field::Iode => unsigned!("iode3", 271..=278; 0),
-            Eph3Field::Idot => signed!("idot", 279..=292; -43),
-        }
+        eph3_rows!(layout_of self)
     }
+}
+
+/// The fields in the order of the table.
+pub(crate) static EPH3_FIELDS: [Field; 9] = eph3_rows!(fields_of);
+
+/// The fields of a clock and ephemeris.
+static EPHEMERIS_FIELDS: [Field; 31] = clock_rows!(eph2_rows eph3_rows fields_of);
+
+/// The fields of a clock and ephemeris, those of the three pages one behind the other: subframe 1,
+/// subframe 2, subframe 3 (IS-GPS-200, sections 20.3.3.3.1 and 20.3.3.4.1).
+#[tactic(auto, unfolding(crate::specs::Entries::entry_of, crate::specs::Entries::name_of))]
+pub fn ephemeris_fields() -> &'static [Field]
+    ensures { map entry_of result.now ≡ clock_fields ++ eph2_fields ++ eph3_fields }
+{
+    &EPHEMERIS_FIELDS
 }

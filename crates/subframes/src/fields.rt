@@ -1,13 +1,17 @@
 //! Each field by its name.
 
-ghost use Rattle.std.specs.Prelude.{◌≡◌, IsTrue};
-ghost use Rattle.subframes.specs.Entries.{entry_of, name_of};
+ghost use Rattle.std.specs.Prelude.{◌≡◌, ◌<◌, IsTrue, length};
+ghost use Rattle.definitions.specs.Fields.{place_of};
+ghost use Rattle.definitions.specs.Pages.{fields_of};
+ghost use Rattle.subframes.specs.Entries.{entry_of, kind_with, name_of};
 ghost use Rattle.subframes.specs.Layouts.{layout_in, is_readable};
+ghost use Rattle.subframes.specs.PageViews.{kind_in};
 
 use crate::almanac::AlmanacField;
 use crate::clock::ClockField;
 use crate::ephemeris::{Eph2Field, Eph3Field};
 use crate::health::HealthField;
+use crate::kind::Kind;
 use crate::layout::Layout;
 use crate::utc::UtcField;
 
@@ -43,6 +47,36 @@ impl Field {
         ensures { result ≡ (entry_of self).exponent }
     {
         self.layout().exponent
+    }
+
+    /// The kind of the page that has it.
+    pub(crate) fn kind(self) -> Kind
+        ensures { kind_in result ≡ kind_with self }
+    {
+        match self {
+            Field::Clock(_) => Kind::Clock,
+            Field::Eph2(_) => Kind::Eph2,
+            Field::Eph3(_) => Kind::Eph3,
+            Field::Almanac(_) => Kind::Almanac,
+            Field::Utc(_) => Kind::Utc,
+            Field::Health(_) => Kind::Health,
+        }
+    }
+
+    /// Its place among the fields of its kind, from 0.
+    #[tactic(auto, using(crate::proofs::Written::place), unfolding(crate::specs::Entries::name_of))]
+    pub(crate) fn place(self) -> usize
+        ensures place { result ≡ place_of (name_of self) (fields_of (kind_with self)) }
+        ensures within { result < length (fields_of (kind_with self)) }
+    {
+        match self {
+            Field::Clock(field) => field as usize,
+            Field::Eph2(field) => field as usize,
+            Field::Eph3(field) => field as usize,
+            Field::Almanac(field) => field as usize,
+            Field::Utc(field) => field as usize,
+            Field::Health(field) => field as usize,
+        }
     }
 
     /// Its line of its table.

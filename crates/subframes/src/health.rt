@@ -1,10 +1,13 @@
 //! The page of the health of satellites 1 to 24, in subframe 5 (IS-GPS-200, section 20.3.3.5.1.3).
 
 ghost use Rattle.std.specs.Prelude.{◌≡◌, IsTrue};
-ghost use Rattle.subframes.specs.Entries.{health_name, health_line};
+ghost use Rattle.definitions.specs.Fields.{health_fields};
+ghost use Rattle.subframes.specs.Entries.{health_name, named};
 ghost use Rattle.subframes.specs.Layouts.{layout_in, is_readable};
 
-use crate::layout::{Bits, Layout, layout, unsigned};
+use crate::fields::Field;
+use crate::layout::{Bits, Layout};
+use crate::rows::{fields_of, layout, layout_of, unsigned};
 
 /// A field of the page with SV ID 51 of subframe 5 (IS-GPS-200, section 20.3.3.5.1.3).
 #[derive(Clone, Copy, Debug, PartialEq, Eq)]
@@ -67,43 +70,53 @@ pub enum HealthField {
     H24,
 }
 
+/// The rows of the page of health: words 4 to 9 have four satellites each.
+macro_rules! health_rows {
+    ($maker:ident $($given:tt)*) => {
+        $maker! { $($given)* { Health(HealthField)
+            Data: unsigned!("data", 61..=62; 0),
+            Sv: unsigned!("sv", 63..=68; 0),
+            Toa: unsigned!("toa", 69..=76; 12),
+            Wna: unsigned!("wna", 77..=84; 0),
+            H1: unsigned!("h1", 91..=96; 0),
+            H2: unsigned!("h2", 97..=102; 0),
+            H3: unsigned!("h3", 103..=108; 0),
+            H4: unsigned!("h4", 109..=114; 0),
+            H5: unsigned!("h5", 121..=126; 0),
+            H6: unsigned!("h6", 127..=132; 0),
+            H7: unsigned!("h7", 133..=138; 0),
+            H8: unsigned!("h8", 139..=144; 0),
+            H9: unsigned!("h9", 151..=156; 0),
+            H10: unsigned!("h10", 157..=162; 0),
+            H11: unsigned!("h11", 163..=168; 0),
+            H12: unsigned!("h12", 169..=174; 0),
+            H13: unsigned!("h13", 181..=186; 0),
+            H14: unsigned!("h14", 187..=192; 0),
+            H15: unsigned!("h15", 193..=198; 0),
+            H16: unsigned!("h16", 199..=204; 0),
+            H17: unsigned!("h17", 211..=216; 0),
+            H18: unsigned!("h18", 217..=222; 0),
+            H19: unsigned!("h19", 223..=228; 0),
+            H20: unsigned!("h20", 229..=234; 0),
+            H21: unsigned!("h21", 241..=246; 0),
+            H22: unsigned!("h22", 247..=252; 0),
+            H23: unsigned!("h23", 253..=258; 0),
+            H24: unsigned!("h24", 259..=264; 0),
+        } }
+    };
+}
+
 impl HealthField {
     /// Where the field stands, and the power of two of its scale factor.
-    /// Words 4 to 9 have four satellites each.
+    #[tactic(auto, using(crate::proofs::Written::line))]
     pub(crate) fn layout(self) -> Layout
         ensures name { result.name.now ≡ health_name self }
-        ensures entry { layout_in result ≡ health_line self }
+        ensures entry { layout_in result ≡ named health_fields (health_name self) }
         ensures readable { IsTrue (is_readable (layout_in result)) }
     {
-        match self {
-            HealthField::Data => unsigned!("data", 61..=62; 0),
-            HealthField::Sv => unsigned!("sv", 63..=68; 0),
-            HealthField::Toa => unsigned!("toa", 69..=76; 12),
-            HealthField::Wna => unsigned!("wna", 77..=84; 0),
-            HealthField::H1 => unsigned!("h1", 91..=96; 0),
-            HealthField::H2 => unsigned!("h2", 97..=102; 0),
-            HealthField::H3 => unsigned!("h3", 103..=108; 0),
-            HealthField::H4 => unsigned!("h4", 109..=114; 0),
-            HealthField::H5 => unsigned!("h5", 121..=126; 0),
-            HealthField::H6 => unsigned!("h6", 127..=132; 0),
-            HealthField::H7 => unsigned!("h7", 133..=138; 0),
-            HealthField::H8 => unsigned!("h8", 139..=144; 0),
-            HealthField::H9 => unsigned!("h9", 151..=156; 0),
-            HealthField::H10 => unsigned!("h10", 157..=162; 0),
-            HealthField::H11 => unsigned!("h11", 163..=168; 0),
-            HealthField::H12 => unsigned!("h12", 169..=174; 0),
-            HealthField::H13 => unsigned!("h13", 181..=186; 0),
-            HealthField::H14 => unsigned!("h14", 187..=192; 0),
-            HealthField::H15 => unsigned!("h15", 193..=198; 0),
-            HealthField::H16 => unsigned!("h16", 199..=204; 0),
-            HealthField::H17 => unsigned!("h17", 211..=216; 0),
-            HealthField::H18 => unsigned!("h18", 217..=222; 0),
-            HealthField::H19 => unsigned!("h19", 223..=228; 0),
-            HealthField::H20 => unsigned!("h20", 229..=234; 0),
-            HealthField::H21 => unsigned!("h21", 241..=246; 0),
-            HealthField::H22 => unsigned!("h22", 247..=252; 0),
-            HealthField::H23 => unsigned!("h23", 253..=258; 0),
-            HealthField::H24 => unsigned!("h24", 259..=264; 0),
-        }
+        health_rows!(layout_of self)
     }
 }
+
+/// The fields in the order of the table.
+pub(crate) static HEALTH_FIELDS: [Field; 28] = health_rows!(fields_of);

@@ -5,13 +5,13 @@ ghost use Rattle.definitions.specs.Pages.{kind_of, kind_of_page};
 ghost use Rattle.subframes.specs.Entries.{entry_of};
 ghost use Rattle.subframes.specs.PageViews.{kind_in, named_fields_of};
 
-use crate::almanac::AlmanacField;
-use crate::clock::ClockField;
-use crate::ephemeris::{Eph2Field, Eph3Field};
+use crate::almanac::ALMANAC_FIELDS;
+use crate::clock::CLOCK_FIELDS;
+use crate::ephemeris::{EPH2_FIELDS, EPH3_FIELDS};
 use crate::fields::Field;
-use crate::health::HealthField;
+use crate::health::HEALTH_FIELDS;
 use crate::layout::Bits;
-use crate::utc::UtcField;
+use crate::utc::UTC_FIELDS;
 use frame_sync::Subframe;
 
 /// Where the SV ID stands in a page of subframe 4 or 5.
@@ -68,7 +68,7 @@ impl Kind {
 
     /// The fields of such a page, in the order of its table, which is that of the values of a
     /// [`Page`](crate::Page). The characters of a message are no fields.
-    #[tactic(auto, unfolding(crate::specs::Entries::entry_of))]
+    #[tactic(auto, unfolding(crate::specs::Entries::entry_of, crate::specs::Entries::name_of))]
     pub fn fields(self) -> &'static [Field]
         ensures { map entry_of result.now ≡ named_fields_of (kind_in self) }
     {
@@ -83,35 +83,3 @@ impl Kind {
         }
     }
 }
-
-/// The fields with these names.
-macro_rules! fields {
-    ($kind:ident, $names:ident: $($name:ident),*) => {
-        [$(Field::$kind($names::$name)),*]
-    };
-}
-
-pub(crate) static CLOCK_FIELDS: [Field; 11] = fields!(Clock, ClockField:
-    Wn, L2, Ura, Health, Iodc, L2p, Tgd, Toc, Af2, Af1, Af0
-);
-
-pub(crate) static EPH2_FIELDS: [Field; 11] = fields!(Eph2, Eph2Field:
-    Iode, Crs, Dn, M0, Cuc, E, Cus, Sqrta, Toe, Fit, Aodo
-);
-
-pub(crate) static EPH3_FIELDS: [Field; 9] = fields!(Eph3, Eph3Field:
-    Cic, Om0, Cis, I0, Crc, W, Omdot, Iode, Idot
-);
-
-pub(crate) static ALMANAC_FIELDS: [Field; 13] = fields!(Almanac, AlmanacField:
-    Data, Sv, E, Toa, Di, Omdot, Health, Sqrta, Om0, W, M0, Af0, Af1
-);
-
-pub(crate) static UTC_FIELDS: [Field; 18] = fields!(Utc, UtcField:
-    Data, Sv, Al0, Al1, Al2, Al3, Be0, Be1, Be2, Be3, A1, A0, Tot, Wnt, Dtls, Wnlsf, Dn, Dtlsf
-);
-
-pub(crate) static HEALTH_FIELDS: [Field; 28] = fields!(Health, HealthField:
-    Data, Sv, Toa, Wna, H1, H2, H3, H4, H5, H6, H7, H8, H9, H10, H11, H12, H13, H14, H15, H16,
-    H17, H18, H19, H20, H21, H22, H23, H24
-);

@@ -2,7 +2,9 @@
 
 ghost use Rattle.std.specs.Prelude.{◌≡◌, ◌+◌, ◌-◌, ◌/◌, ◌^◌, ◌<◌, ◌≤◌, IsTrue, is_some, sum_by};
 ghost use Rattle.definitions.specs.Fields.{value_of, is_there, word_at_place};
-ghost use Rattle.subframes.specs.Layouts.{bits_in, parts_in, layout_in, size_of, is_in_one_word, is_readable, number_of_bits, number_of_parts};
+ghost use Rattle.subframes.specs.Layouts.{bits_in, parts_in, layout_in, size_of};
+ghost use Rattle.subframes.specs.Layouts.{is_in_one_word, is_readable};
+ghost use Rattle.subframes.specs.Layouts.{number_of_bits, number_of_parts};
 
 use frame_sync::Subframe;
 
@@ -120,42 +122,3 @@ impl Layout {
         }
     }
 }
-
-/// A line of a table, with the standard's own bit numbers.
-macro_rules! layout {
-    ($is_signed:literal, $name:literal, $first:literal..=$last:literal; $exponent:literal) => {
-        Layout {
-            name: $name,
-            head: Bits { first: $first, last: $last },
-            tail: None,
-            is_signed: $is_signed,
-            exponent: $exponent,
-        }
-    };
-    (
-        $is_signed:literal, $name:literal, $first:literal..=$last:literal,
-        $next:literal..=$end:literal; $exponent:literal
-    ) => {
-        Layout {
-            name: $name,
-            head: Bits { first: $first, last: $last },
-            tail: Some(Bits { first: $next, last: $end }),
-            is_signed: $is_signed,
-            exponent: $exponent,
-        }
-    };
-}
-
-/// A line of a field that has no sign.
-macro_rules! unsigned {
-    ($($field:tt)*) => { layout!(false, $($field)*) };
-}
-
-/// A line of a field in two's complement.
-macro_rules! signed {
-    ($($field:tt)*) => { layout!(true, $($field)*) };
-}
-
-pub(crate) use layout;
-pub(crate) use signed;
-pub(crate) use unsigned;

@@ -5,13 +5,16 @@
 //! and promise the number that the bits of the definitions' table write, in two's complement where
 //! the standard marks it.
 //!
-//!     use subframes::{ClockField, Field, Kind, Page, field};
+//!     use subframes::{ClockField, Field, Page, field};
 //!
 //!     // The group delay in 2^-31 s, wherever its own word is there.
 //!     let delay = field(&subframe, Field::Clock(ClockField::Tgd));
-//!     // All numbers of a complete subframe, each in the unit of its field.
-//!     if let Some(Page::Clock(numbers)) = Page::read(&subframe) {
-//!         let fields = Kind::Clock.fields();
+//!     // The numbers of a complete subframe: one by its name, and all in their fields' order.
+//!     if let Some(page) = Page::read(&subframe) {
+//!         let week = page.value(Field::Clock(ClockField::Wn));
+//!         for (field, number) in page.kind().fields().iter().zip(page.values()) {
+//!             let unit = field.exponent();
+//!         }
 //!     }
 #![tactic(auto)]
 
@@ -25,13 +28,14 @@ mod layout;
 mod message;
 mod page;
 mod reading;
+mod rows;
 #[cfg(test)]
 mod tests;
 mod utc;
 
 pub use almanac::AlmanacField;
 pub use clock::ClockField;
-pub use ephemeris::{Eph2Field, Eph3Field};
+pub use ephemeris::{Eph2Field, Eph3Field, ephemeris_fields};
 pub use fields::Field;
 pub use health::HealthField;
 pub use kind::Kind;

@@ -1,17 +1,21 @@
 //! The page that a subframe holds.
 
-ghost use Rattle.std.specs.Prelude.{◌≡◌, map, option_map};
+ghost use Rattle.std.specs.Prelude.{◌≡◌, length, map, option_map};
 ghost use Rattle.definitions.specs.Fields.{value_of};
 ghost use Rattle.definitions.specs.Pages.{page_of};
 ghost use Rattle.subframes.specs.Entries.{entry_of};
-ghost use Rattle.subframes.specs.PageViews.{kind_in, page_in};
+ghost use Rattle.subframes.specs.PageViews.{kind_in, named_fields_of, page_as, page_in};
+ghost use Rattle.subframes.specs.Values.{number_named, numbers_of};
 
+use crate::almanac::ALMANAC_FIELDS;
+use crate::clock::CLOCK_FIELDS;
+use crate::ephemeris::{EPH2_FIELDS, EPH3_FIELDS};
 use crate::fields::Field;
-use crate::kind::{
-    ALMANAC_FIELDS, CLOCK_FIELDS, EPH2_FIELDS, EPH3_FIELDS, HEALTH_FIELDS, Kind, UTC_FIELDS,
-};
+use crate::health::HEALTH_FIELDS;
+use crate::kind::Kind;
 use crate::message::{CHARACTERS, characters};
 use crate::reading::value;
+use crate::utc::UTC_FIELDS;
 use frame_sync::Subframe;
 
 /// The page of a complete subframe: the numbers of its fields in the order of its table, each from
@@ -38,13 +42,22 @@ impl Page {
     /// The page that a subframe holds, by its ID and, in subframes 4 and 5, by its SV ID, whatever
     /// the data ID. `None` where a word is missing or the page is of no [`Kind`] (IS-GPS-200,
     /// section 20.3.3.5.1.1, table 20-V).
+    #[tactic(auto, using(crate::proofs::PageSteps::reading))]
     pub fn read(subframe: &Subframe) -> Option<Page>
         ensures { option_map page_in result ≡ page_of subframe.now }
     {
         if !subframe.complete() {
             return None;
         }
-        Some(match Kind::of(subframe)? {
+        Some(Page::of(Kind::of(subframe)?, subframe))
+    }
+
+    /// The page of a kind that a subframe holds, missing words read as 0.
+    #[tactic(auto, unfolding(crate::specs::Entries::entry_of, crate::specs::Entries::name_of))]
+    fn of(kind: Kind, subframe: &Subframe) -> Page
+        ensures { page_in result ≡ page_as subframe.now (kind_in kind) }
+    {
+        match kind {
             Kind::Clock => Page::Clock(values(subframe, &CLOCK_FIELDS)),
             Kind::Eph2 => Page::Eph2(values(subframe, &EPH2_FIELDS)),
             Kind::Eph3 => Page::Eph3(values(subframe, &EPH3_FIELDS)),
@@ -52,7 +65,7 @@ impl Page {
             Kind::Utc => Page::Utc(values(subframe, &UTC_FIELDS)),
             Kind::Health => Page::Health(values(subframe, &HEALTH_FIELDS)),
             Kind::Message => Page::Message(characters(subframe)),
-        })
+        }
     }
 
     /// The page's kind, whose fields name its values.
@@ -67,6 +80,35 @@ impl Page {
             Page::Utc(_) => Kind::Utc,
             Page::Health(_) => Kind::Health,
             Page::Message(_) => Kind::Message,
+        }
+    }
+
+    /// The numbers of its fields, in the order of its kind's [`fields`](Kind::fields). A message
+    /// has none: its characters are no fields.
+    pub fn values(&self) -> &[i64]
+        ensures numbers { result.now ≡ numbers_of (page_in self.now) }
+        ensures one_each { length result.now ≡ length (named_fields_of (page_in self.now).kind) }
+    {
+        match self {
+            Page::Clock(numbers) => numbers,
+            Page::Eph2(numbers) => numbers,
+            Page::Eph3(numbers) => numbers,
+            Page::Almanac(numbers) => numbers,
+            Page::Utc(numbers) => numbers,
+            Page::Health(numbers) => numbers,
+            Page::Message(_) => &[],
+        }
+    }
+
+    /// The number of a field, in units of two to the power of its [`exponent`](Field::exponent), or
+    /// `None` where the page is of another kind.
+    pub fn value(&self, field: Field) -> Option<i64>
+        ensures { result ≡ number_named field (page_in self.now) }
+    {
+        if field.kind() == self.kind() {
+            Some(self.values()[field.place()])
+        } else {
+            None
         }
     }
 }

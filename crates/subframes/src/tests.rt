@@ -1,6 +1,9 @@
 //! Fields and pages of subframes whose bits are known.
 
-use crate::{AlmanacField, ClockField, Eph2Field, Field, Kind, Page, field};
+use crate::{
+    AlmanacField, ClockField, Eph2Field, Field, HealthField, Kind, Page, UtcField,
+    ephemeris_fields, field,
+};
 use frame_sync::Subframe;
 use std::process::Abort;
 
@@ -103,6 +106,63 @@ fn values_in_table_order(rt: HostRuntime) {
     assert_eq!(rt; Page::read(&almanac), Some(Page::Almanac(values)));
 }
 
+// In words 3 and 4 of the almanac the data ID is 1, the SV ID 5 and the time of applicability 7. In
+// word 10 stand both parts of af0: the sign bit, and the highest of the low three bits.
+#[test]
+fn values_by_name(rt: HostRuntime) {
+    let words = [0x45_0000, 0x07_0000, 0, 0, 0, 0, 0, 0x80_0004];
+    let page = Page::read(&subframe(&rt, 0x94, words)).expect(&rt, "a page");
+    for (field, expected) in [
+        (Field::Almanac(AlmanacField::Data), Some(1)),
+        (Field::Almanac(AlmanacField::Sv), Some(5)),
+        (Field::Almanac(AlmanacField::E), Some(0)),
+        (Field::Almanac(AlmanacField::Toa), Some(7)),
+        (Field::Almanac(AlmanacField::Af0), Some(-1_023)),
+        (Field::Almanac(AlmanacField::Af1), Some(0)),
+        // fields of these names, but of other tables
+        (Field::Health(HealthField::Toa), None),
+        (Field::Clock(ClockField::Af0), None),
+        (Field::Utc(UtcField::Sv), None),
+    ] {
+        assert_eq!(rt; page.value(field), expected, "at {}", field.name());
+    }
+    let all = [1, 5, 0, 7, 0, 0, 0, 0, 0, 0, 0, -1_023, 0];
+    assert_eq!(rt; page.values(), all.as_slice());
+}
+
+// The value of each field of a page that has a number of its own in each place.
+#[test]
+fn each_value_by_name(rt: HostRuntime) {
+    for page in [
+        Page::Clock([1, 2, 3, 4, 5, 6, 7, 8, 9, 10, 11]),
+        Page::Eph2([1, 2, 3, 4, 5, 6, 7, 8, 9, 10, 11]),
+        Page::Eph3([1, 2, 3, 4, 5, 6, 7, 8, 9]),
+        Page::Almanac([1, 2, 3, 4, 5, 6, 7, 8, 9, 10, 11, 12, 13]),
+        Page::Utc([
+            1, 2, 3, 4, 5, 6, 7, 8, 9, 10, 11, 12, 13, 14, 15, 16, 17, 18,
+        ]),
+        Page::Health([
+            1, 2, 3, 4, 5, 6, 7, 8, 9, 10, 11, 12, 13, 14, 15, 16, 17, 18, 19, 20, 21, 22, 23, 24,
+            25, 26, 27, 28,
+        ]),
+    ] {
+        for (field, expected) in page.kind().fields().iter().zip(1i64..) {
+            assert_eq!(rt; page.value(*field), Some(expected), "at {}", field.name());
+        }
+        assert_eq!(rt; page.values().len(), page.kind().fields().len());
+    }
+}
+
+// The 31 names in the order of the lines: subframe 1, 2 and 3, each as its table has it.
+#[test]
+fn names_of_an_ephemeris(rt: HostRuntime) {
+    let entries = CLOCK.iter().chain(&EPH2).chain(&EPH3);
+    for (field, entry) in ephemeris_fields().iter().zip(entries) {
+        assert_eq!(rt; field.name(), entry.name);
+    }
+    assert_eq!(rt; ephemeris_fields().len(), 31);
+}
+
 #[test]
 fn message_characters(rt: HostRuntime) {
     let text = *b"GPS L1 C/A TEST, 22 CH";
@@ -111,6 +171,8 @@ fn message_characters(rt: HostRuntime) {
     ];
     let message = subframe(&rt, 0x90, words);
     assert_eq!(rt; Page::read(&message), Some(Page::Message(text)));
+    assert_eq!(rt; Page::Message(text).values().len(), 0);
+    assert_eq!(rt; Page::Message(text).value(Field::Utc(UtcField::Sv)), None);
 }
 
 /// Asserts that each field of a kind is as its table has it, in its order.

@@ -2,10 +2,13 @@
 //! sections 20.3.3.5.1.6 and 20.3.3.5.1.7, tables 20-IX and 20-X).
 
 ghost use Rattle.std.specs.Prelude.{◌≡◌, IsTrue};
-ghost use Rattle.subframes.specs.Entries.{utc_name, utc_entry};
+ghost use Rattle.definitions.specs.Fields.{utc_fields};
+ghost use Rattle.subframes.specs.Entries.{utc_name, named};
 ghost use Rattle.subframes.specs.Layouts.{layout_in, is_readable};
 
-use crate::layout::{Bits, Layout, layout, signed, unsigned};
+use crate::fields::Field;
+use crate::layout::{Bits, Layout};
+use crate::rows::{fields_of, layout, layout_of, signed, unsigned};
 
 /// A field of the page with SV ID 56 of subframe 4 (IS-GPS-200, section 20.3.3.5.1.6, table 20-IX).
 #[derive(Clone, Copy, Debug, PartialEq, Eq)]
@@ -48,32 +51,42 @@ pub enum UtcField {
     Dtlsf,
 }
 
+/// The rows of table 20-IX.
+macro_rules! utc_rows {
+    ($maker:ident $($given:tt)*) => {
+        $maker! { $($given)* { Utc(UtcField)
+            Data: unsigned!("data", 61..=62; 0),
+            Sv: unsigned!("sv", 63..=68; 0),
+            Al0: signed!("al0", 69..=76; -30),
+            Al1: signed!("al1", 77..=84; -27),
+            Al2: signed!("al2", 91..=98; -24),
+            Al3: signed!("al3", 99..=106; -24),
+            Be0: signed!("be0", 107..=114; 11),
+            Be1: signed!("be1", 121..=128; 14),
+            Be2: signed!("be2", 129..=136; 16),
+            Be3: signed!("be3", 137..=144; 16),
+            A1: signed!("a1", 151..=174; -50),
+            A0: signed!("a0", 181..=204, 211..=218; -30),
+            Tot: unsigned!("tot", 219..=226; 12),
+            Wnt: unsigned!("wnt", 227..=234; 0),
+            Dtls: signed!("dtls", 241..=248; 0),
+            Wnlsf: unsigned!("wnlsf", 249..=256; 0),
+            Dn: unsigned!("dn", 257..=264; 0),
+            Dtlsf: signed!("dtlsf", 271..=278; 0),
+        } }
+    };
+}
+
 impl UtcField {
     /// Where the field stands, and the power of two of its scale factor.
     pub(crate) fn layout(self) -> Layout
         ensures name { result.name.now ≡ utc_name self }
-        ensures entry { layout_in result ≡ utc_entry self }
+        ensures entry { layout_in result ≡ named utc_fields (utc_name self) }
         ensures readable { IsTrue (is_readable (layout_in result)) }
     {
-        match self {
-            UtcField::Data => unsigned!("data", 61..=62; 0),
-            UtcField::Sv => unsigned!("sv", 63..=68; 0),
-            UtcField::Al0 => signed!("al0", 69..=76; -30),
-            UtcField::Al1 => signed!("al1", 77..=84; -27),
-            UtcField::Al2 => signed!("al2", 91..=98; -24),
-            UtcField::Al3 => signed!("al3", 99..=106; -24),
-            UtcField::Be0 => signed!("be0", 107..=114; 11),
-            UtcField::Be1 => signed!("be1", 121..=128; 14),
-            UtcField::Be2 => signed!("be2", 129..=136; 16),
-            UtcField::Be3 => signed!("be3", 137..=144; 16),
-            UtcField::A1 => signed!("a1", 151..=174; -50),
-            UtcField::A0 => signed!("a0", 181..=204, 211..=218; -30),
-            UtcField::Tot => unsigned!("tot", 219..=226; 12),
-            UtcField::Wnt => unsigned!("wnt", 227..=234; 0),
-            UtcField::Dtls => signed!("dtls", 241..=248; 0),
-            UtcField::Wnlsf => unsigned!("wnlsf", 249..=256; 0),
-            UtcField::Dn => unsigned!("dn", 257..=264; 0),
-            UtcField::Dtlsf => signed!("dtlsf", 271..=278; 0),
-        }
+        utc_rows!(layout_of self)
     }
 }
+
+/// The fields in the order of the table.
+pub(crate) static UTC_FIELDS: [Field; 18] = utc_rows!(fields_of);

@@ -9,7 +9,12 @@ pub returns-then-is_there : goal.returns-then-is_there
 returns-then-is_there c =
     let fits : FitsSigned w64 c.value.result = search rules in
     ap (λ v. Some v) (to_z-of_z w64 c.value.result fits)
-    ∙ field_of-there c.args.subframe.now (layout_in c.layout-layout.result) (entry_of c.args.field) c.value.result c.layout-layout.ensures.entry (sym c.is_there.ensures ∙ c.if-is_there.true) c.value.ensures
+    ∙ field_of-there c.args.subframe.now (layout_in c.layout-layout.result)
+    (entry_of c.args.field) c.value.result c.layout-layout.ensures.entry
+    (sym c.is_there.ensures ∙ c.if-is_there.true) c.value.ensures
 
 pub returns-else-is_there : goal.returns-else-is_there
-returns-else-is_there c = field_of-missing c.args.subframe.now (layout_in c.layout-layout.result) (entry_of c.args.field) c.layout-layout.ensures.entry (sym c.is_there.ensures ∙ c.if-is_there.false)
+returns-else-is_there c =
+    field_of-missing c.args.subframe.now (layout_in c.layout-layout.result)
+    (entry_of c.args.field) c.layout-layout.ensures.entry
+    (sym c.is_there.ensures ∙ c.if-is_there.false)

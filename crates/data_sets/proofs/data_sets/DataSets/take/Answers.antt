@@ -23,10 +23,12 @@ unfolding StandsFor
 returns-in_err-set-in-Clock-clause-page c pages h =
     ap (option_map report_in) c.from_residual.ensures
     ∙ ap (option_map ephemeris) (sym c.in_err-set-in-Clock.was)
-    ∙ set-reported pages c.args.page.now c.take-set.result c.in-Clock.is (c.take-set.ensures.set pages h)
+    ∙ set-reported pages c.args.page.now c.take-set.result c.in-Clock.is
+    (c.take-set.ensures.set pages h)
 
 pub returns-in_ok-set-in-Clock-clause-page : goal.returns-in_ok-set-in-Clock-clause-page
 unfolding StandsFor
 returns-in_ok-set-in-Clock-clause-page c pages h =
     ap (option_map ephemeris) (sym c.in_ok-set-in-Clock.was)
-    ∙ set-reported pages c.args.page.now c.take-set.result c.in-Clock.is (c.take-set.ensures.set pages h)
+    ∙ set-reported pages c.args.page.now c.take-set.result c.in-Clock.is
+    (c.take-set.ensures.set pages h)

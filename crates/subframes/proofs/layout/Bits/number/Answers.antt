@@ -6,5 +6,7 @@ use Rattle.subframes.proofs.layout.Bits.number.Goals as goal
 
 pub returns-clause-number : goal.returns-clause-number
 returns-clause-number c =
-    part_is_read c.args.subframe.now (bits_in c.args.self) c.from-word.result c.len.result c.word.result c.requires c.word.ensures.word c.len.ensures
+    part_is_read c.args.subframe.now
+    (bits_in c.args.self) c.from-word.result c.len.result c.word.result c.requires
+    c.word.ensures.word c.len.ensures
     (c.from-word.ensures ∙ c.unwrap_or.ensures ∙ ap (λ o. unwrap_or o 0) c.word-2.ensures.word)

@@ -5,7 +5,8 @@ use Rattle.subframes.proofs.Presence.{is_there-one, is_there-two}
 use Rattle.subframes.proofs.layout.Layout.is_there.Goals as goal
 
 pub returns-in-None : goal.returns-in-None
-returns-in-None c = c.is_there-head.ensures ∙ sym (is_there-one c.args.subframe.now c.args.self.now c.requires c.in-None.is)
+returns-in-None c = c.is_there-head.ensures
+    ∙ sym (is_there-one c.args.subframe.now c.args.self.now c.requires c.in-None.is)
 
 pub returns-then-head : goal.returns-then-head
 returns-then-head c =
