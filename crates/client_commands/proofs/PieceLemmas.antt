@@ -1,11 +1,11 @@
 -- The first piece of a text.
 use Rattle.std.proofs.Common.{◌≡◌, ℕ, suc, ◌+◌, ◌-◌, ◌<◌, ◌≤◌, List, [], ◌∷◌, length, take, drop, refl, ap, sym, arith, Bool, true, false}
-use Rattle.std.specs.Prelude.{nat_eq, nat_lt, not, if◌then◌else◌, cond, position, filter, Some, None}
+use Rattle.std.specs.Prelude.{nat_eq, nat_lt, not, if◌then◌else◌, cond, position, Some, None}
 use Rattle.std.specs.List.{position_or_len}
 use Rattle.std.proofs.lemmas.Bool.{ltb-true, ltb-false, lt-ltb, le-ltb, eqb-true}
 use Rattle.std.proofs.lemmas.Option.{cond_some}
 use Rattle.std.proofs.lemmas.List.{take_rest}
-use Rattle.definitions.specs.Lines.{pieces_ended_by, in_front, words_of}
+use Rattle.definitions.specs.Lines.{pieces_ended_by, in_front}
 
 -- one more byte in front of a text whose first piece is found
 more_in_front : (pieces : List ℕ → List (List ℕ)) (t : Bool) (b : ℕ) (text : List ℕ) (n : ℕ) → nat_lt (cond (not t) (1 + n) 0) (length (b ∷ text)) ≡ true
@@ -61,29 +61,3 @@ module _ (end : ℕ) where
   unfolding pieces_ended_by
   no_piece [] none = refl
   no_piece (b ∷ text) none = let e : suc (length text) ≡ 0 = eqb-true (suc (length text)) 0 none in absurd (omega arith)
-
-  fewer_in_front : (t : Bool) (b n : ℕ) (pieces : List (List ℕ)) → length pieces ≤ n → length (if t then [] ∷ pieces else in_front b pieces) ≤ suc n
-  fewer_in_front true b n pieces h = omega arith
-  fewer_in_front false b n [] h = omega arith
-  fewer_in_front false b n (piece ∷ pieces) h = omega arith
-
-  pub fewer_pieces : (text : List ℕ) → length (pieces_ended_by end text) ≤ length text
-  unfolding pieces_ended_by
-  fewer_pieces [] = omega arith
-  fewer_pieces (b ∷ text) = fewer_in_front (nat_eq b end) b (length text) (pieces_ended_by end text) (fewer_pieces text)
-
-module _ (test : List ℕ → Bool) where
-  fewer_by_test : (t : Bool) (w : List ℕ) (kept : List (List ℕ)) (n : ℕ) → length kept ≤ n → length (cond t (w ∷ kept) kept) ≤ suc n
-  fewer_by_test true w kept n h = omega arith
-  fewer_by_test false w kept n h = omega arith
-
-  fewer_kept : (pieces : List (List ℕ)) → length (filter test pieces) ≤ length pieces
-  fewer_kept [] = omega arith
-  fewer_kept (w ∷ pieces) = fewer_by_test (test w) w (filter test pieces) (length pieces) (fewer_kept pieces)
-
--- a line has no more words than bytes
-pub fewer_words : (line : List ℕ) → length (words_of line) ≤ length line
-fewer_words line =
-    let kept = fewer_kept (λ w. not (nat_eq (length w) 0)) (pieces_ended_by 32 line) in
-    let pieces = fewer_pieces 32 line in
-    omega arith

@@ -9,7 +9,7 @@ use crate::number::number_in;
 use crate::refusal::Refusal;
 use crate::script::Timed;
 use crate::verb::Verb;
-use crate::words::{count_words, next_word};
+use crate::words::next_word;
 use channel_slots::Command;
 
 /// The most bytes of a line.
@@ -70,8 +70,5 @@ fn command(words: &[u8]) -> Result<Command, Refusal>
 {
     let (name, words) = next_word(words).ok_or(Refusal::NoVerb)?;
     let verb = Verb::named(name).ok_or(Refusal::NoVerb)?;
-    if count_words(words) != verb.ranges().len() {
-        return Err(Refusal::WrongWordCount);
-    }
     verb.command(words)
 }
