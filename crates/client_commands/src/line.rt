@@ -1,6 +1,10 @@
+//! The entry of one line: its time, and a command or why it is refused.
+
 ghost use Rattle.std.specs.Prelude.{◌≡◌};
 ghost use Rattle.std.specs.List.{list_all};
-ghost use Rattle.definitions.specs.Scripts.{entry_of, command_in, is_printable as is_printable_byte, time_in as time_of_word};
+ghost use Rattle.definitions.specs.Scripts.{entry_of, command_in};
+ghost use Rattle.definitions.specs.Scripts.{is_printable as is_printable_byte};
+ghost use Rattle.definitions.specs.Scripts.{time_in as time_of_word};
 ghost use Rattle.definitions.specs.Lines.{words_of};
 ghost use Rattle.client_commands.specs.Entries.{entries_in, result_in};
 ghost use Rattle.client_commands.specs.Known.{known};

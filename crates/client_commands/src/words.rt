@@ -67,7 +67,9 @@ pub(crate) fn next_word(line: &[u8]) -> Option<(&[u8], &[u8])>
 /// The words behind a verb that are still to be read. Clauses see them as lists of bytes.
 #[derive(Drop)]
 pub(crate) struct Words<'a> {
+    /// All words behind the verb.
     words: ArrayVec<&'a [u8], MOST_WORDS>,
+    /// How many of them are read.
     read: usize,
 }
 
@@ -86,7 +88,8 @@ impl<'a> Words<'a> {
     ghost use Rattle.client_commands.specs.Reading.{number_alone, integer_alone};
     ghost use Rattle.client_commands.specs.declared.words.TheConstants.{MOST_WORDS, MOST_DUMPS};
 
-    /// The words of a line, which are to be so many.
+    /// The words of a line, of which there are to be `count`. They are split before the first of
+    /// them is judged, since a wrong number of words is refused before any value.
     pub(crate) fn split(line: &'a [u8], count: usize) -> Result<Words<'a>, Refusal>
         requires { count ≤ MOST_WORDS }
         ensures words { OkIff result (length (words_of line.now) ≡ count) (words_of line.now) }
@@ -108,7 +111,7 @@ impl<'a> Words<'a> {
         }
     }
 
-    /// The number of the next word.
+    /// The number that the next word writes.
     fn number(&mut self) -> Result<i64, Refusal>
         requires { 0 < length self.old }
         ensures number { result
@@ -120,7 +123,7 @@ impl<'a> Words<'a> {
         signed_number_in(word).ok_or(Refusal::NotANumber)
     }
 
-    /// The slot that the next word names.
+    /// The slot that the next word names, 0 to 3.
     pub(crate) fn slot(&mut self) -> Result<SlotNo, Refusal>
         requires { 0 < length self.old }
         ensures value { number_alone result ≡ values_in (up_to 0 3 ∷ []) self.old }
@@ -130,7 +133,7 @@ impl<'a> Words<'a> {
         number.and_then(SlotNo::new).ok_or(Refusal::OutOfRange)
     }
 
-    /// The satellite that the next word names.
+    /// The satellite that the next word names, 1 to 32.
     pub(crate) fn prn(&mut self) -> Result<Prn, Refusal>
         requires { 0 < length self.old }
         ensures value { number_alone result ≡ values_in (up_to 1 32 ∷ []) self.old }
@@ -140,7 +143,7 @@ impl<'a> Words<'a> {
         number.and_then(Prn::new).ok_or(Refusal::OutOfRange)
     }
 
-    /// The Doppler shift in Hz that the next word writes.
+    /// The Doppler shift that the next word writes, -16,000 to 16,000 Hz.
     pub(crate) fn doppler(&mut self) -> Result<Doppler, Refusal>
         requires { 0 < length self.old }
         ensures value { integer_alone result ≡ values_in (around_zero 16000 ∷ []) self.old }
@@ -150,7 +153,7 @@ impl<'a> Words<'a> {
         hz.and_then(Doppler::new).ok_or(Refusal::OutOfRange)
     }
 
-    /// The place in the code that the next word writes, in half chips.
+    /// The place in the code that the next word writes, 0 to 2,045 half chips.
     pub(crate) fn half_chip(&mut self) -> Result<HalfChip, Refusal>
         requires { 0 < length self.old }
         ensures value { number_alone result ≡ values_in (up_to 0 2045 ∷ []) self.old }

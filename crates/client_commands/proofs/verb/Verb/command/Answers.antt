@@ -6,7 +6,8 @@ use Rattle.client_commands.proofs.verb.Verb.command.Goals as goal
 
 pub returns-in_err-slot-in-Hold : goal.returns-in_err-slot-in-Hold
 returns-in_err-slot-in-Hold c =
-    let refused = err_from_is_err_and c.from_residual-in_err-slot-in-Hold.result c.from_residual-in_err-slot-in-Hold.ensures.1 in
+    let refused = err_from_is_err_and c.from_residual-in_err-slot-in-Hold.result
+    c.from_residual-in_err-slot-in-Hold.ensures.1 in
     let count = rw c.in-Hold.is at c.word_count.ensures.same in
     rw (refused.1, refused.2, c.in-Hold.is) (asked hold_verb c.word_count.result
     (words_of c.args.line.now) c.in_ok-words.words _ count c.in_ok-words.ensures.words
@@ -14,7 +15,8 @@ returns-in_err-slot-in-Hold c =
 
 pub returns-in_err-prn-in-Hold : goal.returns-in_err-prn-in-Hold
 returns-in_err-prn-in-Hold c =
-    let refused = err_from_is_err_and c.from_residual-in_err-prn-in-Hold.result c.from_residual-in_err-prn-in-Hold.ensures.1 in
+    let refused = err_from_is_err_and c.from_residual-in_err-prn-in-Hold.result
+    c.from_residual-in_err-prn-in-Hold.ensures.1 in
     let count = rw c.in-Hold.is at c.word_count.ensures.same in
     rw (refused.1, refused.2, c.in-Hold.is) (asked hold_verb c.word_count.result
     (words_of c.args.line.now) c.in_ok-words.words _ count c.in_ok-words.ensures.words
@@ -24,7 +26,8 @@ returns-in_err-prn-in-Hold c =
 
 pub returns-in_err-doppler-in-Hold : goal.returns-in_err-doppler-in-Hold
 returns-in_err-doppler-in-Hold c =
-    let refused = err_from_is_err_and c.from_residual-in_err-doppler-in-Hold.result c.from_residual-in_err-doppler-in-Hold.ensures.1 in
+    let refused = err_from_is_err_and c.from_residual-in_err-doppler-in-Hold.result
+    c.from_residual-in_err-doppler-in-Hold.ensures.1 in
     let count = rw c.in-Hold.is at c.word_count.ensures.same in
     rw (refused.1, refused.2, c.in-Hold.is) (asked hold_verb c.word_count.result
     (words_of c.args.line.now) c.in_ok-words.words _ count c.in_ok-words.ensures.words
@@ -36,7 +39,8 @@ returns-in_err-doppler-in-Hold c =
 
 pub returns-in_err-half_chip-in-Hold : goal.returns-in_err-half_chip-in-Hold
 returns-in_err-half_chip-in-Hold c =
-    let refused = err_from_is_err_and c.from_residual-in_err-half_chip-in-Hold.result c.from_residual-in_err-half_chip-in-Hold.ensures.1 in
+    let refused = err_from_is_err_and c.from_residual-in_err-half_chip-in-Hold.result
+    c.from_residual-in_err-half_chip-in-Hold.ensures.1 in
     let count = rw c.in-Hold.is at c.word_count.ensures.same in
     rw (refused.1, refused.2, c.in-Hold.is) (asked hold_verb c.word_count.result
     (words_of c.args.line.now) c.in_ok-words.words _ count c.in_ok-words.ensures.words
@@ -50,7 +54,8 @@ returns-in_err-half_chip-in-Hold c =
 
 pub returns-in_err-slot-in-Counts : goal.returns-in_err-slot-in-Counts
 returns-in_err-slot-in-Counts c =
-    let refused = err_from_is_err_and c.from_residual-in_err-slot-in-Counts.result c.from_residual-in_err-slot-in-Counts.ensures.1 in
+    let refused = err_from_is_err_and c.from_residual-in_err-slot-in-Counts.result
+    c.from_residual-in_err-slot-in-Counts.ensures.1 in
     let count = rw c.in-Counts.is at c.word_count.ensures.same in
     rw (refused.1, refused.2, c.in-Counts.is) (asked counts_verb c.word_count.result
     (words_of c.args.line.now) c.in_ok-words.words _ count c.in_ok-words.ensures.words
@@ -58,7 +63,8 @@ returns-in_err-slot-in-Counts c =
 
 pub returns-in_err-dumps-in-Counts : goal.returns-in_err-dumps-in-Counts
 returns-in_err-dumps-in-Counts c =
-    let refused = err_from_is_err_and c.from_residual-in_err-dumps-in-Counts.result c.from_residual-in_err-dumps-in-Counts.ensures.1 in
+    let refused = err_from_is_err_and c.from_residual-in_err-dumps-in-Counts.result
+    c.from_residual-in_err-dumps-in-Counts.ensures.1 in
     let count = rw c.in-Counts.is at c.word_count.ensures.same in
     rw (refused.1, refused.2, c.in-Counts.is) (asked counts_verb c.word_count.result
     (words_of c.args.line.now) c.in_ok-words.words _ count c.in_ok-words.ensures.words
