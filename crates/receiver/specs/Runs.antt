@@ -12,6 +12,10 @@ use Rattle.receiver.specs.Offered.{offered}
 use Rattle.receiver.specs.Texts.{AppendsPart, WroteUpTo}
 use Rattle.definitions.specs.Receiver.{answer_lines}
 use Rattle.receiver.specs.Sessions.{StandsFor}
+use Rattle.receiver.specs.HeldTexts.{promised}
+use Rattle.receiver.specs.declared.held_text.HeldText.{HeldText}
+use Rattle.receiver.specs.declared.devices.Source.{Ghosts as Source}
+use Rattle.receiver.specs.declared.devices.Sink.{Ghosts as Sink}
 use Rattle.receiver.specs.declared.session.Session.{Session}
 use Rattle.receiver.specs.declared.faults.RunFault.{RunFault}
 use Rattle.receiver.specs.declared.faults.RunFault.TheVariants.{NoMemory, Clients, Read, Write, TooLong}
@@ -25,9 +29,23 @@ pub record Devices : Type 0 where
   pub contents : Option (List ℕ)
   pub write_failed : Bool
 
--- so seen at one moment
-abbrev pub seen : Option (List ℕ) → Bool → Option (List ℕ) → Bool → Devices
-seen remaining read_failed contents write_failed = record { remaining = remaining; read_failed = read_failed; contents = contents; write_failed = write_failed }
+-- a reader and a writer, as they tell so at one moment
+abbrev pub seen : {R W : Type 0} → Source R → Sink W → R → W → Devices
+seen source sink reader writer = record {
+  remaining = source.remaining reader;
+  read_failed = source.has_failed reader;
+  contents = sink.contents writer;
+  write_failed = sink.has_failed writer;
+}
+
+-- the same once the writer has taken the text that is held back for it
+abbrev pub once_sent : HeldText → Devices → Devices
+once_sent text devices = record {
+  remaining = devices.remaining;
+  read_failed = devices.read_failed;
+  contents = promised devices.contents text;
+  write_failed = devices.write_failed;
+}
 
 -- the samples of what was read, up to a limit
 abbrev pub samples_read : Settings → ℕ → List ℕ → List Sample

@@ -40,17 +40,13 @@ fn run_session<R: Source, W: Sink>(
     ensures ran { IfOk result (λ stop. (settings : Recording) (scripts : List (List ℕ))
         → IsOpen settings (clients_of (task_of settings scripts limit)) session.old
         → Ran settings (clients_of (task_of settings scripts limit)) limit session.new
-        (seen (R.remaining reader.old) (R.has_failed reader.old)
-        (W.contents writer.old) (W.has_failed writer.old))
-        (seen (R.remaining reader.new) (R.has_failed reader.new)
-        (W.contents writer.new) (W.has_failed writer.new)) stop) }
+        (seen R.Source W.Sink reader.old writer.old)
+        (seen R.Source W.Sink reader.new writer.new) stop) }
     ensures broken { OnErr result ((settings : Recording) (scripts : List (List ℕ))
         → IsOpen settings (clients_of (task_of settings scripts limit)) session.old
         → BrokeOff (task_of settings scripts limit)
-        (seen (R.remaining reader.old) (R.has_failed reader.old)
-        (W.contents writer.old) (W.has_failed writer.old))
-        (seen (R.remaining reader.new) (R.has_failed reader.new)
-        (W.contents writer.new) (W.has_failed writer.new))) }
+        (seen R.Source W.Sink reader.old writer.old)
+        (seen R.Source W.Sink reader.new writer.new)) }
 {
     let mut text = HeldText::new();
     put_answers(session, &mut text, writer)?;
@@ -79,46 +75,32 @@ pub fn run<R: Source, W: Sink>(
     ensures once { R.has_failed reader.old ≡ false
         → R.was_asked_again reader.new ≡ R.was_asked_again reader.old }
     ensures run { IsRun (task_of settings (map (λ script. script.now) scripts.now) (2 ^ 40))
-        (seen (R.remaining reader.old) (R.has_failed reader.old)
-        (W.contents writer.old) (W.has_failed writer.old))
-        (seen (R.remaining reader.new) (R.has_failed reader.new)
-        (W.contents writer.new) (W.has_failed writer.new)) result }
+        (seen R.Source W.Sink reader.old writer.old)
+        (seen R.Source W.Sink reader.new writer.new) result }
     ensures alone { IfOk result (λ _. ServesEachAlone settings
         (map (λ script. client_with script.now) scripts.now)
-        (seen (R.remaining reader.old) (R.has_failed reader.old)
-        (W.contents writer.old) (W.has_failed writer.old))
-        (seen (R.remaining reader.new) (R.has_failed reader.new)
-        (W.contents writer.new) (W.has_failed writer.new))) }
+        (seen R.Source W.Sink reader.old writer.old)
+        (seen R.Source W.Sink reader.new writer.new)) }
     ensures counts { IfOk result (λ _. CountsAreSums settings
         (map (λ script. client_with script.now) scripts.now)
-        (seen (R.remaining reader.old) (R.has_failed reader.old)
-        (W.contents writer.old) (W.has_failed writer.old))
-        (seen (R.remaining reader.new) (R.has_failed reader.new)
-        (W.contents writer.new) (W.has_failed writer.new))) }
+        (seen R.Source W.Sink reader.old writer.old)
+        (seen R.Source W.Sink reader.new writer.new)) }
     ensures acquisitions { IfOk result (λ _. AcquisitionsNameTheGreatest settings
         (map (λ script. client_with script.now) scripts.now)
-        (seen (R.remaining reader.old) (R.has_failed reader.old)
-        (W.contents writer.old) (W.has_failed writer.old))
-        (seen (R.remaining reader.new) (R.has_failed reader.new)
-        (W.contents writer.new) (W.has_failed writer.new))) }
+        (seen R.Source W.Sink reader.old writer.old)
+        (seen R.Source W.Sink reader.new writer.new)) }
     ensures words { IfOk result (λ _. WordsPass settings
         (map (λ script. client_with script.now) scripts.now)
-        (seen (R.remaining reader.old) (R.has_failed reader.old)
-        (W.contents writer.old) (W.has_failed writer.old))
-        (seen (R.remaining reader.new) (R.has_failed reader.new)
-        (W.contents writer.new) (W.has_failed writer.new))) }
+        (seen R.Source W.Sink reader.old writer.old)
+        (seen R.Source W.Sink reader.new writer.new)) }
     ensures pages { IfOk result (λ _. PagesPass settings
         (map (λ script. client_with script.now) scripts.now)
-        (seen (R.remaining reader.old) (R.has_failed reader.old)
-        (W.contents writer.old) (W.has_failed writer.old))
-        (seen (R.remaining reader.new) (R.has_failed reader.new)
-        (W.contents writer.new) (W.has_failed writer.new))) }
+        (seen R.Source W.Sink reader.old writer.old)
+        (seen R.Source W.Sink reader.new writer.new)) }
     ensures almanacs { IfOk result (λ _. AlmanacsAgree settings
         (map (λ script. client_with script.now) scripts.now)
-        (seen (R.remaining reader.old) (R.has_failed reader.old)
-        (W.contents writer.old) (W.has_failed writer.old))
-        (seen (R.remaining reader.new) (R.has_failed reader.new)
-        (W.contents writer.new) (W.has_failed writer.new))) }
+        (seen R.Source W.Sink reader.old writer.old)
+        (seen R.Source W.Sink reader.new writer.new)) }
 {
     run_to(alloc, settings, scripts, MOST_SAMPLES, reader, writer)
 }
@@ -141,46 +123,32 @@ pub fn run_to<R: Source, W: Sink>(
     ensures once { R.has_failed reader.old ≡ false
         → R.was_asked_again reader.new ≡ R.was_asked_again reader.old }
     ensures run { IsRun (task_of settings (map (λ script. script.now) scripts.now) limit)
-        (seen (R.remaining reader.old) (R.has_failed reader.old)
-        (W.contents writer.old) (W.has_failed writer.old))
-        (seen (R.remaining reader.new) (R.has_failed reader.new)
-        (W.contents writer.new) (W.has_failed writer.new)) result }
+        (seen R.Source W.Sink reader.old writer.old)
+        (seen R.Source W.Sink reader.new writer.new) result }
     ensures alone { IfOk result (λ _. ServesEachAlone settings
         (map (λ script. client_with script.now) scripts.now)
-        (seen (R.remaining reader.old) (R.has_failed reader.old)
-        (W.contents writer.old) (W.has_failed writer.old))
-        (seen (R.remaining reader.new) (R.has_failed reader.new)
-        (W.contents writer.new) (W.has_failed writer.new))) }
+        (seen R.Source W.Sink reader.old writer.old)
+        (seen R.Source W.Sink reader.new writer.new)) }
     ensures counts { IfOk result (λ _. CountsAreSums settings
         (map (λ script. client_with script.now) scripts.now)
-        (seen (R.remaining reader.old) (R.has_failed reader.old)
-        (W.contents writer.old) (W.has_failed writer.old))
-        (seen (R.remaining reader.new) (R.has_failed reader.new)
-        (W.contents writer.new) (W.has_failed writer.new))) }
+        (seen R.Source W.Sink reader.old writer.old)
+        (seen R.Source W.Sink reader.new writer.new)) }
     ensures acquisitions { IfOk result (λ _. AcquisitionsNameTheGreatest settings
         (map (λ script. client_with script.now) scripts.now)
-        (seen (R.remaining reader.old) (R.has_failed reader.old)
-        (W.contents writer.old) (W.has_failed writer.old))
-        (seen (R.remaining reader.new) (R.has_failed reader.new)
-        (W.contents writer.new) (W.has_failed writer.new))) }
+        (seen R.Source W.Sink reader.old writer.old)
+        (seen R.Source W.Sink reader.new writer.new)) }
     ensures words { IfOk result (λ _. WordsPass settings
         (map (λ script. client_with script.now) scripts.now)
-        (seen (R.remaining reader.old) (R.has_failed reader.old)
-        (W.contents writer.old) (W.has_failed writer.old))
-        (seen (R.remaining reader.new) (R.has_failed reader.new)
-        (W.contents writer.new) (W.has_failed writer.new))) }
+        (seen R.Source W.Sink reader.old writer.old)
+        (seen R.Source W.Sink reader.new writer.new)) }
     ensures pages { IfOk result (λ _. PagesPass settings
         (map (λ script. client_with script.now) scripts.now)
-        (seen (R.remaining reader.old) (R.has_failed reader.old)
-        (W.contents writer.old) (W.has_failed writer.old))
-        (seen (R.remaining reader.new) (R.has_failed reader.new)
-        (W.contents writer.new) (W.has_failed writer.new))) }
+        (seen R.Source W.Sink reader.old writer.old)
+        (seen R.Source W.Sink reader.new writer.new)) }
     ensures almanacs { IfOk result (λ _. AlmanacsAgree settings
         (map (λ script. client_with script.now) scripts.now)
-        (seen (R.remaining reader.old) (R.has_failed reader.old)
-        (W.contents writer.old) (W.has_failed writer.old))
-        (seen (R.remaining reader.new) (R.has_failed reader.new)
-        (W.contents writer.new) (W.has_failed writer.new))) }
+        (seen R.Source W.Sink reader.old writer.old)
+        (seen R.Source W.Sink reader.new writer.new)) }
 {
     let per_byte = settings.format().per_byte();
     let mut session = match Session::open(alloc, settings, scripts) {
