@@ -1,15 +1,12 @@
 -- The value of the word that is next.
-use Rattle.std.proofs.Common.{◌≡◌, ℕ, ◌<◌, ◌≤◌, ◌^◌, List, [], ◌∷◌, length, get_or, refl, arith}
-use Rattle.std.proofs.Common.{Bool}
-use Rattle.std.proofs.Common.{true, false, rules, ◌↔◌, ◌≤ℤ◌, ◌∙◌, ap, sym, drop, ◌+◌}
+use Rattle.std.proofs.Common.{◌≡◌, ◌<◌, ◌≤◌, ◌≤ℤ◌, ◌↔◌, ◌+◌, ◌^◌, ℕ, List, [], ◌∷◌, length, get_or}
+use Rattle.std.proofs.Common.{drop, Bool, true, false, FitsSigned, refl, ap, sym, ◌∙◌, rules, arith}
 use Rattle.std.specs.Prelude.{ℤ, pos, negsuc, unsigned_abs, int_le, ◌&&◌, if◌then◌else◌, Result, Ok}
-use Rattle.std.specs.Prelude.{Err, Option}
-use Rattle.std.specs.Prelude.{Some, None, ok_or, option_map, OkIff, MatchOption, IsSome, IfSome}
+use Rattle.std.specs.Prelude.{Err, Option, Some, None, ok_or, option_map, OkIff, MatchOption}
+use Rattle.std.specs.Prelude.{IsSome, IfSome}
 use Rattle.std.specs.Result.{result_ok}
 use Rattle.std.specs.Option.{SomeIff}
-use Rattle.std.specs.Int.{FitsUnsignedBits}
-use Rattle.std.specs.Int.{Width}
-use Rattle.std.proofs.Common.{FitsSigned}
+use Rattle.std.specs.Int.{FitsUnsignedBits, Width}
 use Rattle.std.proofs.lemmas.Bool.{eq-eqb}
 use Rattle.std.proofs.lemmas.Int.{ints}
 use Rattle.definitions.specs.Scripts.{Range, Verb, up_to, around_zero, signed_number_in}
@@ -77,42 +74,36 @@ as_integer : (r : Option ℕ)
 as_integer None = refl
 as_integer (Some number) = refl
 
-module _ {E : Type 0} (o : Result ℕ E) (value : ℤ) (r : Option ℕ) (P : ℕ → Type 0) where
-  tried_number : (k low high : ℕ) → high < 2 ^ k → ((n : ℕ) → P n ↔ ((low ≤ n) × (n ≤ high)))
+module _ {E : Type 0} where
+  tried_number : (o : Result ℕ E) (value : ℤ) (r : Option ℕ) (P : ℕ → Type 0) (k low high : ℕ)
+      → high < 2 ^ k → ((n : ℕ) → P n ↔ ((low ≤ n) × (n ≤ high)))
       → OkIff o (FitsUnsignedBits k value) (unsigned_abs value)
       → MatchOption (result_ok o) (r ≡ None) (λ n. (IsSome r ↔ P n) × IfSome r (λ s. s ≡ n))
       → SomeIff (option_map pos r) (IsWithin (up_to low high) value) value
-  tried_number = by_cases o value r
-    where
-      by_cases : (o : Result ℕ E) (value : ℤ) (r : Option ℕ) (k low high : ℕ) → high < 2 ^ k
-          → ((n : ℕ) → P n ↔ ((low ≤ n) × (n ≤ high)))
-          → OkIff o (FitsUnsignedBits k value) (unsigned_abs value)
-          → MatchOption (result_ok o) (r ≡ None) (λ n. (IsSome r ↔ P n) × IfSome r (λ s. s ≡ n))
-          → SomeIff (option_map pos r) (IsWithin (up_to low high) value) value
-      by_cases (Ok n) (pos m) None k low high room range (fits, is) (whether, same) = λ within.
-          let some : IsSome {T = ℕ} None =
-          whether.1 ((range n).1 (omega (arith, ints), omega (arith, ints))) in cc
-      by_cases (Ok n) (pos m) (Some s) k low high room range (fits, is) (whether, same) =
-          let both = (range n).0 (whether.0 refl) in
-          ((omega (arith, ints), omega (arith, ints)), ap pos (omega arith))
-      by_cases (Ok n) (negsuc m) r k low high room range (fits, is) tried = absurd fits
-      by_cases (Err e) (pos m) r k low high room range out none =
-          rw none (λ within. out (omega (arith, ints, within)))
-      by_cases (Err e) (negsuc m) r k low high room range out none =
-          rw none (λ within. absurd (omega (arith, ints, within)))
+  tried_number (Ok n) (pos m) None P k low high room range (fits, is) (whether, same) = λ within.
+      let inside = (range n).1 (omega (arith, ints), omega (arith, ints)) in
+      let some : IsSome {T = ℕ} None = whether.1 inside in cc
+  tried_number (Ok n) (pos m) (Some s) P k low high room range (fits, is) (whether, same) =
+      let both = (range n).0 (whether.0 refl) in
+      ((omega (arith, ints), omega (arith, ints)), ap pos (omega arith))
+  tried_number (Ok n) (negsuc m) r P k low high room range (fits, is) tried = absurd fits
+  tried_number (Err e) (pos m) r P k low high room range out none =
+      rw none (λ within. out (omega (arith, ints, within)))
+  tried_number (Err e) (negsuc m) r P k low high room range out none =
+      rw none (λ within. absurd (omega (arith, ints, within)))
 
   -- a number that is tried by its type, and then by its range
-  pub number_tried : (k low high : ℕ) (words : List (List ℕ)) → high < 2 ^ k
+  pub number_tried : (o : Result ℕ E) (value : ℤ) (r : Option ℕ) (P : ℕ → Type 0) (k low high : ℕ)
+      (words : List (List ℕ)) → high < 2 ^ k
       → ((n : ℕ) → P n ↔ ((low ≤ n) × (n ≤ high))) → 0 < length words
       → Ok value ≡ ok_or (signed_number_in (get_or words 0 [])) NotANumber
       → OkIff o (FitsUnsignedBits k value) (unsigned_abs value)
       → MatchOption (result_ok o) (r ≡ None) (λ n. (IsSome r ↔ P n) × IfSome r (λ s. s ≡ n))
       → number_alone (ok_or r OutOfRange) ≡ values_in (up_to low high ∷ []) words
-  number_tried k low high words room range some is typed ranged =
+  number_tried o value r P k low high words room range some is typed ranged =
       as_integer r ∙ integer_read (up_to low high) words value (option_map pos r) some is
-      (tried_number k low high room range typed ranged)
+      (tried_number o value r P k low high room range typed ranged)
 
-module _ {E : Type 0} where
   tried_integer : (o : Result ℤ E) (value : ℤ) (r : Option ℤ) (w : Width) (size : ℕ)
       → (unsigned_abs value ≤ size → FitsSigned w value) → OkIff o (FitsSigned w value) value
       → MatchOption (result_ok o) (r ≡ None)

@@ -3,7 +3,8 @@
 ghost use Rattle.std.specs.Prelude.{◌≡◌, map, IfOk, IfErr};
 ghost use Rattle.clap.specs.Matches.{found_of};
 ghost use Rattle.receiver.specs.Runs.{seen};
-ghost use Rattle.command_line.specs.Programs.{Receives, RunsTexts, IsBeforeRun, asked_in, paths_in, one_or_more};
+ghost use Rattle.command_line.specs.Programs.{Receives, RunsTexts, IsBeforeRun, asked_in, paths_in};
+ghost use Rattle.command_line.specs.Programs.{one_or_more};
 
 use crate::failure::Failure;
 use crate::options;

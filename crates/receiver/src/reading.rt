@@ -1,8 +1,10 @@
 //! The samples of a run, read and taken piece by piece.
 
-ghost use Rattle.std.specs.Prelude.{◌≡◌, ◌≤◌, ◌<◌, ◌+◌, ◌%◌, ◌^◌, ℕ, Option, List, [], ◌++◌, length, false, OnOk, OnErr, IfOk};
+ghost use Rattle.std.specs.Prelude.{◌≡◌, ◌≤◌, ◌<◌, ◌+◌, ◌%◌, ◌^◌, ℕ, Option, List, [], ◌++◌};
+ghost use Rattle.std.specs.Prelude.{length, false, OnOk, OnErr, IfOk};
 ghost use Rattle.definitions.specs.Oscillators.{Settings as Recording};
-ghost use Rattle.definitions.specs.Samples.{Sample, sample_count, samples_from, samples, samples_per_byte};
+ghost use Rattle.definitions.specs.Samples.{Sample, sample_count, samples_from, samples};
+ghost use Rattle.definitions.specs.Samples.{samples_per_byte};
 ghost use Rattle.definitions.specs.Receiver.{Client, body};
 ghost use Rattle.receiver.specs.Devices.{TellsFailure};
 ghost use Rattle.receiver.specs.HeldTexts.{held, promised};

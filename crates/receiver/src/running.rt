@@ -1,6 +1,7 @@
 //! A whole run: what is written, and what it answers.
 
-ghost use Rattle.std.specs.Prelude.{◌≡◌, ◌≤◌, ◌<◌, ◌%◌, ◌^◌, ℕ, List, length, map, false, OnErr, IfOk, Err, IsErrOf, ◌⊎◌, ◌↔◌};
+ghost use Rattle.std.specs.Prelude.{◌≡◌, ◌≤◌, ◌<◌, ◌%◌, ◌^◌, ℕ, List, length, map, false, OnErr};
+ghost use Rattle.std.specs.Prelude.{IfOk, Err, IsErrOf, ◌⊎◌, ◌↔◌};
 ghost use Rattle.definitions.specs.Oscillators.{Settings as Recording};
 ghost use Rattle.definitions.specs.Samples.{samples_per_byte};
 ghost use Rattle.definitions.specs.Runs.{clients_of};
