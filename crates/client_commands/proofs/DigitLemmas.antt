@@ -1,5 +1,6 @@
 -- A number by its digits, one more at a time.
-use Rattle.std.proofs.Common.{◌≡◌, ℕ, suc, zero, ◌+◌, ◌-◌, ◌*◌, ◌^◌, ◌<◌, ◌≤◌, List, length, take, get_or, ap, ◌∙◌, sym, refl, arith, true, add-zero, add-suc, add-one}
+use Rattle.std.proofs.Common.{◌≡◌, ℕ, suc, zero, ◌+◌, ◌-◌, ◌*◌, ◌^◌, ◌<◌, ◌≤◌, List, length, take}
+use Rattle.std.proofs.Common.{get_or, ap, ◌∙◌, sym, refl, arith, true, add-zero, add-suc, add-one}
 use Rattle.std.specs.List.{list_all}
 use Rattle.std.specs.Char.{is_ascii_digit}
 use Rattle.std.specs.Str.Parse.{digits_value}
@@ -12,7 +13,8 @@ powers_rise : (i k : ℕ) → 10 ^ i ≤ 10 ^ (i + k)
 powers_rise i zero = rw (add-zero i) (omega arith)
 powers_rise i (suc k) =
     let h = powers_rise i k in
-    let e : 10 ^ (i + suc k) ≡ 10 ^ (i + k) * 10 = ap (λ (n : ℕ). 10 ^ n) (add-suc i k) ∙ pow-suc 10 (i + k) in
+    let e : 10 ^ (i + suc k) ≡ 10 ^ (i + k) * 10 = ap (λ (n : ℕ). 10 ^ n) (add-suc i k)
+    ∙ pow-suc 10 (i + k) in
     omega arith
 
 -- a number of at most 12 digits has room for one more
@@ -33,10 +35,15 @@ power_of_one_more n d i h digit =
     let e : 10 ^ (i + 1) ≡ 10 ^ i * 10 = ap (λ (m : ℕ). 10 ^ m) (add-one i) ∙ pow-suc 10 i in
     omega arith
 
-pub all_with_one_more : (word : List ℕ) (i : ℕ) → i < length word → list_all is_ascii_digit (take i word) ≡ true → true ≡ is_ascii_digit (get_or word i 0) → list_all is_ascii_digit (take (i + 1) word) ≡ true
-all_with_one_more word i below all here = rw (list_all_more is_ascii_digit word i 0 below, all, sym here) refl
+pub all_with_one_more : (word : List ℕ) (i : ℕ) → i < length word
+    → list_all is_ascii_digit (take i word) ≡ true → true ≡ is_ascii_digit (get_or word i 0)
+    → list_all is_ascii_digit (take (i + 1) word) ≡ true
+all_with_one_more word i below all here = rw
+    (list_all_more is_ascii_digit word i 0 below, all, sym here) refl
 
-pub value_of_one_more : (word : List ℕ) (i number digit : ℕ) → i < length word → number ≡ digits_value 10 (take i word) → digit ≡ get_or word i 0 - 48 → 48 ≤ get_or word i 0 → get_or word i 0 ≤ 57 → 10 * number + digit ≡ digits_value 10 (take (i + 1) word)
+pub value_of_one_more : (word : List ℕ) (i number digit : ℕ) → i < length word → number
+    ≡ digits_value 10 (take i word) → digit ≡ get_or word i 0 - 48 → 48 ≤ get_or word i 0
+    → get_or word i 0 ≤ 57 → 10 * number + digit ≡ digits_value 10 (take (i + 1) word)
 value_of_one_more word i number digit below value here low high =
     let more = digits_value_more 10 word i below in
     let its = digit_value_digit (get_or word i 0) (low, high) in

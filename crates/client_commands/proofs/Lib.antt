@@ -1,5 +1,4 @@
 pub mod DigitLemmas
 pub mod EntryLemmas
 pub mod PieceLemmas
-pub mod RangeLemmas
-pub mod ValueLemmas
+pub mod ReadingLemmas

@@ -5,7 +5,10 @@ use Rattle.definitions.specs.Scripts.{Entry}
 use Rattle.channel_slots.specs.declared.command.Command.{Command}
 use Rattle.channel_slots.specs.Commands.{command_in}
 use Rattle.client_commands.specs.declared.refusal.Refusal.{Refusal}
-use Rattle.client_commands.specs.declared.refusal.Refusal.TheVariants.{LineTooLong, NotPrintable, NoTime, TimeGoesBack, NoVerb, WrongWordCount, NotANumber, OutOfRange}
+use Rattle.client_commands.specs.declared.refusal.Refusal.TheVariants.{LineTooLong, NotPrintable}
+use Rattle.client_commands.specs.declared.refusal.Refusal.TheVariants.{NoTime, TimeGoesBack, NoVerb}
+use Rattle.client_commands.specs.declared.refusal.Refusal.TheVariants.{WrongWordCount, NotANumber}
+use Rattle.client_commands.specs.declared.refusal.Refusal.TheVariants.{OutOfRange}
 use Rattle.client_commands.specs.declared.script.Timed.{Timed}
 
 -- the number that is printed

@@ -1,3 +1,3 @@
 pub mod Entries
 pub mod Known
-pub mod VerbTable
+pub mod Reading

@@ -1,6 +1,10 @@
+//! The entry of one line: its time, and a command or why it is refused.
+
 ghost use Rattle.std.specs.Prelude.{◌≡◌};
 ghost use Rattle.std.specs.List.{list_all};
-ghost use Rattle.definitions.specs.Scripts.{entry_of, command_in, is_printable as is_printable_byte, time_in as time_of_word};
+ghost use Rattle.definitions.specs.Scripts.{entry_of, command_in};
+ghost use Rattle.definitions.specs.Scripts.{is_printable as is_printable_byte};
+ghost use Rattle.definitions.specs.Scripts.{time_in as time_of_word};
 ghost use Rattle.definitions.specs.Lines.{words_of};
 ghost use Rattle.client_commands.specs.Entries.{entries_in, result_in};
 ghost use Rattle.client_commands.specs.Known.{known};
@@ -9,7 +13,7 @@ use crate::number::number_in;
 use crate::refusal::Refusal;
 use crate::script::Timed;
 use crate::verb::Verb;
-use crate::words::{count_words, next_word};
+use crate::words::next_word;
 use channel_slots::Command;
 
 /// The most bytes of a line.
@@ -70,8 +74,5 @@ fn command(words: &[u8]) -> Result<Command, Refusal>
 {
     let (name, words) = next_word(words).ok_or(Refusal::NoVerb)?;
     let verb = Verb::named(name).ok_or(Refusal::NoVerb)?;
-    if count_words(words) != verb.ranges().len() {
-        return Err(Refusal::WrongWordCount);
-    }
     verb.command(words)
 }

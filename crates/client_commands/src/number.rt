@@ -1,5 +1,8 @@
+//! The numbers that words write.
+
 ghost use Rattle.std.specs.Prelude.{◌≡◌, ◌<◌, ◌^◌, IfSome, unsigned_abs};
-ghost use Rattle.definitions.specs.Scripts.{number_in as number_of_word, signed_number_in as signed_number_of_word};
+ghost use Rattle.definitions.specs.Scripts.{number_in as number_of_word};
+ghost use Rattle.definitions.specs.Scripts.{signed_number_in as signed_number_of_word};
 
 /// The most digits of a number.
 const MOST_DIGITS: usize = 13;

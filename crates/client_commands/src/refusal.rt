@@ -1,3 +1,5 @@
+//! Why a line of a script is refused.
+
 ghost use Rattle.std.specs.Prelude.{◌≡◌};
 ghost use Rattle.client_commands.specs.Entries.{number_of};
 

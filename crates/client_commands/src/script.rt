@@ -1,3 +1,5 @@
+//! A script, read entry by entry.
+
 ghost use Rattle.std.specs.Prelude.{◌≡◌, ◌∷◌, [], List, IfSome, IsNone};
 ghost use Rattle.client_commands.specs.Entries.{entry_in};
 

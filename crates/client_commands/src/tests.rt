@@ -194,7 +194,8 @@ fn any_bytes_end(rt: HostRuntime) -> Result<(), Fail> {
             refused[number] = refused[number].wrapping_add(1);
         }
     }
-    // The numbers were counted by a few lines of Python, written from the rules alone. The last line that has a time reads `9`.
+    // The numbers were counted by a few lines of Python, written from the rules alone. The last
+    // line that has a time reads `9`.
     assert_eq!(rt;
         &refused[..9],
         [0, 1_222, 10_436, 43, 3, 2, 0, 0, 0].as_slice()

@@ -1,5 +1,21 @@
-ghost use Rattle.std.specs.Prelude.{◌≡◌, ◌==◌, ◌∷◌, [], length, position, MatchOption};
+//! Lines of a script, words of a line, and the values that the words behind a verb write.
+
+ghost use Rattle.std.specs.Prelude.{◌≡◌, ◌≤◌, ◌<◌, ◌==◌, ◌∷◌, [], length, position, MatchOption};
 ghost use Rattle.definitions.specs.Lines.{pieces_ended_by, lines_of, words_of};
+
+use crate::number::signed_number_in;
+use crate::refusal::Refusal;
+use arrayvec::ArrayVec;
+use ca_codes::Prn;
+use channel_slots::SlotNo;
+use oscillators::{Doppler, HalfChip};
+use std::marker::Model;
+
+/// The most words behind a verb: those of `hold`.
+pub(crate) const MOST_WORDS: usize = 4;
+
+/// The most dumps that a client can ask for at once.
+pub const MOST_DUMPS: u32 = 1_000_000;
 
 /// The place of the first byte `end` of a text.
 fn place_of(end: u8, text: &[u8]) -> Option<usize>
@@ -8,9 +24,12 @@ fn place_of(end: u8, text: &[u8]) -> Option<usize>
     text.iter().position(|b| *b == end)
 }
 
-/// What stands before the first byte `end` of a text, or all of it, and what stands behind. An empty text has no piece.
+/// What stands before the first byte `end` of a text, or all of it, and what stands behind. An
+/// empty text has no piece.
 fn next_piece(end: u8, text: &[u8]) -> Option<(&[u8], &[u8])>
-    ensures { MatchOption result (pieces_ended_by end text.now ≡ []) (λ found. pieces_ended_by end text.now ≡ found.0.now ∷ pieces_ended_by end found.1.now) }
+    ensures { MatchOption result (pieces_ended_by end text.now ≡ [])
+        (λ found. pieces_ended_by end text.now
+        ≡ found.0.now ∷ pieces_ended_by end found.1.now) }
 {
     if text.is_empty() {
         return None;
@@ -21,16 +40,19 @@ fn next_piece(end: u8, text: &[u8]) -> Option<(&[u8], &[u8])>
     }
 }
 
-/// The first line of a text and what stands behind its line feed, or `None` where the text is empty.
+/// The first line of a text and what stands behind its line feed, or `None` where the text is
+/// empty.
 pub(crate) fn next_line(text: &[u8]) -> Option<(&[u8], &[u8])>
-    ensures { MatchOption result (lines_of text.now ≡ []) (λ found. lines_of text.now ≡ found.0.now ∷ lines_of found.1.now) }
+    ensures { MatchOption result (lines_of text.now ≡ [])
+        (λ found. lines_of text.now ≡ found.0.now ∷ lines_of found.1.now) }
 {
     next_piece(b'\n', text)
 }
 
 /// The first word of a line and what stands behind it, or `None` where there is none.
 pub(crate) fn next_word(line: &[u8]) -> Option<(&[u8], &[u8])>
-    ensures { MatchOption result (words_of line.now ≡ []) (λ found. words_of line.now ≡ found.0.now ∷ words_of found.1.now) }
+    ensures { MatchOption result (words_of line.now ≡ [])
+        (λ found. words_of line.now ≡ found.0.now ∷ words_of found.1.now) }
 {
     let mut rest = line;
     while let Some((piece, behind)) = next_piece(b' ', rest) {
@@ -42,15 +64,116 @@ pub(crate) fn next_word(line: &[u8]) -> Option<(&[u8], &[u8])>
     None
 }
 
-/// How many words a line has.
-pub(crate) fn count_words(line: &[u8]) -> usize
-    ensures { result ≡ length (words_of line.now) }
-{
-    let mut rest = line;
-    let mut count = 0;
-    while let Some((_, behind)) = next_word(rest) {
-        rest = behind;
-        count += 1;
+/// The words behind a verb that are still to be read. Clauses see them as lists of bytes.
+#[derive(Drop)]
+pub(crate) struct Words<'a> {
+    /// All words behind the verb.
+    words: ArrayVec<&'a [u8], MOST_WORDS>,
+    /// How many of them are read.
+    read: usize,
+}
+
+impl<'a> Model for Words<'a> {
+    ghost use Rattle.std.specs.Prelude.{ℕ, List, map, drop};
+
+    ghost Value = { List (List ℕ) };
+
+    ghost view = { λ w. map (λ word. word.now) (drop w.read w.words.items) };
+}
+
+impl<'a> Words<'a> {
+    ghost use Rattle.std.specs.Prelude.{drop, get_or, ok_or, OkIff, IfErr};
+    ghost use Rattle.definitions.specs.Scripts.{up_to, around_zero, values_in};
+    ghost use Rattle.definitions.specs.Scripts.{signed_number_in as signed_number_of_word};
+    ghost use Rattle.client_commands.specs.Reading.{number_alone, integer_alone};
+    ghost use Rattle.client_commands.specs.declared.words.TheConstants.{MOST_WORDS, MOST_DUMPS};
+
+    /// The words of a line, of which there are to be `count`. They are split before the first of
+    /// them is judged, since a wrong number of words is refused before any value.
+    pub(crate) fn split(line: &'a [u8], count: usize) -> Result<Words<'a>, Refusal>
+        requires { count ≤ MOST_WORDS }
+        ensures words { OkIff result (length (words_of line.now) ≡ count) (words_of line.now) }
+        ensures refused { IfErr result (λ refusal. refusal ≡ Refusal.WrongWordCount) }
+    {
+        let mut words = ArrayVec::new();
+        let mut rest = line;
+        while let Some((word, behind)) = next_word(rest) {
+            if words.is_full() {
+                return Err(Refusal::WrongWordCount);
+            }
+            words.push(word);
+            rest = behind;
+        }
+        if words.len() == count {
+            Ok(Words { words, read: 0 })
+        } else {
+            Err(Refusal::WrongWordCount)
+        }
     }
-    count
+
+    /// The number that the next word writes.
+    fn number(&mut self) -> Result<i64, Refusal>
+        requires { 0 < length self.old }
+        ensures number { result
+            ≡ ok_or (signed_number_of_word (get_or self.old 0 [])) Refusal.NotANumber }
+        ensures left { self.new ≡ drop 1 self.old }
+    {
+        let word = self.words[self.read];
+        self.read += 1;
+        signed_number_in(word).ok_or(Refusal::NotANumber)
+    }
+
+    /// The slot that the next word names, 0 to 3.
+    pub(crate) fn slot(&mut self) -> Result<SlotNo, Refusal>
+        requires { 0 < length self.old }
+        ensures value { number_alone result ≡ values_in (up_to 0 3 ∷ []) self.old }
+        ensures left { self.new ≡ drop 1 self.old }
+    {
+        let number = u8::try_from(self.number()?).ok();
+        number.and_then(SlotNo::new).ok_or(Refusal::OutOfRange)
+    }
+
+    /// The satellite that the next word names, 1 to 32.
+    pub(crate) fn prn(&mut self) -> Result<Prn, Refusal>
+        requires { 0 < length self.old }
+        ensures value { number_alone result ≡ values_in (up_to 1 32 ∷ []) self.old }
+        ensures left { self.new ≡ drop 1 self.old }
+    {
+        let number = u8::try_from(self.number()?).ok();
+        number.and_then(Prn::new).ok_or(Refusal::OutOfRange)
+    }
+
+    /// The Doppler shift that the next word writes, -16,000 to 16,000 Hz.
+    pub(crate) fn doppler(&mut self) -> Result<Doppler, Refusal>
+        requires { 0 < length self.old }
+        ensures value { integer_alone result ≡ values_in (around_zero 16000 ∷ []) self.old }
+        ensures left { self.new ≡ drop 1 self.old }
+    {
+        let hz = i32::try_from(self.number()?).ok();
+        hz.and_then(Doppler::new).ok_or(Refusal::OutOfRange)
+    }
+
+    /// The place in the code that the next word writes, 0 to 2,045 half chips.
+    pub(crate) fn half_chip(&mut self) -> Result<HalfChip, Refusal>
+        requires { 0 < length self.old }
+        ensures value { number_alone result ≡ values_in (up_to 0 2045 ∷ []) self.old }
+        ensures left { self.new ≡ drop 1 self.old }
+    {
+        let half_chips = u16::try_from(self.number()?).ok();
+        half_chips
+            .and_then(HalfChip::new)
+            .ok_or(Refusal::OutOfRange)
+    }
+
+    /// The number of dumps that the next word writes, 0 to `MOST_DUMPS`.
+    pub(crate) fn dumps(&mut self) -> Result<u32, Refusal>
+        requires { 0 < length self.old }
+        ensures value { number_alone result ≡ values_in (up_to 0 MOST_DUMPS ∷ []) self.old }
+        ensures left { self.new ≡ drop 1 self.old }
+    {
+        let count = u32::try_from(self.number()?).ok();
+        count
+            .filter(|count| *count <= MOST_DUMPS)
+            .ok_or(Refusal::OutOfRange)
+    }
 }

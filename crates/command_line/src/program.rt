@@ -30,10 +30,8 @@ where
     R: Source,
     W: Sink,
     ensures status { HasEnded (S.bytes_of files.now)
-        (seen (R.remaining reader.old) (R.has_failed reader.old)
-        (W.contents writer.old) (W.has_failed writer.old))
-        (seen (R.remaining reader.new) (R.has_failed reader.new)
-        (W.contents writer.new) (W.has_failed writer.new)) (exit_status result) }
+        (seen R.Source W.Sink reader.old writer.old)
+        (seen R.Source W.Sink reader.new writer.new) (exit_status result) }
 {
     let words = match words(rt.alloc(), rt) {
         Ok(words) => words,

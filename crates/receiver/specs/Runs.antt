@@ -1,5 +1,6 @@
 -- What a run reads and writes, by its answer.
-use Rattle.std.specs.Prelude.{◌≡◌, ◌≤◌, ◌<◌, ℕ, Bool, true, List, [], length, take, replicate, slice_get, ◌+◌, Option, Some, Result, Ok, Err}
+use Rattle.std.specs.Prelude.{◌≡◌, ◌≤◌, ◌<◌, ℕ, Bool, true, List, [], length, take, replicate}
+use Rattle.std.specs.Prelude.{slice_get, ◌+◌, Option, Some, Result, Ok, Err}
 use Rattle.std.specs.Io.KnownBytes.{Appends, Consumes, IsAtEnd}
 use Rattle.definitions.specs.Oscillators.{Settings}
 use Rattle.definitions.specs.Samples.{Sample, samples}
@@ -12,9 +13,14 @@ use Rattle.receiver.specs.Offered.{offered}
 use Rattle.receiver.specs.Texts.{AppendsPart, WroteUpTo}
 use Rattle.definitions.specs.Receiver.{answer_lines}
 use Rattle.receiver.specs.Sessions.{StandsFor}
+use Rattle.receiver.specs.HeldTexts.{promised}
+use Rattle.receiver.specs.declared.held_text.HeldText.{HeldText}
+use Rattle.receiver.specs.declared.devices.Source.{Ghosts as Source}
+use Rattle.receiver.specs.declared.devices.Sink.{Ghosts as Sink}
 use Rattle.receiver.specs.declared.session.Session.{Session}
 use Rattle.receiver.specs.declared.faults.RunFault.{RunFault}
-use Rattle.receiver.specs.declared.faults.RunFault.TheVariants.{NoMemory, Clients, Read, Write, TooLong}
+use Rattle.receiver.specs.declared.faults.RunFault.TheVariants.{NoMemory, Clients}
+use Rattle.receiver.specs.declared.faults.RunFault.TheVariants.{Read, Write, TooLong}
 use Rattle.receiver.specs.declared.faults.Stop.{Stop}
 use Rattle.receiver.specs.declared.faults.Stop.TheVariants.{AtEnd, ReadFailed, PastLimit}
 
@@ -25,19 +31,36 @@ pub record Devices : Type 0 where
   pub contents : Option (List ℕ)
   pub write_failed : Bool
 
--- so seen at one moment
-abbrev pub seen : Option (List ℕ) → Bool → Option (List ℕ) → Bool → Devices
-seen remaining read_failed contents write_failed = record { remaining = remaining; read_failed = read_failed; contents = contents; write_failed = write_failed }
+-- what they tell at one moment, by the members of their traits
+abbrev pub seen : {R W : Type 0} → Source R → Sink W → R → W → Devices
+seen source sink reader writer = record {
+  remaining = source.remaining reader;
+  read_failed = source.has_failed reader;
+  contents = sink.contents writer;
+  write_failed = sink.has_failed writer;
+}
+
+-- the same as though the writer had taken all text that is held back for it
+abbrev pub once_sent : HeldText → Devices → Devices
+once_sent text devices = record {
+  remaining = devices.remaining;
+  read_failed = devices.read_failed;
+  contents = promised devices.contents text;
+  write_failed = devices.write_failed;
+}
 
 -- the samples of what was read, up to a limit
 abbrev pub samples_read : Settings → ℕ → List ℕ → List Sample
 samples_read settings limit read = take limit (samples settings.packing read)
 
--- reading stops where a read gave 0 bytes, where a read failed, or where more samples than the limit came
+-- reading stops where a read gave 0 bytes, where a read failed, or where more samples than the
+-- limit came
 abbrev pub StopsFor : ℕ → ℕ → Bool → Bool → Option (List ℕ) → Stop → Type 0
-StopsFor limit count failed_before failed remaining AtEnd = IsAtEnd remaining × (count ≤ limit) × (failed ≡ failed_before)
+StopsFor limit count failed_before failed remaining AtEnd =
+    IsAtEnd remaining × (count ≤ limit) × (failed ≡ failed_before)
 StopsFor limit count failed_before failed remaining ReadFailed = (failed ≡ true) × (count ≤ limit)
-StopsFor limit count failed_before failed remaining PastLimit = (limit < count) × (failed ≡ failed_before)
+StopsFor limit count failed_before failed remaining PastLimit =
+    (limit < count) × (failed ≡ failed_before)
 
 -- the lines of all clients, with `end` only where all was read
 abbrev pub text_for : Stop → Settings → List Sample → List Client → List ℕ
@@ -79,8 +102,8 @@ WriterTells (Err Read) old new = new.write_failed ≡ old.write_failed
 WriterTells (Err Write) old new = new.write_failed ≡ true
 WriterTells (Err TooLong) old new = new.write_failed ≡ old.write_failed
 
--- a run: the bytes that its reads gave and how they ended, and the text that it wrote. Its result is the answer that the definitions'
--- table has for them
+-- a run: the bytes that its reads gave and how they ended, and the text that it wrote. Its result
+-- is the answer that the definitions' table has for them
 pub record IsRun (task : Task) (old new : Devices) (result : Result ℕ RunFault) : Type 0 where
   pub input : Input
   pub text : List ℕ
@@ -90,15 +113,17 @@ pub record IsRun (task : Task) (old new : Devices) (result : Result ℕ RunFault
   pub writer : WriterTells result old new
   pub answer : IsAnswer task input text (answer_of result)
 
--- what was written has for each client, behind its number, the lines of a receiver with that client alone over the samples that were
--- read, and then its end, whatever the others ask
-pub record ServesEachAlone (settings : Settings) (clients : List Client) (old new : Devices) : Type 0 where
+-- what was written has for each client, behind its number, the lines of a receiver with that client
+-- alone over the samples that were read, and then its end, whatever the others ask
+pub record ServesEachAlone (settings : Settings) (clients : List Client)
+    (old new : Devices) : Type 0 where
   pub read : List ℕ
   pub text : List ℕ
   pub consumed : Consumes old.remaining new.remaining read
   pub written : Appends old.contents new.contents text
   pub alone : (k : ℕ) (client : Client) → slice_get clients k ≡ Some client
-      → lines_of_client (1 + k) (lines_of text) ≡ alone_to_end offered settings (samples settings.packing read) client
+      → lines_of_client (1 + k) (lines_of text)
+      ≡ alone_to_end offered settings (samples settings.packing read) client
 
 -- ---- within a run
 
@@ -107,39 +132,53 @@ pub record IsOpen (settings : Settings) (clients : List Client) (session : Sessi
   pub stands : StandsFor settings clients session [] (answer_lines offered settings clients [])
   pub first : body_lines offered settings [] clients ≡ answer_lines offered settings clients []
 
--- a session at the end of samples, with all that was to be written by then, since the writer held `start`
-pub record IsWrittenTo (settings : Settings) (clients : List Client) (start : Option (List ℕ)) (session : Session) (contents : Option (List ℕ)) (xs : List Sample) : Type 0 where
+-- a session at the end of samples, with all that was to be written by then, since the writer held
+-- `start`
+pub record IsWrittenTo (settings : Settings) (clients : List Client) (start : Option (List ℕ))
+    (session : Session) (contents : Option (List ℕ)) (xs : List Sample) : Type 0 where
   pub stands : StandsFor settings clients session xs []
   pub written : Appends start contents (body offered settings xs clients)
 
--- of these answers some have been written since the writer held `start`, and the session has the others
-pub record HasAnswered (settings : Settings) (clients : List Client) (xs : List Sample) (waiting : List (List ℕ)) (start : Option (List ℕ)) (session : Session) (contents : Option (List ℕ)) : Type 0 where
+-- of these answers some have been written since the writer held `start`, and the session has the
+-- others
+pub record HasAnswered (settings : Settings) (clients : List Client) (xs : List Sample)
+    (waiting : List (List ℕ)) (start : Option (List ℕ)) (session : Session)
+    (contents : Option (List ℕ)) : Type 0 where
   pub left : List (List ℕ)
   pub stands : StandsFor settings clients session xs left
   pub wrote : WroteUpTo start contents (as_bytes waiting) (as_bytes left)
 
 -- reading stopped, and all that was to be written by then is written
-pub record HasRead (settings : Settings) (clients : List Client) (limit : ℕ) (start : Option (List ℕ)) (session : Session) (old new : Devices) (stop : Stop) : Type 0 where
+pub record HasRead (settings : Settings) (clients : List Client) (limit : ℕ)
+    (start : Option (List ℕ)) (session : Session) (old new : Devices) (stop : Stop) : Type 0 where
   pub read : List ℕ
   pub consumed : Consumes old.remaining new.remaining read
-  pub why : StopsFor limit (length (samples settings.packing read)) old.read_failed new.read_failed new.remaining stop
-  pub at : IsWrittenTo settings clients start session new.contents (samples_read settings limit read)
+  pub why : StopsFor limit (length (samples settings.packing read)) old.read_failed new.read_failed
+      new.remaining stop
+  pub at : IsWrittenTo settings clients start session new.contents
+      (samples_read settings limit read)
 
 -- a write failed while reading
-pub record BrokeOffReading (settings : Settings) (clients : List Client) (limit : ℕ) (start : Option (List ℕ)) (old new : Devices) : Type 0 where
+pub record BrokeOffReading (settings : Settings) (clients : List Client) (limit : ℕ)
+    (start : Option (List ℕ)) (old new : Devices) : Type 0 where
   pub read : List ℕ
   pub consumed : Consumes old.remaining new.remaining read
   pub read_failed : new.read_failed ≡ old.read_failed
-  pub written : AppendsPart start new.contents (body offered settings (samples_read settings limit read) clients)
+  pub written : AppendsPart start new.contents
+      (body offered settings (samples_read settings limit read) clients)
 
 -- all of the text was written
-pub record Completes (settings : Settings) (clients : List Client) (limit : ℕ) (read : List ℕ) (old new : Devices) (stop : Stop) : Type 0 where
-  pub why : StopsFor limit (length (samples settings.packing read)) old.read_failed new.read_failed new.remaining stop
-  pub written : Appends old.contents new.contents (text_for stop settings (samples_read settings limit read) clients)
+pub record Completes (settings : Settings) (clients : List Client) (limit : ℕ) (read : List ℕ)
+    (old new : Devices) (stop : Stop) : Type 0 where
+  pub why : StopsFor limit (length (samples settings.packing read)) old.read_failed new.read_failed
+      new.remaining stop
+  pub written : Appends old.contents new.contents
+      (text_for stop settings (samples_read settings limit read) clients)
   pub write_failed : new.write_failed ≡ old.write_failed
 
 -- a run over a session came to its stop
-pub record Ran (settings : Settings) (clients : List Client) (limit : ℕ) (session : Session) (old new : Devices) (stop : Stop) : Type 0 where
+pub record Ran (settings : Settings) (clients : List Client) (limit : ℕ) (session : Session)
+    (old new : Devices) (stop : Stop) : Type 0 where
   pub read : List ℕ
   pub consumed : Consumes old.remaining new.remaining read
   pub stands : StandsFor settings clients session (samples_read settings limit read) []

@@ -1,6 +1,7 @@
 //! The samples of a run, read and taken piece by piece.
 
-ghost use Rattle.std.specs.Prelude.{◌≡◌, ◌≤◌, ◌<◌, ◌+◌, ◌%◌, ◌^◌, ℕ, Option, List, [], ◌++◌, length, false, OnOk, OnErr, IfOk};
+ghost use Rattle.std.specs.Prelude.{◌≡◌, ◌≤◌, ◌<◌, ◌+◌, ◌%◌, ◌^◌, ℕ, Option, List, [], ◌++◌};
+ghost use Rattle.std.specs.Prelude.{length, false, OnOk, OnErr, IfOk};
 ghost use Rattle.definitions.specs.Oscillators.{Settings as Recording};
 ghost use Rattle.definitions.specs.Samples.{Sample};
 ghost use Rattle.channel_slots.specs.declared.bank.TheConstants.{MOST_TIME};
@@ -9,7 +10,7 @@ ghost use Rattle.definitions.specs.Receiver.{Client, body};
 ghost use Rattle.receiver.specs.Devices.{TellsFailure};
 ghost use Rattle.receiver.specs.HeldTexts.{held, promised};
 ghost use Rattle.receiver.specs.Offered.{offered};
-ghost use Rattle.receiver.specs.Runs.{seen, IsWrittenTo, HasRead, BrokeOffReading};
+ghost use Rattle.receiver.specs.Runs.{seen, once_sent, IsWrittenTo, HasRead, BrokeOffReading};
 ghost use Rattle.receiver.specs.Sessions.{packing_in, time_of, until_next};
 ghost use Rattle.receiver.specs.Texts.{AppendsPart, Grows};
 
@@ -124,18 +125,14 @@ pub fn read_all<R: Source, W: Sink>(
         → IsWrittenTo settings clients start session.old
         (promised (W.contents writer.old) text.old) [] →
         HasRead settings clients limit start session.new
-        (seen (R.remaining reader.old) (R.has_failed reader.old)
-        (promised (W.contents writer.old) text.old) (W.has_failed writer.old))
-        (seen (R.remaining reader.new) (R.has_failed reader.new)
-        (promised (W.contents writer.new) text.new) (W.has_failed writer.new)) stop) }
+        (once_sent text.old (seen R.Source W.Sink reader.old writer.old))
+        (once_sent text.new (seen R.Source W.Sink reader.new writer.new)) stop) }
     ensures broken { OnErr result ((settings : Recording) (clients : List Client)
         (start : Option (List ℕ)) → IsWrittenTo settings clients start session.old
         (promised (W.contents writer.old) text.old) [] →
         BrokeOffReading settings clients limit start
-        (seen (R.remaining reader.old) (R.has_failed reader.old)
-        (promised (W.contents writer.old) text.old) (W.has_failed writer.old))
-        (seen (R.remaining reader.new) (R.has_failed reader.new)
-        (promised (W.contents writer.new) text.new) (W.has_failed writer.new))) }
+        (once_sent text.old (seen R.Source W.Sink reader.old writer.old))
+        (once_sent text.new (seen R.Source W.Sink reader.new writer.new))) }
     ensures grows { Grows (W.contents writer.old) (W.contents writer.new) }
     ensures failure { TellsFailure (W.has_failed writer.old) (W.has_failed writer.new) result }
 {

@@ -1,6 +1,7 @@
 //! A whole run: what is written, and what it answers.
 
-ghost use Rattle.std.specs.Prelude.{◌≡◌, ◌≤◌, ◌<◌, ◌%◌, ◌^◌, ℕ, List, length, map, false, OnErr, IfOk, Err, IsErrOf, ◌⊎◌, ◌↔◌};
+ghost use Rattle.std.specs.Prelude.{◌≡◌, ◌≤◌, ◌<◌, ◌%◌, ◌^◌, ℕ, List, length, map, false, OnErr};
+ghost use Rattle.std.specs.Prelude.{IfOk, Err, IsErrOf, ◌⊎◌, ◌↔◌};
 ghost use Rattle.definitions.specs.Oscillators.{Settings as Recording};
 ghost use Rattle.channel_slots.specs.declared.bank.TheConstants.{MOST_TIME};
 ghost use Rattle.channel_slots.specs.declared.place.TheConstants.{MOST_CLIENTS};
@@ -36,17 +37,13 @@ fn run_session<R: Source, W: Sink>(
     ensures ran { IfOk result (λ stop. (settings : Recording) (scripts : List (List ℕ))
         → IsOpen settings (clients_of (task_of settings scripts limit)) session.old
         → Ran settings (clients_of (task_of settings scripts limit)) limit session.new
-        (seen (R.remaining reader.old) (R.has_failed reader.old)
-        (W.contents writer.old) (W.has_failed writer.old))
-        (seen (R.remaining reader.new) (R.has_failed reader.new)
-        (W.contents writer.new) (W.has_failed writer.new)) stop) }
+        (seen R.Source W.Sink reader.old writer.old)
+        (seen R.Source W.Sink reader.new writer.new) stop) }
     ensures broken { OnErr result ((settings : Recording) (scripts : List (List ℕ))
         → IsOpen settings (clients_of (task_of settings scripts limit)) session.old
         → BrokeOff (task_of settings scripts limit)
-        (seen (R.remaining reader.old) (R.has_failed reader.old)
-        (W.contents writer.old) (W.has_failed writer.old))
-        (seen (R.remaining reader.new) (R.has_failed reader.new)
-        (W.contents writer.new) (W.has_failed writer.new))) }
+        (seen R.Source W.Sink reader.old writer.old)
+        (seen R.Source W.Sink reader.new writer.new)) }
 {
     let mut text = HeldText::new();
     put_answers(session, &mut text, writer)?;
@@ -75,46 +72,32 @@ pub fn run<R: Source, W: Sink>(
     ensures once { R.has_failed reader.old ≡ false
         → R.was_asked_again reader.new ≡ R.was_asked_again reader.old }
     ensures run { IsRun (task_of settings (map (λ script. script.now) scripts.now) MOST_TIME)
-        (seen (R.remaining reader.old) (R.has_failed reader.old)
-        (W.contents writer.old) (W.has_failed writer.old))
-        (seen (R.remaining reader.new) (R.has_failed reader.new)
-        (W.contents writer.new) (W.has_failed writer.new)) result }
+        (seen R.Source W.Sink reader.old writer.old)
+        (seen R.Source W.Sink reader.new writer.new) result }
     ensures alone { IfOk result (λ _. ServesEachAlone settings
         (map (λ script. client_with script.now) scripts.now)
-        (seen (R.remaining reader.old) (R.has_failed reader.old)
-        (W.contents writer.old) (W.has_failed writer.old))
-        (seen (R.remaining reader.new) (R.has_failed reader.new)
-        (W.contents writer.new) (W.has_failed writer.new))) }
+        (seen R.Source W.Sink reader.old writer.old)
+        (seen R.Source W.Sink reader.new writer.new)) }
     ensures counts { IfOk result (λ _. CountsAreSums settings
         (map (λ script. client_with script.now) scripts.now)
-        (seen (R.remaining reader.old) (R.has_failed reader.old)
-        (W.contents writer.old) (W.has_failed writer.old))
-        (seen (R.remaining reader.new) (R.has_failed reader.new)
-        (W.contents writer.new) (W.has_failed writer.new))) }
+        (seen R.Source W.Sink reader.old writer.old)
+        (seen R.Source W.Sink reader.new writer.new)) }
     ensures acquisitions { IfOk result (λ _. AcquisitionsNameTheGreatest settings
         (map (λ script. client_with script.now) scripts.now)
-        (seen (R.remaining reader.old) (R.has_failed reader.old)
-        (W.contents writer.old) (W.has_failed writer.old))
-        (seen (R.remaining reader.new) (R.has_failed reader.new)
-        (W.contents writer.new) (W.has_failed writer.new))) }
+        (seen R.Source W.Sink reader.old writer.old)
+        (seen R.Source W.Sink reader.new writer.new)) }
     ensures words { IfOk result (λ _. WordsPass settings
         (map (λ script. client_with script.now) scripts.now)
-        (seen (R.remaining reader.old) (R.has_failed reader.old)
-        (W.contents writer.old) (W.has_failed writer.old))
-        (seen (R.remaining reader.new) (R.has_failed reader.new)
-        (W.contents writer.new) (W.has_failed writer.new))) }
+        (seen R.Source W.Sink reader.old writer.old)
+        (seen R.Source W.Sink reader.new writer.new)) }
     ensures pages { IfOk result (λ _. PagesPass settings
         (map (λ script. client_with script.now) scripts.now)
-        (seen (R.remaining reader.old) (R.has_failed reader.old)
-        (W.contents writer.old) (W.has_failed writer.old))
-        (seen (R.remaining reader.new) (R.has_failed reader.new)
-        (W.contents writer.new) (W.has_failed writer.new))) }
+        (seen R.Source W.Sink reader.old writer.old)
+        (seen R.Source W.Sink reader.new writer.new)) }
     ensures almanacs { IfOk result (λ _. AlmanacsAgree settings
         (map (λ script. client_with script.now) scripts.now)
-        (seen (R.remaining reader.old) (R.has_failed reader.old)
-        (W.contents writer.old) (W.has_failed writer.old))
-        (seen (R.remaining reader.new) (R.has_failed reader.new)
-        (W.contents writer.new) (W.has_failed writer.new))) }
+        (seen R.Source W.Sink reader.old writer.old)
+        (seen R.Source W.Sink reader.new writer.new)) }
 {
     run_to(alloc, settings, scripts, MOST_TIME, reader, writer)
 }
@@ -137,46 +120,32 @@ pub fn run_to<R: Source, W: Sink>(
     ensures once { R.has_failed reader.old ≡ false
         → R.was_asked_again reader.new ≡ R.was_asked_again reader.old }
     ensures run { IsRun (task_of settings (map (λ script. script.now) scripts.now) limit)
-        (seen (R.remaining reader.old) (R.has_failed reader.old)
-        (W.contents writer.old) (W.has_failed writer.old))
-        (seen (R.remaining reader.new) (R.has_failed reader.new)
-        (W.contents writer.new) (W.has_failed writer.new)) result }
+        (seen R.Source W.Sink reader.old writer.old)
+        (seen R.Source W.Sink reader.new writer.new) result }
     ensures alone { IfOk result (λ _. ServesEachAlone settings
         (map (λ script. client_with script.now) scripts.now)
-        (seen (R.remaining reader.old) (R.has_failed reader.old)
-        (W.contents writer.old) (W.has_failed writer.old))
-        (seen (R.remaining reader.new) (R.has_failed reader.new)
-        (W.contents writer.new) (W.has_failed writer.new))) }
+        (seen R.Source W.Sink reader.old writer.old)
+        (seen R.Source W.Sink reader.new writer.new)) }
     ensures counts { IfOk result (λ _. CountsAreSums settings
         (map (λ script. client_with script.now) scripts.now)
-        (seen (R.remaining reader.old) (R.has_failed reader.old)
-        (W.contents writer.old) (W.has_failed writer.old))
-        (seen (R.remaining reader.new) (R.has_failed reader.new)
-        (W.contents writer.new) (W.has_failed writer.new))) }
+        (seen R.Source W.Sink reader.old writer.old)
+        (seen R.Source W.Sink reader.new writer.new)) }
     ensures acquisitions { IfOk result (λ _. AcquisitionsNameTheGreatest settings
         (map (λ script. client_with script.now) scripts.now)
-        (seen (R.remaining reader.old) (R.has_failed reader.old)
-        (W.contents writer.old) (W.has_failed writer.old))
-        (seen (R.remaining reader.new) (R.has_failed reader.new)
-        (W.contents writer.new) (W.has_failed writer.new))) }
+        (seen R.Source W.Sink reader.old writer.old)
+        (seen R.Source W.Sink reader.new writer.new)) }
     ensures words { IfOk result (λ _. WordsPass settings
         (map (λ script. client_with script.now) scripts.now)
-        (seen (R.remaining reader.old) (R.has_failed reader.old)
-        (W.contents writer.old) (W.has_failed writer.old))
-        (seen (R.remaining reader.new) (R.has_failed reader.new)
-        (W.contents writer.new) (W.has_failed writer.new))) }
+        (seen R.Source W.Sink reader.old writer.old)
+        (seen R.Source W.Sink reader.new writer.new)) }
     ensures pages { IfOk result (λ _. PagesPass settings
         (map (λ script. client_with script.now) scripts.now)
-        (seen (R.remaining reader.old) (R.has_failed reader.old)
-        (W.contents writer.old) (W.has_failed writer.old))
-        (seen (R.remaining reader.new) (R.has_failed reader.new)
-        (W.contents writer.new) (W.has_failed writer.new))) }
+        (seen R.Source W.Sink reader.old writer.old)
+        (seen R.Source W.Sink reader.new writer.new)) }
     ensures almanacs { IfOk result (λ _. AlmanacsAgree settings
         (map (λ script. client_with script.now) scripts.now)
-        (seen (R.remaining reader.old) (R.has_failed reader.old)
-        (W.contents writer.old) (W.has_failed writer.old))
-        (seen (R.remaining reader.new) (R.has_failed reader.new)
-        (W.contents writer.new) (W.has_failed writer.new))) }
+        (seen R.Source W.Sink reader.old writer.old)
+        (seen R.Source W.Sink reader.new writer.new)) }
 {
     let mut session = match Session::open(alloc, settings, scripts) {
         Ok(session) => session,

@@ -1,21 +1,99 @@
-use Rattle.std.proofs.Common.{◌≡◌, List, length, take, arith, rules, sym, subst, get_or, FitsSigned, w64}
-use Rattle.std.specs.Prelude.{pos, ℤ}
+use Rattle.std.proofs.lemmas.Result.{err_from_is_err_and}
+use Rattle.definitions.specs.Scripts.{hold_verb, counts_verb, up_to, around_zero}
 use Rattle.definitions.specs.Lines.{words_of}
-use Rattle.client_commands.specs.VerbTable.{ranges_of, AreWithin}
-use Rattle.client_commands.proofs.RangeLemmas.{few_ranges, within, within_first, four_stored}
+use Rattle.client_commands.proofs.ReadingLemmas.{asked, refused_first, taken_first, none_left}
 use Rattle.client_commands.proofs.verb.Verb.command.Goals as goal
 
-pub values_of-requires : goal.values_of-requires
-values_of-requires c = let few = few_ranges c.args.self in omega arith
+pub returns-in_err-slot-in-Hold : goal.returns-in_err-slot-in-Hold
+returns-in_err-slot-in-Hold c =
+    let refused = err_from_is_err_and c.from_residual-in_err-slot-in-Hold.result
+    c.from_residual-in_err-slot-in-Hold.ensures.1 in
+    let count = rw c.in-Hold.is at c.word_count.ensures.same in
+    rw (refused.1, refused.2, c.in-Hold.is) (asked hold_verb c.word_count.result
+    (words_of c.args.line.now) c.in_ok-words.words _ count c.in_ok-words.ensures.words
+    (λ all. refused_first (up_to 0 3) _ _ _ all c.in_err-slot-in-Hold.ensures.value))
 
-pub with_values-requires : goal.with_values-requires
-with_values-requires c =
-    let fits0 : FitsSigned w64 (get_or c.in_ok-slot.field-0 0 (pos 0)) = search rules in
-    let fits1 : FitsSigned w64 (get_or c.in_ok-slot.field-0 1 (pos 0)) = search rules in
-    let fits2 : FitsSigned w64 (get_or c.in_ok-slot.field-0 2 (pos 0)) = search rules in
-    let fits3 : FitsSigned w64 (get_or c.in_ok-slot.field-0 3 (pos 0)) = search rules in
-    let long : length c.in_ok-slot.field-0 ≡ 4 = search rules in
-    let read = rw (c.ranges-2.ensures.same, c.ranges-2.ensures.count, c.in_ok-slot.was) at c.values_of.ensures in
-    let all = within_first (ranges_of c.args.self) c.in_ok-slot.field-0 (within (ranges_of c.args.self) (words_of c.args.words.now) (take (length (ranges_of c.args.self)) c.in_ok-slot.field-0) c.requires (sym read)) in
-    let P : List ℤ → Type 0 = λ values. AreWithin (ranges_of c.args.self) values in
-    subst P (four_stored c.in_ok-slot.field-0 long fits0 fits1 fits2 fits3) all
+pub returns-in_err-prn-in-Hold : goal.returns-in_err-prn-in-Hold
+returns-in_err-prn-in-Hold c =
+    let refused = err_from_is_err_and c.from_residual-in_err-prn-in-Hold.result
+    c.from_residual-in_err-prn-in-Hold.ensures.1 in
+    let count = rw c.in-Hold.is at c.word_count.ensures.same in
+    rw (refused.1, refused.2, c.in-Hold.is) (asked hold_verb c.word_count.result
+    (words_of c.args.line.now) c.in_ok-words.words _ count c.in_ok-words.ensures.words
+    (λ all. taken_first (up_to 0 3) _ _ _ _ _ all c.in_ok-slot-in-Hold.ensures.value
+    c.in_ok-slot-in-Hold.ensures.left
+    (λ all. refused_first (up_to 1 32) _ _ _ all c.in_err-prn-in-Hold.ensures.value)))
+
+pub returns-in_err-doppler-in-Hold : goal.returns-in_err-doppler-in-Hold
+returns-in_err-doppler-in-Hold c =
+    let refused = err_from_is_err_and c.from_residual-in_err-doppler-in-Hold.result
+    c.from_residual-in_err-doppler-in-Hold.ensures.1 in
+    let count = rw c.in-Hold.is at c.word_count.ensures.same in
+    rw (refused.1, refused.2, c.in-Hold.is) (asked hold_verb c.word_count.result
+    (words_of c.args.line.now) c.in_ok-words.words _ count c.in_ok-words.ensures.words
+    (λ all. taken_first (up_to 0 3) _ _ _ _ _ all c.in_ok-slot-in-Hold.ensures.value
+    c.in_ok-slot-in-Hold.ensures.left
+    (λ all. taken_first (up_to 1 32) _ _ _ _ _ all c.in_ok-prn-in-Hold.ensures.value
+    c.in_ok-prn-in-Hold.ensures.left
+    (λ all. refused_first (around_zero 16000) _ _ _ all c.in_err-doppler-in-Hold.ensures.value))))
+
+pub returns-in_err-half_chip-in-Hold : goal.returns-in_err-half_chip-in-Hold
+returns-in_err-half_chip-in-Hold c =
+    let refused = err_from_is_err_and c.from_residual-in_err-half_chip-in-Hold.result
+    c.from_residual-in_err-half_chip-in-Hold.ensures.1 in
+    let count = rw c.in-Hold.is at c.word_count.ensures.same in
+    rw (refused.1, refused.2, c.in-Hold.is) (asked hold_verb c.word_count.result
+    (words_of c.args.line.now) c.in_ok-words.words _ count c.in_ok-words.ensures.words
+    (λ all. taken_first (up_to 0 3) _ _ _ _ _ all c.in_ok-slot-in-Hold.ensures.value
+    c.in_ok-slot-in-Hold.ensures.left
+    (λ all. taken_first (up_to 1 32) _ _ _ _ _ all c.in_ok-prn-in-Hold.ensures.value
+    c.in_ok-prn-in-Hold.ensures.left
+    (λ all. taken_first (around_zero 16000) _ _ _ _ _ all c.in_ok-doppler-in-Hold.ensures.value
+    c.in_ok-doppler-in-Hold.ensures.left
+    (λ all. refused_first (up_to 0 2045) _ _ _ all c.in_err-half_chip-in-Hold.ensures.value)))))
+
+pub returns-in_err-slot-in-Counts : goal.returns-in_err-slot-in-Counts
+returns-in_err-slot-in-Counts c =
+    let refused = err_from_is_err_and c.from_residual-in_err-slot-in-Counts.result
+    c.from_residual-in_err-slot-in-Counts.ensures.1 in
+    let count = rw c.in-Counts.is at c.word_count.ensures.same in
+    rw (refused.1, refused.2, c.in-Counts.is) (asked counts_verb c.word_count.result
+    (words_of c.args.line.now) c.in_ok-words.words _ count c.in_ok-words.ensures.words
+    (λ all. refused_first (up_to 0 3) _ _ _ all c.in_err-slot-in-Counts.ensures.value))
+
+pub returns-in_err-dumps-in-Counts : goal.returns-in_err-dumps-in-Counts
+returns-in_err-dumps-in-Counts c =
+    let refused = err_from_is_err_and c.from_residual-in_err-dumps-in-Counts.result
+    c.from_residual-in_err-dumps-in-Counts.ensures.1 in
+    let count = rw c.in-Counts.is at c.word_count.ensures.same in
+    rw (refused.1, refused.2, c.in-Counts.is) (asked counts_verb c.word_count.result
+    (words_of c.args.line.now) c.in_ok-words.words _ count c.in_ok-words.ensures.words
+    (λ all. taken_first (up_to 0 3) _ _ _ _ _ all c.in_ok-slot-in-Counts.ensures.value
+    c.in_ok-slot-in-Counts.ensures.left
+    (λ all. refused_first (up_to 0 1000000) _ _ _ all c.in_err-dumps-in-Counts.ensures.value)))
+
+pub returns-in_ok-half_chip-in-Hold : goal.returns-in_ok-half_chip-in-Hold
+returns-in_ok-half_chip-in-Hold c =
+    let count = rw c.in-Hold.is at c.word_count.ensures.same in
+    rw c.in-Hold.is (asked hold_verb c.word_count.result
+    (words_of c.args.line.now) c.in_ok-words.words _ count c.in_ok-words.ensures.words
+    (λ all. taken_first (up_to 0 3) _ _ _ _ _ all c.in_ok-slot-in-Hold.ensures.value
+    c.in_ok-slot-in-Hold.ensures.left
+    (λ all. taken_first (up_to 1 32) _ _ _ _ _ all c.in_ok-prn-in-Hold.ensures.value
+    c.in_ok-prn-in-Hold.ensures.left
+    (λ all. taken_first (around_zero 16000) _ _ _ _ _ all c.in_ok-doppler-in-Hold.ensures.value
+    c.in_ok-doppler-in-Hold.ensures.left
+    (λ all. taken_first (up_to 0 2045) _ _ _ _ _ all c.in_ok-half_chip-in-Hold.ensures.value
+    c.in_ok-half_chip-in-Hold.ensures.left
+    (λ all. none_left _))))))
+
+pub returns-in_ok-dumps-in-Counts : goal.returns-in_ok-dumps-in-Counts
+returns-in_ok-dumps-in-Counts c =
+    let count = rw c.in-Counts.is at c.word_count.ensures.same in
+    rw c.in-Counts.is (asked counts_verb c.word_count.result
+    (words_of c.args.line.now) c.in_ok-words.words _ count c.in_ok-words.ensures.words
+    (λ all. taken_first (up_to 0 3) _ _ _ _ _ all c.in_ok-slot-in-Counts.ensures.value
+    c.in_ok-slot-in-Counts.ensures.left
+    (λ all. taken_first (up_to 0 1000000) _ _ _ _ _ all c.in_ok-dumps-in-Counts.ensures.value
+    c.in_ok-dumps-in-Counts.ensures.left
+    (λ all. none_left _))))
