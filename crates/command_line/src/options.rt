@@ -14,8 +14,8 @@ use sample_planes::Format;
 use std::alloc::Global;
 
 const ABOUT: &str = "\
-Runs scripts of timed commands over recorded GPS L1 C/A samples. Reads the samples from standard \
-input and prints a line for each result.";
+Runs scripts of timed commands over recorded GPS L1 C/A samples.
+Reads the samples from standard input and prints a line for each result.";
 
 /// The formats that `--format` takes.
 static FORMATS: [&str; 2] = ["real1", "real2"];
@@ -72,13 +72,13 @@ pub fn matches<'a>(alloc: Global, words: &'a [String]) -> Result<ArgMatches<'a>,
             alloc,
             "offset",
             "0",
-            "Intermediate frequency in Hz, at most half the rate; below zero with --minus",
+            "Intermediate frequency in Hz, at most half the rate; see --minus",
         ))?
         .arg(
             Arg::new(alloc, "minus")
                 .long("minus")
                 .action(ArgAction::SetTrue)
-                .help("Makes the frequency of --offset negative"),
+                .help("Makes the intermediate frequency of --offset negative"),
         )?
         .arg(format(alloc))?
         .arg(

@@ -90,7 +90,7 @@ fn options_not_understood(rt: HostRuntime) -> Result<(), Fail> {
     for text in [
         "count S IE QE IP QP IL QL",
         "covers the rest of the code\nonly, which is (2046 - HALF)/2 chips.",
-        "below zero with --minus",
+        "half the rate; see --minus",
         "0  the samples came to their end",
     ] {
         assert!(rt; output.contains(text));
