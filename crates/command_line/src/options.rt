@@ -1,37 +1,57 @@
 //! The program's command line.
 
-ghost use Rattle.std.specs.Prelude.{◌≡◌, ◌<◌, ◌≤◌, ◌*◌, ◌↔◌, pos, neg_ℤ, if◌then◌else◌, Err, IfOk, codes, map};
+ghost use Rattle.std.specs.Prelude.{◌≡◌, ◌<◌, ◌≤◌, ◌*◌, ◌↔◌, pos, neg_ℤ, if◌then◌else◌};
+ghost use Rattle.std.specs.Prelude.{Err, IfOk, codes, map};
 ghost use Rattle.clap.specs.Matches.{found_of, first_value, one_text};
 ghost use Rattle.sample_planes.specs.Packings.{packing_of};
 ghost use Rattle.oscillators.specs.Limits.{IsRate};
-ghost use Rattle.command_line.specs.Programs.{IsAllowed, asked_in, recording_of, number_in, format_in, paths_in};
+ghost use Rattle.command_line.specs.Programs.{IsAllowed, asked_in, recording_of};
+ghost use Rattle.command_line.specs.Programs.{number_in, format_in, paths_in};
 
 use clap::{Arg, ArgAction, ArgMatches, Command, Error, value_parser};
 use oscillators::{Settings, SettingsFault};
 use sample_planes::Format;
 use std::alloc::Global;
 
-const ABOUT: &str =
-    "Runs scripts of timed commands over recorded GPS L1 C/A samples: reads samples from standard input and prints what the channels tell, line by line.";
+const ABOUT: &str = "\
+Runs scripts of timed commands over recorded GPS L1 C/A samples.
+Reads the samples from standard input and prints a line for each result.";
 
 /// The formats that `--format` takes.
 static FORMATS: [&str; 2] = ["real1", "real2"];
 
-/// What stands behind the options in the help.
+/// The help after the options: scripts, printed lines, refusals and statuses.
 const MORE: &str = "\
-A script is lines of `T VERB WORDS`, T being a time in samples that doesn't fall. Each script is a client with the slots 0 to 3.
-  T hold S PRN DOPPLER HALF  follow satellite PRN (1 to 32) in slot S at a shift of DOPPLER Hz (-16000 to 16000), from
-                             half chip HALF (0 to 2045) of its code on
-  T counts S N               print the sums of the next N code periods (0 to 1000000)
+A script is lines of `T VERB WORDS`. T is a time in samples, and never falls from line to line.
+Each script is a client with the slots 0 to 3.
+  T hold S PRN DOPPLER HALF  follow satellite PRN (1 to 32) in slot S, at a Doppler shift of DOPPLER
+                             Hz (-16000 to 16000), its code beginning at half chip HALF (0 to 2045)
+  T counts S N               print the next N dumps (0 to 1000000); 0 ends printing
   T state S                  show the slot
   T stop S                   make the slot idle
+A dump is the sums over one code period. The first dump after `hold` covers the rest of the code
+only, which is (2046 - HALF)/2 chips.
 
-A printed line is `CLIENT T TEXT`. `err N` refuses a line of a script:
+A printed line is `CLIENT T TEXT`:
+  ok                         a command other than `state` was accepted
+  err N                      a line of the script was refused
+  count S IE QE IP QP IL QL  a dump: sums in phase (I) and in quadrature (Q) with the early (E),
+                             prompt (P) and late (L) code
+  state S idle               the slot is idle
+  state S hold PRN DUMPS     it follows PRN, and has had DUMPS dumps
+  end                        the samples came to their end
+
+`err N` says why:
   1 longer than 80 bytes            6 another number of words
   2 a byte outside 0x20..0x7e       7 a word isn't a number
   3 no time up to 2^40              8 a number is out of range
   4 the time is before the last     9 the slot isn't idle
   5 no verb, or an unknown one     10 the slot is idle
+
+Statuses:
+  0  the samples came to their end, or help was asked for
+  1  no memory, more than eight scripts, a failed read or write, more than 2^40 samples
+  2  an option, the rate, the offset or a script file was refused
 
 Example, with the lines `0 hold 0 5 1250 700` and `0 counts 0 5` in the file hold.script:
   receiver --offset 511500 hold.script < three_satellites.real1";
@@ -52,13 +72,13 @@ pub fn matches<'a>(alloc: Global, words: &'a [String]) -> Result<ArgMatches<'a>,
             alloc,
             "offset",
             "0",
-            "Intermediate frequency in Hz, at most half the rate",
+            "Intermediate frequency in Hz, at most half the rate; see --minus",
         ))?
         .arg(
             Arg::new(alloc, "minus")
                 .long("minus")
                 .action(ArgAction::SetTrue)
-                .help("Makes the intermediate frequency negative"),
+                .help("Makes the intermediate frequency of --offset negative"),
         )?
         .arg(format(alloc))?
         .arg(
@@ -97,7 +117,8 @@ pub fn settings(matches: &ArgMatches) -> Result<Settings, SettingsFault>
         ↔ ¬ IsRate (asked_in (found_of matches.now)).rate }
     ensures offset { (result ≡ Err SettingsFault.Offset)
         ↔ (IsRate (asked_in (found_of matches.now)).rate
-        × ((asked_in (found_of matches.now)).rate < 2 * (asked_in (found_of matches.now)).offset)) }
+        × ((asked_in (found_of matches.now)).rate
+        < 2 * (asked_in (found_of matches.now)).offset)) }
     ensures allowed { IfOk result (λ _. IsAllowed (asked_in (found_of matches.now))) }
     ensures same { IfOk result (λ settings.
         settings ≡ recording_of (asked_in (found_of matches.now))) }

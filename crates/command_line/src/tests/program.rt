@@ -87,6 +87,14 @@ fn options_not_understood(rt: HostRuntime) -> Result<(), Fail> {
     }
     let (output, error) = ends(&rt, &["--help"], 0);
     assert!(rt; output.contains("receiver [OPTIONS] [SCRIPT]...") && error.is_empty());
+    for text in [
+        "count S IE QE IP QP IL QL",
+        "covers the rest of the code\nonly, which is (2046 - HALF)/2 chips.",
+        "half the rate; see --minus",
+        "0  the samples came to their end",
+    ] {
+        assert!(rt; output.contains(text));
+    }
     refuses(&rt, &["--minus", "no_script"], 2, "receiver: script\n");
     Ok(())
 }
