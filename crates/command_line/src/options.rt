@@ -1,26 +1,30 @@
 //! The program's command line.
 
-ghost use Rattle.std.specs.Prelude.{◌≡◌, ◌<◌, ◌≤◌, ◌*◌, ◌↔◌, pos, neg_ℤ, if◌then◌else◌, Err, IfOk, codes, map};
+ghost use Rattle.std.specs.Prelude.{◌≡◌, ◌<◌, ◌≤◌, ◌*◌, ◌↔◌, pos, neg_ℤ, if◌then◌else◌, Err, IfOk};
+ghost use Rattle.std.specs.Prelude.{codes, map};
 ghost use Rattle.clap.specs.Matches.{found_of, first_value, one_text};
 ghost use Rattle.sample_planes.specs.Packings.{packing_of};
 ghost use Rattle.oscillators.specs.Limits.{IsRate};
-ghost use Rattle.command_line.specs.Programs.{IsAllowed, asked_in, recording_of, number_in, format_in, paths_in};
+ghost use Rattle.command_line.specs.Programs.{IsAllowed, asked_in, recording_of, number_in};
+ghost use Rattle.command_line.specs.Programs.{format_in, paths_in};
 
 use clap::{Arg, ArgAction, ArgMatches, Command, Error, value_parser};
 use oscillators::{Settings, SettingsFault};
 use sample_planes::Format;
 use std::alloc::Global;
 
-const ABOUT: &str =
-    "Runs scripts of timed commands over recorded GPS L1 C/A samples: reads samples from standard input and prints what the channels tell, line by line.";
+const ABOUT: &str = "Runs scripts of timed commands over recorded GPS L1 C/A samples: \
+     reads samples from standard input and prints what the channels tell, line by line.";
 
 /// The formats that `--format` takes.
 static FORMATS: [&str; 2] = ["real1", "real2"];
 
 /// What stands behind the options in the help.
 const MORE: &str = "\
-A script is lines of `T VERB WORDS`, T being a time in samples that doesn't fall. Each script is a client with the slots 0 to 3.
-  T hold S PRN DOPPLER HALF  follow satellite PRN (1 to 32) in slot S at a shift of DOPPLER Hz (-16000 to 16000), from
+A script is lines of `T VERB WORDS`, T being a time in samples that doesn't fall. \
+Each script is a client with the slots 0 to 3.
+  T hold S PRN DOPPLER HALF  follow satellite PRN (1 to 32) in slot S at a shift of \
+DOPPLER Hz (-16000 to 16000), from
                              half chip HALF (0 to 2045) of its code on
   T counts S N               print the sums of the next N code periods (0 to 1000000)
   T state S                  show the slot
