@@ -4,9 +4,13 @@ use Rattle.definitions.specs.BitEdge.{edge_of, bits_of}
 use Rattle.bit_sync.specs.declared.bit_sync.BitNews.{BitNews}
 use Rattle.bit_sync.specs.declared.bit_sync.BitNews.TheVariants.{Nothing, Edge, Bit}
 
--- The pushes before, and those with one more. An edge is found once, with the push that is the edge, and before all bits; a bit is
+-- The pushes before, and those with one more. An edge is found once, with the push that is the
+-- edge, and before all bits; a bit is
 -- told with the push that makes it whole; and else nothing of that has changed.
 abbrev pub Tells : List ℤ → List ℤ → BitNews → Type 0
 Tells before after Nothing = (edge_of after ≡ edge_of before) × (bits_of after ≡ bits_of before)
-Tells before after Edge = (edge_of before ≡ None) × (edge_of after ≡ Some (length before)) × (bits_of after ≡ bits_of before)
-Tells before after (Bit bit) = (edge_of after ≡ edge_of before) × (bits_of after ≡ bits_of before ++ bit ∷ [])
+Tells before after Edge =
+    (edge_of before ≡ None) × (edge_of after ≡ Some (length before))
+    × (bits_of after ≡ bits_of before)
+Tells before after (Bit bit) =
+    (edge_of after ≡ edge_of before) × (bits_of after ≡ bits_of before ++ bit ∷ [])

@@ -1,5 +1,6 @@
 -- What is kept stands for the pushes so far.
-use Rattle.std.specs.Prelude.{◌≡◌, ℕ, ◌-◌, ◌%◌, ◌<◌, Bool, ℤ, pos, ◌+ℤ◌, List, [], ◌∷◌, fold, length, drop, slice_index, Option, Some, None}
+use Rattle.std.specs.Prelude.{◌≡◌, ℕ, ◌-◌, ◌%◌, ◌<◌, Bool, ℤ, pos, ◌+ℤ◌, List, [], ◌∷◌, fold}
+use Rattle.std.specs.Prelude.{length, drop, slice_index, Option, Some, None}
 use Rattle.definitions.specs.BitEdge.{edge_of}
 use Rattle.bit_sync.specs.Changes.{sign_of_last, changes_since_reset}
 use Rattle.bit_sync.specs.declared.edge_search.EdgeSearch.{EdgeSearch}

@@ -1,4 +1,7 @@
-ghost use Rattle.std.specs.Prelude.{◌≡◌, ◌^◌, ◌<◌, ◌≤◌, ◌*◌, ℤ, List, [], ◌∷◌, ◌++◌, length, Some, None, unsigned_abs};
+//! One data bit, summed push by push.
+
+ghost use Rattle.std.specs.Prelude.{◌≡◌, ◌^◌, ◌<◌, ◌≤◌, ◌*◌, ℤ, List, [], ◌∷◌, ◌++◌, length, Some};
+ghost use Rattle.std.specs.Prelude.{None, unsigned_abs};
 
 /// The code periods of one data bit (IS-GPS-200, section 3.2.2).
 const PUSHES_OF_BIT: u8 = 20;
@@ -26,10 +29,12 @@ impl BitSum {
         BitSum { count: 1, sum: ip }
     }
 
-    /// Takes the next push, and gives the bit that is whole with it, if one is: `true` where its pushes sum up to less than zero.
+    /// Takes the next push, and gives the bit that is whole with it, if one is: `true` where its
+    /// pushes sum up to less than zero.
     pub fn push(&mut self, ip: i32) -> Option<bool>
         requires { unsigned_abs ip ≤ 2 ^ 18 }
-        ensures goes_on { (pushes : List ℤ) → IsSumming pushes self.old → IsSumming (pushes ++ ip ∷ []) self.new }
+        ensures goes_on { (pushes : List ℤ) → IsSumming pushes self.old
+            → IsSumming (pushes ++ ip ∷ []) self.new }
         ensures bit { (pushes : List ℤ) → IsSumming pushes self.old
             → bits_of (pushes ++ ip ∷ []) ≡ bits_of pushes ++ whole_bits result }
     {

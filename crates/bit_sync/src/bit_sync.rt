@@ -1,3 +1,5 @@
+//! The data bits of a channel, found push by push.
+
 ghost use Rattle.std.specs.Prelude.{◌≡◌, ◌^◌, ◌≤◌, unsigned_abs, ℤ, List, [], ◌∷◌, ◌++◌};
 
 use crate::bit_sum::BitSum;
@@ -10,7 +12,8 @@ pub enum BitNews {
     Nothing,
     /// The push is the first of bit 0. It comes once, before all bits.
     Edge,
-    /// The push is the last of a bit's 20. `true` stands for 1, where they sum up to less than zero.
+    /// The push is the last of a bit's 20. `true` stands for 1, where they sum up to less than
+    /// zero.
     Bit(bool),
 }
 
@@ -20,10 +23,12 @@ enum Stage {
     Summing(BitSum),
 }
 
-/// Finds the data bits among the prompt sums of a channel that is locked, one sum (a code period, 1 ms) a push.
+/// Finds the data bits among the prompt sums of a channel that is locked, one sum (a code period,
+/// 1 ms) a push.
 ///
-/// How the edge is found is this project's own: a change is a push whose sign isn't that of the push before it, and the edge is a
-/// change that is the sixteenth at its place modulo 20. Where two places have four changes or more, all are counted anew.
+/// How the edge is found is this project's own: a change is a push whose sign isn't that of the
+/// push before it, and the edge is a change that is the sixteenth at its place modulo 20. Where two
+/// places have four changes or more, all are counted anew.
 #[derive(Debug, Drop)]
 pub struct BitSync {
     stage: Stage,
@@ -46,8 +51,10 @@ impl BitSync {
     /// Takes the next prompt sum in phase, at most 2^18 in size. There may be any number of pushes.
     pub fn push(&mut self, ip: i32) -> BitNews
         requires { unsigned_abs ip ≤ 2 ^ 18 }
-        ensures stands { (pushes : List ℤ) → StandsFor pushes self.old → StandsFor (pushes ++ ip ∷ []) self.new }
-        ensures tells { (pushes : List ℤ) → StandsFor pushes self.old → Tells pushes (pushes ++ ip ∷ []) result }
+        ensures stands { (pushes : List ℤ) → StandsFor pushes self.old
+            → StandsFor (pushes ++ ip ∷ []) self.new }
+        ensures tells { (pushes : List ℤ) → StandsFor pushes self.old
+            → Tells pushes (pushes ++ ip ∷ []) result }
     {
         match &mut self.stage {
             Stage::Searching(search) => {

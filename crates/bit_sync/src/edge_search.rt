@@ -1,10 +1,14 @@
-ghost use Rattle.std.specs.Prelude.{◌≡◌, ◌<◌, ◌+◌, ℕ, ℤ, List, [], ◌∷◌, ◌++◌, length, slice_index, nat_le, count_by, false};
+//! The search for the edge of the data bits.
+
+ghost use Rattle.std.specs.Prelude.{◌≡◌, ◌<◌, ◌+◌, ℕ, ℤ, List, [], ◌∷◌, ◌++◌, length, slice_index};
+ghost use Rattle.std.specs.Prelude.{nat_le, count_by, false};
 ghost use Rattle.bit_sync.specs.Changes.{sign_turns};
 
 /// Places in a bit: the 20 code periods of one (IS-GPS-200, section 3.2.2).
 const PLACES: usize = 20;
 
-/// So many changes at one place make the last of them the edge. (This project's own, as is all of the search.)
+/// So many changes at one place make the last of them the edge. (This project's own, as is all of
+/// the search.)
 const EDGE_CHANGES: u8 = 16;
 
 /// A place with so many changes is a candidate.

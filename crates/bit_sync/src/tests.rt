@@ -1,3 +1,5 @@
+//! Pushes by hand: where the edge is, what resets the search, and what a bit is.
+
 use crate::{BitNews, BitSync};
 
 // One push that goes on with a sign: +1, or -1 where it is below zero.
@@ -22,7 +24,8 @@ fn edge_counts(rt: HostRuntime) {
     }
 }
 
-// Each place has a change in every 20 pushes, so that two places have four of them again and again before one has sixteen.
+// Each place has a change in every 20 pushes, so that two places have four of them again and again
+// before one has sixteen.
 #[test]
 fn changes_at_every_push(rt: HostRuntime) {
     let mut sync = BitSync::new();
@@ -33,10 +36,12 @@ fn changes_at_every_push(rt: HostRuntime) {
     assert!(rt; !sync.has_edge());
 }
 
-// The sign turns at pushes 10, 20, .. 80, and then at 100, 120, .. alone. Place 10 has its fourth change at push 70, and place 0 its
-// fourth at push 80. So there all is counted anew, the change at push 80 among what is forgotten, and the sixteenth change at place
-// 0 since is at push 80 + 16 * 20 = 400. (With no reset it would be at 320, and with the change at the reset counted at 380.)
-// The sign turns 8 times up to push 80 and 16 times behind it up to push 400, so that it is + from there on: bit 0 is 0, and bit 1 is 1.
+// The sign turns at pushes 10, 20, .. 80, and then at 100, 120, .. alone. Place 10 has its fourth
+// change at push 70, and place 0 its fourth at push 80. So there all is counted anew, the change at
+// push 80 among what is forgotten, and the sixteenth change at place 0 since is at push
+// 80 + 16 * 20 = 400. (With no reset it would be at 320, and with the change at the reset counted
+// at 380.) The sign turns 8 times up to push 80 and 16 times behind it up to push 400, so that it
+// is + from there on: bit 0 is 0, and bit 1 is 1.
 #[test]
 fn reset_decides(rt: HostRuntime) {
     let mut sync = BitSync::new();
@@ -53,8 +58,9 @@ fn reset_decides(rt: HostRuntime) {
     }
 }
 
-// A bit is 1 where its pushes sum up to less than zero, whatever their signs, and 0 where they sum up to 0. The edge is push 320, as
-// in `edge_counts`. Bit 0 is nineteen times +1 and once -19: 0 in sum. Bit 1 is nineteen times +1 and once -20: -1 in sum.
+// A bit is 1 where its pushes sum up to less than zero, whatever their signs, and 0 where they sum
+// up to 0. The edge is push 320, as in `edge_counts`. Bit 0 is nineteen times +1 and once -19: 0 in
+// sum. Bit 1 is nineteen times +1 and once -20: -1 in sum.
 #[test]
 fn sum_decides(rt: HostRuntime) {
     let mut sync = BitSync::new();

@@ -1,5 +1,6 @@
 -- The slots of clients that have four each, counted through.
-use Rattle.std.proofs.Common.{◌≡◌, ℕ, zero, suc, ◌+◌, ◌*◌, ◌/◌, ◌%◌, List, ◌++◌, refl, sym, ap, ◌∙◌, arith}
+use Rattle.std.proofs.Common.{◌≡◌, ℕ, zero, suc, ◌+◌, ◌*◌, ◌/◌, ◌%◌, List, ◌++◌, refl, sym, ap, ◌∙◌}
+use Rattle.std.proofs.Common.{arith}
 use Rattle.std.specs.Prelude.{map, flat_map, replicate}
 use Rattle.std.specs.List.{range_with_len, enumerate_from}
 use Rattle.std.proofs.lemmas.List.{map-append}
@@ -25,14 +26,16 @@ one-client b =
     let s3 : (4 * b + 1 + 1 + 1) % 4 ≡ 3 = omega arith in
     rw (c0, c1, c2, c3, s0, s1, s2, s3) refl
 
-rows : (b m : ℕ) → by_fours (4 * b) (4 * m) ≡ flat_map slots_of (enumerate_from (b + 1) (replicate m 4))
+rows : (b m : ℕ)
+    → by_fours (4 * b) (4 * m) ≡ flat_map slots_of (enumerate_from (b + 1) (replicate m 4))
 rows b zero = refl
 rows b (suc m) =
     let more : 4 * suc m ≡ 4 + 4 * m = omega arith in
     let behind : 4 * b + 4 ≡ 4 * (b + 1) = omega arith in
     ap (by_fours (4 * b)) more
     ∙ ap (map (λ i. (i / 4 + 1, i % 4))) (range-split (4 * b) 4 (4 * m))
-    ∙ map-append (λ i. (i / 4 + 1, i % 4)) (range_with_len (4 * b) 4) (range_with_len (4 * b + 4) (4 * m))
+    ∙ map-append (λ i. (i / 4 + 1, i % 4)) (range_with_len (4 * b) 4)
+    (range_with_len (4 * b + 4) (4 * m))
     ∙ ap (λ (first : List (ℕ × ℕ)). first ++ by_fours (4 * b + 4) (4 * m)) (one-client b)
     ∙ ap (λ n. slots_of (b + 1, 4) ++ by_fours n (4 * m)) behind
     ∙ ap (λ (others : List (ℕ × ℕ)). slots_of (b + 1, 4) ++ others) (rows (b + 1) m)

@@ -1,5 +1,8 @@
--- Events that are put in by time, and what a place tells over a run that it takes by its own events.
-use Rattle.std.proofs.Common.{◌≡◌, ℕ, zero, suc, ◌+◌, ◌-◌, ◌<◌, ◌≤◌, List, [], ◌∷◌, ◌++◌, length, take, drop, refl, sym, ap, ◌∙◌, arith, length-append, append-nil, append_assoc}
+-- Events that are put in by time, and what a place tells over a run that it takes by its own
+-- events.
+use Rattle.std.proofs.Common.{◌≡◌, ℕ, zero, suc, ◌+◌, ◌-◌, ◌<◌, ◌≤◌, List, [], ◌∷◌, ◌++◌, length}
+use Rattle.std.proofs.Common.{take, drop, refl, sym, ap, ◌∙◌, arith, length-append, append-nil}
+use Rattle.std.proofs.Common.{append_assoc}
 use Rattle.std.specs.Prelude.{Bool, true, false, map, nat_lt, if◌then◌else◌}
 use Rattle.channels.proofs.HeldLemmas.{one-dump}
 use Rattle.channel_slots.specs.declared.slot.Slot.{Slot}
@@ -18,24 +21,33 @@ use Rattle.channel_slots.specs.Banks.{PlaceAdds, PlaceGoes, slot_tells}
 use Rattle.channel_slots.proofs.OrderLemmas.{put_all-append}
 
 module _ {A : Type 0} (tells : List Sample → List A) where
-  pub at_each_sample-append : (xs ys zs : List Sample) → at_each_sample tells xs (ys ++ zs) ≡ at_each_sample tells xs ys ++ at_each_sample tells (xs ++ ys) zs
+  pub at_each_sample-append : (xs ys zs : List Sample)
+      → at_each_sample tells xs (ys ++ zs)
+      ≡ at_each_sample tells xs ys ++ at_each_sample tells (xs ++ ys) zs
   unfolding at_each_sample
   at_each_sample-append xs [] zs = rw (append-nil xs)
   at_each_sample-append xs (y ∷ ys) zs =
       let split : (xs ++ y ∷ []) ++ ys ≡ xs ++ (y ∷ ys) = append_assoc xs (y ∷ []) ys in
-      let rest : at_each_sample tells (xs ++ y ∷ []) (ys ++ zs) ≡ at_each_sample tells (xs ++ y ∷ []) ys ++ at_each_sample tells (xs ++ (y ∷ ys)) zs =
+      let rest : at_each_sample tells (xs ++ y ∷ []) (ys ++ zs)
+      ≡ at_each_sample tells (xs ++ y ∷ []) ys ++ at_each_sample tells (xs ++ (y ∷ ys)) zs =
       rw split at (at_each_sample-append (xs ++ y ∷ []) ys zs) in
       ap (λ r. tells (xs ++ y ∷ []) ++ r) rest
-      ∙ sym (append_assoc (tells (xs ++ y ∷ [])) (at_each_sample tells (xs ++ y ∷ []) ys) (at_each_sample tells (xs ++ (y ∷ ys)) zs))
+      ∙ sym (append_assoc (tells (xs ++ y ∷ [])) (at_each_sample tells (xs ++ y ∷ []) ys)
+      (at_each_sample tells (xs ++ (y ∷ ys)) zs))
 
   -- where nothing is told before the last
-  pub at_each_sample-last : (xs ys : List Sample) → 0 < length ys → ((j : ℕ) → 0 < j → j < length ys → tells (xs ++ take j ys) ≡ []) → at_each_sample tells xs ys ≡ tells (xs ++ ys)
+  pub at_each_sample-last : (xs ys : List Sample) → 0 < length ys
+      → ((j : ℕ) → 0 < j → j < length ys → tells (xs ++ take j ys) ≡ [])
+      → at_each_sample tells xs ys ≡ tells (xs ++ ys)
   unfolding at_each_sample
   at_each_sample-last xs [] some quiet = absurd (omega arith)
   at_each_sample-last xs (y ∷ []) some quiet = append-nil _
   at_each_sample-last xs (y ∷ z ∷ ys) some quiet =
       let first : tells (xs ++ y ∷ []) ≡ [] = quiet 1 (omega arith) (omega arith) in
-      let rest = at_each_sample-last (xs ++ y ∷ []) (z ∷ ys) (omega arith) (λ j f b. rw (append_assoc xs (y ∷ []) (take j (z ∷ ys))) (quiet (suc j) (omega arith) (omega arith))) in
+      let rest =
+      at_each_sample-last (xs ++ y ∷ []) (z ∷ ys) (omega arith)
+      (λ j f b. rw (append_assoc xs (y ∷ []) (take j (z ∷ ys)))
+      (quiet (suc j) (omega arith) (omega arith))) in
       rw first (rest ∙ ap tells (append_assoc xs (y ∷ []) (z ∷ ys)))
 
 -- ---- events that are put in by time
@@ -64,18 +76,25 @@ all-put es (f ∷ fs) =
 
 pub all_put : (es fs : List SlotEvent) (ts us : List Told) → AreTold es ts → AreTold fs us
     → AreTold (put_all time_in es fs) (put_all time_at ts us)
-all_put es fs ts us a b = all-put es fs ∙ ap (λ (l : List Told). put_all time_at l (map told_in fs)) a
+all_put es fs ts us a b =
+    all-put es fs ∙ ap (λ (l : List Told). put_all time_at l (map told_in fs)) a
     ∙ ap (put_all time_at ts) b
 
 -- ---- runs in parts
 pub take_part : (xs : List Sample) (n m : ℕ) → take (n + m) xs ≡ take n xs ++ take m (drop n xs)
 take_part xs zero m = let z : 0 + m ≡ m = omega arith in ap (λ (k : ℕ). take k xs) z
-take_part [] (suc n) zero = let e : suc n + 0 ≡ suc n = omega arith in ap (λ (k : ℕ). take {A = Sample} k []) e
-take_part [] (suc n) (suc m) = let e : suc n + suc m ≡ suc (n + suc m) = omega arith in ap (λ (k : ℕ). take {A = Sample} k []) e
-take_part (x ∷ xs) (suc n) m = let e : suc n + m ≡ suc (n + m) = omega arith in ap (λ (k : ℕ). take k (x ∷ xs)) e ∙ ap (λ (l : List Sample). x ∷ l) (take_part xs n m)
+take_part [] (suc n) zero =
+    let e : suc n + 0 ≡ suc n = omega arith in ap (λ (k : ℕ). take {A = Sample} k []) e
+take_part [] (suc n) (suc m) =
+    let e : suc n + suc m ≡ suc (n + suc m) = omega arith in
+    ap (λ (k : ℕ). take {A = Sample} k []) e
+take_part (x ∷ xs) (suc n) m =
+    let e : suc n + m ≡ suc (n + m) = omega arith in
+    ap (λ (k : ℕ). take k (x ∷ xs)) e ∙ ap (λ (l : List Sample). x ∷ l) (take_part xs n m)
 
 -- ---- a place through a run
-pub goes-begin : (left time : ℕ) (p : Place) (before : List SlotEvent) → chances p.slot left ≤ 1 → PlaceGoes left [] time p p before before
+pub goes-begin : (left time : ℕ) (p : Place) (before : List SlotEvent) → chances p.slot left ≤ 1
+    → PlaceGoes left [] time p p before before
 unfolding at_each_sample put_all
 goes-begin left time p before few = record {
   events = [];
@@ -87,31 +106,44 @@ goes-begin left time p before few = record {
   tells = λ settings xs commands now s. record { told = refl; stands = rw (append-nil xs) s };
 }
 
-pub goes-more : (left n : ℕ) (ys zs : List Sample) (time : ℕ) (p q r : Place) (before mid after : List SlotEvent) → PlaceGoes left ys time p q before mid → PlaceAdds zs (time + length ys + length zs) q r mid after
-    → length zs ≡ n → 0 < n → n ≤ left → left ≤ 1024 → PlaceGoes (left - n) (ys ++ zs) time p r before after
+pub goes-more : (left n : ℕ) (ys zs : List Sample) (time : ℕ) (p q r : Place)
+    (before mid after : List SlotEvent) → PlaceGoes left ys time p q before mid
+    → PlaceAdds zs (time + length ys + length zs) q r mid after
+    → length zs ≡ n → 0 < n → n ≤ left → left ≤ 1024
+    → PlaceGoes (left - n) (ys ++ zs) time p r before after
 goes-more left n ys zs time p q r before mid after g a is some within short =
     let s = a.steps in
-    let many : length (g.events ++ a.events) ≡ length g.events + length a.events = simp length-append (omega arith) in
+    let many : length (g.events ++ a.events) ≡ length g.events + length a.events =
+    simp length-append (omega arith) in
     let all : length (ys ++ zs) ≡ length ys + length zs = simp length-append (omega arith) in
-    let room : chances r.slot (left - n) + length a.events ≤ chances q.slot left = rw is at (s.chances left (omega (arith, is, within)) short) in
+    let room : chances r.slot (left - n) + length a.events ≤ chances q.slot left =
+    rw is at (s.chances left (omega (arith, is, within)) short) in
     record {
       events = g.events ++ a.events;
       client = s.client ∙ g.client;
       number = s.number ∙ g.number;
       chances = omega (arith, many, g.chances, room);
       dumps = omega (arith, all, g.dumps, s.dumps, is, some);
-      added = a.added ∙ ap (λ (l : List SlotEvent). put_all time_in l a.events) g.added ∙ sym (put_all-append time_in before g.events a.events);
+      added =
+          a.added ∙ ap (λ (l : List SlotEvent). put_all time_in l a.events) g.added
+          ∙ sym (put_all-append time_in before g.events a.events);
       tells = λ settings xs commands now st.
           let before_it = g.tells settings xs commands now st in
-          let one : length ((xs ++ ys) ++ zs) ≡ time + length ys + length zs = simp length-append (omega (arith, now)) in
+          let one : length ((xs ++ ys) ++ zs) ≡ time + length ys + length zs =
+          simp length-append (omega (arith, now)) in
           let step = s.tells settings (xs ++ ys) commands one before_it.stands in
           let f : List Sample → List Told = slot_tells settings p.client p.number commands in
           let quiet : (j : ℕ) → 0 < j → j < length zs → f ((xs ++ ys) ++ take j zs) ≡ [] =
-          λ j first b. ap (λ (l : List Event). slot_events p.client p.number (length ((xs ++ ys) ++ take j zs)) l) (step.inside j first b) in
-          let last : at_each_sample f (xs ++ ys) zs ≡ f ((xs ++ ys) ++ zs) = at_each_sample-last f (xs ++ ys) zs (omega (arith, is, some)) quiet in
-          let own : AreTold a.events (f ((xs ++ ys) ++ zs)) = rw (g.client, g.number) at step.told in
+          λ j first b. ap (λ (l : List Event). slot_events p.client p.number
+          (length ((xs ++ ys) ++ take j zs)) l) (step.inside j first b) in
+          let last : at_each_sample f (xs ++ ys) zs ≡ f ((xs ++ ys) ++ zs) =
+          at_each_sample-last f (xs ++ ys) zs (omega (arith, is, some)) quiet in
+          let own : AreTold a.events (f ((xs ++ ys) ++ zs)) =
+          rw (g.client, g.number) at step.told in
           record {
-            told = rw (at_each_sample-append f xs ys zs, last) (both_told g.events a.events (at_each_sample f xs ys) _ before_it.told own);
+            told =
+                rw (at_each_sample-append f xs ys zs, last)
+                (both_told g.events a.events (at_each_sample f xs ys) _ before_it.told own);
             stands = rw (sym (append_assoc xs ys zs)) step.stands;
           };
     }

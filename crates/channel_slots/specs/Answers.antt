@@ -1,6 +1,7 @@
 -- Answers to commands as the definitions have them.
 use Rattle.std.specs.Prelude.{ℕ}
-use Rattle.definitions.specs.Answers.{View, idle, holding, Answer as Defined, accepted, refused, shown}
+use Rattle.definitions.specs.Answers.{View, idle, holding, Answer as Defined, accepted, refused}
+use Rattle.definitions.specs.Answers.{shown}
 use Rattle.channel_slots.specs.declared.answer.SlotState.{SlotState}
 use Rattle.channel_slots.specs.declared.answer.SlotState.TheVariants as states
 use Rattle.channel_slots.specs.declared.answer.Refusal.{Refusal}

@@ -1,3 +1,5 @@
+//! Why a bank may not open.
+
 use thiserror::Error;
 
 /// Why no bank was opened. The number of clients is looked at first.

@@ -35,7 +35,8 @@ impl Slot {
     ghost use Rattle.channel_slots.specs.Commands.{request_in};
     ghost use Rattle.channels.specs.Parts.{part};
     ghost use Rattle.channel_slots.specs.Answers.{answer_in, view_in, IsRefusal};
-    ghost use Rattle.channel_slots.specs.Slots.{chances, StandsFor, Tells, MayStep, ComesToEvent, dumps_of};
+    ghost use Rattle.channel_slots.specs.Slots.{chances, StandsFor, Tells, MayStep, ComesToEvent};
+    ghost use Rattle.channel_slots.specs.Slots.{dumps_of};
 
     /// A slot that was never asked for anything.
     pub fn new() -> Slot

@@ -1,13 +1,17 @@
 -- A follower that takes a block stands for the samples with that block behind them.
-use Rattle.std.proofs.Common.{◌≡◌, ℕ, ◌+◌, ◌-◌, ◌*◌, ◌%◌, ◌^◌, ◌<◌, ◌≤◌, List, [], ◌∷◌, ◌++◌, length, take, sym, ap, ◌∙◌, arith, length-append}
+use Rattle.std.proofs.Common.{◌≡◌, ℕ, ◌+◌, ◌-◌, ◌*◌, ◌%◌, ◌^◌, ◌<◌, ◌≤◌, List, [], ◌∷◌, ◌++◌}
+use Rattle.std.proofs.Common.{length, take, sym, ap, ◌∙◌, arith, length-append}
 use Rattle.std.proofs.lemmas.List.{length-take}
 use Rattle.std.specs.Prelude.{ℤ, pos, false, true}
 use Rattle.std.proofs.Math.Nat.{mul-le-mul_right}
 use Rattle.definitions.specs.Samples.{Sample, sample_at}
 use Rattle.definitions.specs.Oscillators.{Settings, carrier_phase_after, code_step, carrier_step}
-use Rattle.definitions.specs.Correlation.{Counts, Phases, counts_over, six_sums, replica_of, added, no_counts}
-use Rattle.definitions.specs.Segments.{Channel, Progress, progress, open_phases, is_through, closed_at, begun}
-use Rattle.definitions.proofs.BlockLemmas.{progress-begun, progress-quiet, progress-closes, quiet-through, last-through, phase-split}
+use Rattle.definitions.specs.Correlation.{Counts, Phases, counts_over, six_sums, replica_of, added}
+use Rattle.definitions.specs.Correlation.{no_counts}
+use Rattle.definitions.specs.Segments.{Channel, Progress, progress, open_phases, is_through}
+use Rattle.definitions.specs.Segments.{closed_at, begun}
+use Rattle.definitions.proofs.BlockLemmas.{progress-begun, progress-quiet, progress-closes}
+use Rattle.definitions.proofs.BlockLemmas.{quiet-through, last-through, phase-split}
 use Rattle.definitions.proofs.SplitLemmas.{counts_over-more, counts_over-none, carrier_on}
 use Rattle.definitions.specs.Lives.{held_channel, doppler_shift}
 use Rattle.channels.specs.declared.follower.Follower.{Follower}
@@ -18,61 +22,131 @@ use Rattle.channels.specs.Following.{IsAt, Follows, Stays, Closes, QuietInside}
 pub record Moves (ys : List Sample) (f : Follower) (phase turn : ℕ) (total : Counts) : Type 0 where
   pub code : phase ≡ f.code.phase + length ys * f.code.step
   pub carrier : turn ≡ (f.carrier.phase + length ys * f.carrier.step) % 2 ^ 32
-  pub sums : total ≡ added (counts_in f.sums) (six_sums (sample_at ys) (replica_of f.prn (record { code = f.code.phase; carrier = f.carrier.phase; code_step = f.code.step; carrier_step = f.carrier.step })) 0 (length ys))
+  pub sums : total
+      ≡ added (counts_in f.sums)
+      (six_sums (sample_at ys)
+      (replica_of f.prn
+      (record {
+        code = f.code.phase;
+        carrier = f.carrier.phase;
+        code_step = f.code.step;
+        carrier_step = f.carrier.step;
+      })) 0 (length ys))
 
 same_phases : (code carrier a b other turned : ℕ) → code ≡ other → carrier ≡ turned
-    → ◌≡◌ {A = Phases} (record { code = code; carrier = carrier; code_step = a; carrier_step = b }) (record { code = other; carrier = turned; code_step = a; carrier_step = b })
+    → ◌≡◌ {A = Phases} (record { code = code; carrier = carrier; code_step = a; carrier_step = b })
+    (record { code = other; carrier = turned; code_step = a; carrier_step = b })
 same_phases code carrier a b other turned e h =
-    ap (λ (x : ℕ). let p : Phases = record { code = x; carrier = carrier; code_step = a; carrier_step = b } in p) e
-    ∙ ap (λ (x : ℕ). let p : Phases = record { code = other; carrier = x; code_step = a; carrier_step = b } in p) h
+    ap (λ (x : ℕ). let p : Phases =
+    record { code = x; carrier = carrier; code_step = a; carrier_step = b } in p) e
+    ∙ ap (λ (x : ℕ). let p : Phases =
+    record { code = other; carrier = x; code_step = a; carrier_step = b } in p) h
 
-module _ (settings : Settings) (channel : Channel) (xs ys : List Sample) (f : Follower) (s : Follows settings channel xs f) where
+module _ (settings : Settings) (channel : Channel) (xs ys : List Sample) (f : Follower)
+    (s : Follows settings channel xs f) where
   both : length (xs ++ ys) ≡ length xs + length ys
   both = simp length-append (omega arith)
 
   -- up to m samples further no segment ends
-  none_by : (m : ℕ) → f.code.phase + m * f.code.step < 1023 * 2 ^ 32 → (e : ℕ) → e ≤ length xs + m → is_through (progress settings channel xs).open_segment (open_phases settings channel (progress settings channel xs)).code_step e ≡ false
-  none_by m low e b = rw (← s.code_step) (quiet-through (progress settings channel xs).open_segment f.code.step (length xs) m f.code.phase s.at.opened s.at.code low e b)
+  none_by : (m : ℕ) → f.code.phase + m * f.code.step < 1023 * 2 ^ 32 → (e : ℕ) → e ≤ length xs + m
+      → is_through (progress settings channel xs).open_segment
+      (open_phases settings channel (progress settings channel xs)).code_step e ≡ false
+  none_by m low e b =
+      rw (← s.code_step)
+      (quiet-through (progress settings channel xs).open_segment f.code.step (length xs) m
+      f.code.phase s.at.opened s.at.code low e b)
 
-  inside : 0 < length ys → f.code.phase + (length ys - 1) * f.code.step < 1023 * 2 ^ 32 → QuietInside settings channel xs ys
-  inside some low j b = progress-quiet settings channel xs (take j ys) (none_by (length (take j ys)) (omega (arith, low, length-take j ys, mul-le-mul_right f.code.step (short j b))))
+  inside : 0 < length ys → f.code.phase + (length ys - 1) * f.code.step < 1023 * 2 ^ 32
+      → QuietInside settings channel xs ys
+  inside some low j b =
+      progress-quiet settings channel xs (take j ys)
+      (none_by (length (take j ys))
+      (omega (arith, low, length-take j ys, mul-le-mul_right f.code.step (short j b))))
     where
       short : (j : ℕ) → j < length ys → length (take j ys) ≤ length ys - 1
       short j b = omega (arith, length-take j ys)
 
   -- the open segment, block by block
   abbrev own : Phases
-  own = record { code = (progress settings channel xs).open_segment.code; carrier = (progress settings channel xs).open_segment.carrier; code_step = f.code.step; carrier_step = f.carrier.step }
+  own =
+      record {
+        code = (progress settings channel xs).open_segment.code;
+        carrier = (progress settings channel xs).open_segment.carrier;
+        code_step = f.code.step;
+        carrier_step = f.carrier.step;
+      }
 
   module _ (phase turn : ℕ) (total : Counts) (m : Moves ys f phase turn total) where
-    more_code : phase ≡ (progress settings channel xs).open_segment.code + (length xs + length ys - (progress settings channel xs).open_segment.start) * f.code.step
-    more_code = omega (arith, m.code, s.at.code, phase-split (length xs) (length ys) (progress settings channel xs).open_segment.start f.code.step s.at.opened)
+    more_code : phase
+        ≡ (progress settings channel xs).open_segment.code
+        + (length xs + length ys - (progress settings channel xs).open_segment.start)
+        * f.code.step
+    more_code =
+        omega (
+          arith,
+          m.code,
+          s.at.code,
+          phase-split (length xs) (length ys) (progress settings channel xs).open_segment.start
+              f.code.step s.at.opened,
+        )
 
-    more_carrier : turn ≡ carrier_phase_after (progress settings channel xs).open_segment.carrier f.carrier.step (length xs + length ys - (progress settings channel xs).open_segment.start)
+    more_carrier : turn
+        ≡ carrier_phase_after (progress settings channel xs).open_segment.carrier f.carrier.step
+        (length xs + length ys - (progress settings channel xs).open_segment.start)
     more_carrier =
         let start : ℕ = (progress settings channel xs).open_segment.start in
-        let e : length xs + length ys - start ≡ (length xs - start) + length ys = omega (arith, s.at.opened) in
+        let e : length xs + length ys - start ≡ (length xs - start) + length ys =
+        omega (arith, s.at.opened) in
         m.carrier
         ∙ ap (λ q. (q + length ys * f.carrier.step) % 2 ^ 32) s.at.carrier
-        ∙ sym (carrier_on (progress settings channel xs).open_segment.carrier f.carrier.step (length xs - start) (length ys))
-        ∙ ap (λ k. carrier_phase_after (progress settings channel xs).open_segment.carrier f.carrier.step k) (sym e)
+        ∙ sym (carrier_on (progress settings channel xs).open_segment.carrier f.carrier.step
+        (length xs - start) (length ys))
+        ∙ ap (λ k. carrier_phase_after (progress settings channel xs).open_segment.carrier
+        f.carrier.step k) (sym e)
 
-    more_sums : total ≡ counts_over channel.prn own (xs ++ ys) (progress settings channel xs).open_segment.start (length xs + length ys)
+    more_sums : total
+        ≡ counts_over channel.prn own (xs ++ ys) (progress settings channel xs).open_segment.start
+        (length xs + length ys)
     more_sums =
         let start : ℕ = (progress settings channel xs).open_segment.start in
         m.sums
-        ∙ ap (λ (a : Counts). added a (six_sums (sample_at ys) (replica_of f.prn (record { code = f.code.phase; carrier = f.carrier.phase; code_step = f.code.step; carrier_step = f.carrier.step })) 0 (length ys))) s.at.sums
-        ∙ ap (λ (n : ℕ). added (counts_over channel.prn own xs start (length xs)) (six_sums (sample_at ys) (replica_of n (record { code = f.code.phase; carrier = f.carrier.phase; code_step = f.code.step; carrier_step = f.carrier.step })) 0 (length ys))) s.at.prn
-        ∙ ap (λ (p : Phases). added (counts_over channel.prn own xs start (length xs)) (six_sums (sample_at ys) (replica_of channel.prn p) 0 (length ys))) (same_phases f.code.phase f.carrier.phase f.code.step f.carrier.step _ _ s.at.code s.at.carrier)
+        ∙ ap (λ (a : Counts). added a
+        (six_sums (sample_at ys)
+        (replica_of f.prn
+        (record {
+          code = f.code.phase;
+          carrier = f.carrier.phase;
+          code_step = f.code.step;
+          carrier_step = f.carrier.step;
+        })) 0 (length ys)))
+        s.at.sums
+        ∙ ap (λ (n : ℕ). added (counts_over channel.prn own xs start (length xs))
+        (six_sums (sample_at ys)
+        (replica_of n (record {
+          code = f.code.phase;
+          carrier = f.carrier.phase;
+          code_step = f.code.step;
+          carrier_step = f.carrier.step;
+        })) 0 (length ys)))
+        s.at.prn
+        ∙ ap (λ (p : Phases). added (counts_over channel.prn own xs start (length xs))
+        (six_sums (sample_at ys) (replica_of channel.prn p) 0 (length ys)))
+        (same_phases f.code.phase f.carrier.phase f.code.step f.carrier.step _ _ s.at.code
+        s.at.carrier)
         ∙ sym (counts_over-more channel.prn own xs ys start s.at.opened)
 
     -- the segment stays open
-    pub stays : 0 < length ys → phase < 1023 * 2 ^ 32 → (g : Follower) → g.prn ≡ f.prn → g.code.phase ≡ phase → g.carrier.phase ≡ turn → g.code.step ≡ f.code.step → g.carrier.step ≡ f.carrier.step → counts_in g.sums ≡ total
+    pub stays : 0 < length ys → phase < 1023 * 2 ^ 32 → (g : Follower) → g.prn ≡ f.prn
+        → g.code.phase ≡ phase → g.carrier.phase ≡ turn → g.code.step ≡ f.code.step
+        → g.carrier.step ≡ f.carrier.step → counts_in g.sums ≡ total
         → Stays settings channel xs ys g
     stays some low g prn code carrier code_step carrier_step sums =
-        let before : f.code.phase + length ys * f.code.step < 1023 * 2 ^ 32 = omega (arith, m.code, low) in
-        let less : (length ys - 1) * f.code.step ≤ length ys * f.code.step = mul-le-mul_right f.code.step (omega arith) in
-        let same : progress settings channel (xs ++ ys) ≡ progress settings channel xs = progress-quiet settings channel xs ys (none_by (length ys) before) in
+        let before : f.code.phase + length ys * f.code.step < 1023 * 2 ^ 32 =
+        omega (arith, m.code, low) in
+        let less : (length ys - 1) * f.code.step ≤ length ys * f.code.step =
+        mul-le-mul_right f.code.step (omega arith) in
+        let same : progress settings channel (xs ++ ys) ≡ progress settings channel xs =
+        progress-quiet settings channel xs ys (none_by (length ys) before) in
         record {
           inside = inside some (omega (arith, before, less));
           same = same;
@@ -93,23 +167,36 @@ module _ (settings : Settings) (channel : Channel) (xs ys : List Sample) (f : Fo
     -- the segment behind it
     closed : Progress
     closed = record {
-      dumps = (progress settings channel xs).dumps ++ record { time = length (xs ++ ys); counts = total } ∷ [];
-      open_segment = record { start = length (xs ++ ys); code = phase - 1023 * 2 ^ 32; carrier = turn };
+      dumps =
+          (progress settings channel xs).dumps
+          ++ record { time = length (xs ++ ys); counts = total } ∷ [];
+      open_segment =
+          record { start = length (xs ++ ys); code = phase - 1023 * 2 ^ 32; carrier = turn };
     }
 
-    closed_is : closed_at settings channel (xs ++ ys) (progress settings channel xs) (length xs + length ys) ≡ closed
+    closed_is : closed_at settings channel (xs ++ ys) (progress settings channel xs)
+        (length xs + length ys) ≡ closed
     unfolding closed_at closed
     closed_is = rw (← s.code_step, ← s.carrier_step, ← more_sums, ← more_code, ← more_carrier, both)
 
     -- it closes with the last sample
-    pub closes : 0 < length ys → f.code.phase + (length ys - 1) * f.code.step < 1023 * 2 ^ 32 → 1023 * 2 ^ 32 ≤ phase → (g : Follower) → g.prn ≡ f.prn → g.code.phase ≡ phase - 1023 * 2 ^ 32 → g.carrier.phase ≡ turn → g.code.step ≡ f.code.step → g.carrier.step ≡ f.carrier.step → counts_in g.sums ≡ no_counts
+    pub closes : 0 < length ys → f.code.phase + (length ys - 1) * f.code.step < 1023 * 2 ^ 32
+        → 1023 * 2 ^ 32 ≤ phase → (g : Follower) → g.prn ≡ f.prn
+        → g.code.phase ≡ phase - 1023 * 2 ^ 32 → g.carrier.phase ≡ turn → g.code.step ≡ f.code.step
+        → g.carrier.step ≡ f.carrier.step → counts_in g.sums ≡ no_counts
         → Closes settings channel xs ys total g
     unfolding closed
     closes some before high g prn code carrier code_step carrier_step sums =
-        let last : is_through (progress settings channel xs).open_segment (open_phases settings channel (progress settings channel xs)).code_step (length xs + length ys) ≡ true =
-        rw (← s.code_step) (last-through (progress settings channel xs).open_segment f.code.step (length xs) (length ys) f.code.phase s.at.opened some s.at.code (omega (arith, m.code, high))) in
+        let last : is_through (progress settings channel xs).open_segment
+        (open_phases settings channel (progress settings channel xs)).code_step
+        (length xs + length ys) ≡ true =
+        rw (← s.code_step)
+        (last-through (progress settings channel xs).open_segment f.code.step (length xs)
+        (length ys) f.code.phase s.at.opened some s.at.code
+        (omega (arith, m.code, high))) in
         let ends : progress settings channel (xs ++ ys) ≡ closed =
-        progress-closes settings channel xs ys some (λ e b. none_by (length ys - 1) before e (omega arith)) last ∙ closed_is in
+        progress-closes settings channel xs ys some
+        (λ e b. none_by (length ys - 1) before e (omega arith)) last ∙ closed_is in
         let zero : length (xs ++ ys) - length (xs ++ ys) ≡ 0 = omega arith in
         record {
           inside = inside some before;
@@ -128,11 +215,16 @@ module _ (settings : Settings) (channel : Channel) (xs ys : List Sample) (f : Fo
         }
 
 -- a follower that starts at the next sample
-pub started : (settings : Settings) (xs : List Sample) (prn : ℕ) (doppler : ℤ) (half_chip : ℕ) (f : Follower) → f.prn ≡ prn → f.code.phase ≡ half_chip * 2 ^ 31 → f.carrier.phase ≡ 0
-    → f.code.step ≡ code_step settings (doppler_shift doppler) (pos 0) → f.carrier.step ≡ carrier_step settings (doppler_shift doppler) → counts_in f.sums ≡ no_counts
+pub started : (settings : Settings) (xs : List Sample) (prn : ℕ) (doppler : ℤ) (half_chip : ℕ)
+    (f : Follower) → f.prn ≡ prn → f.code.phase ≡ half_chip * 2 ^ 31 → f.carrier.phase ≡ 0
+    → f.code.step ≡ code_step settings (doppler_shift doppler) (pos 0)
+    → f.carrier.step ≡ carrier_step settings (doppler_shift doppler) → counts_in f.sums ≡ no_counts
     → Follows settings (held_channel (length xs) prn doppler half_chip) xs f
 started settings xs prn doppler half_chip f p code carrier a b sums =
-    let none : progress settings (held_channel (length xs) prn doppler half_chip) xs ≡ begun (held_channel (length xs) prn doppler half_chip) = progress-begun settings (held_channel (length xs) prn doppler half_chip) xs (omega arith) in
+    let none : progress settings (held_channel (length xs) prn doppler half_chip) xs
+    ≡ begun (held_channel (length xs) prn doppler half_chip) =
+    progress-begun settings (held_channel (length xs) prn doppler half_chip) xs
+    (omega arith) in
     let zero : length xs - length xs ≡ 0 = omega arith in
     record {
       at = rw none (record {
@@ -148,9 +240,13 @@ started settings xs prn doppler half_chip f p code carrier a b sums =
     }
 
 -- where a segment has just begun, the follower may be given the steps that the dumps so far ask for
-pub steered : (settings : Settings) (channel : Channel) (xs : List Sample) (f g : Follower) → IsAt channel xs (progress settings channel xs) f → (progress settings channel xs).open_segment.start ≡ length xs
-    → g.prn ≡ f.prn → g.code.phase ≡ f.code.phase → g.carrier.phase ≡ f.carrier.phase → counts_in g.sums ≡ counts_in f.sums
-    → g.code.step ≡ (open_phases settings channel (progress settings channel xs)).code_step → g.carrier.step ≡ (open_phases settings channel (progress settings channel xs)).carrier_step
+pub steered : (settings : Settings) (channel : Channel) (xs : List Sample) (f g : Follower)
+    → IsAt channel xs (progress settings channel xs) f
+    → (progress settings channel xs).open_segment.start ≡ length xs
+    → g.prn ≡ f.prn → g.code.phase ≡ f.code.phase → g.carrier.phase ≡ f.carrier.phase
+    → counts_in g.sums ≡ counts_in f.sums
+    → g.code.step ≡ (open_phases settings channel (progress settings channel xs)).code_step
+    → g.carrier.step ≡ (open_phases settings channel (progress settings channel xs)).carrier_step
     → Follows settings channel xs g
 steered settings channel xs f g at opens prn code carrier sums a b =
     let start : ℕ = (progress settings channel xs).open_segment.start in
@@ -162,7 +258,10 @@ steered settings channel xs f g at opens prn code carrier sums a b =
         prn = prn ∙ at.prn;
         code = rw zero (code ∙ rw zero at at.code ∙ omega arith);
         carrier = rw zero (carrier ∙ rw zero at at.carrier ∙ omega arith);
-        sums = sums ∙ at.sums ∙ rw opens (counts_over-none channel.prn _ xs (length xs) ∙ sym (counts_over-none channel.prn _ xs (length xs)));
+        sums =
+            sums ∙ at.sums ∙ rw opens
+            (counts_over-none channel.prn _ xs (length xs)
+            ∙ sym (counts_over-none channel.prn _ xs (length xs)));
       };
       code_step = a;
       carrier_step = b;

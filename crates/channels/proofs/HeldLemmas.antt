@@ -1,5 +1,6 @@
 -- A held satellite, when it begins and when it takes samples.
-use Rattle.std.proofs.Common.{◌≡◌, ℕ, ◌+◌, ◌≤◌, List, ◌++◌, length, refl, ap, ◌∙◌, arith, length-append}
+use Rattle.std.proofs.Common.{◌≡◌, ℕ, ◌+◌, ◌≤◌, List, ◌++◌, length, refl, ap, ◌∙◌, arith}
+use Rattle.std.proofs.Common.{length-append}
 use Rattle.std.specs.Prelude.{ℤ, Some, None}
 use Rattle.definitions.specs.Samples.{Sample}
 use Rattle.definitions.specs.Oscillators.{Settings, code_step, carrier_step}
@@ -13,23 +14,34 @@ use Rattle.channels.specs.Following.{Follows, Stays, Closes}
 use Rattle.channels.specs.HeldChannels.{Holds, Takes, chance}
 use Rattle.channels.proofs.ChanceLemmas.{one-chance}
 
-pub begins : (settings : Settings) (xs : List Sample) (prn : ℕ) (doppler : ℤ) (half_chip : ℕ) (h : Held) → Follows settings (held_channel (length xs) prn doppler half_chip) xs h.follower → h.dumps ≡ 0
+pub begins : (settings : Settings) (xs : List Sample) (prn : ℕ) (doppler : ℤ) (half_chip : ℕ)
+    (h : Held) → Follows settings (held_channel (length xs) prn doppler half_chip) xs h.follower
+    → h.dumps ≡ 0
     → Holds settings (held_channel (length xs) prn doppler half_chip) xs h
 begins settings xs prn doppler half_chip h follows dumps =
-    let none : progress settings (held_channel (length xs) prn doppler half_chip) xs ≡ begun (held_channel (length xs) prn doppler half_chip) = progress-begun settings (held_channel (length xs) prn doppler half_chip) xs (omega arith) in
+    let none : progress settings (held_channel (length xs) prn doppler half_chip) xs
+    ≡ begun (held_channel (length xs) prn doppler half_chip) =
+    progress-begun settings (held_channel (length xs) prn doppler half_chip) xs
+    (omega arith) in
     record { steady = λ a b. refl; follows = follows; dumps = rw none dumps }
 
-module _ (settings : Settings) (channel : Channel) (xs ys : List Sample) (h g : Held) (s : Holds settings channel xs h) where
-  pub takes-on : Stays settings channel xs ys g.follower → g.dumps ≡ h.dumps → Takes settings channel xs ys g None
+module _ (settings : Settings) (channel : Channel) (xs ys : List Sample) (h g : Held)
+    (s : Holds settings channel xs h) where
+  pub takes-on : Stays settings channel xs ys g.follower → g.dumps ≡ h.dumps
+      → Takes settings channel xs ys g None
   takes-on st dumps = record {
     inside = st.inside;
     brings = st.same;
-    stands = record { steady = s.steady; follows = st.follows; dumps = rw st.same (dumps ∙ s.dumps) };
+    stands =
+        record { steady = s.steady; follows = st.follows; dumps = rw st.same (dumps ∙ s.dumps) };
   }
 
-  pub takes-dump : (c : Counts) → Closes settings channel xs ys (counts_in c) g.follower → g.dumps ≡ h.dumps + 1 → Takes settings channel xs ys g (Some c)
+  pub takes-dump : (c : Counts) → Closes settings channel xs ys (counts_in c) g.follower
+      → g.dumps ≡ h.dumps + 1 → Takes settings channel xs ys g (Some c)
   takes-dump c cl dumps =
-      let same : channel.steering (counts_of (progress settings channel xs).dumps) ≡ channel.steering (counts_of (progress settings channel (xs ++ ys)).dumps) = s.steady _ _ in
+      let same : channel.steering (counts_of (progress settings channel xs).dumps)
+      ≡ channel.steering (counts_of (progress settings channel (xs ++ ys)).dumps) =
+      s.steady _ _ in
       record {
         inside = cl.inside;
         brings = cl.dumps;

@@ -10,15 +10,22 @@ use Rattle.channels.specs.Parts.{part}
 use Rattle.channels.proofs.FollowingLemmas.{Moves}
 use Rattle.channels.proofs.PartLemmas.{part-length, part-sums}
 
-pub moves_by : (f : Follower) (run : List Sample) (from count turn : ℕ) (six total : Counts) → from + count ≤ length run
+pub moves_by : (f : Follower) (run : List Sample) (from count turn : ℕ) (six total : Counts)
+    → from + count ≤ length run
     → turn ≡ carrier_phase_after f.carrier.phase f.carrier.step count
-    → six ≡ six_sums (λ j. sample_at run (from + j)) (replica_of f.prn (phases_of f.carrier f.code)) 0 count
+    → six ≡ six_sums (λ j. sample_at run (from + j)) (replica_of f.prn (phases_of f.carrier f.code))
+    0 count
     → total ≡ added (counts_in f.sums) six
-    → Moves (part run from count) f (f.code.phase + length (part run from count) * f.code.step) turn total
+    → Moves (part run from count) f (f.code.phase + length (part run from count) * f.code.step) turn
+    total
 moves_by f run from count turn six total within turned sums adds =
     let is : count ≡ length (part run from count) = sym (part-length run from count within) in
     record {
       code = refl;
       carrier = turned ∙ ap (λ k. carrier_phase_after f.carrier.phase f.carrier.step k) is;
-      sums = adds ∙ ap (λ (b : Counts). added (counts_in f.sums) b) (sums ∙ part-sums run from count (replica_of f.prn (phases_of f.carrier f.code)) ∙ ap (λ k. six_sums (sample_at (part run from count)) (replica_of f.prn (phases_of f.carrier f.code)) 0 k) is);
+      sums =
+          adds ∙ ap (λ (b : Counts). added (counts_in f.sums) b)
+          (sums ∙ part-sums run from count (replica_of f.prn (phases_of f.carrier f.code))
+          ∙ ap (λ k. six_sums (sample_at (part run from count))
+          (replica_of f.prn (phases_of f.carrier f.code)) 0 k) is);
     }

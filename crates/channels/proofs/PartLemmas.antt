@@ -7,12 +7,20 @@ use Rattle.definitions.specs.Correlation.{Replica, six_sums}
 use Rattle.definitions.proofs.CorrelationLemmas.{six_sums-same}
 use Rattle.channels.specs.Parts.{part}
 
-pub part-length : (run : List Sample) (from count : ℕ) → from + count ≤ length run → length (part run from count) ≡ count
-part-length run from count within = length-take-le count (drop from run) (rw length-drop (omega (arith, within)))
+pub part-length : (run : List Sample) (from count : ℕ) → from + count ≤ length run
+    → length (part run from count) ≡ count
+part-length run from count within =
+    length-take-le count (drop from run) (rw length-drop (omega (arith, within)))
 
-pub part-at : (run : List Sample) (from count j : ℕ) → j < count → sample_at (part run from count) j ≡ sample_at run (from + j)
-part-at run from count j h = get_or-take count (drop from run) j (real (pos 0)) h ∙ get_or-drop from run j (real (pos 0))
+pub part-at : (run : List Sample) (from count j : ℕ) → j < count
+    → sample_at (part run from count) j ≡ sample_at run (from + j)
+part-at run from count j h =
+    get_or-take count (drop from run) j (real (pos 0)) h ∙ get_or-drop from run j (real (pos 0))
 
 -- the sums over a part
-pub part-sums : (run : List Sample) (from count : ℕ) (r : Replica) → six_sums (λ j. sample_at run (from + j)) r 0 count ≡ six_sums (sample_at (part run from count)) r 0 count
-part-sums run from count r = six_sums-same (λ j. sample_at run (from + j)) (sample_at (part run from count)) r 0 count (λ j low high. sym (part-at run from count j high))
+pub part-sums : (run : List Sample) (from count : ℕ) (r : Replica)
+    → six_sums (λ j. sample_at run (from + j)) r 0 count
+    ≡ six_sums (sample_at (part run from count)) r 0 count
+part-sums run from count r =
+    six_sums-same (λ j. sample_at run (from + j)) (sample_at (part run from count)) r 0 count
+    (λ j low high. sym (part-at run from count j high))

@@ -1,5 +1,6 @@
 -- Where a step of samples stays before the end of the code's cycle, and where it reaches the end.
-use Rattle.std.proofs.Common.{inl, inr, zero, suc, ◌≡◌, ◌≤◌, ◌<◌, ◌+◌, ◌-◌, ◌*◌, ◌%◌, ℕ, arith, sym, ap, ◌∙◌}
+use Rattle.std.proofs.Common.{inl, inr, zero, suc, ◌≡◌, ◌≤◌, ◌<◌, ◌+◌, ◌-◌, ◌*◌, ◌%◌, ℕ, arith, sym}
+use Rattle.std.proofs.Common.{ap, ◌∙◌}
 use Rattle.std.proofs.lemmas.Bool.{cases_lt}
 use Rattle.std.proofs.Math.Nat.{mul-le-mul_right}
 use Rattle.std.proofs.Math.Nat.{mod-eq_of_lt}
@@ -8,8 +9,10 @@ use Rattle.definitions.specs.Oscillators.{code_cycle, code_phase_after}
 use Rattle.oscillators.specs.Views.{Oscillation}
 
 -- the least number that reaches the end is another, so these samples don't
-pub before_wrap : (phase step n w : ℕ) → 0 < n → phase + (n - 1) * step < code_cycle → code_cycle ≤ phase + w * step
-    → ((k : ℕ) → k < w → phase + k * step < code_cycle) → (w ≡ n → ⊥) → phase + n * step < code_cycle
+pub before_wrap : (phase step n w : ℕ) → 0 < n → phase + (n - 1) * step < code_cycle
+    → code_cycle ≤ phase + w * step
+    → ((k : ℕ) → k < w → phase + k * step < code_cycle) → (w ≡ n → ⊥)
+    → phase + n * step < code_cycle
 before_wrap phase step n w some before through least other = elim (cases_lt n w) [
   | inl less ↦ least n less
   | inr more ↦ omega (arith, before, through, mul-le-mul_right step (below n w more other))
@@ -19,35 +22,53 @@ before_wrap phase step n w some before through least other = elim (cases_lt n w)
     below n w more other = omega (arith, more, other)
 
 -- it passes the end by less than a step, and the phase begins again
-past_by : (phase step m : ℕ) → phase + m * step < code_cycle → step ≤ 3000000000 → code_cycle ≤ phase + (step + m * step)
+past_by : (phase step m : ℕ) → phase + m * step < code_cycle → step ≤ 3000000000
+    → code_cycle ≤ phase + (step + m * step)
     → (phase + (step + m * step)) % code_cycle ≡ phase + (step + m * step) - code_cycle
 past_by phase step m before slow through = omega (arith, before, slow, through)
 
-pub past_wrap : (phase step n : ℕ) → 0 < n → phase + (n - 1) * step < code_cycle → step ≤ 3000000000 → code_cycle ≤ phase + n * step
+pub past_wrap : (phase step n : ℕ) → 0 < n → phase + (n - 1) * step < code_cycle → step ≤ 3000000000
+    → code_cycle ≤ phase + n * step
     → code_phase_after phase step n ≡ phase + n * step - code_cycle
 past_wrap phase step zero some before slow through = absurd (omega (arith, some))
 past_wrap phase step (suc m) some before slow through =
     let more : suc m * step ≡ step + m * step = omega arith in
-    ap (λ k. (phase + k) % code_cycle) more ∙ past_by phase step m (simp unary_clauses at before) slow (rw (← more) through) ∙ ap (λ k. phase + k - code_cycle) (sym more)
+    ap (λ k. (phase + k) % code_cycle) more
+    ∙ past_by phase step m (simp unary_clauses at before) slow (rw (← more) through)
+    ∙ ap (λ k. phase + k - code_cycle) (sym more)
 
 -- an oscillator that takes samples and doesn't reach the end
-pub quiet : (code new : Oscillation) (len n w : ℕ) → len ≡ n → new ≡ record { phase = code_phase_after code.phase code.step len; step = code.step } → 0 < n
-    → code.phase + (n - 1) * code.step < code_cycle → code_cycle ≤ code.phase + w * code.step → ((k : ℕ) → k < w → code.phase + k * code.step < code_cycle) → (w ≡ len → ⊥)
+pub quiet : (code new : Oscillation) (len n w : ℕ) → len ≡ n
+    → new ≡ record { phase = code_phase_after code.phase code.step len; step = code.step } → 0 < n
+    → code.phase + (n - 1) * code.step < code_cycle → code_cycle ≤ code.phase + w * code.step
+    → ((k : ℕ) → k < w → code.phase + k * code.step < code_cycle) → (w ≡ len → ⊥)
     → (code.phase + n * code.step < code_cycle) × (new.phase ≡ code.phase + n * code.step)
 quiet code new len n w is e some before through least other =
-    let low : code.phase + n * code.step < code_cycle = before_wrap code.phase code.step n w some before through least (λ h. other (h ∙ sym is)) in
-    (low, ap (λ (o : Oscillation). o.phase) e ∙ ap (λ k. code_phase_after code.phase code.step k) is ∙ mod-eq_of_lt low)
+    let low : code.phase + n * code.step < code_cycle =
+    before_wrap code.phase code.step n w some before through least (λ h. other (h ∙ sym is)) in (
+      low,
+      ap (λ (o : Oscillation). o.phase) e ∙ ap (λ k. code_phase_after code.phase code.step k) is
+          ∙ mod-eq_of_lt low,
+    )
 
 -- one that reaches it with the last of them
-pub wraps : (code new : Oscillation) (len n w : ℕ) → len ≡ n → new ≡ record { phase = code_phase_after code.phase code.step len; step = code.step } → 0 < n
-    → code.phase + (n - 1) * code.step < code_cycle → code.step ≤ 3000000000 → code_cycle ≤ code.phase + w * code.step → w ≡ len
-    → (code_cycle ≤ code.phase + n * code.step) × (new.phase ≡ code.phase + n * code.step - code_cycle)
+pub wraps : (code new : Oscillation) (len n w : ℕ) → len ≡ n
+    → new ≡ record { phase = code_phase_after code.phase code.step len; step = code.step } → 0 < n
+    → code.phase + (n - 1) * code.step < code_cycle → code.step ≤ 3000000000
+    → code_cycle ≤ code.phase + w * code.step → w ≡ len
+    → (code_cycle ≤ code.phase + n * code.step)
+    × (new.phase ≡ code.phase + n * code.step - code_cycle)
 wraps code new len n w is e some before slow through ends =
-    let high : code_cycle ≤ code.phase + n * code.step = rw (← is, ← ends) through in
-    (high, ap (λ (o : Oscillation). o.phase) e ∙ ap (λ k. code_phase_after code.phase code.step k) is ∙ past_wrap code.phase code.step n some before slow high)
+    let high : code_cycle ≤ code.phase + n * code.step = rw (← is, ← ends) through in (
+      high,
+      ap (λ (o : Oscillation). o.phase) e
+          ∙ ap (λ k. code_phase_after code.phase code.step k) is
+          ∙ past_wrap code.phase code.step n some before slow high,
+    )
 
 -- past the end by less than a step
-pub past_less : (phase step n new : ℕ) → 0 < n → phase + (n - 1) * step < code_cycle → code_cycle ≤ phase + n * step → new ≡ phase + n * step - code_cycle → new < step
+pub past_less : (phase step n new : ℕ) → 0 < n → phase + (n - 1) * step < code_cycle
+    → code_cycle ≤ phase + n * step → new ≡ phase + n * step - code_cycle → new < step
 past_less phase step zero new some before high is = absurd (omega (arith, some))
 past_less phase step (suc m) new some before high is =
     let more : suc m * step ≡ step + m * step = omega arith in

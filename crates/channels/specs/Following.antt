@@ -1,5 +1,6 @@
 -- What a follower stands for: the open segment of a channel over the samples so far.
-use Rattle.std.specs.Prelude.{◌≡◌, ◌≤◌, ◌<◌, ℕ, List, [], ◌∷◌, ◌++◌, length, take, ◌+◌, ◌-◌, ◌*◌, Option, Some, None, nat_le, if◌then◌else◌}
+use Rattle.std.specs.Prelude.{◌≡◌, ◌≤◌, ◌<◌, ℕ, List, [], ◌∷◌, ◌++◌, length, take, ◌+◌, ◌-◌, ◌*◌}
+use Rattle.std.specs.Prelude.{Option, Some, None, nat_le, if◌then◌else◌}
 use Rattle.definitions.specs.Samples.{Sample}
 use Rattle.definitions.specs.Oscillators.{Settings, carrier_phase_after, code_cycle}
 use Rattle.definitions.specs.Correlation.{Counts, counts_over}
@@ -36,30 +37,51 @@ pub record IsAt (channel : Channel) (xs : List Sample) (p : Progress) (f : Follo
   pub opened : p.open_segment.start ≤ length xs
   pub prn : prn_of f ≡ channel.prn
   pub code : f.code.phase ≡ p.open_segment.code + (length xs - p.open_segment.start) * f.code.step
-  pub carrier : f.carrier.phase ≡ carrier_phase_after p.open_segment.carrier f.carrier.step (length xs - p.open_segment.start)
-  pub sums : counts_in f.sums ≡ counts_over channel.prn (record { code = p.open_segment.code; carrier = p.open_segment.carrier; code_step = f.code.step; carrier_step = f.carrier.step }) xs p.open_segment.start (length xs)
+  pub carrier : f.carrier.phase
+      ≡ carrier_phase_after p.open_segment.carrier f.carrier.step (length xs - p.open_segment.start)
+  pub sums : counts_in f.sums
+      ≡ counts_over channel.prn
+      (record {
+        code = p.open_segment.code;
+        carrier = p.open_segment.carrier;
+        code_step = f.code.step;
+        carrier_step = f.carrier.step;
+      }) xs p.open_segment.start
+      (length xs)
 
 -- and those steps are the channel's
-pub record Follows (settings : Settings) (channel : Channel) (xs : List Sample) (f : Follower) : Type 0 where
+pub record Follows (settings : Settings) (channel : Channel) (xs : List Sample)
+    (f : Follower) : Type 0 where
   pub at : IsAt channel xs (progress settings channel xs) f
-  pub code_step : f.code.step ≡ (open_phases settings channel (progress settings channel xs)).code_step
-  pub carrier_step : f.carrier.step ≡ (open_phases settings channel (progress settings channel xs)).carrier_step
+  pub code_step : f.code.step
+      ≡ (open_phases settings channel (progress settings channel xs)).code_step
+  pub carrier_step : f.carrier.step
+      ≡ (open_phases settings channel (progress settings channel xs)).carrier_step
 
 -- none of the samples ys but perhaps the last ends the segment
 abbrev pub QuietInside : Settings → Channel → List Sample → List Sample → Type 0
-QuietInside settings channel xs ys = (j : ℕ) → j < length ys → progress settings channel (xs ++ take j ys) ≡ progress settings channel xs
+QuietInside settings channel xs ys =
+    (j : ℕ) → j < length ys
+    → progress settings channel (xs ++ take j ys) ≡ progress settings channel xs
 
 -- with ys behind xs the segment stays open
-pub record Stays (settings : Settings) (channel : Channel) (xs ys : List Sample) (f : Follower) : Type 0 where
+pub record Stays (settings : Settings) (channel : Channel) (xs ys : List Sample)
+    (f : Follower) : Type 0 where
   pub inside : QuietInside settings channel xs ys
   pub same : progress settings channel (xs ++ ys) ≡ progress settings channel xs
   pub follows : Follows settings channel (xs ++ ys) f
 
--- the last of ys ends it, with these sums; the next segment is open, with the steps of the one before
-pub record Closes (settings : Settings) (channel : Channel) (xs ys : List Sample) (counts : Counts) (f : Follower) : Type 0 where
+-- the last of ys ends it, with these sums; the next segment is open, with the steps of the one
+-- before
+pub record Closes (settings : Settings) (channel : Channel) (xs ys : List Sample) (counts : Counts)
+    (f : Follower) : Type 0 where
   pub inside : QuietInside settings channel xs ys
-  pub dumps : (progress settings channel (xs ++ ys)).dumps ≡ (progress settings channel xs).dumps ++ record { time = length (xs ++ ys); counts = counts } ∷ []
+  pub dumps : (progress settings channel (xs ++ ys)).dumps
+      ≡ (progress settings channel xs).dumps
+      ++ record { time = length (xs ++ ys); counts = counts } ∷ []
   pub opens : (progress settings channel (xs ++ ys)).open_segment.start ≡ length (xs ++ ys)
   pub at : IsAt channel (xs ++ ys) (progress settings channel (xs ++ ys)) f
-  pub code_step : f.code.step ≡ (open_phases settings channel (progress settings channel xs)).code_step
-  pub carrier_step : f.carrier.step ≡ (open_phases settings channel (progress settings channel xs)).carrier_step
+  pub code_step : f.code.step
+      ≡ (open_phases settings channel (progress settings channel xs)).code_step
+  pub carrier_step : f.carrier.step
+      ≡ (open_phases settings channel (progress settings channel xs)).carrier_step

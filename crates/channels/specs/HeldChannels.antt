@@ -34,7 +34,8 @@ chance h left = segments.chance h.follower left
 abbrev pub IsSteady : Channel → Type 0
 IsSteady channel = (a b : List Sums) → channel.steering a ≡ channel.steering b
 
-pub record Holds (settings : Settings) (channel : Channel) (xs : List Sample) (h : Held) : Type 0 where
+pub record Holds (settings : Settings) (channel : Channel) (xs : List Sample) (h : Held) : Type
+    0 where
   pub steady : IsSteady channel
   pub follows : Follows settings channel xs h.follower
   pub dumps : dumps_of h ≡ length (progress settings channel xs).dumps
@@ -49,7 +50,8 @@ Brings settings channel xs ys (Some c) =
     ++ record { time = length (xs ++ ys); counts = counts_in c } ∷ []
 
 -- with ys behind xs there is no dump before the last of them, and then what was answered
-pub record Takes (settings : Settings) (channel : Channel) (xs ys : List Sample) (h : Held) (counts : Option Counts) : Type 0 where
+pub record Takes (settings : Settings) (channel : Channel) (xs ys : List Sample) (h : Held)
+    (counts : Option Counts) : Type 0 where
   pub inside : QuietInside settings channel xs ys
   pub brings : Brings settings channel xs ys counts
   pub stands : Holds settings channel (xs ++ ys) h

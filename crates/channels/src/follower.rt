@@ -31,7 +31,8 @@ impl Follower {
     ghost use Rattle.definitions.specs.Segments.{Channel};
     ghost use Rattle.definitions.specs.Lives.{held_channel};
     ghost use Rattle.lane_correlator.specs.Counting.{counts_in};
-    ghost use Rattle.channels.specs.Following.{Follows, Stays, Closes, MayTake, Ends, prn_of, chance, how_many};
+    ghost use Rattle.channels.specs.Following.{Follows, Stays, Closes, MayTake, Ends, prn_of};
+    ghost use Rattle.channels.specs.Following.{chance, how_many};
     ghost use Rattle.channels.specs.Parts.{part};
 
     /// Begins at the next sample, with the code at a half chip of its cycle and the carrier at 0.

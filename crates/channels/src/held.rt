@@ -28,7 +28,8 @@ impl Held {
     ghost use Rattle.definitions.specs.Segments.{Channel};
     ghost use Rattle.definitions.specs.Lives.{held_channel};
     ghost use Rattle.channels.specs.Following.{how_many};
-    ghost use Rattle.channels.specs.HeldChannels.{Holds, Takes, MayTake, Ends, prn_of, dumps_of, chance};
+    ghost use Rattle.channels.specs.HeldChannels.{Holds, Takes, MayTake, Ends, prn_of, dumps_of};
+    ghost use Rattle.channels.specs.HeldChannels.{chance};
     ghost use Rattle.channels.specs.Parts.{part};
 
     /// Begins at the next sample, with the code at a half chip of its cycle and the carrier at 0.

@@ -2,7 +2,8 @@
 use Rattle.std.specs.Prelude.{◌≡◌, ℕ, List, map, Option, Result}
 use Rattle.clap.specs.declared.parser.matches.Found.{Found}
 use Rattle.clap.specs.declared.error.kind.ErrorKind.{ErrorKind}
-use Rattle.clap.specs.declared.error.kind.ErrorKind.TheVariants.{OutOfMemory, DisplayHelp, DisplayVersion}
+use Rattle.clap.specs.declared.error.kind.ErrorKind.TheVariants.{OutOfMemory, DisplayHelp}
+use Rattle.clap.specs.declared.error.kind.ErrorKind.TheVariants.{DisplayVersion}
 use Rattle.receiver.specs.Runs.{Devices}
 use Rattle.command_line.specs.Programs.{Receives, asked_in, paths_in, status_of}
 use Rattle.command_line.specs.declared.failure.Failure.{Failure}
@@ -14,7 +15,8 @@ parser_status DisplayVersion = 0
 parser_status OutOfMemory = 1
 parser_status _ = 2
 
--- there is no memory for the words, or the option parser gives no options for its reason, or what it found was received
+-- there is no memory for the words, or the option parser gives no options for its reason, or what
+-- it found was received
 pub data Ending : Type 0 where
   without_words : Ending
   without_options : ErrorKind → Ending
@@ -29,10 +31,12 @@ ending_status (received found answer) = status_of answer
 abbrev pub LeavesDevices : (List ℕ → Option (List ℕ)) → Devices → Devices → Ending → Type 0
 LeavesDevices bytes_of old new without_words = new ≡ old
 LeavesDevices bytes_of old new (without_options kind) = new ≡ old
-LeavesDevices bytes_of old new (received found answer) = Receives (asked_in found) (map bytes_of (paths_in found)) old new answer
+LeavesDevices bytes_of old new (received found answer) =
+    Receives (asked_in found) (map bytes_of (paths_in found)) old new answer
 
 -- the program ends with a status in one of these ways
-pub record HasEnded (bytes_of : List ℕ → Option (List ℕ)) (old new : Devices) (status : ℕ) : Type 0 where
+pub record HasEnded (bytes_of : List ℕ → Option (List ℕ)) (old new : Devices) (status : ℕ) : Type
+    0 where
   pub ending : Ending
   pub devices : LeavesDevices bytes_of old new ending
   pub by_ending : status ≡ ending_status ending

@@ -1,5 +1,7 @@
 -- What a command line asks for, and how the program ends.
-use Rattle.std.specs.Prelude.{◌≡◌, ◌≤◌, ◌<◌, ◌*◌, ◌^◌, ◌⊎◌, ℕ, pos, neg_ℤ, Bool, true, false, if◌then◌else◌, List, [], ◌∷◌, length, map, Option, Some, None, IfSome, option_map, unwrap_or, Result, Ok, Err, codes, nat_lt, ◌&&◌}
+use Rattle.std.specs.Prelude.{◌≡◌, ◌≤◌, ◌<◌, ◌*◌, ◌^◌, ◌⊎◌, ℕ, pos, neg_ℤ, Bool, true, false}
+use Rattle.std.specs.Prelude.{if◌then◌else◌, List, [], ◌∷◌, length, map, Option, Some, None, IfSome}
+use Rattle.std.specs.Prelude.{option_map, unwrap_or, Result, Ok, Err, codes, nat_lt, ◌&&◌}
 use Rattle.std.specs.Str.{bytes_eq}
 use Rattle.std.specs.Str.Parse.{digits_value, without_leading_plus}
 use Rattle.std.specs.Char.{digit_value}
@@ -24,12 +26,15 @@ all_digits (c ∷ cs) = nat_lt (digit_value c) 10 && all_digits cs
 
 -- a whole number below 2^32, in digits; a plus may stand first
 abbrev pub is_number : List ℕ → Bool
-is_number text = let digits = without_leading_plus text in nat_lt 0 (length digits) && all_digits digits && nat_lt (digits_value 10 digits) (2 ^ 32)
+is_number text =
+    let digits = without_leading_plus text in
+    nat_lt 0 (length digits) && all_digits digits && nat_lt (digits_value 10 digits) (2 ^ 32)
 
 -- the number of an option's text, or a default where it has none
 abbrev pub number_in : Option (List ℕ) → ℕ → ℕ
 number_in None default = default
-number_in (Some text) default = if is_number text then digits_value 10 (without_leading_plus text) else default
+number_in (Some text) default =
+    if is_number text then digits_value 10 (without_leading_plus text) else default
 
 -- a flag is set
 abbrev pub flag_in : Option (List ℕ) → Bool
@@ -99,29 +104,35 @@ abbrev pub one_or_more : List (List ℕ) → List (List ℕ)
 one_or_more [] = [] ∷ []
 one_or_more (text ∷ texts) = text ∷ texts
 
--- a run of these scripts, one for each client, or no run for want of memory, with nothing read or written
+-- a run of these scripts, one for each client, or no run for want of memory, with nothing read or
+-- written
 abbrev pub RunsTexts : Recording → List (List ℕ) → Devices → Devices → Result ℕ Failure → Type 0
-RunsTexts settings texts old new (Ok n) = IsRun (task_of settings (one_or_more texts) MOST_TIME) old new (Ok n)
-RunsTexts settings texts old new (Err (Run fault)) = IsRun (task_of settings (one_or_more texts) MOST_TIME) old new (Err fault)
+RunsTexts settings texts old new (Ok n) =
+    IsRun (task_of settings (one_or_more texts) MOST_TIME) old new (Ok n)
+RunsTexts settings texts old new (Err (Run fault)) =
+    IsRun (task_of settings (one_or_more texts) MOST_TIME) old new (Err fault)
 RunsTexts settings texts old new (Err NoMemory) = new ≡ old
 RunsTexts settings texts old new (Err Script) = ⊥
 RunsTexts settings texts old new (Err (Settings fault)) = ⊥
 
 -- a run of the scripts in these files, in their order, over the recording that was asked for
-pub record RunsFiles (asked : Asked) (files : List (Option (List ℕ))) (old new : Devices) (answer : Result ℕ RunFault) : Type 0 where
+pub record RunsFiles (asked : Asked) (files : List (Option (List ℕ))) (old new : Devices)
+    (answer : Result ℕ RunFault) : Type 0 where
   pub allowed : IsAllowed asked
   pub scripts : List (List ℕ)
   pub texts : AreTextsOf files scripts
   pub is_run : IsRun (task_of (recording_of asked) (one_or_more scripts) MOST_TIME) old new answer
 
--- by its answer: such a run, to its end or to a fault; or the first failure before it, with nothing read or written
+-- by its answer: such a run, to its end or to a fault; or the first failure before it, with nothing
+-- read or written
 abbrev pub Receives : Asked → List (Option (List ℕ)) → Devices → Devices → Result ℕ Failure → Type 0
 Receives asked files old new (Ok n) = RunsFiles asked files old new (Ok n)
 Receives asked files old new (Err (Run fault)) = RunsFiles asked files old new (Err fault)
 Receives asked files old new (Err NoMemory) = IsAllowed asked × (new ≡ old)
 Receives asked files old new (Err Script) = IsAllowed asked × SomeMayBeRefused files × (new ≡ old)
 Receives asked files old new (Err (Settings Rate)) = ¬ IsRate asked.rate × (new ≡ old)
-Receives asked files old new (Err (Settings Offset)) = IsRate asked.rate × (asked.rate < 2 * asked.offset) × (new ≡ old)
+Receives asked files old new (Err (Settings Offset)) =
+    IsRate asked.rate × (asked.rate < 2 * asked.offset) × (new ≡ old)
 
 -- the program didn't come to its run
 abbrev pub IsBeforeRun : Failure → Type 0

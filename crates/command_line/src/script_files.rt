@@ -1,6 +1,7 @@
 //! Script files, read whole.
 
-ghost use Rattle.std.specs.Prelude.{◌≡◌, ◌≤◌, ◌⊎◌, ℕ, List, Option, None, length, map, IfOk, IfErr, IfSome};
+ghost use Rattle.std.specs.Prelude.{◌≡◌, ◌≤◌, ◌⊎◌, ℕ, List, Option, None, length, map, IfOk, IfErr};
+ghost use Rattle.std.specs.Prelude.{IfSome};
 ghost use Rattle.command_line.specs.Programs.{IsTextOf, AreTextsOf, MayBeRefused, SomeMayBeRefused};
 
 use crate::failure::Failure;

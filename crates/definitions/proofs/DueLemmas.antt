@@ -1,6 +1,8 @@
 -- What an acquiring life tells.
-use Rattle.std.proofs.Common.{◌≡◌, ℕ, ◌-◌, ◌*◌, ◌<◌, ◌^◌, List, [], ◌∷◌, ◌++◌, length, refl, sym, ap, ◌∙◌, arith, append-nil}
-use Rattle.std.specs.Prelude.{pos, ◌+ℤ◌, ◌*ℤ◌, Bool, true, false, Some, None, nat_le, ◌&&◌, if◌then◌else◌}
+use Rattle.std.proofs.Common.{◌≡◌, ℕ, ◌-◌, ◌*◌, ◌<◌, ◌^◌, List, [], ◌∷◌, ◌++◌, length, refl, sym}
+use Rattle.std.proofs.Common.{ap, ◌∙◌, arith, append-nil}
+use Rattle.std.specs.Prelude.{pos, ◌+ℤ◌, ◌*ℤ◌, Bool, true, false, Some, None, nat_le, ◌&&◌}
+use Rattle.std.specs.Prelude.{if◌then◌else◌}
 use Rattle.std.proofs.lemmas.Bool.{lt-leb, ne_eqb, eq-eqb}
 use Rattle.definitions.specs.Sums.{least_below}
 use Rattle.definitions.specs.Samples.{Sample}
@@ -11,55 +13,89 @@ use Rattle.definitions.specs.Lock.{news_of}
 use Rattle.definitions.specs.Acquisition.{Plan, result_of, due_time}
 use Rattle.definitions.specs.Commands.{Start, acquire}
 use Rattle.definitions.specs.Lives.{until_lost, Life, dumps_of_channel, channel_of, dumps_of_life}
-use Rattle.definitions.specs.Events.{Event, acquired, due_events, last_dump_events, last_of, life_events}
+use Rattle.definitions.specs.Events.{Event, acquired, due_events, last_dump_events, last_of}
+use Rattle.definitions.specs.Events.{life_events}
 use Rattle.definitions.proofs.BlockLemmas.{progress-begun}
 
-no_channel : (settings : Settings) (xs : List Sample) (begun : ℕ) (start : Start) (plan : Plan) → start ≡ acquire plan → length xs < due_time settings plan begun → dumps_of_channel settings xs start (channel_of settings xs begun start) ≡ []
-no_channel settings xs begun start plan e h = rw (e, lt-leb (due_time settings plan begun) (length xs) h)
+no_channel : (settings : Settings) (xs : List Sample) (begun : ℕ) (start : Start) (plan : Plan)
+    → start ≡ acquire plan → length xs < due_time settings plan begun
+    → dumps_of_channel settings xs start (channel_of settings xs begun start) ≡ []
+no_channel settings xs begun start plan e h =
+    rw (e, lt-leb (due_time settings plan begun) (length xs) h)
 
-none_due : (settings : Settings) (xs : List Sample) (begun : ℕ) (start : Start) (plan : Plan) → start ≡ acquire plan → length xs < due_time settings plan begun → due_events settings xs begun start ≡ []
-none_due settings xs begun start plan e h = rw (e, ne_eqb (due_time settings plan begun) (length xs) (λ same. omega (arith, same, h)))
+none_due : (settings : Settings) (xs : List Sample) (begun : ℕ) (start : Start) (plan : Plan)
+    → start ≡ acquire plan → length xs < due_time settings plan begun
+    → due_events settings xs begun start ≡ []
+none_due settings xs begun start plan e h =
+    rw (e, ne_eqb (due_time settings plan begun) (length xs) (λ same. omega (arith, same, h)))
 
 no_dump_events : (life : Life) (n : ℕ) → last_dump_events life n [] (last_of []) ≡ []
 unfolding last_of
 no_dump_events life n = refl
 
 -- before the due time it tells nothing
-pub acquire-quiet : (settings : Settings) (xs : List Sample) (life : Life) (plan : Plan) → life.start ≡ acquire plan → length xs < due_time settings plan life.begun → life_events settings xs (Some life) ≡ []
+pub acquire-quiet : (settings : Settings) (xs : List Sample) (life : Life) (plan : Plan)
+    → life.start ≡ acquire plan → length xs < due_time settings plan life.begun
+    → life_events settings xs (Some life) ≡ []
 unfolding dumps_of_life life_events
 acquire-quiet settings xs life plan is h =
-    ap (λ (ds : List Dump). due_events settings xs life.begun life.start ++ last_dump_events life (length xs) ds (last_of ds)) (no_channel settings xs life.begun life.start plan is h)
-    ∙ ap (λ (l : List Event). due_events settings xs life.begun life.start ++ l) (no_dump_events life (length xs))
+    ap (λ (ds : List Dump). due_events settings xs life.begun life.start
+    ++ last_dump_events life (length xs) ds (last_of ds))
+    (no_channel settings xs life.begun life.start plan is h)
+    ∙ ap (λ (l : List Event). due_events settings xs life.begun life.start ++ l)
+    (no_dump_events life (length xs))
     ∙ append-nil (due_events settings xs life.begun life.start)
     ∙ none_due settings xs life.begun life.start plan is h
 
 -- at the due time the cell is told; a channel that starts there has no dump yet
-due_told : (settings : Settings) (xs : List Sample) (begun : ℕ) (start : Start) (plan : Plan) → start ≡ acquire plan → length xs ≡ due_time settings plan begun → due_events settings xs begun start ≡ acquired plan.prn (result_of settings plan xs begun) ∷ []
-due_told settings xs begun start plan e h = rw (e, eq-eqb (due_time settings plan begun) (length xs) (sym h))
+due_told : (settings : Settings) (xs : List Sample) (begun : ℕ) (start : Start) (plan : Plan)
+    → start ≡ acquire plan → length xs ≡ due_time settings plan begun
+    → due_events settings xs begun start ≡ acquired plan.prn (result_of settings plan xs begun) ∷ []
+due_told settings xs begun start plan e h =
+    rw (e, eq-eqb (due_time settings plan begun) (length xs) (sym h))
 
 not_lost_yet : until_lost [] ≡ []
 unfolding least_below news_of
 not_lost_yet = refl
 
-no_dumps_yet : (settings : Settings) (xs : List Sample) (begun : ℕ) (start : Start) (plan : Plan) → start ≡ acquire plan → length xs ≡ due_time settings plan begun → dumps_of_channel settings xs start (channel_of settings xs begun start) ≡ []
-no_dumps_yet settings xs begun start plan e h = rw e (by_found (nat_le (due_time settings plan begun) (length xs) && (result_of settings plan xs begun).found))
+no_dumps_yet : (settings : Settings) (xs : List Sample) (begun : ℕ) (start : Start) (plan : Plan)
+    → start ≡ acquire plan → length xs ≡ due_time settings plan begun
+    → dumps_of_channel settings xs start (channel_of settings xs begun start) ≡ []
+no_dumps_yet settings xs begun start plan e h =
+    rw e (by_found (nat_le (due_time settings plan begun) (length xs)
+    && (result_of settings plan xs begun).found))
   where
     channel : Channel
-    channel = let cell = result_of settings plan xs begun in let due = due_time settings plan begun in let v = (plan.centre +ℤ pos 250 *ℤ cell.bin) *ℤ pos 65536 in
-        record { prn = plan.prn; start = due; code = code_phase_after (cell.half_chip * 2 ^ 31) (code_step settings v (pos 0)) (due - begun); steering = shift_after v }
+    channel =
+        let cell = result_of settings plan xs begun in let due = due_time settings plan begun in
+        let v = (plan.centre +ℤ pos 250 *ℤ cell.bin) *ℤ pos 65536 in
+        record {
+          prn = plan.prn;
+          start = due;
+          code =
+              code_phase_after (cell.half_chip * 2 ^ 31) (code_step settings v (pos 0))
+              (due - begun);
+          steering = shift_after v;
+        }
 
     none : dumps_of settings channel xs ≡ []
     none = ap (λ (p : Progress). p.dumps) (progress-begun settings channel xs (omega (arith, h)))
 
-    by_found : (b : Bool) → dumps_of_channel settings xs (acquire plan) (if b then Some channel else None) ≡ []
+    by_found : (b : Bool)
+        → dumps_of_channel settings xs (acquire plan) (if b then Some channel else None) ≡ []
     by_found true = rw none not_lost_yet
     by_found false = refl
 
-pub acquire-tells : (settings : Settings) (xs : List Sample) (life : Life) (plan : Plan) → life.start ≡ acquire plan → length xs ≡ due_time settings plan life.begun
-    → life_events settings xs (Some life) ≡ acquired plan.prn (result_of settings plan xs life.begun) ∷ []
+pub acquire-tells : (settings : Settings) (xs : List Sample) (life : Life) (plan : Plan)
+    → life.start ≡ acquire plan → length xs ≡ due_time settings plan life.begun
+    → life_events settings xs (Some life)
+    ≡ acquired plan.prn (result_of settings plan xs life.begun) ∷ []
 unfolding dumps_of_life life_events
 acquire-tells settings xs life plan is h =
-    ap (λ (ds : List Dump). due_events settings xs life.begun life.start ++ last_dump_events life (length xs) ds (last_of ds)) (no_dumps_yet settings xs life.begun life.start plan is h)
-    ∙ ap (λ (l : List Event). due_events settings xs life.begun life.start ++ l) (no_dump_events life (length xs))
+    ap (λ (ds : List Dump). due_events settings xs life.begun life.start
+    ++ last_dump_events life (length xs) ds (last_of ds))
+    (no_dumps_yet settings xs life.begun life.start plan is h)
+    ∙ ap (λ (l : List Event). due_events settings xs life.begun life.start ++ l)
+    (no_dump_events life (length xs))
     ∙ append-nil (due_events settings xs life.begun life.start)
     ∙ due_told settings xs life.begun life.start plan is h

@@ -1,21 +1,30 @@
 -- Each event that a slot tells says what holds of the life that is on.
-use Rattle.std.proofs.Common.{◌≡◌, ℕ, zero, suc, ◌-◌, ◌*◌, ◌≤◌, List, [], ◌∷◌, ◌++◌, length, map, refl, sym, ap, ◌∙◌, arith}
-use Rattle.std.specs.Prelude.{Bool, true, false, ℤ, ◌&&◌, Option, Some, None, slice_get, not, if◌then◌else◌, nat_lt, nat_le, nat_eq, sum, ◌↔◌}
+use Rattle.std.proofs.Common.{◌≡◌, ℕ, zero, suc, ◌-◌, ◌*◌, ◌≤◌, List, [], ◌∷◌, ◌++◌, length, map}
+use Rattle.std.proofs.Common.{refl, sym, ap, ◌∙◌, arith}
+use Rattle.std.specs.Prelude.{Bool, true, false, ℤ, ◌&&◌, Option, Some, None, slice_get, not}
+use Rattle.std.specs.Prelude.{if◌then◌else◌, nat_lt, nat_le, nat_eq, sum, ◌↔◌}
 use Rattle.std.specs.List.{AllByRecursion, range_with_len}
 use Rattle.std.proofs.lemmas.Bool.{eqb-true, ltb-true, leb-true, le-leb}
 use Rattle.definitions.specs.Samples.{Sample}
 use Rattle.definitions.specs.Oscillators.{Settings}
 use Rattle.definitions.specs.Segments.{Channel, Dump, counts_of}
 use Rattle.definitions.specs.Lock.{News, nothing, lock, unlock, lost, news_of}
-use Rattle.definitions.specs.Acquisition.{Plan, cell_count, power_of, named_cell, result_of, due_time}
+use Rattle.definitions.specs.Acquisition.{Plan, cell_count, power_of, named_cell, result_of}
+use Rattle.definitions.specs.Acquisition.{due_time}
 use Rattle.definitions.specs.BitEdge.{has_edge, bits_of}
 use Rattle.definitions.specs.Frames.{Found, found_by}
 use Rattle.definitions.specs.Pages.{Page, page_of}
 use Rattle.definitions.specs.DataSets.{reports_of}
 use Rattle.definitions.specs.Commands.{Start, hold, track, acquire}
 use Rattle.definitions.specs.Lives.{Life, is_steered, dumps_of_life, life_now}
-use Rattle.definitions.specs.Events.{Event, acquired, count, edge, gap, subframe, reported, almanacs, when, events_of, unprinted, last_of, front_of, news_events, pages_among, page_events, bit_events, push_events, steered_events, dump_events, last_dump_events, due_events, life_events, events_at_end}
-use Rattle.definitions.specs.EventLaws.{counts_by, pushes_so_far, bits_so_far, IsCount, IsNamed, IsSubframe, IsOfLife, IsRight, EventsAreRight, CountsAreDumps, AcquisitionsNameTheGreatest, WordsToldPass}
+use Rattle.definitions.specs.Events.{Event, acquired, count, edge, gap, subframe, reported}
+use Rattle.definitions.specs.Events.{almanacs, when, events_of, unprinted, last_of, front_of}
+use Rattle.definitions.specs.Events.{news_events, pages_among, page_events, bit_events, push_events}
+use Rattle.definitions.specs.Events.{steered_events, dump_events, last_dump_events, due_events}
+use Rattle.definitions.specs.Events.{life_events, events_at_end}
+use Rattle.definitions.specs.EventLaws.{counts_by, pushes_so_far, bits_so_far, IsCount, IsNamed}
+use Rattle.definitions.specs.EventLaws.{IsSubframe, IsOfLife, IsRight, EventsAreRight}
+use Rattle.definitions.specs.EventLaws.{CountsAreDumps, AcquisitionsNameTheGreatest, WordsToldPass}
 use Rattle.definitions.proofs.DumpLemmas.{are-dumps}
 use Rattle.definitions.proofs.LifeDumpLemmas.{life-dump}
 use Rattle.definitions.proofs.GreatestLemmas.{greatest_of-first}
@@ -34,7 +43,8 @@ all-when : (P : Event → Type 0) (b : Bool) (e : Event) → (b ≡ true → P e
 all-when P true e h = (h refl, tt)
 all-when P false e h = tt
 
-all-events_of : {A : Type 0} (P : Event → Type 0) (f : A → Event) (o : Option A) → ((x : A) → o ≡ Some x → P (f x)) → All P (events_of f o)
+all-events_of : {A : Type 0} (P : Event → Type 0) (f : A → Event) (o : Option A)
+    → ((x : A) → o ≡ Some x → P (f x)) → All P (events_of f o)
 all-events_of P f None h = tt
 all-events_of P f (Some x) h = (h x refl, tt)
 
@@ -42,13 +52,15 @@ all-if : (P : Event → Type 0) (b : Bool) (es : List Event) → All P es → Al
 all-if P true es h = h
 all-if P false es h = tt
 
-pub all-at : {A : Type 0} (P : A → Type 0) (xs : List A) → AllByRecursion P xs → (i : ℕ) (x : A) → slice_get xs i ≡ Some x → P x
+pub all-at : {A : Type 0} (P : A → Type 0) (xs : List A) → AllByRecursion P xs → (i : ℕ) (x : A)
+    → slice_get xs i ≡ Some x → P x
 all-at P [] all i x there = cc
 all-at P (y ∷ ys) all zero x there = let it : y ≡ x = cc in rw (sym it) all.0
 all-at P (y ∷ ys) all (suc i) x there = all-at P ys all.1 i x there
 
 -- ---- an acquisition
-named : (settings : Settings) (xs : List Sample) (plan : Plan) (start : ℕ) → (cell : ℕ) × IsNamed settings xs plan start cell (result_of settings plan xs start)
+named : (settings : Settings) (xs : List Sample) (plan : Plan) (start : ℕ)
+    → (cell : ℕ) × IsNamed settings xs plan start cell (result_of settings plan xs start)
 unfolding result_of named_cell
 named settings xs plan start =
     let power : ℕ → ℕ = power_of settings plan xs start in
@@ -59,7 +71,9 @@ named settings xs plan start =
         bin = refl;
         half_chip = refl;
         power = refl;
-        found = both (plan.threshold * sum (map power (range_with_len 0 (cell_count plan)))) (10 * _ * cell_count plan);
+        found =
+            both (plan.threshold * sum (map power (range_with_len 0 (cell_count plan))))
+            (10 * _ * cell_count plan);
       },
     )
   where
@@ -67,9 +81,12 @@ named settings xs plan start =
     both a b = (leb-true a b, le-leb a b)
 
 -- ---- all events of a life
-all-bits : (P : Event → Type 0) (bits : List Bool) (found : Found) → All P (events_of gap found.gap) → P (subframe found.subframe) → All P (page_events bits (page_of found.subframe)) → All P (bit_events bits (Some found))
+all-bits : (P : Event → Type 0) (bits : List Bool) (found : Found) → All P (events_of gap found.gap)
+    → P (subframe found.subframe) → All P (page_events bits (page_of found.subframe))
+    → All P (bit_events bits (Some found))
 all-bits P bits found gaps shown paged =
-    all-append P (events_of gap found.gap ++ (subframe found.subframe ∷ [])) (page_events bits (page_of found.subframe))
+    all-append P (events_of gap found.gap ++ (subframe found.subframe ∷ []))
+    (page_events bits (page_of found.subframe))
     (all-append P (events_of gap found.gap) (subframe found.subframe ∷ []) gaps (shown, tt)) paged
 
 module _ (settings : Settings) (xs : List Sample) (life : Life) where
@@ -79,11 +96,13 @@ module _ (settings : Settings) (xs : List Sample) (life : Life) where
   dumps : List Dump
   dumps = dumps_of_life settings xs life
 
-  bits-right : (o : Option Found) → found_by (bits_so_far settings xs life) ≡ o → All P (bit_events (bits_so_far settings xs life) o)
+  bits-right : (o : Option Found) → found_by (bits_so_far settings xs life) ≡ o
+      → All P (bit_events (bits_so_far settings xs life) o)
   unfolding P
   bits-right None e = tt
   bits-right (Some found) e =
-      all-bits P bits found (all-events_of P gap found.gap (λ n is. rw e is)) shown (paged (page_of found.subframe))
+      all-bits P bits found (all-events_of P gap found.gap (λ n is. rw e is)) shown
+      (paged (page_of found.subframe))
     where
       bits : List Bool
       bits = bits_so_far settings xs life
@@ -94,9 +113,12 @@ module _ (settings : Settings) (xs : List Sample) (life : Life) where
       paged : (o : Option Page) → All P (page_events bits o)
       paged None = tt
       paged (Some page) =
-          all-append P (events_of reported (reports_of (pages_among bits)).page) (events_of almanacs (reports_of (pages_among bits)).set)
-          (all-events_of P reported (reports_of (pages_among bits)).page (λ r is. is-report bits r is))
-          (all-events_of P almanacs (reports_of (pages_among bits)).set (λ s is. is-almanac_set bits s is))
+          all-append P (events_of reported (reports_of (pages_among bits)).page)
+          (events_of almanacs (reports_of (pages_among bits)).set)
+          (all-events_of P reported (reports_of (pages_among bits)).page
+          (λ r is. is-report bits r is))
+          (all-events_of P almanacs (reports_of (pages_among bits)).set
+          (λ s is. is-almanac_set bits s is))
 
   news-right : (n : News) → news_of (counts_by settings xs life) ≡ n → All P (news_events n)
   unfolding P
@@ -105,7 +127,8 @@ module _ (settings : Settings) (xs : List Sample) (life : Life) where
   news-right unlock e = (e, tt)
   news-right lost e = (e, tt)
 
-  edge-right : (b c : Bool) → has_edge (pushes_so_far settings xs life) ≡ b → All P (when (b && c) edge)
+  edge-right : (b c : Bool) → has_edge (pushes_so_far settings xs life) ≡ b
+      → All P (when (b && c) edge)
   unfolding P
   edge-right true c e = all-when P c edge (λ h. e)
   edge-right false c e = tt
@@ -116,14 +139,19 @@ module _ (settings : Settings) (xs : List Sample) (life : Life) where
       let pushes : List ℤ = pushes_so_far settings xs life in
       let bits : List Bool = bits_so_far settings xs life in
       all-append P (news_events (news_of (counts_by settings xs life)))
-      (when (has_edge pushes && not (has_edge (front_of pushes))) edge ++ (if nat_lt (length (bits_of (front_of pushes))) (length bits) then bit_events bits (found_by bits) else []))
+      (when (has_edge pushes && not (has_edge (front_of pushes))) edge
+      ++ (if nat_lt (length (bits_of (front_of pushes))) (length bits) then bit_events bits
+      (found_by bits) else []))
       (news-right (news_of (counts_by settings xs life)) refl)
       (all-append P (when (has_edge pushes && not (has_edge (front_of pushes))) edge)
-      (if nat_lt (length (bits_of (front_of pushes))) (length bits) then bit_events bits (found_by bits) else [])
+      (if nat_lt (length (bits_of (front_of pushes))) (length bits) then bit_events bits
+      (found_by bits) else [])
       (edge-right (has_edge pushes) (not (has_edge (front_of pushes))) refl)
-      (all-if P (nat_lt (length (bits_of (front_of pushes))) (length bits)) (bit_events bits (found_by bits)) (bits-right (found_by bits) refl)))
+      (all-if P (nat_lt (length (bits_of (front_of pushes))) (length bits))
+      (bit_events bits (found_by bits)) (bits-right (found_by bits) refl)))
 
-  count-right : (d : Dump) → last_of dumps ≡ Some d → d.time ≡ length xs → nat_lt 0 (unprinted life (front_of dumps)) ≡ true
+  count-right : (d : Dump) → last_of dumps ≡ Some d → d.time ≡ length xs
+      → nat_lt 0 (unprinted life (front_of dumps)) ≡ true
       → (channel : Channel) × (k : ℕ) × IsCount settings xs life channel k d.counts
   unfolding last_of dumps
   count-right d last time wanted =
@@ -135,20 +163,26 @@ module _ (settings : Settings) (xs : List Sample) (life : Life) where
           is_wanted = ltb-true 0 (unprinted life (front_of dumps)) wanted;
           is_followed = it.1;
           is_dump = dump;
-          is_sum = (are-dumps settings it.0 xs).each (length dumps - 1) (record { time = length xs; counts = d.counts }) dump;
+          is_sum =
+              (are-dumps settings it.0 xs).each (length dumps - 1)
+              (record { time = length xs; counts = d.counts }) dump;
         },
       )
 
-  dump-right : (o : Option Dump) → last_of dumps ≡ o → All P (last_dump_events life (length xs) dumps o)
+  dump-right : (o : Option Dump) → last_of dumps ≡ o
+      → All P (last_dump_events life (length xs) dumps o)
   unfolding P
   dump-right None e = tt
   dump-right (Some d) e = by_time (nat_eq d.time (length xs)) refl
     where
-      by_time : (b : Bool) → nat_eq d.time (length xs) ≡ b → All P (if b then dump_events life dumps d else [])
+      by_time : (b : Bool) → nat_eq d.time (length xs) ≡ b
+          → All P (if b then dump_events life dumps d else [])
       by_time false is = tt
       by_time true is =
-          all-append P (when (nat_lt 0 (unprinted life (front_of dumps))) (count d.counts)) (if is_steered life.start then steered_events (counts_of dumps) else [])
-          (all-when P (nat_lt 0 (unprinted life (front_of dumps))) (count d.counts) (λ wanted. count-right d e (eqb-true d.time (length xs) is) wanted))
+          all-append P (when (nat_lt 0 (unprinted life (front_of dumps))) (count d.counts))
+          (if is_steered life.start then steered_events (counts_of dumps) else [])
+          (all-when P (nat_lt 0 (unprinted life (front_of dumps))) (count d.counts)
+          (λ wanted. count-right d e (eqb-true d.time (length xs) is) wanted))
           (all-if P (is_steered life.start) (steered_events (counts_of dumps)) steered-right)
 
   due-right : (start : Start) → life.start ≡ start → All P (due_events settings xs life.begun start)
@@ -156,27 +190,48 @@ module _ (settings : Settings) (xs : List Sample) (life : Life) where
   due-right (hold prn doppler half_chip) e = tt
   due-right (track prn doppler half_chip) e = tt
   due-right (acquire plan) e =
-      all-when P (nat_eq (due_time settings plan life.begun) (length xs)) (acquired plan.prn (result_of settings plan xs life.begun))
-      (λ due. let one = named settings xs plan life.begun in (plan, e, refl, eqb-true (due_time settings plan life.begun) (length xs) due, one.0, one.1))
+      all-when P (nat_eq (due_time settings plan life.begun) (length xs))
+      (acquired plan.prn (result_of settings plan xs life.begun))
+      (λ due. let one = named settings xs plan life.begun in (
+        plan,
+        e,
+        refl,
+        eqb-true (due_time settings plan life.begun) (length xs) due,
+        one.0,
+        one.1,
+      ))
 
   life-right : All P (life_events settings xs (Some life))
   unfolding life_events dumps
-  life-right = all-append P (due_events settings xs life.begun life.start) (last_dump_events life (length xs) dumps (last_of dumps)) (due-right life.start refl) (dump-right (last_of dumps) refl)
+  life-right =
+      all-append P (due_events settings xs life.begun life.start)
+      (last_dump_events life (length xs) dumps (last_of dumps)) (due-right life.start refl)
+      (dump-right (last_of dumps) refl)
 
 pub events-right : EventsAreRight
 unfolding events_at_end P life_events
-events-right settings xs commands i event there = by_life (life_now settings (front_of xs) commands) refl there
+events-right settings xs commands i event there =
+    by_life (life_now settings (front_of xs) commands) refl there
   where
-    by_life : (o : Option Life) → life_now settings (front_of xs) commands ≡ o → slice_get (life_events settings xs o) i ≡ Some event → IsRight settings xs commands event
+    by_life : (o : Option Life) → life_now settings (front_of xs) commands ≡ o
+        → slice_get (life_events settings xs o) i ≡ Some event → IsRight settings xs commands event
     by_life None on there = cc
-    by_life (Some life) on there = (life, on, all-at (P settings xs life) (life_events settings xs (Some life)) (life-right settings xs life) i event there)
+    by_life (Some life) on there = (
+      life,
+      on,
+      all-at (P settings xs life) (life_events settings xs (Some life))
+          (life-right settings xs life) i event there,
+    )
 
 -- ---- one kind of event
 pub counts-right : CountsAreDumps
-counts-right settings xs commands i c there = let it = events-right settings xs commands i (count c) there in (it.0, it.1, it.2.0, it.2.1, it.2.2)
+counts-right settings xs commands i c there =
+    let it = events-right settings xs commands i (count c) there in
+    (it.0, it.1, it.2.0, it.2.1, it.2.2)
 
 pub acquisitions-right : AcquisitionsNameTheGreatest
-acquisitions-right settings xs commands i prn cell there = events-right settings xs commands i (acquired prn cell) there
+acquisitions-right settings xs commands i prn cell there =
+    events-right settings xs commands i (acquired prn cell) there
 
 pub words-pass : WordsToldPass
 words-pass settings xs commands i s there = events-right settings xs commands i (subframe s) there

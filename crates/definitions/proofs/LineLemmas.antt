@@ -1,6 +1,9 @@
--- No line that is written has a line feed in it, so the lines of the text are the lines that were put into it.
-use Rattle.std.proofs.Common.{◌≡◌, ℕ, suc, zero, ◌+◌, ◌/◌, ◌%◌, List, ◌∷◌, [], ◌++◌, length, take, refl, arith, ap, ◌∙◌, true, false}
-use Rattle.std.specs.Prelude.{Bool, ℤ, pos, negsuc, nat_eq, nat_lt, not, map, flat_map, codes, Option, Some, None, Result, Ok, Err, if◌then◌else◌}
+-- No line that is written has a line feed in it, so the lines of the text are the lines that were
+-- put into it.
+use Rattle.std.proofs.Common.{◌≡◌, ℕ, suc, zero, ◌+◌, ◌/◌, ◌%◌, List, ◌∷◌, [], ◌++◌, length, take}
+use Rattle.std.proofs.Common.{refl, arith, ap, ◌∙◌, true, false}
+use Rattle.std.specs.Prelude.{Bool, ℤ, pos, negsuc, nat_eq, nat_lt, not, map, flat_map, codes}
+use Rattle.std.specs.Prelude.{Option, Some, None, Result, Ok, Err, if◌then◌else◌}
 use Rattle.std.specs.List.{AllByRecursion, list_all, range_with_len, enumerate_from}
 use Rattle.std.specs.Fmt.{decimal, signed_decimal, digits, digits_onto, digit_glyph}
 use Rattle.std.specs.Int.{bytes_high_first}
@@ -11,28 +14,39 @@ use Rattle.definitions.specs.Samples.{Sample}
 use Rattle.definitions.specs.Oscillators.{Settings}
 use Rattle.definitions.specs.Frames.{id_of, tow_of}
 use Rattle.definitions.specs.Fields.{Field, clock_fields, eph2_fields, eph3_fields}
-use Rattle.definitions.specs.Pages.{Kind, clock, eph2, eph3, almanac, utc, health, message, fields_of}
+use Rattle.definitions.specs.Pages.{Kind, clock, eph2, eph3, almanac, utc, health, message}
+use Rattle.definitions.specs.Pages.{fields_of}
 use Rattle.definitions.specs.DataSets.{Report, ephemeris, single, AlmanacSet}
 use Rattle.definitions.specs.Commands.{Command}
 use Rattle.definitions.specs.Lines.{pieces_ended_by, lines_of, as_bytes, ended_line}
 use Rattle.definitions.specs.Scripts.{Entry}
-use Rattle.definitions.specs.Events.{Event, acquired, count, locked, unlocked, signal_lost, edge, gap, subframe, reported, almanacs}
-use Rattle.definitions.specs.Answers.{View, idle, acquiring, holding, tracking, Answer, accepted, refused, shown, answer_at_end}
-use Rattle.definitions.specs.Texts.{spaced, hex_of_bytes, word_text, field_text, field_texts, counts_texts, page_text, report_text, almanacs_text, event_text, view_text, refusal_text, answer_text, at_time, for_client}
-use Rattle.definitions.specs.Receiver.{Client, Profile, entries_of, event_texts, slot_event_texts, answer_texts, entry_answer_texts, reply_text, at_each_time, timed_texts, for_each_client, lines_at, event_lines, answer_lines, body_lines, end_lines, full_lines, end_line}
+use Rattle.definitions.specs.Events.{Event, acquired, count, locked, unlocked, signal_lost, edge}
+use Rattle.definitions.specs.Events.{gap, subframe, reported, almanacs}
+use Rattle.definitions.specs.Answers.{View, idle, acquiring, holding, tracking, Answer, accepted}
+use Rattle.definitions.specs.Answers.{refused, shown, answer_at_end}
+use Rattle.definitions.specs.Texts.{spaced, hex_of_bytes, word_text, field_text, field_texts}
+use Rattle.definitions.specs.Texts.{counts_texts, page_text, report_text, almanacs_text, event_text}
+use Rattle.definitions.specs.Texts.{view_text, refusal_text, answer_text, at_time, for_client}
+use Rattle.definitions.specs.Receiver.{Client, Profile, entries_of, event_texts, slot_event_texts}
+use Rattle.definitions.specs.Receiver.{answer_texts, entry_answer_texts, reply_text, at_each_time}
+use Rattle.definitions.specs.Receiver.{timed_texts, for_each_client, lines_at, event_lines}
+use Rattle.definitions.specs.Receiver.{answer_lines, body_lines, end_lines, full_lines, end_line}
 
 -- ---- lists
 
 module _ {A : Type 0} (P : A → Type 0) where
-  all-append : (xs ys : List A) → AllByRecursion P xs → AllByRecursion P ys → AllByRecursion P (xs ++ ys)
+  all-append : (xs ys : List A) → AllByRecursion P xs → AllByRecursion P ys
+      → AllByRecursion P (xs ++ ys)
   all-append [] ys hx hy = hy
   all-append (x ∷ xs) ys hx hy = (hx.0, all-append xs ys hx.1 hy)
 
-  all-map : {B : Type 0} (f : B → A) (xs : List B) → ((x : B) → P (f x)) → AllByRecursion P (map f xs)
+  all-map : {B : Type 0} (f : B → A) (xs : List B) → ((x : B) → P (f x))
+      → AllByRecursion P (map f xs)
   all-map f [] h = tt
   all-map f (x ∷ xs) h = (h x, all-map f xs h)
 
-  all-flat_map : {B : Type 0} (f : B → List A) (xs : List B) → ((x : B) → AllByRecursion P (f x)) → AllByRecursion P (flat_map f xs)
+  all-flat_map : {B : Type 0} (f : B → List A) (xs : List B) → ((x : B) → AllByRecursion P (f x))
+      → AllByRecursion P (flat_map f xs)
   all-flat_map f [] h = tt
   all-flat_map f (x ∷ xs) h = all-append (f x) (flat_map f xs) (h x) (all-flat_map f xs h)
 
@@ -58,7 +72,9 @@ no_feed b = not (nat_eq b 10)
 written : (text : List ℕ) → list_all no_feed text ≡ true → OneLine text
 unfolding OneLine NoFeed
 written [] e = tt
-written (b ∷ text) e = let both = and_parts (no_feed b) (list_all no_feed text) e in (not-true (nat_eq b 10) both.0, written text both.1)
+written (b ∷ text) e =
+    let both = and_parts (no_feed b) (list_all no_feed text) e in
+    (not-true (nat_eq b 10) both.0, written text both.1)
 
 line-append : (s t : List ℕ) → OneLine s → OneLine t → OneLine (s ++ t)
 unfolding OneLine
@@ -75,7 +91,10 @@ glyph d = by_test (nat_lt d 10) d
 onto-line : (k n : ℕ) (acc : List ℕ) → OneLine acc → OneLine (digits_onto k 10 false n acc)
 unfolding OneLine
 onto-line zero n acc h = h
-onto-line (suc k) n acc h = by_if OneLine (nat_eq (n / 10) 0) (digit_glyph false (n % 10) ∷ acc) (digits_onto k 10 false (n / 10) (digit_glyph false (n % 10) ∷ acc)) (glyph (n % 10), h) (onto-line k (n / 10) (digit_glyph false (n % 10) ∷ acc) (glyph (n % 10), h))
+onto-line (suc k) n acc h =
+    by_if OneLine (nat_eq (n / 10) 0) (digit_glyph false (n % 10) ∷ acc)
+    (digits_onto k 10 false (n / 10) (digit_glyph false (n % 10) ∷ acc)) (glyph (n % 10), h)
+    (onto-line k (n / 10) (digit_glyph false (n % 10) ∷ acc) (glyph (n % 10), h))
 
 decimal-line : (n : ℕ) → OneLine (decimal n)
 unfolding digits OneLine
@@ -90,11 +109,14 @@ spaced-line : (words : List (List ℕ)) → OneLines words → OneLine (spaced w
 unfolding OneLine OneLines NoFeed
 spaced-line [] h = tt
 spaced-line (w ∷ []) h = h.0
-spaced-line (w ∷ v ∷ words) h = all-append NoFeed w (32 ∷ spaced (v ∷ words)) h.0 (refl, spaced-line (v ∷ words) h.1)
+spaced-line (w ∷ v ∷ words) h =
+    all-append NoFeed w (32 ∷ spaced (v ∷ words)) h.0 (refl, spaced-line (v ∷ words) h.1)
 
 hex-line : (bytes : List ℕ) → OneLine (hex_of_bytes bytes)
 unfolding OneLine
-hex-line bytes = all-flat_map NoFeed (λ b. digit_glyph false (b / 16) ∷ digit_glyph false (b % 16) ∷ []) bytes (λ b. (glyph (b / 16), (glyph (b % 16), tt)))
+hex-line bytes =
+    all-flat_map NoFeed (λ b. digit_glyph false (b / 16) ∷ digit_glyph false (b % 16) ∷ []) bytes
+    (λ b. (glyph (b / 16), (glyph (b % 16), tt)))
 
 word-line : (word : Option ℕ) → OneLine (word_text word)
 word-line None = written (codes "------") refl
@@ -102,73 +124,155 @@ word-line (Some word) = hex-line (bytes_high_first 3 word)
 
 field-line : (f : Field) (value : ℤ) → OneLine f.name → OneLine (field_text f value)
 field-line f value h =
-    let equals : OneLine (f.name ++ codes "=") = line-append f.name (codes "=") h (written (codes "=") refl) in
-    let valued : OneLine (f.name ++ codes "=" ++ signed_decimal value) = line-append (f.name ++ codes "=") (signed_decimal value) equals (signed-line value) in
-    let colon : OneLine (f.name ++ codes "=" ++ signed_decimal value ++ codes ":") = line-append (f.name ++ codes "=" ++ signed_decimal value) (codes ":") valued (written (codes ":") refl) in
-    line-append (f.name ++ codes "=" ++ signed_decimal value ++ codes ":") (signed_decimal f.exponent) colon (signed-line f.exponent)
+    let equals : OneLine (f.name ++ codes "=") =
+    line-append f.name (codes "=") h (written (codes "=") refl) in
+    let valued : OneLine (f.name ++ codes "=" ++ signed_decimal value) =
+    line-append (f.name ++ codes "=") (signed_decimal value) equals (signed-line value) in
+    let colon : OneLine (f.name ++ codes "=" ++ signed_decimal value ++ codes ":") =
+    line-append (f.name ++ codes "=" ++ signed_decimal value) (codes ":") valued
+    (written (codes ":") refl) in
+    line-append (f.name ++ codes "=" ++ signed_decimal value ++ codes ":")
+    (signed_decimal f.exponent) colon (signed-line f.exponent)
 
 -- the names in the tables
 abbrev have_names : List Field → Bool
 have_names fields = list_all (λ (f : Field). list_all no_feed f.name) fields
 
-fields-lines : (fields : List Field) (values : List ℤ) → have_names fields ≡ true → OneLines (field_texts fields values)
+fields-lines : (fields : List Field) (values : List ℤ) → have_names fields ≡ true
+    → OneLines (field_texts fields values)
 unfolding OneLines
 fields-lines [] values e = tt
 fields-lines (f ∷ fields) [] e = tt
-fields-lines (f ∷ fields) (v ∷ values) e = let both = and_parts (list_all no_feed f.name) (have_names fields) e in (field-line f v (written f.name both.0), fields-lines fields values both.1)
+fields-lines (f ∷ fields) (v ∷ values) e =
+    let both = and_parts (list_all no_feed f.name) (have_names fields) e in
+    (field-line f v (written f.name both.0), fields-lines fields values both.1)
 
 -- a text of words, the second of them a number
-named-line : (name : List ℕ) (slot : ℕ) (words : List (List ℕ)) → OneLine name → OneLines words → OneLine (spaced (name ∷ decimal slot ∷ words))
+named-line : (name : List ℕ) (slot : ℕ) (words : List (List ℕ)) → OneLine name → OneLines words
+    → OneLine (spaced (name ∷ decimal slot ∷ words))
 unfolding OneLines
-named-line name slot words h ws = spaced-line (name ∷ decimal slot ∷ words) (h, (decimal-line slot, ws))
+named-line name slot words h ws =
+    spaced-line (name ∷ decimal slot ∷ words) (h, (decimal-line slot, ws))
 
-kind-line : (slot : ℕ) (kind : Kind) (values : List ℤ) → OneLine (page_text slot (record { kind = kind; values = values }))
+kind-line : (slot : ℕ) (kind : Kind) (values : List ℤ)
+    → OneLine (page_text slot (record { kind = kind; values = values }))
 unfolding page_text digits OneLine OneLines
 kind-line slot clock values = tt
 kind-line slot eph2 values = tt
 kind-line slot eph3 values = tt
-kind-line slot almanac values = named-line (codes "alm") slot (field_texts (fields_of almanac) values) (written (codes "alm") refl) (fields-lines (fields_of almanac) values refl)
-kind-line slot utc values = named-line (codes "utc") slot (field_texts (fields_of utc) values) (written (codes "utc") refl) (fields-lines (fields_of utc) values refl)
-kind-line slot health values = named-line (codes "hlt") slot (field_texts (fields_of health) values) (written (codes "hlt") refl) (fields-lines (fields_of health) values refl)
-kind-line slot message values = named-line (codes "msg") slot (hex_of_bytes (map natural values) ∷ []) (written (codes "msg") refl) (hex-line (map natural values), tt)
+kind-line slot almanac values =
+    named-line (codes "alm") slot (field_texts (fields_of almanac) values)
+    (written (codes "alm") refl) (fields-lines (fields_of almanac) values refl)
+kind-line slot utc values =
+    named-line (codes "utc") slot (field_texts (fields_of utc) values) (written (codes "utc") refl)
+    (fields-lines (fields_of utc) values refl)
+kind-line slot health values =
+    named-line (codes "hlt") slot (field_texts (fields_of health) values)
+    (written (codes "hlt") refl) (fields-lines (fields_of health) values refl)
+kind-line slot message values =
+    named-line (codes "msg") slot (hex_of_bytes (map natural values) ∷ [])
+    (written (codes "msg") refl) (hex-line (map natural values), tt)
 
 report-line : (slot : ℕ) (report : Report) → OneLine (report_text slot report)
-report-line slot (ephemeris values) = named-line (codes "eph") slot (field_texts (clock_fields ++ eph2_fields ++ eph3_fields) values) (written (codes "eph") refl) (fields-lines (clock_fields ++ eph2_fields ++ eph3_fields) values refl)
+report-line slot (ephemeris values) =
+    named-line (codes "eph") slot (field_texts (clock_fields ++ eph2_fields ++ eph3_fields) values)
+    (written (codes "eph") refl)
+    (fields-lines (clock_fields ++ eph2_fields ++ eph3_fields) values refl)
 report-line slot (single page) = kind-line slot page.kind page.values
 
 almanacs-line : (slot : ℕ) (set : AlmanacSet) → OneLine (almanacs_text slot set)
 unfolding OneLines
-almanacs-line slot set = named-line (codes "als") slot ((codes "toa=" ++ signed_decimal set.toa ++ codes ":12") ∷ map signed_decimal set.health) (written (codes "als") refl) (
-  line-append (codes "toa=" ++ signed_decimal set.toa) (codes ":12") (line-append (codes "toa=") (signed_decimal set.toa) (written (codes "toa=") refl) (signed-line set.toa)) (written (codes ":12") refl),
-  all-map OneLine signed_decimal set.health signed-line,
-)
+almanacs-line slot set =
+    named-line (codes "als") slot
+    ((codes "toa=" ++ signed_decimal set.toa ++ codes ":12") ∷ map signed_decimal set.health)
+    (written (codes "als") refl) (
+      line-append (codes "toa=" ++ signed_decimal set.toa) (codes ":12")
+          (line-append (codes "toa=") (signed_decimal set.toa) (written (codes "toa=") refl)
+          (signed-line set.toa)) (written (codes ":12") refl),
+      all-map OneLine signed_decimal set.health signed-line,
+    )
 
 -- what a slot tells, whatever it is
 pub event-line : (slot : ℕ) (event : Event) → OneLine (event_text slot event)
 unfolding event_text OneLines
-event-line slot (acquired prn cell) = named-line (codes "acq") slot (decimal prn ∷ (if cell.found then codes "found" else codes "none") ∷ signed_decimal cell.bin ∷ decimal cell.half_chip ∷ decimal cell.power ∷ []) (written (codes "acq") refl)
-    (decimal-line prn, (by_if OneLine cell.found (codes "found") (codes "none") (written (codes "found") refl) (written (codes "none") refl), (signed-line cell.bin, (decimal-line cell.half_chip, (decimal-line cell.power, tt)))))
-event-line slot (count c) = named-line (codes "count") slot (counts_texts c) (written (codes "count") refl) (all-map OneLine signed_decimal (c.ie ∷ c.qe ∷ c.ip ∷ c.qp ∷ c.il ∷ c.ql ∷ []) signed-line)
+event-line slot (acquired prn cell) =
+    named-line (codes "acq") slot
+    (decimal prn ∷ (if cell.found then codes "found" else codes "none") ∷ signed_decimal
+    cell.bin ∷ decimal cell.half_chip ∷ decimal cell.power ∷ [])
+    (written (codes "acq") refl) (
+      decimal-line prn,
+      (
+        by_if OneLine cell.found (codes "found") (codes "none") (written (codes "found") refl)
+            (written (codes "none") refl),
+        (signed-line cell.bin, (decimal-line cell.half_chip, (decimal-line cell.power, tt))),
+      ),
+    )
+event-line slot (count c) =
+    named-line (codes "count") slot (counts_texts c) (written (codes "count") refl)
+    (all-map OneLine signed_decimal (c.ie ∷ c.qe ∷ c.ip ∷ c.qp ∷ c.il ∷ c.ql ∷ []) signed-line)
 event-line slot locked = named-line (codes "lock") slot [] (written (codes "lock") refl) tt
 event-line slot unlocked = named-line (codes "unlock") slot [] (written (codes "unlock") refl) tt
 event-line slot signal_lost = named-line (codes "lost") slot [] (written (codes "lost") refl) tt
 event-line slot edge = named-line (codes "bits") slot [] (written (codes "bits") refl) tt
-event-line slot (gap n) = named-line (codes "gap") slot (decimal n ∷ []) (written (codes "gap") refl) (decimal-line n, tt)
-event-line slot (subframe s) = named-line (codes "sub") slot (decimal (id_of s) ∷ decimal (tow_of s) ∷ map word_text s.words) (written (codes "sub") refl) (decimal-line (id_of s), (decimal-line (tow_of s), all-map OneLine word_text s.words word-line))
+event-line slot (gap n) =
+    named-line (codes "gap") slot (decimal n ∷ []) (written (codes "gap") refl) (decimal-line n, tt)
+event-line slot (subframe s) =
+    named-line (codes "sub") slot (decimal (id_of s) ∷ decimal (tow_of s) ∷ map word_text s.words)
+    (written (codes "sub") refl) (
+      decimal-line (id_of s),
+      (decimal-line (tow_of s), all-map OneLine word_text s.words word-line),
+    )
 event-line slot (reported r) = report-line slot r
 event-line slot (almanacs set) = almanacs-line slot set
 
 view-line : (slot : ℕ) (view : View) → OneLine (view_text slot view)
 unfolding OneLines
-view-line slot idle = named-line (codes "state") slot (codes "idle" ∷ []) (written (codes "state") refl) (written (codes "idle") refl, tt)
-view-line slot (acquiring prn done cells) = named-line (codes "state") slot (codes "acquire" ∷ decimal prn ∷ decimal done ∷ decimal cells ∷ []) (written (codes "state") refl) (written (codes "acquire") refl, (decimal-line prn, (decimal-line done, (decimal-line cells, tt))))
-view-line slot (holding prn dumps) = named-line (codes "state") slot (codes "hold" ∷ decimal prn ∷ decimal dumps ∷ []) (written (codes "state") refl) (written (codes "hold") refl, (decimal-line prn, (decimal-line dumps, tt)))
-view-line slot (tracking prn dumps shift is_locked has_edge) = named-line (codes "state") slot (codes "track" ∷ decimal prn ∷ decimal dumps ∷ signed_decimal shift.v ∷ signed_decimal shift.w ∷ (if has_edge then codes "bits" else if is_locked then codes "lock" else codes "open") ∷ []) (written (codes "state") refl)
-    (written (codes "track") refl, (decimal-line prn, (decimal-line dumps, (signed-line shift.v, (signed-line shift.w, (by_if OneLine has_edge (codes "bits") (if is_locked then codes "lock" else codes "open") (written (codes "bits") refl) (by_if OneLine is_locked (codes "lock") (codes "open") (written (codes "lock") refl) (written (codes "open") refl)), tt))))))
+view-line slot idle =
+    named-line (codes "state") slot (codes "idle" ∷ []) (written (codes "state") refl)
+    (written (codes "idle") refl, tt)
+view-line slot (acquiring prn done cells) =
+    named-line (codes "state") slot
+    (codes "acquire" ∷ decimal prn ∷ decimal done ∷ decimal cells ∷ [])
+    (written (codes "state") refl) (
+      written (codes "acquire") refl,
+      (decimal-line prn, (decimal-line done, (decimal-line cells, tt))),
+    )
+view-line slot (holding prn dumps) =
+    named-line (codes "state") slot (codes "hold" ∷ decimal prn ∷ decimal dumps ∷ [])
+    (written (codes "state") refl)
+    (written (codes "hold") refl, (decimal-line prn, (decimal-line dumps, tt)))
+view-line slot (tracking prn dumps shift is_locked has_edge) =
+    named-line (codes "state") slot
+    (codes "track" ∷ decimal prn ∷ decimal dumps ∷ signed_decimal shift.v ∷ signed_decimal
+    shift.w ∷ (if has_edge then codes "bits" else if is_locked then codes "lock" else codes
+    "open") ∷ []) (written (codes "state") refl) (
+      written (codes "track") refl,
+      (
+        decimal-line prn,
+        (
+          decimal-line dumps,
+          (
+            signed-line shift.v,
+            (
+              signed-line shift.w,
+              (
+                by_if OneLine has_edge (codes "bits")
+                    (if is_locked then codes "lock" else codes "open")
+                    (written (codes "bits") refl)
+                    (by_if OneLine is_locked (codes "lock") (codes "open")
+                    (written (codes "lock") refl) (written (codes "open") refl)),
+                tt,
+              ),
+            ),
+          ),
+        ),
+      ),
+    )
 
 refusal-line : (n : ℕ) → OneLine (refusal_text n)
 unfolding OneLines
-refusal-line n = spaced-line (codes "err" ∷ decimal n ∷ []) (written (codes "err") refl, (decimal-line n, tt))
+refusal-line n =
+    spaced-line (codes "err" ∷ decimal n ∷ []) (written (codes "err") refl, (decimal-line n, tt))
 
 answer-line : (slot : ℕ) (answer : Answer) → OneLine (answer_text slot answer)
 unfolding answer_text
@@ -186,46 +290,81 @@ client-line : (client : ℕ) (line : List ℕ) → OneLine line → OneLine (for
 unfolding OneLine NoFeed
 client-line client line h = line-append (decimal client) (32 ∷ line) (decimal-line client) (refl, h)
 
-map-lines : (f : List ℕ → List ℕ) (lines : List (List ℕ)) → ((line : List ℕ) → OneLine line → OneLine (f line)) → OneLines lines → OneLines (map f lines)
+map-lines : (f : List ℕ → List ℕ) (lines : List (List ℕ))
+    → ((line : List ℕ) → OneLine line → OneLine (f line)) → OneLines lines → OneLines (map f lines)
 unfolding OneLines
 map-lines f [] keeps h = tt
 map-lines f (l ∷ ls) keeps h = (keeps l h.0, map-lines f ls keeps h.1)
 
-reply-line : (settings : Settings) (xs : List Sample) (before : List Entry) (what : Result Command ℕ) → OneLine (reply_text settings xs before what)
+reply-line : (settings : Settings) (xs : List Sample) (before : List Entry)
+    (what : Result Command ℕ) → OneLine (reply_text settings xs before what)
 reply-line settings xs before (Ok c) = answer-line c.slot (answer_at_end settings xs _ c.request)
 reply-line settings xs before (Err refusal) = refusal-line refusal
 
-told-lines : (profile : Profile) (settings : Settings) (client : Client) (xs : List Sample) → OneLines (event_texts profile settings client xs)
+told-lines : (profile : Profile) (settings : Settings) (client : Client) (xs : List Sample)
+    → OneLines (event_texts profile settings client xs)
 unfolding event_texts OneLines
-told-lines profile settings client xs = all-flat_map OneLine (slot_event_texts profile settings xs (entries_of profile client)) (range_with_len 0 client.slots) (λ slot. all-map OneLine (event_text slot) _ (event-line slot))
+told-lines profile settings client xs =
+    all-flat_map OneLine (slot_event_texts profile settings xs (entries_of profile client))
+    (range_with_len 0 client.slots)
+    (λ slot. all-map OneLine (event_text slot) _ (event-line slot))
 
-answered-lines : (profile : Profile) (settings : Settings) (client : Client) (xs : List Sample) → OneLines (answer_texts profile settings client xs)
+answered-lines : (profile : Profile) (settings : Settings) (client : Client) (xs : List Sample)
+    → OneLines (answer_texts profile settings client xs)
 unfolding answer_texts OneLines
-answered-lines profile settings client xs = all-flat_map OneLine (entry_answer_texts settings xs (entries_of profile client)) (enumerate_from 0 (entries_of profile client))
-    (λ (p : ℕ × Entry). by_if OneLines (nat_eq (p.1).time (length xs)) (reply_text settings xs (take p.0 (entries_of profile client)) (p.1).what ∷ []) [] (reply-line settings xs (take p.0 (entries_of profile client)) (p.1).what, tt) tt)
+answered-lines profile settings client xs =
+    all-flat_map OneLine (entry_answer_texts settings xs (entries_of profile client))
+    (enumerate_from 0 (entries_of profile client))
+    (λ (p : ℕ × Entry). by_if OneLines (nat_eq (p.1).time (length xs))
+    (reply_text settings xs (take p.0 (entries_of profile client)) (p.1).what ∷ []) []
+    (reply-line settings xs (take p.0 (entries_of profile client)) (p.1).what, tt) tt)
 
-timed-lines : (xs : List Sample) (texts : List (List ℕ)) → OneLines texts → OneLines (timed_texts xs texts)
+timed-lines : (xs : List Sample) (texts : List (List ℕ)) → OneLines texts
+    → OneLines (timed_texts xs texts)
 timed-lines xs texts h = map-lines (at_time (length xs)) texts (timed-line (length xs)) h
 
-each-lines : (lines : Client → List (List ℕ)) (clients : List Client) → ((client : Client) → OneLines (lines client)) → OneLines (for_each_client lines clients)
+each-lines : (lines : Client → List (List ℕ)) (clients : List Client)
+    → ((client : Client) → OneLines (lines client)) → OneLines (for_each_client lines clients)
 unfolding for_each_client OneLines
-each-lines lines clients h = all-flat_map OneLine (λ (p : ℕ × Client). map (for_client p.0) (lines p.1)) (enumerate_from 1 clients) (λ (p : ℕ × Client). map-lines (for_client p.0) (lines p.1) (client-line p.0) (h p.1))
+each-lines lines clients h =
+    all-flat_map OneLine (λ (p : ℕ × Client). map (for_client p.0) (lines p.1))
+    (enumerate_from 1 clients)
+    (λ (p : ℕ × Client). map-lines (for_client p.0) (lines p.1) (client-line p.0) (h p.1))
 
-pub body-lines : (profile : Profile) (settings : Settings) (xs : List Sample) (clients : List Client) → OneLines (body_lines profile settings xs clients)
+pub body-lines : (profile : Profile) (settings : Settings) (xs : List Sample)
+    (clients : List Client) → OneLines (body_lines profile settings xs clients)
 unfolding body_lines at_each_time lines_at event_lines answer_lines OneLines
-body-lines profile settings xs clients = all-flat_map OneLine (λ t. lines_at profile settings clients (take t xs)) (range_with_len 0 (length xs + 1))
-    (λ t. all-append OneLine (for_each_client (λ client. timed_texts (take t xs) (event_texts profile settings client (take t xs))) clients) (for_each_client (λ client. timed_texts (take t xs) (answer_texts profile settings client (take t xs))) clients)
-    (each-lines (λ client. timed_texts (take t xs) (event_texts profile settings client (take t xs))) clients (λ client. timed-lines (take t xs) (event_texts profile settings client (take t xs)) (told-lines profile settings client (take t xs))))
-    (each-lines (λ client. timed_texts (take t xs) (answer_texts profile settings client (take t xs))) clients (λ client. timed-lines (take t xs) (answer_texts profile settings client (take t xs)) (answered-lines profile settings client (take t xs)))))
+body-lines profile settings xs clients =
+    all-flat_map OneLine (λ t. lines_at profile settings clients (take t xs))
+    (range_with_len 0 (length xs + 1))
+    (λ t. all-append OneLine
+    (for_each_client
+    (λ client. timed_texts (take t xs) (event_texts profile settings client (take t xs)))
+    clients) (for_each_client
+    (λ client. timed_texts (take t xs) (answer_texts profile settings client (take t xs)))
+    clients)
+    (each-lines (λ client. timed_texts (take t xs)
+    (event_texts profile settings client (take t xs))) clients
+    (λ client. timed-lines (take t xs) (event_texts profile settings client (take t xs))
+    (told-lines profile settings client (take t xs))))
+    (each-lines (λ client. timed_texts (take t xs)
+    (answer_texts profile settings client (take t xs))) clients
+    (λ client. timed-lines (take t xs) (answer_texts profile settings client (take t xs))
+    (answered-lines profile settings client (take t xs)))))
 
-pub full-lines : (profile : Profile) (settings : Settings) (xs : List Sample) (clients : List Client) → OneLines (full_lines profile settings xs clients)
+pub full-lines : (profile : Profile) (settings : Settings) (xs : List Sample)
+    (clients : List Client) → OneLines (full_lines profile settings xs clients)
 unfolding full_lines end_lines OneLines
-full-lines profile settings xs clients = all-append OneLine (body_lines profile settings xs clients) (end_lines xs clients) (body-lines profile settings xs clients)
-    (each-lines (λ client. end_line xs ∷ []) clients (λ client. (timed-line (length xs) (codes "end") (written (codes "end") refl), tt)))
+full-lines profile settings xs clients =
+    all-append OneLine (body_lines profile settings xs clients) (end_lines xs clients)
+    (body-lines profile settings xs clients)
+    (each-lines (λ client. end_line xs ∷ []) clients
+    (λ client. (timed-line (length xs) (codes "end") (written (codes "end") refl), tt)))
 
 -- ---- the lines of a text
 
-first-line : (line rest : List ℕ) → OneLine line → pieces_ended_by 10 (line ++ 10 ∷ rest) ≡ line ∷ pieces_ended_by 10 rest
+first-line : (line rest : List ℕ) → OneLine line
+    → pieces_ended_by 10 (line ++ 10 ∷ rest) ≡ line ∷ pieces_ended_by 10 rest
 unfolding pieces_ended_by OneLine NoFeed
 first-line [] rest h = refl
 first-line (b ∷ line) rest h = rw (h.0, first-line line rest h.1) refl
@@ -234,4 +373,6 @@ first-line (b ∷ line) rest h = rw (h.0, first-line line rest h.1) refl
 pub lines-as_bytes : (lines : List (List ℕ)) → OneLines lines → lines_of (as_bytes lines) ≡ lines
 unfolding as_bytes OneLines pieces_ended_by
 lines-as_bytes [] h = refl
-lines-as_bytes (l ∷ ls) h = ap lines_of (append_assoc l (10 ∷ []) (flat_map ended_line ls)) ∙ first-line l (flat_map ended_line ls) h.0 ∙ ap (λ r. l ∷ r) (lines-as_bytes ls h.1)
+lines-as_bytes (l ∷ ls) h =
+    ap lines_of (append_assoc l (10 ∷ []) (flat_map ended_line ls))
+    ∙ first-line l (flat_map ended_line ls) h.0 ∙ ap (λ r. l ∷ r) (lines-as_bytes ls h.1)

@@ -9,18 +9,24 @@ use Rattle.definitions.specs.Acquisition.{Cell}
 use Rattle.definitions.specs.Frames.{Subframe}
 use Rattle.definitions.specs.Pages.{Kind, clock, eph2, eph3, almanac, utc, health, message}
 use Rattle.definitions.specs.DataSets.{Report, ephemeris, single, AlmanacSet}
-use Rattle.definitions.specs.Events.{Event, acquired, count, locked, unlocked, signal_lost, edge, gap, subframe, reported, almanacs}
+use Rattle.definitions.specs.Events.{Event, acquired, count, locked, unlocked, signal_lost, edge}
+use Rattle.definitions.specs.Events.{gap, subframe, reported, almanacs}
 use Rattle.definitions.specs.Receiver.{Client, Profile, entries_of}
-use Rattle.definitions.specs.PrintedLaws.{verb_of, IsLineOf, IsOneOf, IsPrinted, IsPageVerb, PrintedCountsAreSums, PrintedAcquisitionsNameTheGreatest, PrintedWordsPass, PrintedPagesPass, PrintedAlmanacsAgree}
+use Rattle.definitions.specs.PrintedLaws.{verb_of, IsLineOf, IsOneOf, IsPrinted, IsPageVerb}
+use Rattle.definitions.specs.PrintedLaws.{PrintedCountsAreSums, PrintedAcquisitionsNameTheGreatest}
+use Rattle.definitions.specs.PrintedLaws.{PrintedWordsPass, PrintedPagesPass, PrintedAlmanacsAgree}
 use Rattle.definitions.proofs.PrintedLemmas.{lines-come}
-use Rattle.definitions.proofs.VerbLemmas.{event_verb, page_verb, event-verb, IsAnswerVerb, reply-verb, end-verb}
+use Rattle.definitions.proofs.VerbLemmas.{event_verb, page_verb, event-verb, IsAnswerVerb}
+use Rattle.definitions.proofs.VerbLemmas.{reply-verb, end-verb}
 
 -- a verb is the one that is asked for
 abbrev is_verb : List ℕ → Option (List ℕ) → Bool
 is_verb w o = option_map_or (bytes_eq w) o false
 
 abbrev is_page_verb : Option (List ℕ) → Bool
-is_page_verb o = is_verb (codes "eph") o || is_verb (codes "alm") o || is_verb (codes "utc") o || is_verb (codes "hlt") o || is_verb (codes "msg") o
+is_page_verb o =
+    is_verb (codes "eph") o || is_verb (codes "alm") o || is_verb (codes "utc") o || is_verb
+    (codes "hlt") o || is_verb (codes "msg") o
 
 clash : {b : Bool} → b ≡ true → b ≡ false → ⊥
 clash t f = cc
@@ -32,11 +38,15 @@ record IsOfEvents (test : Option (List ℕ) → Bool) : Type 0 where
   state : test (Some (codes "state")) ≡ false
   end : test (Some (codes "end")) ≡ false
 
-module _ (profile : Profile) (settings : Settings) (clients : List Client) (xs : List Sample) (line : List ℕ) where
+module _ (profile : Profile) (settings : Settings) (clients : List Client) (xs : List Sample)
+    (line : List ℕ) where
   -- a line with such a verb is that of an event with it
-  of-event : (verb : List ℕ) (test : Option (List ℕ) → Bool) → test (Some verb) ≡ true → IsOfEvents test → IsPrinted profile settings clients xs line verb
-      → (event : Event) × (IsLineOf profile settings clients xs line event) × (test (event_verb event) ≡ true)
-  of-event verb test passes only printed = by_kind (lines-come profile settings clients xs printed.0.0 line printed.0.1)
+  of-event : (verb : List ℕ) (test : Option (List ℕ) → Bool) → test (Some verb) ≡ true
+      → IsOfEvents test → IsPrinted profile settings clients xs line verb
+      → (event : Event) × (IsLineOf profile settings clients xs line event)
+      × (test (event_verb event) ≡ true)
+  of-event verb test passes only printed =
+      by_kind (lines-come profile settings clients xs printed.0.0 line printed.0.1)
     where
       holds : (o : Option (List ℕ)) → o ≡ Some verb → test o ≡ true
       holds o e = rw e passes
@@ -46,12 +56,22 @@ module _ (profile : Profile) (settings : Settings) (clients : List Client) (xs :
       no_answer o h (inr (inl e)) = clash (rw e at h) only.err
       no_answer o h (inr (inr e)) = clash (rw e at h) only.state
 
-      by_kind : IsOneOf profile settings clients xs line → (event : Event) × (IsLineOf profile settings clients xs line event) × (test (event_verb event) ≡ true)
-      by_kind (inl (event, (t, k, slot, client, within, tells, is))) =
-          (event, (t, k, slot, client, within, tells, is), holds (event_verb event) (sym (event-verb (1 + k) t slot event) ∙ ap verb_of (sym is) ∙ printed.1))
+      by_kind : IsOneOf profile settings clients xs line
+          → (event : Event) × (IsLineOf profile settings clients xs line event)
+          × (test (event_verb event) ≡ true)
+      by_kind (inl (event, (t, k, slot, client, within, tells, is))) = (
+        event,
+        (t, k, slot, client, within, tells, is),
+        holds (event_verb event)
+            (sym (event-verb (1 + k) t slot event) ∙ ap verb_of (sym is) ∙ printed.1),
+      )
       by_kind (inr (inl (k, i, client, entry, a, b, c, is))) =
-          absurd (no_answer _ (holds _ (ap verb_of (sym is) ∙ printed.1)) (reply-verb (1 + k) entry.time settings (take entry.time xs) (take i (entries_of profile client)) entry.what))
-      by_kind (inr (inr (k, below, is))) = absurd (clash (holds (Some (codes "end")) (sym (end-verb (1 + k) xs) ∙ ap verb_of (sym is) ∙ printed.1)) only.end)
+          absurd (no_answer _ (holds _ (ap verb_of (sym is) ∙ printed.1))
+          (reply-verb (1 + k) entry.time settings (take entry.time xs)
+          (take i (entries_of profile client)) entry.what))
+      by_kind (inr (inr (k, below, is))) =
+          absurd (clash (holds (Some (codes "end"))
+          (sym (end-verb (1 + k) xs) ∙ ap verb_of (sym is) ∙ printed.1)) only.end)
 
 -- ---- which event has the verb
 no-page-count : (kind : Kind) → is_verb (codes "count") (page_verb kind) ≡ true → ⊥
@@ -63,7 +83,8 @@ no-page-count utc e = cc
 no-page-count health e = cc
 no-page-count message e = cc
 
-is-count : (event : Event) → is_verb (codes "count") (event_verb event) ≡ true → (c : Counts) × (event ≡ count c)
+is-count : (event : Event) → is_verb (codes "count") (event_verb event) ≡ true
+    → (c : Counts) × (event ≡ count c)
 is-count (acquired prn cell) e = cc
 is-count (count c) e = (c, refl)
 is-count locked e = cc
@@ -85,7 +106,8 @@ no-page-acq utc e = cc
 no-page-acq health e = cc
 no-page-acq message e = cc
 
-is-acq : (event : Event) → is_verb (codes "acq") (event_verb event) ≡ true → (prn : ℕ) × (cell : Cell) × (event ≡ acquired prn cell)
+is-acq : (event : Event) → is_verb (codes "acq") (event_verb event) ≡ true
+    → (prn : ℕ) × (cell : Cell) × (event ≡ acquired prn cell)
 is-acq (acquired prn cell) e = (prn, cell, refl)
 is-acq (count c) e = cc
 is-acq locked e = cc
@@ -107,7 +129,8 @@ no-page-sub utc e = cc
 no-page-sub health e = cc
 no-page-sub message e = cc
 
-is-sub : (event : Event) → is_verb (codes "sub") (event_verb event) ≡ true → (s : Subframe) × (event ≡ subframe s)
+is-sub : (event : Event) → is_verb (codes "sub") (event_verb event) ≡ true
+    → (s : Subframe) × (event ≡ subframe s)
 is-sub (acquired prn cell) e = cc
 is-sub (count c) e = cc
 is-sub locked e = cc
@@ -129,7 +152,8 @@ no-page-als utc e = cc
 no-page-als health e = cc
 no-page-als message e = cc
 
-is-als : (event : Event) → is_verb (codes "als") (event_verb event) ≡ true → (set : AlmanacSet) × (event ≡ almanacs set)
+is-als : (event : Event) → is_verb (codes "als") (event_verb event) ≡ true
+    → (set : AlmanacSet) × (event ≡ almanacs set)
 is-als (acquired prn cell) e = cc
 is-als (count c) e = cc
 is-als locked e = cc
@@ -142,7 +166,8 @@ is-als (reported (ephemeris values)) e = cc
 is-als (reported (single page)) e = absurd (no-page-als page.kind e)
 is-als (almanacs set) e = (set, refl)
 
-is-report : (event : Event) → is_page_verb (event_verb event) ≡ true → (r : Report) × (event ≡ reported r)
+is-report : (event : Event) → is_page_verb (event_verb event) ≡ true
+    → (r : Report) × (event ≡ reported r)
 is-report (acquired prn cell) e = cc
 is-report (count c) e = cc
 is-report locked e = cc
@@ -158,25 +183,33 @@ is-report (almanacs set) e = cc
 -- ---- the laws
 pub counts-printed : PrintedCountsAreSums
 counts-printed profile settings clients xs line printed =
-    let it = of-event profile settings clients xs line (codes "count") (is_verb (codes "count")) refl (record { ok = refl; err = refl; state = refl; end = refl }) printed in
+    let it =
+    of-event profile settings clients xs line (codes "count") (is_verb (codes "count")) refl
+    (record { ok = refl; err = refl; state = refl; end = refl }) printed in
     let c = is-count it.0 it.2 in
     (c.0, rw c.1 at it.1)
 
 pub acquisitions-printed : PrintedAcquisitionsNameTheGreatest
 acquisitions-printed profile settings clients xs line printed =
-    let it = of-event profile settings clients xs line (codes "acq") (is_verb (codes "acq")) refl (record { ok = refl; err = refl; state = refl; end = refl }) printed in
+    let it =
+    of-event profile settings clients xs line (codes "acq") (is_verb (codes "acq")) refl
+    (record { ok = refl; err = refl; state = refl; end = refl }) printed in
     let a = is-acq it.0 it.2 in
     (a.0, a.1, rw a.2 at it.1)
 
 pub words-printed : PrintedWordsPass
 words-printed profile settings clients xs line printed =
-    let it = of-event profile settings clients xs line (codes "sub") (is_verb (codes "sub")) refl (record { ok = refl; err = refl; state = refl; end = refl }) printed in
+    let it =
+    of-event profile settings clients xs line (codes "sub") (is_verb (codes "sub")) refl
+    (record { ok = refl; err = refl; state = refl; end = refl }) printed in
     let s = is-sub it.0 it.2 in
     (s.0, rw s.1 at it.1)
 
 pub almanacs-printed : PrintedAlmanacsAgree
 almanacs-printed profile settings clients xs line printed =
-    let it = of-event profile settings clients xs line (codes "als") (is_verb (codes "als")) refl (record { ok = refl; err = refl; state = refl; end = refl }) printed in
+    let it =
+    of-event profile settings clients xs line (codes "als") (is_verb (codes "als")) refl
+    (record { ok = refl; err = refl; state = refl; end = refl }) printed in
     let s = is-als it.0 it.2 in
     (s.0, rw s.1 at it.1)
 
@@ -189,6 +222,8 @@ page-verb verb (inr (inr (inr (inr e)))) = rw e refl
 
 pub pages-printed : PrintedPagesPass
 pages-printed profile settings clients xs line verb is printed =
-    let it = of-event profile settings clients xs line verb is_page_verb (page-verb verb is) (record { ok = refl; err = refl; state = refl; end = refl }) printed in
+    let it =
+    of-event profile settings clients xs line verb is_page_verb (page-verb verb is)
+    (record { ok = refl; err = refl; state = refl; end = refl }) printed in
     let r = is-report it.0 it.2 in
     (r.0, rw r.1 at it.1)

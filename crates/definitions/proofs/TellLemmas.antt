@@ -1,5 +1,6 @@
 -- What slots side by side tell is, line by line, what the receiver writes of them.
-use Rattle.std.proofs.Common.{◌≡◌, ℕ, suc, ◌+◌, ◌<◌, ◌≤◌, List, [], ◌∷◌, ◌++◌, length, take, refl, sym, ap, ◌∙◌, append_assoc, arith}
+use Rattle.std.proofs.Common.{◌≡◌, ℕ, suc, ◌+◌, ◌<◌, ◌≤◌, List, [], ◌∷◌, ◌++◌, length, take, refl}
+use Rattle.std.proofs.Common.{sym, ap, ◌∙◌, append_assoc, arith}
 use Rattle.std.specs.Prelude.{Bool, true, false, map, filter, flat_map, replicate, Some, slice_get}
 use Rattle.std.specs.List.{range_with_len, enumerate_from, AllByRecursion}
 use Rattle.std.proofs.lemmas.List.{map-append}
@@ -10,23 +11,30 @@ use Rattle.definitions.specs.Oscillators.{Settings}
 use Rattle.definitions.specs.Commands.{TimedRequest}
 use Rattle.definitions.specs.Events.{Event, events_at_end}
 use Rattle.definitions.specs.Texts.{event_text, at_time, for_client}
-use Rattle.definitions.specs.Receiver.{Client, Profile, entries_of, entries_before, commands_to, event_texts, slot_event_texts, event_lines, at_each_sample, timed_texts, for_each_client}
+use Rattle.definitions.specs.Receiver.{Client, Profile, entries_of, entries_before, commands_to}
+use Rattle.definitions.specs.Receiver.{event_texts, slot_event_texts, event_lines, at_each_sample}
+use Rattle.definitions.specs.Receiver.{timed_texts, for_each_client}
 use Rattle.definitions.specs.Banks.{SlotEvent, line_of, slot_events, bank_events_at_end, layout}
 
 -- the lines of those that are printed
 abbrev pub printed : Profile → List SlotEvent → List (List ℕ)
 printed profile ts = map line_of (filter (λ (t : SlotEvent). profile.prints t.event) ts)
 
-pub printed-append : (profile : Profile) (ts us : List SlotEvent) → printed profile (ts ++ us) ≡ printed profile ts ++ printed profile us
+pub printed-append : (profile : Profile) (ts us : List SlotEvent)
+    → printed profile (ts ++ us) ≡ printed profile ts ++ printed profile us
 printed-append profile ts us =
-    ap (λ (l : List SlotEvent). map line_of l) (filter-append (λ (t : SlotEvent). profile.prints t.event) ts us)
-    ∙ map-append line_of (filter (λ (t : SlotEvent). profile.prints t.event) ts) (filter (λ (t : SlotEvent). profile.prints t.event) us)
+    ap (λ (l : List SlotEvent). map line_of l)
+    (filter-append (λ (t : SlotEvent). profile.prints t.event) ts us)
+    ∙ map-append line_of (filter (λ (t : SlotEvent). profile.prints t.event) ts)
+    (filter (λ (t : SlotEvent). profile.prints t.event) us)
 
 -- the clients' shares of the slots
 abbrev pub shares_of : List Client → List ℕ
 shares_of clients = map (λ (client : Client). client.slots) clients
 
-pub shares-equal : (slots : ℕ) (clients : List Client) → AllByRecursion (λ (client : Client). client.slots ≡ slots) clients → shares_of clients ≡ replicate (length clients) slots
+pub shares-equal : (slots : ℕ) (clients : List Client)
+    → AllByRecursion (λ (client : Client). client.slots ≡ slots) clients
+    → shares_of clients ≡ replicate (length clients) slots
 shares-equal slots [] all = refl
 shares-equal slots (client ∷ clients) all = rw (all.0, shares-equal slots clients all.1) refl
 
@@ -34,68 +42,117 @@ shares-equal slots (client ∷ clients) all = rw (all.0, shares-equal slots clie
 abbrev slots_of : ℕ → List ℕ → List (ℕ × ℕ)
 slots_of client slots = map (λ s. (client, s)) slots
 
-module _ (profile : Profile) (settings : Settings) (xs : List Sample) (asked : ℕ → ℕ → List TimedRequest) where
-  one_slot : (client slot : ℕ) (events : List Event) → printed profile (slot_events client slot (length xs) events) ≡ map (for_client client) (timed_texts xs (map (event_text slot) (filter profile.prints events)))
+module _ (profile : Profile) (settings : Settings) (xs : List Sample)
+    (asked : ℕ → ℕ → List TimedRequest) where
+  one_slot : (client slot : ℕ) (events : List Event)
+      → printed profile (slot_events client slot (length xs) events)
+      ≡ map (for_client client)
+      (timed_texts xs (map (event_text slot) (filter profile.prints events)))
   one_slot client slot [] = refl
   one_slot client slot (e ∷ events) = by_print (profile.prints e) refl (one_slot client slot events)
     where
-      by_print : (b : Bool) → profile.prints e ≡ b → printed profile (slot_events client slot (length xs) events) ≡ map (for_client client) (timed_texts xs (map (event_text slot) (filter profile.prints events)))
-          → printed profile (slot_events client slot (length xs) (e ∷ events)) ≡ map (for_client client) (timed_texts xs (map (event_text slot) (filter profile.prints (e ∷ events))))
-      by_print true is rest = rw is (ap (λ r. for_client client (at_time (length xs) (event_text slot e)) ∷ r) rest)
+      by_print : (b : Bool) → profile.prints e ≡ b
+          → printed profile (slot_events client slot (length xs) events)
+          ≡ map (for_client client)
+          (timed_texts xs (map (event_text slot) (filter profile.prints events)))
+          → printed profile (slot_events client slot (length xs) (e ∷ events))
+          ≡ map (for_client client)
+          (timed_texts xs (map (event_text slot) (filter profile.prints (e ∷ events))))
+      by_print true is rest =
+          rw is (ap (λ r. for_client client (at_time (length xs) (event_text slot e)) ∷ r) rest)
       by_print false is rest = rw is rest
 
   tell : ℕ × ℕ → List SlotEvent
   tell k = slot_events k.0 k.1 (length xs) (events_at_end settings xs (asked k.0 k.1))
 
-  one_client : (number : ℕ) (client : Client) (slots : List ℕ) → ((s : ℕ) → asked number s ≡ commands_to s (entries_before (length xs) (entries_of profile client)))
-      → printed profile (flat_map tell (slots_of number slots)) ≡ map (for_client number) (timed_texts xs (flat_map (slot_event_texts profile settings xs (entries_of profile client)) slots))
+  one_client : (number : ℕ) (client : Client) (slots : List ℕ)
+      → ((s : ℕ) → asked number s
+      ≡ commands_to s (entries_before (length xs) (entries_of profile client)))
+      → printed profile (flat_map tell (slots_of number slots))
+      ≡ map (for_client number)
+      (timed_texts xs (flat_map
+      (slot_event_texts profile settings xs (entries_of profile client)) slots))
   unfolding tell
   one_client number client [] own = refl
   one_client number client (s ∷ slots) own =
-      let here : List (List ℕ) = slot_event_texts profile settings xs (entries_of profile client) s in
-      let behind : List (List ℕ) = flat_map (slot_event_texts profile settings xs (entries_of profile client)) slots in
+      let here : List (List ℕ) =
+      slot_event_texts profile settings xs (entries_of profile client) s in
+      let behind : List (List ℕ) =
+      flat_map (slot_event_texts profile settings xs (entries_of profile client)) slots in
       printed-append profile (tell (number, s)) (flat_map tell (slots_of number slots))
       ∙ ap (λ r. r ++ printed profile (flat_map tell (slots_of number slots)))
-      (one_slot number s (events_at_end settings xs (asked number s)) ∙ ap (λ (cs : List TimedRequest). map (for_client number) (timed_texts xs (map (event_text s) (filter profile.prints (events_at_end settings xs cs))))) (own s))
-      ∙ ap (λ r. map (for_client number) (timed_texts xs here) ++ r) (one_client number client slots own)
-      ∙ sym (ap (λ ls. map (for_client number) ls) (map-append (at_time (length xs)) here behind) ∙ map-append (for_client number) (timed_texts xs here) (timed_texts xs behind))
+      (one_slot number s (events_at_end settings xs (asked number s))
+      ∙ ap (λ (cs : List TimedRequest). map (for_client number)
+      (timed_texts xs (map (event_text s)
+      (filter profile.prints (events_at_end settings xs cs))))) (own s))
+      ∙ ap (λ r. map (for_client number) (timed_texts xs here) ++ r)
+      (one_client number client slots own)
+      ∙ sym (ap (λ ls. map (for_client number) ls) (map-append (at_time (length xs)) here behind)
+      ∙ map-append (for_client number) (timed_texts xs here) (timed_texts xs behind))
 
   all_clients : (b : ℕ) (clients : List Client)
-      → ((k : ℕ) (client : Client) → slice_get clients k ≡ Some client → (s : ℕ) → asked (b + k) s ≡ commands_to s (entries_before (length xs) (entries_of profile client)))
-      → printed profile (flat_map tell (flat_map (λ (p : ℕ × ℕ). slots_of p.0 (range_with_len 0 p.1)) (enumerate_from b (shares_of clients))))
-      ≡ flat_map (λ (p : ℕ × Client). map (for_client p.0) (timed_texts xs (event_texts profile settings p.1 xs))) (enumerate_from b clients)
+      → ((k : ℕ) (client : Client) → slice_get clients k ≡ Some client → (s : ℕ)
+      → asked (b + k) s
+      ≡ commands_to s (entries_before (length xs) (entries_of profile client)))
+      → printed profile
+      (flat_map tell (flat_map (λ (p : ℕ × ℕ). slots_of p.0 (range_with_len 0 p.1))
+      (enumerate_from b (shares_of clients))))
+      ≡ flat_map (λ (p : ℕ × Client). map (for_client p.0)
+      (timed_texts xs (event_texts profile settings p.1 xs))) (enumerate_from b clients)
   unfolding event_texts
   all_clients b [] own = refl
   all_clients b (client ∷ clients) own =
       let none : b + 0 ≡ b = omega arith in
       let first : List (ℕ × ℕ) = slots_of b (range_with_len 0 client.slots) in
-      let others : List (ℕ × ℕ) = flat_map (λ (p : ℕ × ℕ). slots_of p.0 (range_with_len 0 p.1)) (enumerate_from (b + 1) (shares_of clients)) in
+      let others : List (ℕ × ℕ) =
+      flat_map (λ (p : ℕ × ℕ). slots_of p.0 (range_with_len 0 p.1))
+      (enumerate_from (b + 1) (shares_of clients)) in
       ap (printed profile) (flat_map-append tell first others)
       ∙ printed-append profile (flat_map tell first) (flat_map tell others)
-      ∙ ap (λ r. r ++ printed profile (flat_map tell others)) (one_client b client (range_with_len 0 client.slots) (λ s. rw none at (own 0 client refl s)))
-      ∙ ap (λ r. map (for_client b) (timed_texts xs (event_texts profile settings client xs)) ++ r) (all_clients (b + 1) clients (λ k c found s. let e : b + 1 + k ≡ b + suc k = omega arith in rw e (own (suc k) c found s)))
+      ∙ ap (λ r. r ++ printed profile (flat_map tell others))
+      (one_client b client (range_with_len 0 client.slots)
+      (λ s. rw none at (own 0 client refl s)))
+      ∙ ap (λ r. map (for_client b) (timed_texts xs (event_texts profile settings client xs)) ++ r)
+      (all_clients (b + 1) clients
+      (λ k c found s. let e : b + 1 + k ≡ b + suc k = omega arith in
+      rw e (own (suc k) c found s)))
 
--- what the last sample makes the slots tell, those of it that are printed, are the receiver's lines, where asked gives each slot the
+-- what the last sample makes the slots tell, those of it that are printed, are the receiver's
+-- lines, where asked gives each slot the
 -- commands that its client's script has for it before the last sample
-pub told-lines : (profile : Profile) (settings : Settings) (xs : List Sample) (asked : ℕ → ℕ → List TimedRequest) (clients : List Client)
-    → ((k : ℕ) (client : Client) → slice_get clients k ≡ Some client → (s : ℕ) → asked (1 + k) s ≡ commands_to s (entries_before (length xs) (entries_of profile client)))
-    → printed profile (bank_events_at_end settings (layout (shares_of clients)) asked xs) ≡ event_lines profile settings clients xs
+pub told-lines : (profile : Profile) (settings : Settings) (xs : List Sample)
+    (asked : ℕ → ℕ → List TimedRequest) (clients : List Client)
+    → ((k : ℕ) (client : Client) → slice_get clients k ≡ Some client → (s : ℕ)
+    → asked (1 + k) s ≡ commands_to s (entries_before (length xs) (entries_of profile client)))
+    → printed profile (bank_events_at_end settings (layout (shares_of clients)) asked xs)
+    ≡ event_lines profile settings clients xs
 unfolding bank_events_at_end event_lines for_each_client tell
-told-lines profile settings xs asked clients own = all_clients profile settings xs asked 1 clients own
+told-lines profile settings xs asked clients own =
+    all_clients profile settings xs asked 1 clients own
 
 -- the commands of each slot are those that its client's script has before the last sample
 abbrev pub AreAsked : Profile → List Client → (ℕ → ℕ → List TimedRequest) → List Sample → Type 0
-AreAsked profile clients asked xs = (k : ℕ) (client : Client) → slice_get clients k ≡ Some client → (s : ℕ) → asked (1 + k) s ≡ commands_to s (entries_before (length xs) (entries_of profile client))
+AreAsked profile clients asked xs =
+    (k : ℕ) (client : Client) → slice_get clients k ≡ Some client → (s : ℕ)
+    → asked (1 + k) s ≡ commands_to s (entries_before (length xs) (entries_of profile client))
 
 -- the same for what many samples tell, one after another
-pub at_each_sample-lines : (profile : Profile) (settings : Settings) (asked : ℕ → ℕ → List TimedRequest) (clients : List Client) (xs ys : List Sample)
+pub at_each_sample-lines : (profile : Profile) (settings : Settings)
+    (asked : ℕ → ℕ → List TimedRequest) (clients : List Client) (xs ys : List Sample)
     → ((j : ℕ) → 0 < j → j ≤ length ys → AreAsked profile clients asked (xs ++ take j ys))
-    → printed profile (at_each_sample (bank_events_at_end settings (layout (shares_of clients)) asked) xs ys) ≡ at_each_sample (event_lines profile settings clients) xs ys
+    → printed profile
+    (at_each_sample (bank_events_at_end settings (layout (shares_of clients)) asked) xs ys)
+    ≡ at_each_sample (event_lines profile settings clients) xs ys
 unfolding at_each_sample
 at_each_sample-lines profile settings asked clients xs [] own = refl
 at_each_sample-lines profile settings asked clients xs (y ∷ ys) own =
-    let tells : List Sample → List SlotEvent = bank_events_at_end settings (layout (shares_of clients)) asked in
+    let tells : List Sample → List SlotEvent =
+    bank_events_at_end settings (layout (shares_of clients)) asked in
     printed-append profile (tells (xs ++ y ∷ [])) (at_each_sample tells (xs ++ y ∷ []) ys)
-    ∙ ap (λ r. r ++ printed profile (at_each_sample tells (xs ++ y ∷ []) ys)) (told-lines profile settings (xs ++ y ∷ []) asked clients (own 1 (omega arith) (omega arith)))
+    ∙ ap (λ r. r ++ printed profile (at_each_sample tells (xs ++ y ∷ []) ys))
+    (told-lines profile settings (xs ++ y ∷ []) asked clients
+    (own 1 (omega arith) (omega arith)))
     ∙ ap (λ r. event_lines profile settings clients (xs ++ y ∷ []) ++ r)
-    (at_each_sample-lines profile settings asked clients (xs ++ y ∷ []) ys (λ j some within. rw (append_assoc xs (y ∷ []) (take j ys)) (own (suc j) (omega arith) (omega (arith, within)))))
+    (at_each_sample-lines profile settings asked clients (xs ++ y ∷ []) ys
+    (λ j some within. rw (append_assoc xs (y ∷ []) (take j ys))
+    (own (suc j) (omega arith) (omega (arith, within)))))

@@ -1,6 +1,8 @@
 -- The verb of a line says which event, answer or end it is.
-use Rattle.std.proofs.Common.{inl, inr, ◌≡◌, ℕ, zero, suc, ◌+◌, ◌/◌, ◌%◌, List, [], ◌∷◌, ◌++◌, length, refl, ap, ◌∙◌, arith}
-use Rattle.std.specs.Prelude.{Bool, true, false, not, nat_eq, nat_lt, slice_get, if◌then◌else◌, Option, Some, None, Result, Ok, Err, codes, ◌⊎◌, ℤ}
+use Rattle.std.proofs.Common.{inl, inr, ◌≡◌, ℕ, zero, suc, ◌+◌, ◌/◌, ◌%◌, List, [], ◌∷◌, ◌++◌}
+use Rattle.std.proofs.Common.{length, refl, ap, ◌∙◌, arith}
+use Rattle.std.specs.Prelude.{Bool, true, false, not, nat_eq, nat_lt, slice_get, if◌then◌else◌}
+use Rattle.std.specs.Prelude.{Option, Some, None, Result, Ok, Err, codes, ◌⊎◌, ℤ}
 use Rattle.std.specs.List.{AllByRecursion, list_all}
 use Rattle.std.specs.Fmt.{decimal, digits, digits_onto, digit_glyph}
 use Rattle.std.proofs.lemmas.Bool.{ne_eqb, and_parts, not-true}
@@ -10,10 +12,13 @@ use Rattle.definitions.specs.Commands.{Command}
 use Rattle.definitions.specs.Scripts.{Entry}
 use Rattle.definitions.specs.Pages.{Kind, clock, eph2, eph3, almanac, utc, health, message}
 use Rattle.definitions.specs.DataSets.{ephemeris, single}
-use Rattle.definitions.specs.Events.{Event, acquired, count, locked, unlocked, signal_lost, edge, gap, subframe, reported, almanacs}
-use Rattle.definitions.specs.Answers.{View, idle, acquiring, holding, tracking, Answer, accepted, refused, shown, answer_at_end}
+use Rattle.definitions.specs.Events.{Event, acquired, count, locked, unlocked, signal_lost, edge}
+use Rattle.definitions.specs.Events.{gap, subframe, reported, almanacs}
+use Rattle.definitions.specs.Answers.{View, idle, acquiring, holding, tracking, Answer, accepted}
+use Rattle.definitions.specs.Answers.{refused, shown, answer_at_end}
 use Rattle.definitions.specs.Lines.{pieces_ended_by, words_of}
-use Rattle.definitions.specs.Texts.{event_text, page_text, view_text, refusal_text, answer_text, at_time, for_client}
+use Rattle.definitions.specs.Texts.{event_text, page_text, view_text, refusal_text, answer_text}
+use Rattle.definitions.specs.Texts.{at_time, for_client}
 use Rattle.definitions.specs.Receiver.{reply_text, end_line}
 use Rattle.definitions.specs.PrintedLaws.{verb_of}
 
@@ -33,17 +38,21 @@ is_word w = list_all (λ b. not (nat_eq b 32)) w
 written : (w : List ℕ) → is_word w ≡ true → AllByRecursion NoSpace w
 unfolding NoSpace
 written [] e = tt
-written (b ∷ w) e = let both = and_parts (not (nat_eq b 32)) (is_word w) e in (not-true (nat_eq b 32) both.0, written w both.1)
+written (b ∷ w) e =
+    let both = and_parts (not (nat_eq b 32)) (is_word w) e in
+    (not-true (nat_eq b 32) both.0, written w both.1)
 
 word : (w : List ℕ) → nat_eq (length w) 0 ≡ false → is_word w ≡ true → IsWord w
 word w some e = record { some = some; whole = written w e }
 
-first-piece : (w rest : List ℕ) → AllByRecursion NoSpace w → pieces_ended_by 32 (w ++ 32 ∷ rest) ≡ w ∷ pieces_ended_by 32 rest
+first-piece : (w rest : List ℕ) → AllByRecursion NoSpace w
+    → pieces_ended_by 32 (w ++ 32 ∷ rest) ≡ w ∷ pieces_ended_by 32 rest
 unfolding pieces_ended_by NoSpace
 first-piece [] rest h = refl
 first-piece (b ∷ w) rest h = rw (h.0, first-piece w rest h.1) refl
 
-last-piece : (b : ℕ) (w : List ℕ) → AllByRecursion NoSpace (b ∷ w) → pieces_ended_by 32 (b ∷ w) ≡ (b ∷ w) ∷ []
+last-piece : (b : ℕ) (w : List ℕ) → AllByRecursion NoSpace (b ∷ w)
+    → pieces_ended_by 32 (b ∷ w) ≡ (b ∷ w) ∷ []
 unfolding pieces_ended_by NoSpace
 last-piece b [] h = rw h.0 refl
 last-piece b (c ∷ w) h = rw (h.0, last-piece c w h.1) refl
@@ -77,23 +86,33 @@ by_if false x y hx hy = hy
 onto-word : (k n : ℕ) (acc : List ℕ) → IsWord acc → IsWord (digits_onto k 10 false n acc)
 onto-word zero n acc is = is
 onto-word (suc k) n acc is =
-    let more : IsWord (digit_glyph false (n % 10) ∷ acc) = some-cons (digit_glyph false (n % 10)) acc (glyph (n % 10), is.whole) in
-    by_if (nat_eq (n / 10) 0) (digit_glyph false (n % 10) ∷ acc) (digits_onto k 10 false (n / 10) (digit_glyph false (n % 10) ∷ acc)) more (onto-word k (n / 10) (digit_glyph false (n % 10) ∷ acc) more)
+    let more : IsWord (digit_glyph false (n % 10) ∷ acc) =
+    some-cons (digit_glyph false (n % 10)) acc (glyph (n % 10), is.whole) in
+    by_if (nat_eq (n / 10) 0) (digit_glyph false (n % 10) ∷ acc)
+    (digits_onto k 10 false (n / 10) (digit_glyph false (n % 10) ∷ acc)) more
+    (onto-word k (n / 10) (digit_glyph false (n % 10) ∷ acc) more)
 
 pub decimal-word : (n : ℕ) → IsWord (decimal n)
 unfolding digits
 decimal-word n =
-    let first : IsWord (digit_glyph false (n % 10) ∷ []) = some-cons (digit_glyph false (n % 10)) [] (glyph (n % 10), tt) in
-    by_if (nat_eq (n / 10) 0) (digit_glyph false (n % 10) ∷ []) (digits_onto 63 10 false (n / 10) (digit_glyph false (n % 10) ∷ [])) first (onto-word 63 (n / 10) (digit_glyph false (n % 10) ∷ []) first)
+    let first : IsWord (digit_glyph false (n % 10) ∷ []) =
+    some-cons (digit_glyph false (n % 10)) [] (glyph (n % 10), tt) in
+    by_if (nat_eq (n / 10) 0) (digit_glyph false (n % 10) ∷ [])
+    (digits_onto 63 10 false (n / 10) (digit_glyph false (n % 10) ∷ [])) first
+    (onto-word 63 (n / 10) (digit_glyph false (n % 10) ∷ []) first)
 
 -- ---- the verb of a line
-words-of-line : (n t : ℕ) (text : List ℕ) → words_of (for_client n (at_time t text)) ≡ decimal n ∷ decimal t ∷ words_of text
-words-of-line n t text = first-word (decimal n) (at_time t text) (decimal-word n) ∙ ap (λ ws. decimal n ∷ ws) (first-word (decimal t) text (decimal-word t))
+words-of-line : (n t : ℕ) (text : List ℕ)
+    → words_of (for_client n (at_time t text)) ≡ decimal n ∷ decimal t ∷ words_of text
+words-of-line n t text =
+    first-word (decimal n) (at_time t text) (decimal-word n)
+    ∙ ap (λ ws. decimal n ∷ ws) (first-word (decimal t) text (decimal-word t))
 
 first-of : List (List ℕ) → Option (List ℕ)
 first-of ws = slice_get ws 0
 
-verb-is : (n t : ℕ) (text : List ℕ) → verb_of (for_client n (at_time t text)) ≡ first-of (words_of text)
+verb-is : (n t : ℕ) (text : List ℕ)
+    → verb_of (for_client n (at_time t text)) ≡ first-of (words_of text)
 unfolding first-of
 verb-is n t text = ap (λ (ws : List (List ℕ)). slice_get ws 2) (words-of-line n t text)
 
@@ -132,7 +151,9 @@ nothing-first : first-of (words_of []) ≡ None
 unfolding first-of pieces_ended_by
 nothing-first = refl
 
-page-first : (slot : ℕ) (kind : Kind) (values : List ℤ) → first-of (words_of (page_text slot (record { kind = kind; values = values }))) ≡ page_verb kind
+page-first : (slot : ℕ) (kind : Kind) (values : List ℤ)
+    → first-of (words_of (page_text slot (record { kind = kind; values = values })))
+    ≡ page_verb kind
 unfolding page_text
 page-first slot clock values = nothing-first
 page-first slot eph2 values = nothing-first
@@ -142,7 +163,8 @@ page-first slot utc values = first-is (codes "utc") _ (word (codes "utc") refl r
 page-first slot health values = first-is (codes "hlt") _ (word (codes "hlt") refl refl)
 page-first slot message values = first-is (codes "msg") _ (word (codes "msg") refl refl)
 
-event-first : (slot : ℕ) (event : Event) → first-of (words_of (event_text slot event)) ≡ event_verb event
+event-first : (slot : ℕ) (event : Event)
+    → first-of (words_of (event_text slot event)) ≡ event_verb event
 unfolding event_text
 event-first slot (acquired prn cell) = first-is (codes "acq") _ (word (codes "acq") refl refl)
 event-first slot (count c) = first-is (codes "count") _ (word (codes "count") refl refl)
@@ -152,11 +174,13 @@ event-first slot signal_lost = first-is (codes "lost") _ (word (codes "lost") re
 event-first slot edge = first-is (codes "bits") _ (word (codes "bits") refl refl)
 event-first slot (gap n) = first-is (codes "gap") _ (word (codes "gap") refl refl)
 event-first slot (subframe s) = first-is (codes "sub") _ (word (codes "sub") refl refl)
-event-first slot (reported (ephemeris values)) = first-is (codes "eph") _ (word (codes "eph") refl refl)
+event-first slot (reported (ephemeris values)) =
+    first-is (codes "eph") _ (word (codes "eph") refl refl)
 event-first slot (reported (single page)) = page-first slot page.kind page.values
 event-first slot (almanacs set) = first-is (codes "als") _ (word (codes "als") refl refl)
 
-pub event-verb : (n t slot : ℕ) (event : Event) → verb_of (for_client n (at_time t (event_text slot event))) ≡ event_verb event
+pub event-verb : (n t slot : ℕ) (event : Event)
+    → verb_of (for_client n (at_time t (event_text slot event))) ≡ event_verb event
 event-verb n t slot event = verb-is n t (event_text slot event) ∙ event-first slot event
 
 -- ---- the verbs of answers and ends, as marked by their number
@@ -165,33 +189,44 @@ answer_verb accepted = codes "ok"
 answer_verb (refused n) = codes "err"
 answer_verb (shown view) = codes "state"
 
-view-first : (slot : ℕ) (view : View) → first-of (words_of (view_text slot view)) ≡ Some (codes "state")
+view-first : (slot : ℕ) (view : View)
+    → first-of (words_of (view_text slot view)) ≡ Some (codes "state")
 view-first slot idle = first-is (codes "state") _ (word (codes "state") refl refl)
-view-first slot (acquiring prn done cells) = first-is (codes "state") _ (word (codes "state") refl refl)
+view-first slot (acquiring prn done cells) =
+    first-is (codes "state") _ (word (codes "state") refl refl)
 view-first slot (holding prn dumps) = first-is (codes "state") _ (word (codes "state") refl refl)
-view-first slot (tracking prn dumps shift is_locked has_edge) = first-is (codes "state") _ (word (codes "state") refl refl)
+view-first slot (tracking prn dumps shift is_locked has_edge) =
+    first-is (codes "state") _ (word (codes "state") refl refl)
 
-answer-first : (slot : ℕ) (answer : Answer) → first-of (words_of (answer_text slot answer)) ≡ Some (answer_verb answer)
+answer-first : (slot : ℕ) (answer : Answer)
+    → first-of (words_of (answer_text slot answer)) ≡ Some (answer_verb answer)
 unfolding answer_text
 answer-first slot accepted = sole-is (codes "ok") (word (codes "ok") refl refl)
 answer-first slot (refused n) = first-is (codes "err") _ (word (codes "err") refl refl)
 answer-first slot (shown view) = view-first slot view
 
 abbrev pub IsAnswerVerb : Option (List ℕ) → Type 0
-IsAnswerVerb verb = (verb ≡ Some (codes "ok")) ⊎ ((verb ≡ Some (codes "err")) ⊎ (verb ≡ Some (codes "state")))
+IsAnswerVerb verb =
+    (verb ≡ Some (codes "ok")) ⊎ ((verb ≡ Some (codes "err")) ⊎ (verb ≡ Some (codes "state")))
 
 answer-verbs : (answer : Answer) → IsAnswerVerb (Some (answer_verb answer))
 answer-verbs accepted = inl refl
 answer-verbs (refused n) = inr (inl refl)
 answer-verbs (shown view) = inr (inr refl)
 
-pub reply-verb : (n t : ℕ) (settings : Settings) (xs : List Sample) (before : List Entry) (what : Result Command ℕ) → IsAnswerVerb (verb_of (for_client n (at_time t (reply_text settings xs before what))))
+pub reply-verb : (n t : ℕ) (settings : Settings) (xs : List Sample) (before : List Entry)
+    (what : Result Command ℕ)
+    → IsAnswerVerb (verb_of (for_client n (at_time t (reply_text settings xs before what))))
 reply-verb n t settings xs before (Ok c) =
     let a : Answer = answer_at_end settings xs _ c.request in
-    let e : verb_of (for_client n (at_time t (reply_text settings xs before (Ok c)))) ≡ Some (answer_verb a) = verb-is n t (answer_text c.slot a) ∙ answer-first c.slot a in
+    let e : verb_of (for_client n (at_time t (reply_text settings xs before (Ok c))))
+    ≡ Some (answer_verb a) = verb-is n t (answer_text c.slot a) ∙ answer-first c.slot a in
     rw e (answer-verbs a)
 reply-verb n t settings xs before (Err refusal) =
-    inr (inl (verb-is n t (refusal_text refusal) ∙ first-is (codes "err") _ (word (codes "err") refl refl)))
+    inr (inl (verb-is n t (refusal_text refusal)
+    ∙ first-is (codes "err") _ (word (codes "err") refl refl)))
 
-pub end-verb : (n : ℕ) (xs : List Sample) → verb_of (for_client n (end_line xs)) ≡ Some (codes "end")
-end-verb n xs = verb-is n (length xs) (codes "end") ∙ sole-is (codes "end") (word (codes "end") refl refl)
+pub end-verb : (n : ℕ) (xs : List Sample)
+    → verb_of (for_client n (end_line xs)) ≡ Some (codes "end")
+end-verb n xs =
+    verb-is n (length xs) (codes "end") ∙ sole-is (codes "end") (word (codes "end") refl refl)

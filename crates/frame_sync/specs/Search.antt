@@ -1,5 +1,6 @@
 -- What the search for subframes stands for, and what it finds, in the words of the definition.
-use Rattle.std.specs.Prelude.{◌≡◌, ℕ, ◌+◌, ◌*◌, ◌%◌, ◌^◌, ◌<◌, ◌≤◌, Bool, nat_le, if◌then◌else◌, List, [], ◌∷◌, ◌++◌, map, length, Option, Some, None, option_map}
+use Rattle.std.specs.Prelude.{◌≡◌, ℕ, ◌+◌, ◌*◌, ◌%◌, ◌^◌, ◌<◌, ◌≤◌, Bool, nat_le, if◌then◌else◌}
+use Rattle.std.specs.Prelude.{List, [], ◌∷◌, ◌++◌, map, length, Option, Some, None, option_map}
 use Rattle.std.specs.Option.{ForSome}
 use Rattle.std.specs.List.{range_with_len, AllByRecursion}
 use Rattle.definitions.specs.Frames as frames
@@ -21,13 +22,15 @@ pushed_of sync = sync.pushed
 abbrev pub shown_at : List Bool → ℕ → Option ℕ
 shown_at bits n = if nat_le (n + 30) (length bits) then checked_at bits n else None
 
--- a subframe whose 300 bits begin at a place, with two bits before it, and are not all there: its header is, and it has the words
+-- a subframe whose 300 bits begin at a place, with two bits before it, and are not all there: its
+-- header is, and it has the words
 -- that are
 pub record IsIncoming (bits : List Bool) (incoming : Incoming) : Type 0 where
   pub has_prior : 2 ≤ incoming.start
   pub has_header : incoming.start + 60 ≤ length bits
   pub is_open : length bits < incoming.start + 300
-  pub words : incoming.subframe.words ≡ map (λ i. shown_at bits (incoming.start + 30 * i)) (range_with_len 0 10)
+  pub words : incoming.subframe.words
+      ≡ map (λ i. shown_at bits (incoming.start + 30 * i)) (range_with_len 0 10)
 
 -- the start of a subframe that is incoming, as a list
 abbrev pub open_start : Option Incoming → List ℕ
@@ -39,8 +42,10 @@ abbrev pub awaited_behind : Option ℕ → List ℕ → Option ℕ
 awaited_behind place [] = place
 awaited_behind place (start ∷ starts) = awaited_behind (Some (start + 300)) starts
 
--- the starts among the bits are those of subframes that are whole, and then of one that may be incoming
-pub record IsSearched (bits : List Bool) (awaited : Option ℕ) (incoming : Option Incoming) : Type 0 where
+-- the starts among the bits are those of subframes that are whole, and then of one that may be
+-- incoming
+pub record IsSearched (bits : List Bool) (awaited : Option ℕ) (incoming : Option Incoming) : Type
+    0 where
   pub whole : List ℕ
   pub starts : starts_of bits ≡ whole ++ open_start incoming
   pub are_whole : AllByRecursion (λ start. start + 300 ≤ length bits) whole

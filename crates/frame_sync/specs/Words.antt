@@ -1,5 +1,6 @@
 -- Which ten words are a subframe (IS-GPS-200, section 20.3.2).
-use Rattle.std.specs.Prelude.{◌≡◌, ℕ, ◌^◌, ◌<◌, Bool, false, ◌&&◌, nat_le, IsTrue, List, length, get_or, Option, Some, None, IfSome, All}
+use Rattle.std.specs.Prelude.{◌≡◌, ℕ, ◌^◌, ◌<◌, Bool, false, ◌&&◌, nat_le, IsTrue, List, length}
+use Rattle.std.specs.Prelude.{get_or, Option, Some, None, IfSome, All}
 use Rattle.definitions.specs.Frames.{has_preamble, id_in}
 
 -- the data of a word, if they are there, are 24 bits
@@ -8,7 +9,8 @@ IsWord word = IfSome word (λ found. found < 2 ^ 24)
 
 -- a telemetry word with the preamble, and a handover word with an ID of 1 to 5
 abbrev pub has_header : Option ℕ → Option ℕ → Bool
-has_header (Some telemetry) (Some handover) = has_preamble telemetry && nat_le 1 (id_in handover) && nat_le (id_in handover) 5
+has_header (Some telemetry) (Some handover) =
+    has_preamble telemetry && nat_le 1 (id_in handover) && nat_le (id_in handover) 5
 has_header (Some telemetry) None = false
 has_header None handover = false
 

@@ -59,13 +59,14 @@ impl FrameSync {
         self.pushed
     }
 
-    /// Takes the next bit, and gives the subframe of which it is the 300th bit, if there is one, with
-    /// the gap before it.
+    /// Takes the next bit, and gives the subframe of which it is the 300th bit, if there is one,
+    /// with the gap before it.
     ///
     /// A start is the first place, from the end of the subframe before on, where a header stands:
     /// two words that pass with the bits before them (IS-GPS-200, section 20.3.5), the first with
     /// the preamble (section 20.3.3.1), the second with an ID of 1 to 5 (section 20.3.3.2). The two
-    /// bits before it are equal, and so are they to the last two. That search is this project's own.
+    /// bits before it are equal, and so are they to the last two. That search is this project's
+    /// own.
     pub fn push(&mut self, bit: bool) -> Option<Found>
         requires { pushed_of self.old < 2 ^ 40 }
         ensures counted { pushed_of self.new ≡ pushed_of self.old + 1 }

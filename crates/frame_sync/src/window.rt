@@ -2,7 +2,8 @@
 
 ghost use Rattle.std.specs.Prelude.{◌≡◌, ◌+◌, ◌*◌, ◌%◌, ◌^◌, ◌<◌, ◌≤◌, IsTrue, IfSome, SomeIff};
 ghost use Rattle.definitions.specs.Frames.{bit_number};
-ghost use Rattle.frame_sync.specs.Bits.{bits_in, word_in, is_framed_in, has_header_in, header_words_in};
+ghost use Rattle.frame_sync.specs.Bits.{bits_in, word_in, is_framed_in, has_header_in};
+ghost use Rattle.frame_sync.specs.Bits.{header_words_in};
 
 use crate::subframe::Subframe;
 use nav_parity::check;
@@ -28,8 +29,8 @@ impl Window {
     }
 
     /// The header that the newest 60 bits are, if they are one, as a subframe with no further word:
-    /// two words that pass, the first with the preamble, the second with an ID of 1 to 5 (IS-GPS-200,
-    /// sections 20.3.3.1 and 20.3.3.2).
+    /// two words that pass, the first with the preamble, the second with an ID of 1 to 5
+    /// (IS-GPS-200, sections 20.3.3.1 and 20.3.3.2).
     #[tactic(auto, using(crate::proofs::Headers::headers))]
     pub(crate) fn header(&self) -> Option<Subframe>
         ensures { SomeIff result (IsTrue (has_header_in self.now.bits))
@@ -44,9 +45,9 @@ impl Window {
         Subframe::from_words(words)
     }
 
-    /// Whether the two bits before the newest 60 are equal, and the last two are the same. Word 2 is
-    /// sent with 0, 0 at its end, and so is word 10 of the subframe before; a receiver may see all
-    /// four inverted (IS-GPS-200, section 20.3.3.2).
+    /// Whether the two bits before the newest 60 are equal, and the last two are the same. Word 2
+    /// is sent with 0, 0 at its end, and so is word 10 of the subframe before; a receiver may see
+    /// all four inverted (IS-GPS-200, section 20.3.3.2).
     fn is_framed(&self) -> bool
         ensures { result ≡ is_framed_in self.now.bits }
     {
@@ -54,8 +55,8 @@ impl Window {
         (before == 0 || before == 3) && self.number(0, 2) == before
     }
 
-    /// The data of the word that ends this many bits behind the newest one, where it passes with the
-    /// two bits before it (IS-GPS-200, section 20.3.5).
+    /// The data of the word that ends this many bits behind the newest one, where it passes with
+    /// the two bits before it (IS-GPS-200, section 20.3.5).
     #[tactic(auto, unfolding(crate::specs::Bits::word_in))]
     pub(crate) fn word(&self, behind: u32) -> Option<u32>
         requires { behind ≤ 32 }
@@ -67,7 +68,8 @@ impl Window {
         check(word as u32, prior as u8)
     }
 
-    /// The number that `count` bits write, of which the newest is this far behind the newest of all.
+    /// The number that `count` bits write, of which the newest is this far behind the newest of
+    /// all.
     #[tactic(auto, using(crate::proofs::Windows::masked))]
     fn number(&self, behind: u32, count: u32) -> u64
         requires within { behind + count ≤ 64 }

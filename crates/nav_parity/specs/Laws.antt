@@ -11,7 +11,8 @@ distance word other = count_ones (bit_xor word other)
 abbrev pub DetectsThreeErrors : Type 0
 DetectsThreeErrors =
     (word other prior : ℕ) → word < 2 ^ 30 → other < 2 ^ 30 → prior < 4 →
-    passes word prior ≡ true → 0 < distance word other → distance word other ≤ 3 → passes other prior ≡ false
+    passes word prior ≡ true → 0 < distance word other → distance word other ≤ 3
+    → passes other prior ≡ false
 
 -- the word, or the prior, with all its bits inverted
 abbrev pub inverted_word : ℕ → ℕ
@@ -30,8 +31,11 @@ IsHarmlessInverted = (word prior : ℕ) → word < 2 ^ 30 → prior < 4 → IsSa
 
 -- with each prior, all data have the one word that checks to them
 abbrev pub EachDataHaveAWord : Type 0
-EachDataHaveAWord = (source prior : ℕ) → source < 2 ^ 24 → prior < 4 → (coded : ℕ) × IsEncoded coded source prior
+EachDataHaveAWord =
+    (source prior : ℕ) → source < 2 ^ 24 → prior < 4 → (coded : ℕ) × IsEncoded coded source prior
 
 -- a word that checks to some data is the one word for them
 abbrev pub EachWordIsEncoded : Type 0
-EachWordIsEncoded = (word prior found : ℕ) → word < 2 ^ 30 → prior < 4 → checked word prior ≡ Some found → (found < 2 ^ 24) × IsEncoded word found prior
+EachWordIsEncoded =
+    (word prior found : ℕ) → word < 2 ^ 30 → prior < 4 → checked word prior ≡ Some found
+    → (found < 2 ^ 24) × IsEncoded word found prior

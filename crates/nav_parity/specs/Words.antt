@@ -10,7 +10,8 @@ digit source i = bit_at source (24 - i)
 
 -- a number whose last six bits are D25 to D30 of the word for these data
 unfoldable pub HasParity : ℕ → ℕ → ℕ → Type 0
-HasParity parity source prior = AllByRecursion (λ e. word_bit parity e.place ≡ parity_bit (digit source) prior e) equations
+HasParity parity source prior =
+    AllByRecursion (λ e. word_bit parity e.place ≡ parity_bit (digit source) prior e) equations
 
 -- the one word that passes with this prior and has these data
 pub record IsEncoded (coded source prior : ℕ) : Type 0 where

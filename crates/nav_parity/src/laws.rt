@@ -1,7 +1,8 @@
 //! What holds of all words (IS-GPS-200, section 20.3.5). Each law is a call that does nothing, and
 //! promises it.
 
-ghost use Rattle.nav_parity.specs.Laws.{DetectsThreeErrors, IsHarmlessInverted, EachDataHaveAWord, EachWordIsEncoded};
+ghost use Rattle.nav_parity.specs.Laws.{DetectsThreeErrors, IsHarmlessInverted, EachDataHaveAWord};
+ghost use Rattle.nav_parity.specs.Laws.{EachWordIsEncoded};
 
 /// Where a word passes, no word that differs from it in one, two or three bits passes with the same
 /// prior.

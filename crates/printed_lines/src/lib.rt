@@ -1,6 +1,6 @@
 //! Printed lines: what a slot tells, what it answers, the refusal of a script's line and a client's
-//! last line, each with its end, are proved to be the texts of their definitions. None has more than
-//! LINE_BYTES bytes.
+//! last line, each with its end, are proved to be the texts of their definitions. None has more
+//! than LINE_BYTES bytes.
 //!
 //!     use printed_lines::{end_line, event_line};
 //!

@@ -2,7 +2,8 @@
 
 ghost use Rattle.std.specs.Prelude.{◌≡◌, ◌++◌, ◌∷◌, codes};
 ghost use Rattle.definitions.specs.Lines.{ended_line};
-ghost use Rattle.definitions.specs.Texts.{for_client, at_time, event_text, answer_text, refusal_text};
+ghost use Rattle.definitions.specs.Texts.{for_client, at_time, event_text, answer_text};
+ghost use Rattle.definitions.specs.Texts.{refusal_text};
 ghost use Rattle.definitions.specs.Events.{count};
 ghost use Rattle.definitions.specs.Answers.{shown};
 ghost use Rattle.lane_correlator.specs.Counting.{counts_in};

@@ -54,14 +54,8 @@ fn each_kind_of_answer(rt: HostRuntime) -> Result<(), Fail> {
     let dumps = 18_446_744_073_709_551_615;
     let rows: [(Answer, &[u8]); 5] = [
         (Answer::Accepted, b"8 1099511627776 ok\n"),
-        (
-            Answer::Refused(Refusal::Busy),
-            b"8 1099511627776 err 9\n",
-        ),
-        (
-            Answer::Refused(Refusal::Idle),
-            b"8 1099511627776 err 10\n",
-        ),
+        (Answer::Refused(Refusal::Busy), b"8 1099511627776 err 9\n"),
+        (Answer::Refused(Refusal::Idle), b"8 1099511627776 err 10\n"),
         (
             Answer::State(SlotState::Idle),
             b"8 1099511627776 state 3 idle\n",
@@ -86,8 +80,10 @@ fn refused_lines(rt: HostRuntime) {
 #[test]
 fn last_lines(rt: HostRuntime) {
     assert!(rt; is_text(&end_line(1, 0), b"1 0 end\n"));
-    assert!(rt; is_text(
-        &end_line(255, 18_446_744_073_709_551_615),
-        b"255 18446744073709551615 end\n"
-    ));
+    assert!(rt;
+        is_text(
+            &end_line(255, 18_446_744_073_709_551_615),
+            b"255 18446744073709551615 end\n"
+        )
+    );
 }

@@ -21,8 +21,9 @@ fn one_empty_script_without_a_file(rt: HostRuntime) -> Result<(), Fail> {
     prints(&rt, &["--format", "real2"], &[0], "1 4 end\n")
 }
 
-// The carrier turns a quarter a sample, forwards or backwards: its cosines are 2, -1, -2, 1 or 2, 1, -2, -1, its sines 1, 2, -1, -2 or
-// 1, -2, -1, 2. The chip before the last and the last are +1, the first is -1, and the early code comes to it with the third sample.
+// The carrier turns a quarter a sample, forwards or backwards: its cosines are 2, -1, -2, 1 or
+// 2, 1, -2, -1, its sines 1, 2, -1, -2 or 1, -2, -1, 2. The chip before the last and the last are
+// +1, the first is -1, and the early code comes to it with the third sample.
 #[test]
 fn options_set_the_recording(rt: HostRuntime) -> Result<(), Fail> {
     fs::write(&rt, "last_chip", LAST_CHIP)?;
@@ -141,7 +142,8 @@ fn one_to_eight_scripts(rt: HostRuntime) -> Result<(), Fail> {
     Ok(())
 }
 
-// Client 1 has the script that is named first, and client 2 the other; the one with slot 1 idle is the second file.
+// Client 1 has the script that is named first, and client 2 the other; the one with slot 1 idle is
+// the second file.
 #[test]
 fn scripts_in_their_order(rt: HostRuntime) -> Result<(), Fail> {
     fs::write(&rt, "slot_0", b"0 state 0\n")?;

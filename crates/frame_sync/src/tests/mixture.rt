@@ -8,8 +8,8 @@ use super::fixture::add_bits;
 use nav_parity::encode;
 use std::alloc::{AllocError, Global};
 
-/// What is done to a subframe: the places, from its first bit, from where on it is inverted, that is
-/// changed, and where it is cut.
+/// What is done to a subframe: the places, from its first bit, from where on it is inverted, that
+/// is changed, and where it is cut.
 #[derive(Clone, Copy)]
 struct Damage {
     tail: u32,

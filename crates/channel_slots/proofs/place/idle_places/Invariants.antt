@@ -11,5 +11,6 @@ abbrev pub invariant-loop-place : goal.invariant-loop-place
 invariant-loop-place l = record {
   few : AllFew 0 l.places.items;
   keys : keys_of l.places.items ≡ by_fours 0 l.place;
-  each : (settings : Settings) → AllByRecursion (λ (p : Place). StandsFor settings [] [] p.slot) l.places.items;
+  each : (settings : Settings)
+      → AllByRecursion (λ (p : Place). StandsFor settings [] [] p.slot) l.places.items;
 }

@@ -2,4 +2,6 @@ use Rattle.std.proofs.Common.{◌≡◌, map, take}
 use Rattle.command_line.proofs.receiving.one_or_more.Given as goal
 
 abbrev pub invariant-loop-text : goal.invariant-loop-text
-invariant-loop-text l = map (λ script. script.now) l.scripts.items ≡ map (λ text. text.items) (take l.text-index l.texts)
+invariant-loop-text l =
+    map (λ script. script.now) l.scripts.items
+    ≡ map (λ text. text.items) (take l.text-index l.texts)

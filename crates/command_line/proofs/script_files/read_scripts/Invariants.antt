@@ -4,4 +4,5 @@ use Rattle.command_line.proofs.script_files.read_scripts.Given as goal
 
 abbrev pub invariant-loop-path : goal.invariant-loop-path
 invariant-loop-path g l =
-    AreTextsOf (map (λ path. g.S.ScriptFiles.bytes_of l.files path.now) (take l.path-index l.paths)) (map (λ text. text.items) l.texts.items)
+    AreTextsOf (map (λ path. g.S.ScriptFiles.bytes_of l.files path.now) (take l.path-index l.paths))
+    (map (λ text. text.items) l.texts.items)

@@ -6,5 +6,7 @@ use Rattle.command_line.proofs.script_files.script_from.Goals as goal
 pub returns-in-Ok-clause-whole : goal.returns-in-Ok-clause-whole
 returns-in-Ok-clause-whole g c =
     let limit = c.take.result.limit in
-    whole-text (g.R.Read.remaining c.args.reader) _ limit c.new-bytes.result.items c.read_to_end.new.buf.items (ap (λ reader. option_map (take limit) (g.R.Read.remaining reader)) c.take.ensures.inner)
+    whole-text (g.R.Read.remaining c.args.reader) _ limit c.new-bytes.result.items
+    c.read_to_end.new.buf.items
+    (ap (λ reader. option_map (take limit) (g.R.Read.remaining reader)) c.take.ensures.inner)
     c.take.ensures.limit c.new-bytes.ensures.items c.in-Ok.ensures.bytes (search rules)

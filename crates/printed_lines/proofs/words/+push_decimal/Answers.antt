@@ -1,4 +1,5 @@
-use Rattle.std.proofs.Common.{◌≡◌, ◌+◌, ◌/◌, ◌%◌, length, length-append, refl, ap, ◌∙◌, append_assoc, arith}
+use Rattle.std.proofs.Common.{◌≡◌, ◌+◌, ◌/◌, ◌%◌, length, length-append, refl, ap, ◌∙◌}
+use Rattle.std.proofs.Common.{append_assoc, arith}
 use Rattle.std.specs.Fmt.{decimal}
 use Rattle.std.proofs.lemmas.Fmt.{decimal_digit, decimal_step, length-decimal-le}
 use Rattle.arrayvec.specs.ArrayVec.{array_vec_len}
@@ -7,7 +8,14 @@ use Rattle.printed_lines.proofs.words.+push_decimal.Goals.{then-n-ge10, else-n-g
 
 pub returns-clause-text : goal.returns-clause-text
 returns-clause-text t c = elim c.if-n-ge10.branch [
-  | then-n-ge10 w ↦ rw (c.push.ensures.items, w.bytes-is, w.push_decimal.ensures.text, decimal_step c.args.n (omega arith) c.ranges.n.fits) (append_assoc c.args.bytes.now.items (decimal (c.args.n / 10)) _)
+  | then-n-ge10 w ↦
+      rw (
+        c.push.ensures.items,
+        w.bytes-is,
+        w.push_decimal.ensures.text,
+        decimal_step c.args.n (omega arith) c.ranges.n.fits,
+      )
+      (append_assoc c.args.bytes.now.items (decimal (c.args.n / 10)) _)
   | else-n-ge10 w ↦
       let digit : c.args.n % 10 ≡ c.args.n = omega arith in
       rw (c.push.ensures.items, w.bytes-is, digit, decimal_digit c.args.n (omega arith)) refl
@@ -16,8 +24,12 @@ returns-clause-text t c = elim c.if-n-ge10.branch [
 pub returns-clause-longer : goal.returns-clause-longer
 returns-clause-longer t c = elim c.if-n-ge10.branch [
   | then-n-ge10 w ↦
-      let step : length (decimal c.args.n) ≡ length (decimal (c.args.n / 10)) + 1 = ap length (decimal_step c.args.n (omega arith) c.ranges.n.fits) ∙ length-append (decimal (c.args.n / 10)) _ in
-      let here : array_vec_len w.push_decimal.new.bytes ≡ array_vec_len c.args.bytes.now + length (decimal (c.args.n / 10)) = w.push_decimal.ensures.longer in
+      let step : length (decimal c.args.n) ≡ length (decimal (c.args.n / 10)) + 1 =
+      ap length (decimal_step c.args.n (omega arith) c.ranges.n.fits)
+      ∙ length-append (decimal (c.args.n / 10)) _ in
+      let here : array_vec_len w.push_decimal.new.bytes
+      ≡ array_vec_len c.args.bytes.now + length (decimal (c.args.n / 10)) =
+      w.push_decimal.ensures.longer in
       rw (c.push.ensures.len, w.bytes-is, here, step) (omega arith)
   | else-n-ge10 w ↦
       let step : length (decimal c.args.n) ≡ 1 = ap length (decimal_digit c.args.n (omega arith)) in

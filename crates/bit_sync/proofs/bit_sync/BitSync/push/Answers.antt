@@ -12,7 +12,9 @@ unfolding StandsFor
 returns-then-push-clause-stands c pushes h =
     let fits = c.ranges.ip in
     let before = rw c.in-Searching.is at h in
-    let edge = edge_of_push-some pushes _ before.no_edge (c.push.ensures.found pushes before ∙ c.if-push.true) in
+    let edge =
+    edge_of_push-some pushes _ before.no_edge
+    (c.push.ensures.found pushes before ∙ c.if-push.true) in
     simp to_z-of_z at (c.begun_with.ensures pushes edge)
 
 pub returns-then-push-clause-tells : goal.returns-then-push-clause-tells
@@ -21,8 +23,12 @@ returns-then-push-clause-tells c pushes h =
     let fits = c.ranges.ip in
     let before = rw c.in-Searching.is at h in
     let found = simp to_z-of_z at (c.push.ensures.found pushes before) in
-    let edge = edge_of_push-some pushes c.args.ip before.no_edge (found ∙ c.if-push.true) in
-    (before.no_edge, edge, bits_of-edge pushes c.args.ip edge ∙ sym (bits_of-none pushes before.no_edge))
+    let edge = edge_of_push-some pushes c.args.ip before.no_edge (found ∙ c.if-push.true) in (
+      before.no_edge,
+      edge,
+      bits_of-edge pushes c.args.ip edge
+          ∙ sym (bits_of-none pushes before.no_edge),
+    )
 
 pub returns-else-push-clause-stands : goal.returns-else-push-clause-stands
 unfolding StandsFor
@@ -36,8 +42,11 @@ unfolding StandsFor
 returns-else-push-clause-tells c pushes h =
     let fits = c.ranges.ip in
     let before = rw c.in-Searching.is at h in
-    let behind = simp to_z-of_z at (c.push.ensures.goes_on pushes before c.if-push.false) in
-    (behind.no_edge ∙ sym before.no_edge, bits_of-none (pushes ++ c.args.ip ∷ []) behind.no_edge ∙ sym (bits_of-none pushes before.no_edge))
+    let behind = simp to_z-of_z at (c.push.ensures.goes_on pushes before c.if-push.false) in (
+      behind.no_edge ∙ sym before.no_edge,
+      bits_of-none (pushes ++ c.args.ip ∷ []) behind.no_edge
+          ∙ sym (bits_of-none pushes before.no_edge),
+    )
 
 pub returns-in-Some-clause-stands : goal.returns-in-Some-clause-stands
 unfolding StandsFor
@@ -50,8 +59,10 @@ pub returns-in-Some-clause-tells : goal.returns-in-Some-clause-tells
 unfolding StandsFor
 returns-in-Some-clause-tells c pushes h =
     let fits = c.ranges.ip in
-    let before = rw c.in-Summing.is at h in
-    (edge_of-kept pushes c.args.ip c.in-Summing.sum before, simp to_z-of_z at (c.in-Some.ensures.bit pushes before))
+    let before = rw c.in-Summing.is at h in (
+      edge_of-kept pushes c.args.ip c.in-Summing.sum before,
+      simp to_z-of_z at (c.in-Some.ensures.bit pushes before),
+    )
 
 pub returns-in-None-clause-stands : goal.returns-in-None-clause-stands
 unfolding StandsFor
@@ -64,5 +75,7 @@ pub returns-in-None-clause-tells : goal.returns-in-None-clause-tells
 unfolding StandsFor
 returns-in-None-clause-tells c pushes h =
     let fits = c.ranges.ip in
-    let before = rw c.in-Summing.is at h in
-    (edge_of-kept pushes c.args.ip c.in-Summing.sum before, (simp to_z-of_z at (c.in-None.ensures.bit pushes before)) ∙ append-nil (bits_of pushes))
+    let before = rw c.in-Summing.is at h in (
+      edge_of-kept pushes c.args.ip c.in-Summing.sum before,
+      (simp to_z-of_z at (c.in-None.ensures.bit pushes before)) ∙ append-nil (bits_of pushes),
+    )

@@ -1,4 +1,5 @@
-use Rattle.std.proofs.Common.{◌≡◌, ◌≤◌, ◌<◌, ◌+◌, ◌-◌, ◌*◌, arith, ℕ, List, length, refl, sym, ap, subst, ◌∙◌, slice_set, length-set}
+use Rattle.std.proofs.Common.{◌≡◌, ◌≤◌, ◌<◌, ◌+◌, ◌-◌, ◌*◌, arith, ℕ, List, length, refl, sym, ap}
+use Rattle.std.proofs.Common.{subst, ◌∙◌, slice_set, length-set}
 use Rattle.std.specs.Prelude.{replicate}
 use Rattle.definitions.specs.Oscillators.{Settings}
 use Rattle.definitions.specs.Banks.{layout}
@@ -13,35 +14,53 @@ use Rattle.channel_slots.proofs.LayoutLemmas.{by_fours, layout-fours}
 use Rattle.channel_slots.proofs.CommandLemmas.{stands-at, commanded, keeps}
 use Rattle.channel_slots.proofs.bank.Bank.command.Goals as goal
 
-many : (client clients : ℕ) (ps : List Place) → client ≤ clients → keys_of ps ≡ layout (replicate clients 4) → 4 * client ≤ length ps
+many : (client clients : ℕ) (ps : List Place) → client ≤ clients
+    → keys_of ps ≡ layout (replicate clients 4) → 4 * client ≤ length ps
 many client clients ps h keys = omega (arith, h, slots-four clients ps keys)
 
-own_keys : (clients : ℕ) (ps : List Place) → keys_of ps ≡ layout (replicate clients 4) → keys_of ps ≡ by_fours 0 (length ps)
-own_keys clients ps keys = keys ∙ layout-fours clients ∙ ap (by_fours 0) (sym (slots-four clients ps keys))
+own_keys : (clients : ℕ) (ps : List Place) → keys_of ps ≡ layout (replicate clients 4)
+    → keys_of ps ≡ by_fours 0 (length ps)
+own_keys clients ps keys =
+    keys ∙ layout-fours clients ∙ ap (by_fours 0) (sym (slots-four clients ps keys))
 
-within : (client number : ℕ) (ps : List Place) → 1 ≤ client → 4 * client ≤ length ps → number < 4 → (client - 1) * 4 + number < length ps
+within : (client number : ℕ) (ps : List Place) → 1 ≤ client → 4 * client ≤ length ps → number < 4
+    → (client - 1) * 4 + number < length ps
 within client number ps first last small = omega (arith, first, last, small)
 
 -- what the command does to the places
-done : (own settings : Settings) (command : Command) (taken ps qs : List Place) (at : ℕ) (answer : Answer) → own ≡ settings → taken ≡ ps
-    → IsCommanded own (request_in command) taken qs at answer → IsCommanded settings (request_in command) ps qs at answer
+done : (own settings : Settings) (command : Command) (taken ps qs : List Place) (at : ℕ)
+    (answer : Answer) → own ≡ settings → taken ≡ ps
+    → IsCommanded own (request_in command) taken qs at answer
+    → IsCommanded settings (request_in command) ps qs at answer
 done own settings command taken ps qs at answer known same e =
-    subst (λ (l : List Place). IsCommanded settings (request_in command) l qs at answer) same (subst (λ (r : Settings). IsCommanded r (request_in command) taken qs at answer) known e)
+    subst (λ (l : List Place). IsCommanded settings (request_in command) l qs at answer) same
+    (subst (λ (r : Settings). IsCommanded r (request_in command) taken qs at answer) known e)
 
 pub command_at-requires : goal.command_at-requires
 command_at-requires c =
     let ps : List Place = c.args.self.now.places.items in
-    rw c.deref_mut.ensures.value (within c.args.client c.get-slot.result ps c.requires.first (many c.args.client c.args.self.now.clients ps c.requires.last c.args.self.now.keys) c.get-slot.ensures.range)
+    rw c.deref_mut.ensures.value
+    (within c.args.client c.get-slot.result ps c.requires.first
+    (many c.args.client c.args.self.now.clients ps c.requires.last c.args.self.now.keys)
+    c.get-slot.ensures.range)
 
 pub invariant_of-self : goal.invariant_of-self
 invariant_of-self c =
     let ps : List Place = c.args.self.now.places.items in
     let at : ℕ = (c.args.client - 1) * 4 + c.get-slot.result in
-    let e = done _ c.args.self.now.settings c.args.command _ ps c.command_at.new.places at c.command_at.result refl c.deref_mut.ensures.value c.command_at.ensures in
+    let e =
+    done _ c.args.self.now.settings c.args.command _ ps
+    c.command_at.new.places at c.command_at.result refl c.deref_mut.ensures.value
+    c.command_at.ensures in
     let last = many c.args.client c.args.self.now.clients ps c.requires.last c.args.self.now.keys in
-    let b : at < length ps = within c.args.client c.get-slot.result ps c.requires.first last c.get-slot.ensures.range in
-    let k = keeps ps at c.args.self.now.time e.old e.new b e.is e.client e.number e.dumps c.args.self.now.few in
-    let whole = refilled c.args.self.now.places.len ps (slice_set ps at e.new) (k.size ∙ sym (ap length c.deref_mut.ensures.value) ∙ c.deref_mut.ensures.len) in
+    let b : at < length ps =
+    within c.args.client c.get-slot.result ps c.requires.first last c.get-slot.ensures.range in
+    let k =
+    keeps ps at c.args.self.now.time e.old e.new b e.is e.client e.number e.dumps
+    c.args.self.now.few in
+    let whole =
+    refilled c.args.self.now.places.len ps (slice_set ps at e.new)
+    (k.size ∙ sym (ap length c.deref_mut.ensures.value) ∙ c.deref_mut.ensures.len) in
     record {
       few = rw (e.set, whole) k.few;
       size = c.args.self.now.size;
@@ -52,21 +71,37 @@ pub returns-clause-answer : goal.returns-clause-answer
 returns-clause-answer c settings xs asked s =
     let ps : List Place = c.args.self.now.places.items in
     let at : ℕ = (c.args.client - 1) * 4 + c.get-slot.result in
-    let e = done _ settings c.args.command _ ps c.command_at.new.places at c.command_at.result s.recorded c.deref_mut.ensures.value c.command_at.ensures in
+    let e =
+    done _ settings c.args.command _ ps c.command_at.new.places at c.command_at.result
+    s.recorded c.deref_mut.ensures.value c.command_at.ensures in
     let n : c.get-slot.result ≡ slot_of c.args.command = c.get-slot.ensures.same ∙ c.slot.ensures in
     let last = many c.args.client c.args.self.now.clients ps c.requires.last c.args.self.now.keys in
-    e.answers xs _ (subst (λ (m : ℕ). StandsFor settings xs (asked c.args.client m) e.old.slot) n (stands-at settings xs asked ps c.args.client c.get-slot.result c.args.self.now.time e.old e.old c.requires.first last c.get-slot.ensures.range (own_keys c.args.self.now.clients ps c.args.self.now.keys) e.is s.slots))
+    e.answers xs _ (subst (λ (m : ℕ). StandsFor settings xs (asked c.args.client m) e.old.slot) n
+    (stands-at settings xs asked ps c.args.client c.get-slot.result c.args.self.now.time e.old
+    e.old c.requires.first last c.get-slot.ensures.range
+    (own_keys c.args.self.now.clients ps c.args.self.now.keys) e.is s.slots))
 
 pub returns-clause-stands : goal.returns-clause-stands
 returns-clause-stands c settings xs asked s =
     let ps : List Place = c.args.self.now.places.items in
     let at : ℕ = (c.args.client - 1) * 4 + c.get-slot.result in
-    let e = done _ settings c.args.command _ ps c.command_at.new.places at c.command_at.result s.recorded c.deref_mut.ensures.value c.command_at.ensures in
+    let e =
+    done _ settings c.args.command _ ps c.command_at.new.places at c.command_at.result
+    s.recorded c.deref_mut.ensures.value c.command_at.ensures in
     let n : c.get-slot.result ≡ slot_of c.args.command = c.get-slot.ensures.same ∙ c.slot.ensures in
     let last = many c.args.client c.args.self.now.clients ps c.requires.last c.args.self.now.keys in
-    let whole = refilled c.args.self.now.places.len ps (slice_set ps at e.new) (length-set ps at e.new ∙ sym (ap length c.deref_mut.ensures.value) ∙ c.deref_mut.ensures.len) in
+    let whole =
+    refilled c.args.self.now.places.len ps (slice_set ps at e.new)
+    (length-set ps at e.new ∙ sym (ap length c.deref_mut.ensures.value)
+    ∙ c.deref_mut.ensures.len) in
     record {
       recorded = s.recorded;
       now = s.now;
-      slots = rw (e.set, whole, ← n) (commanded settings xs asked ps c.args.client c.get-slot.result c.args.self.now.time e.old e.new c.requires.first last c.get-slot.ensures.range (own_keys c.args.self.now.clients ps c.args.self.now.keys) e.is (request_in c.args.command) s.slots e.client e.number (λ commands t. e.stands xs commands t));
+      slots =
+          rw (e.set, whole, ← n)
+          (commanded settings xs asked ps c.args.client c.get-slot.result c.args.self.now.time
+          e.old e.new c.requires.first last c.get-slot.ensures.range
+          (own_keys c.args.self.now.clients ps c.args.self.now.keys) e.is
+          (request_in c.args.command) s.slots e.client e.number
+          (λ commands t. e.stands xs commands t));
     }

@@ -10,4 +10,9 @@ invariant_of-result c = record {
 }
 
 pub returns-clause-stands : goal.returns-clause-stands
-returns-clause-stands c = record { recorded = refl; now = refl; slots = record { now = refl; each = c.in-Ok.ensures.stand c.args.settings } }
+returns-clause-stands c =
+    record {
+      recorded = refl;
+      now = refl;
+      slots = record { now = refl; each = c.in-Ok.ensures.stand c.args.settings };
+    }
