@@ -1,6 +1,6 @@
 -- A run's parts, and the answer that the definitions' table has for them.
 use Rattle.std.proofs.Common.{◌≡◌, ◌≤◌, ◌<◌, ℕ, zero, suc, Bool, true, false, List, [], ◌∷◌, length, refl, sym, ap, ◌∙◌, subst, arith, ◌⊎◌, inl, inr}
-use Rattle.std.specs.Prelude.{Result, Ok, Err, if◌then◌else◌, map, zip, replicate, nat_lt, nat_le, nat_eq}
+use Rattle.std.specs.Prelude.{◌↔◌, Result, Ok, Err, if◌then◌else◌, map, zip, replicate, nat_lt, nat_le, nat_eq}
 use Rattle.std.specs.List.{list_all}
 use Rattle.std.specs.Io.KnownBytes.{Consumes}
 use Rattle.std.proofs.KnownBytes.{Appends-nil, Consumes-nil}
@@ -20,11 +20,14 @@ use Rattle.receiver.specs.Sessions.{StandsFor, time_of}
 use Rattle.channel_slots.specs.declared.open_fault.OpenFault.{OpenFault}
 use Rattle.channel_slots.specs.declared.open_fault.OpenFault.TheVariants as Faults
 use Rattle.receiver.specs.declared.session.Session.{Session}
+use Rattle.receiver.specs.declared.faults.RunFault.{RunFault}
 use Rattle.receiver.specs.declared.faults.RunFault.TheVariants.{NoMemory, Clients, Read, Write, TooLong}
 use Rattle.receiver.specs.declared.faults.Stop.{Stop}
 use Rattle.receiver.specs.declared.faults.Stop.TheVariants.{AtEnd, ReadFailed, PastLimit}
 use Rattle.receiver.proofs.OpeningLemmas.{first-lines}
-use Rattle.receiver.specs.Runs.{Devices, IsOpen, IsRun, Ran, BrokeOff, StopsFor, task_of, samples_read, text_for}
+use Rattle.receiver.proofs.RunLemmas.{few-clients, not-both}
+use Rattle.receiver.specs.Runs.{Devices, IsOpen, IsRun, Ran, BrokeOff, StopsFor, EndedAs}
+use Rattle.receiver.specs.Runs.{WriterTells, answer_of, task_of, samples_read, text_for}
 
 -- ---- the clients of a task
 
@@ -41,7 +44,7 @@ pub same-clients : {A : Type 0} (text : A → List ℕ) (settings : Settings) (h
 same-clients text settings handed limit = clients-are settings (map text handed) limit ∙ map-map client_with text handed
 
 -- a session that was opened for scripts
-pub opens : {A : Type 0} (text : A → List ℕ) (settings : Settings) (handed : List A) (limit : ℕ) (session : Session)
+opens : {A : Type 0} (text : A → List ℕ) (settings : Settings) (handed : List A) (limit : ℕ) (session : Session)
     → StandsFor settings (map (λ a. client_with (text a)) handed) session [] (answer_lines offered settings (map (λ a. client_with (text a)) handed) []) → IsOpen settings (clients_of (task_of settings (map text handed) limit)) session
 opens text settings handed limit session stands =
     subst (λ (l : List Client). IsOpen settings l session) (sym (same-clients text settings handed limit)) (record { stands = stands; first = first-lines settings (map (λ a. client_with (text a)) handed) })
@@ -76,7 +79,7 @@ are-right settings scripts limit right =
     let as_many : nat_eq (length (replicate {A = ℕ} (length scripts) 4)) (length scripts) ≡ true = eq-eqb _ (length scripts) (length-replicate {A = ℕ} (length scripts) 4) in
     (rw (some, few) refl, rw (as_many, all-shares (length scripts)) refl)
 
-pub right-scripts : {A : Type 0} (text : A → List ℕ) (settings : Settings) (handed : List A) (limit : ℕ) → (AreWrong (length handed) → ⊥) → AreRight (task_of settings (map text handed) limit)
+right-scripts : {A : Type 0} (text : A → List ℕ) (settings : Settings) (handed : List A) (limit : ℕ) → (AreWrong (length handed) → ⊥) → AreRight (task_of settings (map text handed) limit)
 right-scripts text settings handed limit right = are-right settings (map text handed) limit (λ w. right (subst AreWrong (length-map handed text) w))
 
 -- ---- the text that is due
@@ -148,69 +151,107 @@ module _ (settings : Settings) (scripts : List (List ℕ)) (limit : ℕ) where
     answer = (right, ((b.written).0, ((b.written).1).whole));
   }
 
-  pub ran-to-end : (n : ℕ) (session : Session) (old new : Devices) → AreRight (task_of settings scripts limit) → Ran settings (clients_of (task_of settings scripts limit)) limit session old new AtEnd → n ≡ time_of session
-      → IsRun (task_of settings scripts limit) old new (Ok n)
-  unfolding IsAnswer taken_samples task
-  ran-to-end n session old new right r is = record {
-    input = record { bytes = r.read; end = defined.exhausted };
-    text = full offered settings (samples_read settings limit r.read) (clients_of (task_of settings scripts limit));
+  -- a run that came to a stop, by what the table has for it
+  ran-to : (end : InputEnd) (stop : Stop) (session : Session) (old new : Devices)
+      (result : Result ℕ RunFault)
+      → (r : Ran settings (clients_of (task_of settings scripts limit)) limit session old new stop)
+      → EndedAs end old new → WriterTells result old new
+      → IsAnswer (task_of settings scripts limit) (record { bytes = r.read; end = end })
+      (text_for stop settings (samples_read settings limit r.read)
+      (clients_of (task_of settings scripts limit))) (answer_of result)
+      → IsRun (task_of settings scripts limit) old new result
+  ran-to end stop session old new result r ended writer answer = record {
+    input = record { bytes = r.read; end = end };
+    text = text_for stop settings (samples_read settings limit r.read)
+        (clients_of (task_of settings scripts limit));
     consumed = r.consumed;
-    ended = (r.completes.why.0, r.completes.why.2);
+    ended = ended;
     written = r.completes.written;
-    writer = r.completes.write_failed;
-    answer = (right, within settings limit r.read r.completes.why.1, refl, is ∙ r.stands.bank.now, refl);
+    writer = writer;
+    answer = answer;
   }
 
-  pub ran-to-fault : (session : Session) (old new : Devices) → AreRight (task_of settings scripts limit) → Ran settings (clients_of (task_of settings scripts limit)) limit session old new ReadFailed
+  pub ran-to-end : (n : ℕ) (session : Session) (old new : Devices)
+      → AreRight (task_of settings scripts limit)
+      → Ran settings (clients_of (task_of settings scripts limit)) limit session old new AtEnd
+      → n ≡ time_of session → IsRun (task_of settings scripts limit) old new (Ok n)
+  unfolding IsAnswer taken_samples task
+  ran-to-end n session old new right r is =
+      ran-to defined.exhausted AtEnd session old new (Ok n) r
+      (r.completes.why.0, r.completes.why.2) r.completes.write_failed
+      (right, within settings limit r.read r.completes.why.1, refl, is ∙ r.stands.bank.now, refl)
+
+  pub ran-to-fault : (session : Session) (old new : Devices)
+      → AreRight (task_of settings scripts limit)
+      → Ran settings (clients_of (task_of settings scripts limit)) limit session old new ReadFailed
       → IsRun (task_of settings scripts limit) old new (Err Read)
   unfolding IsAnswer taken_samples task
-  ran-to-fault session old new right r = record {
-    input = record { bytes = r.read; end = defined.failed };
-    text = body offered settings (samples_read settings limit r.read) (clients_of (task_of settings scripts limit));
-    consumed = r.consumed;
-    ended = r.completes.why.0;
-    written = r.completes.written;
-    writer = r.completes.write_failed;
-    answer = (right, within settings limit r.read r.completes.why.1, refl, refl);
-  }
+  ran-to-fault session old new right r =
+      ran-to defined.failed ReadFailed session old new (Err Read) r
+      r.completes.why.0 r.completes.write_failed
+      (right, within settings limit r.read r.completes.why.1, refl, refl)
 
-  pub ran-to-limit : (session : Session) (old new : Devices) → AreRight (task_of settings scripts limit) → Ran settings (clients_of (task_of settings scripts limit)) limit session old new PastLimit
+  pub ran-to-limit : (session : Session) (old new : Devices)
+      → AreRight (task_of settings scripts limit)
+      → Ran settings (clients_of (task_of settings scripts limit)) limit session old new PastLimit
       → IsRun (task_of settings scripts limit) old new (Err TooLong)
   unfolding IsAnswer taken_samples task
-  ran-to-limit session old new right r = record {
-    input = record { bytes = r.read; end = defined.unfinished };
-    text = body offered settings (samples_read settings limit r.read) (clients_of (task_of settings scripts limit));
-    consumed = r.consumed;
-    ended = r.completes.why.1;
-    written = r.completes.written;
-    writer = r.completes.write_failed;
-    answer = (right, beyond settings limit r.read r.completes.why.0, refl);
-  }
-
-  pub without-memory : (old : Devices) → AreRight (task_of settings scripts limit) → IsRun (task_of settings scripts limit) old old (Err NoMemory)
-  unfolding IsAnswer
-  without-memory old right = record {
-    input = record { bytes = []; end = defined.unfinished };
-    text = [];
-    consumed = Consumes-nil old.remaining;
-    ended = refl;
-    written = Appends-nil old.contents;
-    writer = refl;
-    answer = (right, (refl, refl, refl));
-  }
+  ran-to-limit session old new right r =
+      ran-to defined.unfinished PastLimit session old new (Err TooLong) r
+      r.completes.why.1 r.completes.write_failed
+      (right, beyond settings limit r.read r.completes.why.0, refl)
 
 -- ---- runs of scripts that are handed in
 
-pub without-clients : {A : Type 0} (text : A → List ℕ) (settings : Settings) (handed : List A) (limit : ℕ) (old : Devices) → AreWrong (length handed) → IsRun (task_of settings (map text handed) limit) old old (Err Clients)
-unfolding IsAnswer
-without-clients text settings handed limit old wrong = record {
+-- a run that was refused before it read or wrote
+refused : (task : Task) (old : Devices) (result : Result ℕ RunFault) → WriterTells result old old
+    → IsAnswer task (record { bytes = []; end = defined.unfinished }) [] (answer_of result)
+    → IsRun task old old result
+refused task old result writer answer = record {
   input = record { bytes = []; end = defined.unfinished };
   text = [];
   consumed = Consumes-nil old.remaining;
   ended = refl;
   written = Appends-nil old.contents;
-  writer = refl;
-  answer = (are-wrong (map text handed) (subst AreWrong (sym (length-map handed text)) wrong), (refl, refl, refl));
+  writer = writer;
+  answer = answer;
+}
+
+pub without-memory : {A : Type 0} (text : A → List ℕ) (settings : Settings) (handed : List A)
+    (limit : ℕ) (old : Devices) → (AreWrong (length handed) → ⊥)
+    → IsRun (task_of settings (map text handed) limit) old old (Err NoMemory)
+unfolding IsAnswer
+without-memory text settings handed limit old right =
+    refused (task_of settings (map text handed) limit) old (Err NoMemory) refl
+    (right-scripts text settings handed limit right, (refl, refl, refl))
+
+pub without-clients : {A : Type 0} (text : A → List ℕ) (settings : Settings) (handed : List A)
+    (limit : ℕ) (old : Devices) → AreWrong (length handed)
+    → IsRun (task_of settings (map text handed) limit) old old (Err Clients)
+unfolding IsAnswer
+without-clients text settings handed limit old wrong =
+    refused (task_of settings (map text handed) limit) old (Err Clients) refl
+    (are-wrong (map text handed) (subst AreWrong (sym (length-map handed text)) wrong),
+    (refl, refl, refl))
+
+-- what opening a session for them gives
+pub record IsOpened {A : Type 0} (text : A → List ℕ) (settings : Settings) (handed : List A)
+    (limit : ℕ) (session : Session) : Type 0 where
+  pub is_open : IsOpen settings (clients_of (task_of settings (map text handed) limit)) session
+  pub right : AreRight (task_of settings (map text handed) limit)
+  pub few : length (map (λ a. client_with (text a)) handed) ≤ 8
+
+pub was-opened : {A : Type 0} (text : A → List ℕ) (settings : Settings) (handed : List A)
+    (limit : ℕ) (session : Session)
+    → StandsFor settings (map (λ a. client_with (text a)) handed) session []
+    (answer_lines offered settings (map (λ a. client_with (text a)) handed) [])
+    → (Ok session ≡ Err Faults.Clients) ↔ AreWrong (length handed)
+    → IsOpened text settings handed limit session
+was-opened text settings handed limit session stands when = record {
+  is_open = opens text settings handed limit session stands;
+  right = right-scripts text settings handed limit (not-both session _ when);
+  few = rw (length-map handed (λ a. client_with (text a)))
+      (few-clients session _ (length handed) when);
 }
 
 -- a bank that was refused for memory wasn't for its clients

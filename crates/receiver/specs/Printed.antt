@@ -12,7 +12,7 @@ use Rattle.definitions.specs.Lines.{lines_of}
 use Rattle.definitions.specs.Receiver.{Client}
 use Rattle.definitions.specs.PrintedLaws.{IsLineOf, IsPageVerb, verb_of}
 use Rattle.receiver.specs.Offered.{offered}
-use Rattle.receiver.specs.Runs.{Devices}
+use Rattle.receiver.specs.Runs.{Devices, ServesEachAlone}
 
 -- Each line that was written with such a word behind its client and its time is that of such an event. A slot tells the event with the
 -- samples that were read, up to the line's time, and the event is right: `IsLineOf` says what that is for each kind.
@@ -47,3 +47,14 @@ PagesPass settings clients old new =
 abbrev pub AlmanacsAgree : Settings → List Client → Devices → Devices → Type 0
 AlmanacsAgree settings clients old new =
     EachLine settings clients old new (λ word. word ≡ codes "als") (λ event. (set : AlmanacSet) × (event ≡ almanacs set))
+
+-- What is shown by the lines of a run that came to its end: each client's are those of a receiver
+-- with that client alone, and what each line names is right.
+pub record LinesAreRight (settings : Settings) (clients : List Client)
+    (old new : Devices) : Type 0 where
+  pub alone : ServesEachAlone settings clients old new
+  pub counts : CountsAreSums settings clients old new
+  pub acquisitions : AcquisitionsNameTheGreatest settings clients old new
+  pub words : WordsPass settings clients old new
+  pub pages : PagesPass settings clients old new
+  pub almanacs : AlmanacsAgree settings clients old new
