@@ -14,6 +14,9 @@ use Rattle.receiver.specs.declared.session.Session.{Session}
 use Rattle.receiver.specs.declared.faults.Stop.{Stop}
 use Rattle.receiver.specs.declared.faults.Stop.TheVariants.{AtEnd, ReadFailed, PastLimit}
 use Rattle.receiver.specs.Texts.{AppendsPart}
+use Rattle.receiver.specs.HeldTexts.{held, promised}
+use Rattle.receiver.specs.declared.held_text.HeldText.{HeldText}
+use Rattle.receiver.proofs.HeldLemmas.{none-held}
 use Rattle.definitions.specs.Receiver.{answer_lines}
 use Rattle.receiver.specs.Sessions.{StandsFor}
 use Rattle.definitions.proofs.TextLemmas.{client-alone}
@@ -23,10 +26,20 @@ use Rattle.std.proofs.lemmas.Bool.{cases_lt}
 use Rattle.receiver.specs.Runs.{ServesEachAlone, Ran, Devices, IsOpen, IsWrittenTo, samples_read, text_for}
 use Rattle.receiver.proofs.TextLemmas.{appended-part}
 
-pub opened : (settings : Settings) (clients : List Client) (session answered : Session) (start contents : Option (List ℕ)) → IsOpen settings clients session
-    → Appends start contents (as_bytes (answer_lines offered settings clients [])) → StandsFor settings clients answered [] [] → IsWrittenTo settings clients start answered contents []
+-- before the first read all answers at time 0 are written or held back, where nothing was held back
+-- before
+pub opened : (settings : Settings) (clients : List Client) (session answered : Session)
+    (start contents : Option (List ℕ)) (none later : HeldText) → held none ≡ []
+    → IsOpen settings clients session
+    → Appends (promised start none) (promised contents later)
+    (as_bytes (answer_lines offered settings clients [])) × StandsFor settings clients answered [] []
+    → IsWrittenTo settings clients start answered (promised contents later) []
 unfolding body
-opened settings clients session answered start contents open_is p stands = record { stands = stands; written = subst (Appends start contents) (ap as_bytes (sym open_is.first)) p }
+opened settings clients session answered start contents none later empty open_is p = record {
+  stands = p.1;
+  written = subst (Appends start (promised contents later)) (ap as_bytes (sym open_is.first))
+      (rw (none-held start (held none) empty) at p.0);
+}
 
 pub samples-nil : (packing : Packing) → samples packing [] ≡ []
 unfolding samples_from

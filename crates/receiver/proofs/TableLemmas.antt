@@ -204,10 +204,11 @@ module _ (settings : Settings) (scripts : List (List ℕ)) (limit : ℕ) where
 -- ---- runs of scripts that are handed in
 
 -- a run that was refused before it read or wrote
-refused : (task : Task) (old : Devices) (result : Result ℕ RunFault) → WriterTells result old old
-    → IsAnswer task (record { bytes = []; end = defined.unfinished }) [] (answer_of result)
-    → IsRun task old old result
-refused task old result writer answer = record {
+refused : (asked : Task) (old : Devices) (result : Result ℕ RunFault)
+    → WriterTells result old old
+    → IsAnswer asked (record { bytes = []; end = defined.unfinished }) [] (answer_of result)
+    → IsRun asked old old result
+refused asked old result writer answer = record {
   input = record { bytes = []; end = defined.unfinished };
   text = [];
   consumed = Consumes-nil old.remaining;

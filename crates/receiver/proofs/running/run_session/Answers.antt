@@ -32,10 +32,10 @@ pub returns-in_err-stop-clause-broken : goal.returns-in_err-stop-clause-broken
 returns-in_err-stop-clause-broken g c = let s = g.W.Sink in on_err c.from_residual-in_err-stop.result _ (λ settings scripts open_is.
     let clients = clients_of (task_of settings scripts c.args.limit) in
     let start = s.contents c.args.writer.now in
-    let none : promised start c.new-text.result ≡ start = none-held start (held c.new-text.result) c.new-text.ensures in
-    let answered = c.in_ok-put_answers.ensures.ok settings clients [] (answer_lines offered settings clients []) open_is.stands in
-    let broke = c.in_err-stop.ensures.broken settings clients start
-    (opened settings clients c.args.session.now c.put_answers.new.session start (promised (s.contents c.put_answers.new.writer) c.put_answers.new.text) open_is (rw none at answered.0) answered.1) in
+    let first = opened settings clients c.args.session.now c.put_answers.new.session start
+        (s.contents c.put_answers.new.writer) c.new-text.result c.put_answers.new.text c.new-text.ensures open_is
+        (c.in_ok-put_answers.ensures.ok settings clients [] (answer_lines offered settings clients []) open_is.stands) in
+    let broke = c.in_err-stop.ensures.broken settings clients start first in
     let grown = grows-on start (s.contents c.put_answers.new.writer) (s.contents c.read_all.new.writer) c.put_answers.ensures.grows c.read_all.ensures.grows in
     breaks-in-body settings scripts c.args.limit broke.read _ _ broke.consumed broke.read_failed c.in_err-stop.ensures.failure
     (unheld start (s.contents c.read_all.new.writer) (held c.read_all.new.text) _ grown broke.written))
@@ -44,10 +44,10 @@ pub returns-in_err-finish-clause-broken : goal.returns-in_err-finish-clause-brok
 returns-in_err-finish-clause-broken g c = let s = g.W.Sink in on_err c.from_residual-in_err-finish.result _ (λ settings scripts open_is.
     let clients = clients_of (task_of settings scripts c.args.limit) in
     let start = s.contents c.args.writer.now in
-    let none : promised start c.new-text.result ≡ start = none-held start (held c.new-text.result) c.new-text.ensures in
-    let answered = c.in_ok-put_answers.ensures.ok settings clients [] (answer_lines offered settings clients []) open_is.stands in
-    let has = c.in_ok-stop.ensures.read settings clients start
-    (opened settings clients c.args.session.now c.put_answers.new.session start (promised (s.contents c.put_answers.new.writer) c.put_answers.new.text) open_is (rw none at answered.0) answered.1) in
+    let first = opened settings clients c.args.session.now c.put_answers.new.session start
+        (s.contents c.put_answers.new.writer) c.new-text.result c.put_answers.new.text c.new-text.ensures open_is
+        (c.in_ok-put_answers.ensures.ok settings clients [] (answer_lines offered settings clients []) open_is.stands) in
+    let has = c.in_ok-stop.ensures.read settings clients start first in
     let grown = grows-on start (s.contents c.read_all.new.writer) (s.contents c.finish.new.writer)
     (grows-on start (s.contents c.put_answers.new.writer) (s.contents c.read_all.new.writer) c.put_answers.ensures.grows c.read_all.ensures.grows) c.finish.ensures.grows in
     breaks-in-end settings scripts c.args.limit has.read _ _ c.in_ok-stop.stop has.consumed c.in_err-finish.ensures.failure has.why
@@ -57,10 +57,10 @@ pub returns-clause-ran : goal.returns-clause-ran
 returns-clause-ran g c = let s = g.W.Sink in λ settings scripts open_is.
     let clients = clients_of (task_of settings scripts c.args.limit) in
     let start = s.contents c.args.writer.now in
-    let none : promised start c.new-text.result ≡ start = none-held start (held c.new-text.result) c.new-text.ensures in
-    let answered = c.in_ok-put_answers.ensures.ok settings clients [] (answer_lines offered settings clients []) open_is.stands in
-    let has = c.in_ok-stop.ensures.read settings clients start
-    (opened settings clients c.args.session.now c.put_answers.new.session start (promised (s.contents c.put_answers.new.writer) c.put_answers.new.text) open_is (rw none at answered.0) answered.1) in
+    let first = opened settings clients c.args.session.now c.put_answers.new.session start
+        (s.contents c.put_answers.new.writer) c.new-text.result c.put_answers.new.text c.new-text.ensures open_is
+        (c.in_ok-put_answers.ensures.ok settings clients [] (answer_lines offered settings clients []) open_is.stands) in
+    let has = c.in_ok-stop.ensures.read settings clients start first in
     record {
       read = has.read;
       consumed = has.consumed;
