@@ -15,7 +15,8 @@ returns-in-Ok-AtEnd-clause-run g c =
     let is = was-opened (λ script. script.now) a.settings a.scripts.now a.limit c.in-Ok.session
         c.in-Ok.ensures.stands c.in-Ok.ensures.clients in
     ran-to-end a.settings texts a.limit c.time.result c.run_session.new.session _ _ is.right
-        (rw c.in-Ok-AtEnd.field-0-is at (c.in-Ok-AtEnd.ensures.ran a.settings texts is.is_open)) c.time.ensures
+        (rw c.in-Ok-AtEnd.field-0-is at (c.in-Ok-AtEnd.ensures.ran a.settings texts is.is_open))
+            c.time.ensures
 
 pub returns-in-Ok-ReadFailed-clause-run : goal.returns-in-Ok-ReadFailed-clause-run
 returns-in-Ok-ReadFailed-clause-run g c =
@@ -24,7 +25,8 @@ returns-in-Ok-ReadFailed-clause-run g c =
     let is = was-opened (λ script. script.now) a.settings a.scripts.now a.limit c.in-Ok.session
         c.in-Ok.ensures.stands c.in-Ok.ensures.clients in
     ran-to-fault a.settings texts a.limit c.run_session.new.session _ _ is.right
-        (rw c.in-Ok-ReadFailed.field-0-is at (c.in-Ok-ReadFailed.ensures.ran a.settings texts is.is_open))
+        (rw c.in-Ok-ReadFailed.field-0-is at (c.in-Ok-ReadFailed.ensures.ran a.settings texts
+            is.is_open))
 
 pub returns-in-Ok-PastLimit-clause-run : goal.returns-in-Ok-PastLimit-clause-run
 returns-in-Ok-PastLimit-clause-run g c =
@@ -33,7 +35,8 @@ returns-in-Ok-PastLimit-clause-run g c =
     let is = was-opened (λ script. script.now) a.settings a.scripts.now a.limit c.in-Ok.session
         c.in-Ok.ensures.stands c.in-Ok.ensures.clients in
     ran-to-limit a.settings texts a.limit c.run_session.new.session _ _ is.right
-        (rw c.in-Ok-PastLimit.field-0-is at (c.in-Ok-PastLimit.ensures.ran a.settings texts is.is_open))
+        (rw c.in-Ok-PastLimit.field-0-is at (c.in-Ok-PastLimit.ensures.ran a.settings texts
+            is.is_open))
 
 pub returns-in-Ok-AtEnd-clause-lines : goal.returns-in-Ok-AtEnd-clause-lines
 returns-in-Ok-AtEnd-clause-lines g c =
