@@ -72,8 +72,8 @@ pub stretch-text : (before told answers all : List (List ℕ)) → all ≡ befor
 unfolding as_bytes
 stretch-text before told answers all e =
     ap as_bytes e ∙ flat_map-append ended_line (before ++ told) answers
-        ∙ ap (λ r. r ++ as_bytes answers) (flat_map-append ended_line before told)
-        ∙ append_assoc (as_bytes before) (as_bytes told) (as_bytes answers)
+    ∙ ap (λ r. r ++ as_bytes answers) (flat_map-append ended_line before told)
+    ∙ append_assoc (as_bytes before) (as_bytes told) (as_bytes answers)
 
 pub stretch-all : (start b c d : Option (List ℕ)) (before told answers all : List (List ℕ))
     → all ≡ before ++ told ++ answers
@@ -82,14 +82,14 @@ pub stretch-all : (start b c d : Option (List ℕ)) (before told answers all : L
 stretch-all start b c d before told answers all e p q r =
     let whole = stretch-text before told answers all e in
     let first =
-        wrote-front start b (as_bytes all) (as_bytes before) (as_bytes told ++ as_bytes answers) p
-            whole in
+    wrote-front start b (as_bytes all) (as_bytes before) (as_bytes told ++ as_bytes answers) p
+    whole in
     let second =
-        wrote-text start b c (as_bytes all) (as_bytes told ++ as_bytes answers) (as_bytes told)
-            (as_bytes answers) first refl q in
+    wrote-text start b c (as_bytes all) (as_bytes told ++ as_bytes answers) (as_bytes told)
+    (as_bytes answers) first refl q in
     let third =
-        wrote-text start c d (as_bytes all) (as_bytes answers) (as_bytes answers) [] second
-            (sym (append-nil (as_bytes answers))) r in
+    wrote-text start c d (as_bytes all) (as_bytes answers) (as_bytes answers) [] second
+    (sym (append-nil (as_bytes answers))) r in
     wrote-all start d (as_bytes all) [] refl third
 
 pub stretch-part-told : (start b c : Option (List ℕ)) (before told answers all : List (List ℕ))
@@ -99,10 +99,10 @@ pub stretch-part-told : (start b c : Option (List ℕ)) (before told answers all
 stretch-part-told start b c before told answers all e p q =
     let whole = stretch-text before told answers all e in
     let first =
-        wrote-front start b (as_bytes all) (as_bytes before) (as_bytes told ++ as_bytes answers) p
-            whole in
+    wrote-front start b (as_bytes all) (as_bytes before) (as_bytes told ++ as_bytes answers) p
+    whole in
     wrote-part start b c (as_bytes all) (as_bytes told ++ as_bytes answers) (as_bytes told)
-        (as_bytes answers) first refl q
+    (as_bytes answers) first refl q
 
 pub stretch-part-answers : (start b c d : Option (List ℕ)) (before told answers all : List (List ℕ))
     → all ≡ before ++ told ++ answers
@@ -111,18 +111,18 @@ pub stretch-part-answers : (start b c d : Option (List ℕ)) (before told answer
 stretch-part-answers start b c d before told answers all e p q r =
     let whole = stretch-text before told answers all e in
     let first =
-        wrote-front start b (as_bytes all) (as_bytes before) (as_bytes told ++ as_bytes answers) p
-            whole in
+    wrote-front start b (as_bytes all) (as_bytes before) (as_bytes told ++ as_bytes answers) p
+    whole in
     let second =
-        wrote-text start b c (as_bytes all) (as_bytes told ++ as_bytes answers) (as_bytes told)
-            (as_bytes answers) first refl q in
+    wrote-text start b c (as_bytes all) (as_bytes told ++ as_bytes answers) (as_bytes told)
+    (as_bytes answers) first refl q in
     wrote-part start c d (as_bytes all) (as_bytes answers) (as_bytes answers) [] second
-        (sym (append-nil (as_bytes answers))) r
+    (sym (append-nil (as_bytes answers))) r
 
 -- ---- the whole text: the lines of all times, and then `end`
 pub full-is : (settings : Settings) (xs : List Sample) (clients : List Client)
     → full offered settings xs clients
-        ≡ body offered settings xs clients ++ as_bytes (end_lines xs clients)
+    ≡ body offered settings xs clients ++ as_bytes (end_lines xs clients)
 unfolding full full_lines body
 full-is settings xs clients =
     as_bytes-append (body_lines offered settings xs clients) (end_lines xs clients)

@@ -37,8 +37,8 @@ slot-silent : (settings : Settings) (entries : List Entry) (slot : ℕ)
     → slot_event_texts offered settings [] entries slot ≡ []
 slot-silent settings entries slot =
     ap (λ (es : List Entry). map (event_text slot)
-        (filter offered.prints (events_at_end settings [] (commands_to slot es))))
-        (nothing-before entries)
+    (filter offered.prints (events_at_end settings [] (commands_to slot es))))
+    (nothing-before entries)
     ∙ ap (λ es. map (event_text slot) (filter offered.prints es)) (silent settings slot)
 
 slots-silent : (settings : Settings) (entries : List Entry) (slots : List ℕ)
@@ -49,20 +49,20 @@ slots-silent settings entries (slot ∷ slots) =
 
 clients-silent : (settings : Settings) (b : ℕ) (clients : List Client)
     → flat_map (λ (p : ℕ × Client). map (for_client p.0)
-        (timed_texts [] (event_texts offered settings p.1 []))) (enumerate_from b clients) ≡ []
+    (timed_texts [] (event_texts offered settings p.1 []))) (enumerate_from b clients) ≡ []
 unfolding event_texts
 clients-silent settings b [] = refl
 clients-silent settings b (client ∷ clients) =
     rw (slots-silent settings (entries_of offered client) (range_with_len 0 client.slots))
-        (clients-silent settings (b + 1) clients)
+    (clients-silent settings (b + 1) clients)
 
 pub first-lines : (settings : Settings) (clients : List Client)
     → body_lines offered settings [] clients ≡ answer_lines offered settings clients []
 unfolding body_lines at_each_time lines_at event_lines for_each_client
 first-lines settings clients =
     append-nil (lines_at offered settings clients [])
-        ∙ ap (λ (l : List (List ℕ)). l ++ answer_lines offered settings clients [])
-            (clients-silent settings 1 clients)
+    ∙ ap (λ (l : List (List ℕ)). l ++ answer_lines offered settings clients [])
+    (clients-silent settings 1 clients)
 
 abbrev none_done : ℕ → List Entry
 none_done client = []
@@ -94,17 +94,21 @@ module _ {A : Type 0} (text : A → List ℕ) where
       let one : 0 ≡ suc (length (map entries_in_text scripts)) = ap length e in
       absurd (omega (arith, one))
   queues-open b (script ∷ scripts) (q ∷ qs) e = (
-    record { slots = refl; all = sym (first-left script scripts q qs e); past = tt;
-        to_come = from-start (left_of q) },
+    record {
+      slots = refl;
+      all = sym (first-left script scripts q qs e);
+      past = tt;
+      to_come = from-start (left_of q);
+    },
     queues-open (b + 1) scripts qs (ap (λ (l : List (List Entry)). drop 1 l) e),
   )
 
   waiting-from : (settings : Settings) (b : ℕ) (scripts : List A) (qs : List Queue)
       → map left_of qs ≡ map (λ script. entries_of offered (client_with (text script))) scripts
       → flat_map (λ (p : ℕ × Client). map (for_client p.0)
-          (timed_texts [] (answer_texts offered settings p.1 [])))
-          (enumerate_from b (map (λ script. client_with (text script)) scripts))
-          ≡ answers_waiting settings [] (λ client. []) b qs
+      (timed_texts [] (answer_texts offered settings p.1 [])))
+      (enumerate_from b (map (λ script. client_with (text script)) scripts))
+      ≡ answers_waiting settings [] (λ client. []) b qs
   unfolding entries_in_text
   waiting-from settings b [] [] e = refl
   waiting-from settings b [] (q ∷ qs) e =
@@ -114,22 +118,22 @@ module _ {A : Type 0} (text : A → List ℕ) where
       absurd (omega (arith, one))
   waiting-from settings b (script ∷ scripts) (q ∷ qs) e =
       let own : answer_texts offered settings (client_with (text script)) []
-          ≡ answers_left settings [] [] (left_of q) =
+      ≡ answers_left settings [] [] (left_of q) =
       answered-left offered settings (client_with (text script)) []
-          ∙ ap (answers_left settings [] []) (sym (first-left script scripts q qs e)) in
+      ∙ ap (answers_left settings [] []) (sym (first-left script scripts q qs e)) in
       let others : List (List ℕ) =
-          flat_map (λ (p : ℕ × Client). map (for_client p.0)
-              (timed_texts [] (answer_texts offered settings p.1 [])))
-              (enumerate_from (b + 1) (map (λ script. client_with (text script)) scripts)) in
+      flat_map (λ (p : ℕ × Client). map (for_client p.0)
+      (timed_texts [] (answer_texts offered settings p.1 [])))
+      (enumerate_from (b + 1) (map (λ script. client_with (text script)) scripts)) in
       ap (λ (l : List (List ℕ)). map (for_client b) (timed_texts [] l) ++ others) own
       ∙ ap (λ (r : List (List ℕ)). map (for_client b)
-          (timed_texts [] (answers_left settings [] [] (left_of q))) ++ r)
-          (waiting-from settings (b + 1) scripts qs (ap (λ (l : List (List Entry)). drop 1 l) e))
+      (timed_texts [] (answers_left settings [] [] (left_of q))) ++ r)
+      (waiting-from settings (b + 1) scripts qs (ap (λ (l : List (List Entry)). drop 1 l) e))
 
   pub waiting-open : (settings : Settings) (scripts : List A) (qs : List Queue)
       → map left_of qs ≡ map (λ script. entries_of offered (client_with (text script))) scripts
       → answer_lines offered settings (map (λ script. client_with (text script)) scripts) []
-          ≡ answers_waiting settings [] (λ client. []) 1 qs
+      ≡ answers_waiting settings [] (λ client. []) 1 qs
   unfolding answer_lines for_each_client
   waiting-open settings scripts qs e = waiting-from settings 1 scripts qs e
 
@@ -137,14 +141,14 @@ module _ {A : Type 0} (text : A → List ℕ) where
 
 ends-from : (time b : ℕ) (xs : List Sample) (clients : List Client) → length xs ≡ time
     → flat_map (λ (p : ℕ × Client). map (for_client p.0) (end_line xs ∷ []))
-        (enumerate_from b clients) ≡ ends time b (length clients)
+    (enumerate_from b clients) ≡ ends time b (length clients)
 ends-from time b xs [] now = refl
 ends-from time b xs (client ∷ clients) now =
     ap (λ (t : ℕ). for_client b (at_time t (codes "end")) ∷ flat_map
-        (λ (p : ℕ × Client). map (for_client p.0) (end_line xs ∷ []))
-        (enumerate_from (b + 1) clients)) now
+    (λ (p : ℕ × Client). map (for_client p.0) (end_line xs ∷ []))
+    (enumerate_from (b + 1) clients)) now
     ∙ ap (λ (l : List (List ℕ)). for_client b (at_time time (codes "end")) ∷ l)
-        (ends-from time (b + 1) xs clients now)
+    (ends-from time (b + 1) xs clients now)
 
 pub ends-are : (time : ℕ) (xs : List Sample) (clients : List Client) → length xs ≡ time
     → end_lines xs clients ≡ ends time 1 (length clients)
@@ -153,8 +157,8 @@ ends-are time xs clients now = ends-from time 1 xs clients now
 
 pub ends-next : (time k n : ℕ) → k < n
     → as_bytes (ends time (k + 1) (n - k))
-        ≡ ended_line (for_client (k + 1) (at_time time (codes "end")))
-            ++ as_bytes (ends time (k + 1 + 1) (n - (k + 1)))
+    ≡ ended_line (for_client (k + 1) (at_time time (codes "end")))
+    ++ as_bytes (ends time (k + 1 + 1) (n - (k + 1)))
 unfolding as_bytes
 ends-next time k n h =
     let e : n - k ≡ suc (n - (k + 1)) = omega (arith, h) in

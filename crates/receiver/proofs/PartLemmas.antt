@@ -10,9 +10,14 @@ use Rattle.receiver.specs.Texts.{AppendsPart}
 
 pub part-longer : (a b : Option (List ℕ)) (text rest whole : List ℕ) → whole ≡ text ++ rest
     → AppendsPart a b text → AppendsPart a b whole
-part-longer a b text rest whole e p =
-    (p.0 ++ rest, record { written = (p.1).written; appended = (p.1).appended;
-        whole = e ∙ ap (λ r. r ++ rest) (p.1).whole ∙ append_assoc (p.1).written p.0 rest })
+part-longer a b text rest whole e p = (
+  p.0 ++ rest,
+  record {
+    written = (p.1).written;
+    appended = (p.1).appended;
+    whole = e ∙ ap (λ r. r ++ rest) (p.1).whole ∙ append_assoc (p.1).written p.0 rest;
+  },
+)
 
 pub body-part-longer : (settings : Settings) (clients : List Client) (a b : Option (List ℕ))
     (xs ys all : List Sample) → xs ++ ys ≡ all → AppendsPart a b (body offered settings xs clients)
@@ -20,4 +25,4 @@ pub body-part-longer : (settings : Settings) (clients : List Client) (a b : Opti
 body-part-longer settings clients a b xs ys all e p =
     let longer = body-append offered settings clients xs ys in
     part-longer a b (body offered settings xs clients) longer.0 (body offered settings all clients)
-        (ap (λ r. body offered settings r clients) (sym e) ∙ longer.1) p
+    (ap (λ r. body offered settings r clients) (sym e) ∙ longer.1) p

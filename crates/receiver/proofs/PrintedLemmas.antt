@@ -29,11 +29,11 @@ module _ (settings : Settings) (clients : List Client) (limit : ℕ) (session : 
   -- what holds of each line of the text holds of each that was written
   each-line : (verb : List ℕ → Type 0) (kind : Event → Type 0)
       → ((i : ℕ) (line word : List ℕ)
-          → slice_get (lines_of
-              (full offered settings (samples_read settings limit r.read) clients)) i ≡ Some line
-          → verb_of line ≡ Some word → verb word
+      → slice_get (lines_of
+      (full offered settings (samples_read settings limit r.read) clients)) i ≡ Some line
+      → verb_of line ≡ Some word → verb word
       → (event : Event) × kind event
-          × IsLineOf offered settings clients (samples_read settings limit r.read) line event)
+      × IsLineOf offered settings clients (samples_read settings limit r.read) line event)
       → EachLine settings clients old new verb kind
   each-line verb kind law = record {
     read = r.read;
@@ -42,44 +42,47 @@ module _ (settings : Settings) (clients : List Client) (limit : ℕ) (session : 
     written = r.completes.written;
     each =
         λ i line word found verb_is is. let e =
-            law i line word found verb_is is in
-                (e.0, e.1, subst
-                    (λ (ys : List Sample). IsLineOf offered settings clients ys line e.0) all e.2);
+        law i line word found verb_is is in (
+          e.0,
+          e.1,
+          subst
+              (λ (ys : List Sample). IsLineOf offered settings clients ys line e.0) all e.2,
+        );
   }
 
   counts-are-sums : CountsAreSums settings clients old new
   counts-are-sums = each-line _ _ (λ i line word found verb_is is.
       let e =
-          counts-printed offered settings clients (samples_read settings limit r.read) line
-              ((i, found), verb_is ∙ ap (λ (w : List ℕ). Some w) is) in
+      counts-printed offered settings clients (samples_read settings limit r.read) line
+      ((i, found), verb_is ∙ ap (λ (w : List ℕ). Some w) is) in
       (count e.0, (e.0, refl), e.1))
 
   acquisitions-name-the-greatest : AcquisitionsNameTheGreatest settings clients old new
   acquisitions-name-the-greatest = each-line _ _ (λ i line word found verb_is is.
       let e =
-          acquisitions-printed offered settings clients (samples_read settings limit r.read) line
-              ((i, found), verb_is ∙ ap (λ (w : List ℕ). Some w) is) in
+      acquisitions-printed offered settings clients (samples_read settings limit r.read) line
+      ((i, found), verb_is ∙ ap (λ (w : List ℕ). Some w) is) in
       (acquired e.0 e.1, (e.0, e.1, refl), e.2))
 
   words-pass : WordsPass settings clients old new
   words-pass = each-line _ _ (λ i line word found verb_is is.
       let e =
-          words-printed offered settings clients (samples_read settings limit r.read) line
-              ((i, found), verb_is ∙ ap (λ (w : List ℕ). Some w) is) in
+      words-printed offered settings clients (samples_read settings limit r.read) line
+      ((i, found), verb_is ∙ ap (λ (w : List ℕ). Some w) is) in
       (subframe e.0, (e.0, refl), e.1))
 
   pages-pass : PagesPass settings clients old new
   pages-pass = each-line _ _ (λ i line word found verb_is is.
       let e =
-          pages-printed offered settings clients (samples_read settings limit r.read) line word is
-              ((i, found), verb_is) in
+      pages-printed offered settings clients (samples_read settings limit r.read) line word is
+      ((i, found), verb_is) in
       (reported e.0, (e.0, refl), e.1))
 
   almanacs-agree : AlmanacsAgree settings clients old new
   almanacs-agree = each-line _ _ (λ i line word found verb_is is.
       let e =
-          almanacs-printed offered settings clients (samples_read settings limit r.read) line
-              ((i, found), verb_is ∙ ap (λ (w : List ℕ). Some w) is) in
+      almanacs-printed offered settings clients (samples_read settings limit r.read) line
+      ((i, found), verb_is ∙ ap (λ (w : List ℕ). Some w) is) in
       (almanacs e.0, (e.0, refl), e.1))
 
   -- all that is shown by the lines, for eight clients at most

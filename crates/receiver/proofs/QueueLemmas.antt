@@ -59,9 +59,10 @@ none_at-both now (e ∷ done) left a b = (a.0, none_at-both now done left a.1 b)
 after-gap : (now n : ℕ) (left : List Entry) → 0 < n → n ≤ gap now left → AreByTime left
     → NoneBefore (now + n) left
 after-gap now n [] some h by_time = tt
-after-gap now n (e ∷ es) some h by_time =
-    (omega (arith, h, some),
-        none_before-less (now + n) e.time es (omega (arith, h, some)) by_time.0)
+after-gap now n (e ∷ es) some h by_time = (
+  omega (arith, h, some),
+  none_before-less (now + n) e.time es (omega (arith, h, some)) by_time.0,
+)
 
 module _ (settings : Settings) (client : Client) (xs : List Sample) (done left : List Entry)
     (q : IsQueue xs client done left) where
@@ -76,10 +77,14 @@ module _ (settings : Settings) (client : Client) (xs : List Sample) (done left :
       → IsQueue xs client (done ++ e ∷ []) rest
   one-answered e rest is h =
       let whole : done ++ left ≡ (done ++ e ∷ []) ++ rest =
-          ap (λ (l : List Entry). done ++ l) is ∙ sym (append_assoc done (e ∷ []) rest) in
+      ap (λ (l : List Entry). done ++ l) is ∙ sym (append_assoc done (e ∷ []) rest) in
       let come : NoneBefore (length xs) (e ∷ rest) = rw is at q.to_come in
-      record { slots = q.slots; all = q.all ∙ whole; past = past-one (length xs) done e h q.past;
-          to_come = come.1 }
+      record {
+        slots = q.slots;
+        all = q.all ∙ whole;
+        past = past-one (length xs) done e h q.past;
+        to_come = come.1;
+      }
 
   pub at-now : (e : Entry) (rest : List Entry) → left ≡ e ∷ rest → e.time ≤ length xs
       → e.time ≡ length xs
@@ -108,7 +113,7 @@ module _ (settings : Settings) (client : Client) (xs : List Sample) (done left :
         sym (answered-left offered settings client (xs ++ ys)
         ∙ ap (λ (es : List Entry). answers_left settings (xs ++ ys) [] es) q.all
         ∙ answers_left-past settings (xs ++ ys) [] done left
-            (none-past (length (xs ++ ys)) (length xs) done (omega (arith, both ys, some)) q.past))
+        (none-past (length (xs ++ ys)) (length xs) done (omega (arith, both ys, some)) q.past))
 
     -- and nothing is answered before
     pub none-before : (zs : List Sample) → 0 < length zs → length zs < length ys
@@ -118,8 +123,8 @@ module _ (settings : Settings) (client : Client) (xs : List Sample) (done left :
         answered-left offered settings client (xs ++ zs)
         ∙ ap (λ (es : List Entry). answers_left settings (xs ++ zs) [] es) q.all
         ∙ answers_left-none settings (xs ++ zs) [] (done ++ left)
-            (none_at-both n done left
-                (none-past n (length xs) done (omega (arith, both zs, more)) q.past)
+        (none_at-both n done left
+        (none-past n (length xs) done (omega (arith, both zs, more)) q.past)
         (none-after n (length xs + length ys) left (omega (arith, both zs, fewer)) to_come))
 
     -- the entries before each of the new times are those that were answered
@@ -128,11 +133,11 @@ module _ (settings : Settings) (client : Client) (xs : List Sample) (done left :
     before-each zs more within =
         let n : ℕ = length (xs ++ zs) in
         ap (entries_before n) q.all
-            ∙ kept n done (past-more (length xs) (n - 1) done (omega (arith, both zs, more)) q.past)
-                (omega (arith, both zs, more))
-            ∙ ap (λ (l : List Entry). done ++ l)
-                (dropped n left (none_before-less n (length xs + length ys) left
-                    (omega (arith, both zs, within)) to_come)) ∙ append-nil done
+        ∙ kept n done (past-more (length xs) (n - 1) done (omega (arith, both zs, more)) q.past)
+        (omega (arith, both zs, more))
+        ∙ ap (λ (l : List Entry). done ++ l)
+        (dropped n left (none_before-less n (length xs + length ys) left
+        (omega (arith, both zs, within)) to_come)) ∙ append-nil done
       where
         dropped : (n : ℕ) (es : List Entry) → NoneBefore n es → entries_before n es ≡ []
         dropped n [] all = refl

@@ -32,14 +32,14 @@ up_to-front : (packing : Packing) (front back : List ℕ) (limit : ℕ)
 up_to-front packing front back limit e =
     let n : limit ≡ length (samples packing front) = sym (samples-length packing front ∙ e) in
     rw (n, samples-append packing front back)
-        (take-append_seam (samples packing front) (samples packing back))
+    (take-append_seam (samples packing front) (samples packing back))
 
 -- what a read gave, up to the limit: all of it, or so many bytes that the limit is reached
 pub up_to-used : (packing : Packing) (before buffer : List ℕ) (n used limit : ℕ) → used ≤ n
     → n ≤ length buffer → sample_count packing before + samples_per_byte packing * used ≤ limit
     → (used < n → sample_count packing before + samples_per_byte packing * used ≡ limit)
     → take limit (samples packing (before ++ take n buffer))
-        ≡ samples packing before ++ samples packing (take used buffer)
+    ≡ samples packing before ++ samples packing (take used buffer)
 up_to-used packing before buffer n used limit le fits within reached =
     let len : length (take used buffer) ≡ used = length-take-le _ buffer (omega arith) in
     elim (cases_lt used n) [
@@ -48,26 +48,26 @@ up_to-used packing before buffer n used limit le fits within reached =
           let back : List ℕ = drop used (take n buffer) in
           let cut : before ++ take n buffer ≡ (before ++ take used buffer) ++ back =
           ap (λ r. before ++ r)
-              (sym (take-append-drop used (take n buffer)) ∙ ap (λ r. r ++ back) same)
-              ∙ sym (append_assoc before (take used buffer) back) in
+          (sym (take-append-drop used (take n buffer)) ∙ ap (λ r. r ++ back) same)
+          ∙ sym (append_assoc before (take used buffer) back) in
           let count : sample_count packing (before ++ take used buffer) ≡ limit =
           sample_count-append packing before (take used buffer)
-              ∙ ap (λ k. sample_count packing before + k)
-                  (count_of packing (take used buffer) used len) ∙ reached below in
+          ∙ ap (λ k. sample_count packing before + k)
+          (count_of packing (take used buffer) used len) ∙ reached below in
           ap (λ r. take limit (samples packing r)) cut
-              ∙ up_to-front packing (before ++ take used buffer) back limit count
-              ∙ samples-append packing before (take used buffer)
+          ∙ up_to-front packing (before ++ take used buffer) back limit count
+          ∙ samples-append packing before (take used buffer)
       | inr above ↦
           let same : used ≡ n = omega (arith, above, le) in
           let count : length (samples packing (before ++ take used buffer)) ≤ limit =
           subst (λ k. k ≤ limit)
-              (sym (samples-length packing (before ++ take used buffer)
-                  ∙ sample_count-append packing before (take used buffer)
-                  ∙ ap (λ k. sample_count packing before + k)
-                      (count_of packing (take used buffer) used len))) within in
+          (sym (samples-length packing (before ++ take used buffer)
+          ∙ sample_count-append packing before (take used buffer)
+          ∙ ap (λ k. sample_count packing before + k)
+          (count_of packing (take used buffer) used len))) within in
           ap (λ k. take limit (samples packing (before ++ take k buffer))) (sym same)
-              ∙ up_to-all (samples packing (before ++ take used buffer)) limit count
-              ∙ samples-append packing before (take used buffer)
+          ∙ up_to-all (samples packing (before ++ take used buffer)) limit count
+          ∙ samples-append packing before (take used buffer)
     ]
 
 -- more than the limit came
@@ -77,10 +77,10 @@ pub beyond-limit : (packing : Packing) (before buffer : List ℕ) (n used limit 
 beyond-limit packing before buffer n used limit below fits e =
     let len : length (take n buffer) ≡ n = length-take-le _ buffer (omega arith) in
     let count : length (samples packing (before ++ take n buffer))
-        ≡ sample_count packing before + samples_per_byte packing * n =
+    ≡ sample_count packing before + samples_per_byte packing * n =
     samples-length packing (before ++ take n buffer)
-        ∙ sample_count-append packing before (take n buffer)
-        ∙ ap (λ k. sample_count packing before + k) (count_of packing (take n buffer) n len) in
+    ∙ sample_count-append packing before (take n buffer)
+    ∙ ap (λ k. sample_count packing before + k) (count_of packing (take n buffer) n len) in
     rw count (more packing e)
   where
     more : (p : Packing) → sample_count p before + samples_per_byte p * used ≡ limit
@@ -105,7 +105,7 @@ uses packing before n used limit time per e whole t within u =
     let v : used ≡ min n room = u ∙ ap (λ k. min n ((limit - k) / per)) t in
     let le : sample_count packing before ≤ limit = subst (λ k. k ≤ limit) t within in
     let fits : sample_count packing before + samples_per_byte packing * room ≡ limit =
-        room-fits packing (length before) limit room per e whole le refl in
+    room-fits packing (length before) limit room per e whole le refl in
     let shorter : used ≤ room = omega (arith, v) in
     record {
       at_most = omega (arith, v);

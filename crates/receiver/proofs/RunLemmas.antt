@@ -36,7 +36,7 @@ pub opened : (settings : Settings) (clients : List Client) (session answered : S
     → IsOpen settings clients session
     → Appends (promised start none) (promised contents later)
     (as_bytes (answer_lines offered settings clients []))
-        × StandsFor settings clients answered [] []
+    × StandsFor settings clients answered [] []
     → IsWrittenTo settings clients start answered (promised contents later) []
 unfolding body
 opened settings clients session answered start contents none later empty open_is p = record {
@@ -62,8 +62,10 @@ pub written-kept : (settings : Settings) (clients : List Client) (start : Option
     → IsWrittenTo settings clients start session b xs → Keeps b c
     → IsWrittenTo settings clients start session c xs
 written-kept settings clients start session b c xs at k =
-    record { stands = at.stands;
-        written = Appends-kept start b c (body offered settings xs clients) at.written k }
+    record {
+      stands = at.stands;
+      written = Appends-kept start b c (body offered settings xs clients) at.written k;
+    }
 
 -- what was written stays through the flush
 pub flushed-part : (settings : Settings) (clients : List Client) (xs : List Sample)
@@ -106,7 +108,7 @@ served-alone settings clients limit session old new r few = record {
   written = r.completes.written;
   alone = λ k client found.
       client-alone offered settings (samples_read settings limit r.read) clients k client found
-          (omega (arith, few))
+      (omega (arith, few))
       ∙ ap (λ (xs : List Sample). alone_to_end offered settings xs client)
-          (take_all limit (samples settings.packing r.read) r.completes.why.1);
+      (take_all limit (samples settings.packing r.read) r.completes.why.1);
 }

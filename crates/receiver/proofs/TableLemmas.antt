@@ -38,7 +38,7 @@ use Rattle.receiver.specs.Runs.{WriterTells, answer_of, task_of, samples_read, t
 
 four-each : (scripts : List (List ℕ))
     → map (λ (p : ℕ × List ℕ). record { slots = p.0; script = p.1 })
-        (zip (replicate (length scripts) 4) scripts) ≡ map client_with scripts
+    (zip (replicate (length scripts) 4) scripts) ≡ map client_with scripts
 four-each [] = refl
 four-each (script ∷ scripts) = ap (λ (l : List Client). client_with script ∷ l) (four-each scripts)
 
@@ -58,22 +58,24 @@ same-clients text settings handed limit =
 opens : {A : Type 0} (text : A → List ℕ) (settings : Settings) (handed : List A) (limit : ℕ)
     (session : Session)
     → StandsFor settings (map (λ a. client_with (text a)) handed) session []
-        (answer_lines offered settings (map (λ a. client_with (text a)) handed) [])
+    (answer_lines offered settings (map (λ a. client_with (text a)) handed) [])
     → IsOpen settings (clients_of (task_of settings (map text handed) limit)) session
 opens text settings handed limit session stands =
     subst (λ (l : List Client). IsOpen settings l session)
-        (sym (same-clients text settings handed limit))
-        (record { stands = stands;
-            first = first-lines settings (map (λ a. client_with (text a)) handed) })
+    (sym (same-clients text settings handed limit))
+    (record {
+      stands = stands;
+      first = first-lines settings (map (λ a. client_with (text a)) handed);
+    })
 
 -- and a run of it
 pub ran-them : {A : Type 0} (text : A → List ℕ) (settings : Settings) (handed : List A) (limit : ℕ)
     (session : Session) (old new : Devices) (stop : Stop)
     → Ran settings (clients_of (task_of settings (map text handed) limit)) limit session old new
-        stop → Ran settings (map (λ a. client_with (text a)) handed) limit session old new stop
+    stop → Ran settings (map (λ a. client_with (text a)) handed) limit session old new stop
 ran-them text settings handed limit session old new stop r =
     subst (λ (l : List Client). Ran settings l limit session old new stop)
-        (same-clients text settings handed limit) r
+    (same-clients text settings handed limit) r
 
 all-shares : (n : ℕ) → list_all is_share (replicate n 4) ≡ true
 all-shares zero = refl
@@ -100,14 +102,14 @@ are-right settings scripts limit right =
       | inr le ↦ le-leb (length scripts) 8 le
     ] in
     let as_many : nat_eq (length (replicate {A = ℕ} (length scripts) 4)) (length scripts) ≡ true =
-        eq-eqb _ (length scripts) (length-replicate {A = ℕ} (length scripts) 4) in
+    eq-eqb _ (length scripts) (length-replicate {A = ℕ} (length scripts) 4) in
     (rw (some, few) refl, rw (as_many, all-shares (length scripts)) refl)
 
 right-scripts : {A : Type 0} (text : A → List ℕ) (settings : Settings) (handed : List A) (limit : ℕ)
     → (AreWrong (length handed) → ⊥) → AreRight (task_of settings (map text handed) limit)
 right-scripts text settings handed limit right =
     are-right settings (map text handed) limit
-        (λ w. right (subst AreWrong (length-map handed text) w))
+    (λ w. right (subst AreWrong (length-map handed text) w))
 
 -- ---- the text that is due
 
@@ -117,31 +119,31 @@ same-either false text = refl
 
 due-unfinished : (task : Task) (read : List ℕ)
     → due_text task (record { bytes = read; end = defined.unfinished })
-        ≡ body_text task (record { bytes = read; end = defined.unfinished })
+    ≡ body_text task (record { bytes = read; end = defined.unfinished })
 due-unfinished task read =
     same-either (nat_lt task.limit (sample_count task.settings.packing read))
-        (body_text task (record { bytes = read; end = defined.unfinished }))
+    (body_text task (record { bytes = read; end = defined.unfinished }))
 
 due-failed : (task : Task) (read : List ℕ)
     → due_text task (record { bytes = read; end = defined.failed })
-        ≡ body_text task (record { bytes = read; end = defined.failed })
+    ≡ body_text task (record { bytes = read; end = defined.failed })
 due-failed task read =
     same-either (nat_lt task.limit (sample_count task.settings.packing read))
-        (body_text task (record { bytes = read; end = defined.failed }))
+    (body_text task (record { bytes = read; end = defined.failed }))
 
 within : (settings : Settings) (limit : ℕ) (read : List ℕ)
     → length (samples settings.packing read) ≤ limit
     → nat_lt limit (sample_count settings.packing read) ≡ false
 within settings limit read le =
     le-ltb limit (sample_count settings.packing read)
-        (subst (λ n. n ≤ limit) (samples-length settings.packing read) le)
+    (subst (λ n. n ≤ limit) (samples-length settings.packing read) le)
 
 beyond : (settings : Settings) (limit : ℕ) (read : List ℕ)
     → limit < length (samples settings.packing read)
     → nat_lt limit (sample_count settings.packing read) ≡ true
 beyond settings limit read more =
     lt-ltb limit (sample_count settings.packing read)
-        (subst (λ n. limit < n) (samples-length settings.packing read) more)
+    (subst (λ n. limit < n) (samples-length settings.packing read) more)
 
 module _ (settings : Settings) (scripts : List (List ℕ)) (limit : ℕ) where
   task : Task
@@ -152,8 +154,8 @@ module _ (settings : Settings) (scripts : List (List ℕ)) (limit : ℕ) where
       → Consumes old.remaining new.remaining read → new.read_failed ≡ old.read_failed
       → new.write_failed ≡ true
       → AppendsPart old.contents new.contents
-          (body offered settings (samples_read settings limit read)
-              (clients_of (task_of settings scripts limit)))
+      (body offered settings (samples_read settings limit read)
+      (clients_of (task_of settings scripts limit)))
       → BrokeOff (task_of settings scripts limit) old new
   unfolding taken_samples task
   breaks-in-body read old new consumed same failed p = record {
@@ -168,10 +170,10 @@ module _ (settings : Settings) (scripts : List (List ℕ)) (limit : ℕ) where
   pub breaks-in-end : (read : List ℕ) (old new : Devices) (stop : Stop)
       → Consumes old.remaining new.remaining read → new.write_failed ≡ true
       → StopsFor limit (length (samples settings.packing read)) old.read_failed new.read_failed
-          new.remaining stop
+      new.remaining stop
       → AppendsPart old.contents new.contents
-          (text_for stop settings (samples_read settings limit read)
-              (clients_of (task_of settings scripts limit)))
+      (text_for stop settings (samples_read settings limit read)
+      (clients_of (task_of settings scripts limit)))
       → BrokeOff (task_of settings scripts limit) old new
   unfolding taken_samples task
   breaks-in-end read old new PastLimit consumed broke why p =
@@ -287,9 +289,10 @@ pub without-clients : {A : Type 0} (text : A → List ℕ) (settings : Settings)
     → IsRun (task_of settings (map text handed) limit) old old (Err Clients)
 unfolding IsAnswer
 without-clients text settings handed limit old wrong =
-    refused (task_of settings (map text handed) limit) old (Err Clients) refl
-    (are-wrong (map text handed) (subst AreWrong (sym (length-map handed text)) wrong),
-    (refl, refl, refl))
+    refused (task_of settings (map text handed) limit) old (Err Clients) refl (
+      are-wrong (map text handed) (subst AreWrong (sym (length-map handed text)) wrong),
+      (refl, refl, refl),
+    )
 
 -- what opening a session for them gives
 pub record IsOpened {A : Type 0} (text : A → List ℕ) (settings : Settings) (handed : List A)

@@ -27,25 +27,25 @@ pub record EachLine (settings : Settings) (clients : List Client) (old new : Dev
   pub each : (i : ℕ) (line word : List ℕ) → slice_get (lines_of text) i ≡ Some line
       → verb_of line ≡ Some word → verb word
       → (event : Event) × kind event
-          × IsLineOf offered settings clients (samples settings.packing read) line event
+      × IsLineOf offered settings clients (samples settings.packing read) line event
 
 -- Each count is that of a dump: the six plain sums over its samples.
 abbrev pub CountsAreSums : Settings → List Client → Devices → Devices → Type 0
 CountsAreSums settings clients old new =
     EachLine settings clients old new (λ word. word ≡ codes "count")
-        (λ event. (c : Counts) × (event ≡ count c))
+    (λ event. (c : Counts) × (event ≡ count c))
 
 -- Each acquisition names the first greatest cell of its plan over its dwell.
 abbrev pub AcquisitionsNameTheGreatest : Settings → List Client → Devices → Devices → Type 0
 AcquisitionsNameTheGreatest settings clients old new =
     EachLine settings clients old new (λ word. word ≡ codes "acq")
-        (λ event. (prn : ℕ) × (cell : Cell) × (event ≡ acquired prn cell))
+    (λ event. (prn : ℕ) × (cell : Cell) × (event ≡ acquired prn cell))
 
 -- Each word of a subframe that is shown passes with the two bits before it.
 abbrev pub WordsPass : Settings → List Client → Devices → Devices → Type 0
 WordsPass settings clients old new =
     EachLine settings clients old new (λ word. word ≡ codes "sub")
-        (λ event. (s : Subframe) × (event ≡ subframe s))
+    (λ event. (s : Subframe) × (event ≡ subframe s))
 
 -- Each page and each set of pages comes from words that all pass.
 abbrev pub PagesPass : Settings → List Client → Devices → Devices → Type 0
@@ -55,7 +55,7 @@ PagesPass settings clients old new =
 abbrev pub AlmanacsAgree : Settings → List Client → Devices → Devices → Type 0
 AlmanacsAgree settings clients old new =
     EachLine settings clients old new (λ word. word ≡ codes "als")
-        (λ event. (set : AlmanacSet) × (event ≡ almanacs set))
+    (λ event. (set : AlmanacSet) × (event ≡ almanacs set))
 
 -- What is shown by the lines of a run that came to its end: each client's are those of a receiver
 -- with that client alone, and what each line names is right.

@@ -42,4 +42,4 @@ TakesDue now b [] new due = ⊥
 TakesDue now b (q ∷ qs) [] due = ⊥
 TakesDue now b (q ∷ qs) (r ∷ rs) due =
     ((due.client ≡ b) × IsTaken now q r due × (rs ≡ qs))
-        ⊎ (NoneDue now (left_of q) × (r ≡ q) × TakesDue now (b + 1) qs rs due)
+    ⊎ (NoneDue now (left_of q) × (r ≡ q) × TakesDue now (b + 1) qs rs due)

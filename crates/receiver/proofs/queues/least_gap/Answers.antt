@@ -13,9 +13,9 @@ loop-queue-init c =
 pub returns : goal.returns
 returns c =
     let none : drop c.loop-queue.queue-index c.args.queues.now ≡ [] =
-        drop_all c.loop-queue.queue-index c.args.queues.now c.loop-queue-test.false in
+    drop_all c.loop-queue.queue-index c.args.queues.now c.loop-queue-test.false in
     let last : min c.loop-queue.least
-        (least_gap_of c.args.now (drop c.loop-queue.queue-index c.args.queues.now))
-        ≡ min c.loop-queue.least 18446744073709551615 =
-            ap (λ (l : List Queue). min c.loop-queue.least (least_gap_of c.args.now l)) none in
+    (least_gap_of c.args.now (drop c.loop-queue.queue-index c.args.queues.now))
+    ≡ min c.loop-queue.least 18446744073709551615 =
+    ap (λ (l : List Queue). min c.loop-queue.least (least_gap_of c.args.now l)) none in
     omega (arith, last, c.loop-queue.invariant.rest, c.loop-queue.invariant.small)

@@ -32,36 +32,36 @@ returns-in_err-take_piece-clause-broken g c =
     let used = c.min-used.result in
     let same = (ap (λ (r : Settings). r.packing) at.stands.bank.recorded) in
     let u : Uses settings.packing was.0 n used c.args.limit =
-        uses settings.packing was.0 n used c.args.limit (time_of c.loop-reader.session)
-            c.per_byte-per_byte.result
+    uses settings.packing was.0 n used c.args.limit (time_of c.loop-reader.session)
+    c.per_byte-per_byte.result
     (c.per_byte-per_byte.ensures
-        ∙ ap (λ (p : Packing). samples_per_byte p) (c.format-format.ensures ∙ same))
-        c.requires.whole (was.2 ∙ ap (λ (p : Packing). sample_count p was.0) same)
-        c.loop-reader.invariant.within
+    ∙ ap (λ (p : Packing). samples_per_byte p) (c.format-format.ensures ∙ same))
+    c.requires.whole (was.2 ∙ ap (λ (p : Packing). sample_count p was.0) same)
+    c.loop-reader.invariant.within
     (c.min-used.ensures
-        ∙ ap (λ t. min n ((c.args.limit - t) / c.per_byte-per_byte.result)) c.time.ensures) in
+    ∙ ap (λ t. min n ((c.args.limit - t) / c.per_byte-per_byte.result)) c.time.ensures) in
     let is : c.new-piece.result ≡ samples settings.packing (take used buffer) =
-        c.new-piece.ensures.samples
-            ∙ ap (λ (p : Packing). samples p (take used buffer)) (c.format-format.ensures ∙ same) in
+    c.new-piece.ensures.samples
+    ∙ ap (λ (p : Packing). samples p (take used buffer)) (c.format-format.ensures ∙ same) in
     let Q : List Sample → Type 0 =
-        λ ys. AppendsPart start
-            (promised (s.contents c.take_piece.new.writer) c.take_piece.new.text)
-            (body offered settings ys clients) in
+    λ ys. AppendsPart start
+    (promised (s.contents c.take_piece.new.writer) c.take_piece.new.text)
+    (body offered settings ys clients) in
     record {
       read = was.0 ++ take n buffer;
       consumed =
           Consumes-trans (r.remaining c.args.reader.now) (r.remaining c.loop-reader.reader)
-              (r.remaining c.read.new.self) was.0 (take n buffer) was.1 c.in-Ok.ensures.bytes.0;
+          (r.remaining c.read.new.self) was.0 (take n buffer) was.1 c.in-Ok.ensures.bytes.0;
       read_failed = c.in-Ok.ensures.failure ∙ c.loop-reader.invariant.read_failed;
       written =
           subst Q (ap (λ (l : List Sample). samples settings.packing was.0 ++ l) is
-              ∙ sym (up_to-used settings.packing was.0 buffer n used c.args.limit u.at_most
-                  c.in-Ok.ensures.bound.0 u.within u.reached))
-              (c.in_err-take_piece.ensures.err settings clients start
-                  (samples settings.packing was.0)
-                  (written-kept settings clients start c.loop-reader.session
-                      _ _ (samples settings.packing was.0) (was.3 settings clients start at)
-                      c.send.ensures.same));
+          ∙ sym (up_to-used settings.packing was.0 buffer n used c.args.limit u.at_most
+          c.in-Ok.ensures.bound.0 u.within u.reached))
+          (c.in_err-take_piece.ensures.err settings clients start
+          (samples settings.packing was.0)
+          (written-kept settings clients start c.loop-reader.session
+          _ _ (samples settings.packing was.0) (was.3 settings clients start at)
+          c.send.ensures.same));
     })
 
 pub returns-then-used-count-clause-read : goal.returns-then-used-count-clause-read
@@ -73,37 +73,39 @@ returns-then-used-count-clause-read g c =
     let used = c.min-used.result in
     let same = (ap (λ (r : Settings). r.packing) at.stands.bank.recorded) in
     let u : Uses settings.packing was.0 n used c.args.limit =
-        uses settings.packing was.0 n used c.args.limit (time_of c.loop-reader.session)
-            c.per_byte-per_byte.result
+    uses settings.packing was.0 n used c.args.limit (time_of c.loop-reader.session)
+    c.per_byte-per_byte.result
     (c.per_byte-per_byte.ensures
-        ∙ ap (λ (p : Packing). samples_per_byte p) (c.format-format.ensures ∙ same))
-        c.requires.whole (was.2 ∙ ap (λ (p : Packing). sample_count p was.0) same)
-        c.loop-reader.invariant.within
+    ∙ ap (λ (p : Packing). samples_per_byte p) (c.format-format.ensures ∙ same))
+    c.requires.whole (was.2 ∙ ap (λ (p : Packing). sample_count p was.0) same)
+    c.loop-reader.invariant.within
     (c.min-used.ensures
-        ∙ ap (λ t. min n ((c.args.limit - t) / c.per_byte-per_byte.result)) c.time.ensures) in
+    ∙ ap (λ t. min n ((c.args.limit - t) / c.per_byte-per_byte.result)) c.time.ensures) in
     let is : c.new-piece.result ≡ samples settings.packing (take used buffer) =
-        c.new-piece.ensures.samples
-            ∙ ap (λ (p : Packing). samples p (take used buffer)) (c.format-format.ensures ∙ same) in
+    c.new-piece.ensures.samples
+    ∙ ap (λ (p : Packing). samples p (take used buffer)) (c.format-format.ensures ∙ same) in
     let Q : List Sample → Type 0 =
-        λ ys. IsWrittenTo settings clients start c.take_piece.new.session
-            (promised (s.contents c.take_piece.new.writer) c.take_piece.new.text) ys in
+    λ ys. IsWrittenTo settings clients start c.take_piece.new.session
+    (promised (s.contents c.take_piece.new.writer) c.take_piece.new.text) ys in
     record {
       read = was.0 ++ take n buffer;
       consumed =
           Consumes-trans (r.remaining c.args.reader.now) (r.remaining c.loop-reader.reader)
-              (r.remaining c.read.new.self) was.0 (take n buffer) was.1 c.in-Ok.ensures.bytes.0;
-      why =
-          (beyond-limit settings.packing was.0 buffer n used c.args.limit c.if-used-count.true
-              c.in-Ok.ensures.bound.0 (u.reached c.if-used-count.true), c.in-Ok.ensures.failure
-              ∙ c.loop-reader.invariant.read_failed);
+          (r.remaining c.read.new.self) was.0 (take n buffer) was.1 c.in-Ok.ensures.bytes.0;
+      why = (
+        beyond-limit settings.packing was.0 buffer n used c.args.limit c.if-used-count.true
+            c.in-Ok.ensures.bound.0 (u.reached c.if-used-count.true),
+        c.in-Ok.ensures.failure
+            ∙ c.loop-reader.invariant.read_failed,
+      );
       at =
           subst Q (ap (λ (l : List Sample). samples settings.packing was.0 ++ l) is
-              ∙ sym (up_to-used settings.packing was.0 buffer n used c.args.limit u.at_most
-                  c.in-Ok.ensures.bound.0 u.within u.reached))
-              (c.in_ok-take_piece.ensures.ok settings clients start (samples settings.packing was.0)
-                  (written-kept settings clients start c.loop-reader.session
-                      _ _ (samples settings.packing was.0) (was.3 settings clients start at)
-                      c.send.ensures.same));
+          ∙ sym (up_to-used settings.packing was.0 buffer n used c.args.limit u.at_most
+          c.in-Ok.ensures.bound.0 u.within u.reached))
+          (c.in_ok-take_piece.ensures.ok settings clients start (samples settings.packing was.0)
+          (written-kept settings clients start c.loop-reader.session
+          _ _ (samples settings.packing was.0) (was.3 settings clients start at)
+          c.send.ensures.same));
     }
 
 pub loop-reader-preserved : goal.loop-reader-preserved
@@ -116,42 +118,42 @@ loop-reader-preserved g c =
     let used = c.min-used.result in
     let packing : Packing = packing_in c.args.session.now in
     let u : Uses packing was.0 n used c.args.limit =
-        uses packing was.0 n used c.args.limit (time_of c.loop-reader.session)
-            c.per_byte-per_byte.result
+    uses packing was.0 n used c.args.limit (time_of c.loop-reader.session)
+    c.per_byte-per_byte.result
     (c.per_byte-per_byte.ensures ∙ ap (λ (p : Packing). samples_per_byte p) c.format-format.ensures)
-        c.requires.whole was.2 i.within
+    c.requires.whole was.2 i.within
     (c.min-used.ensures
-        ∙ ap (λ t. min n ((c.args.limit - t) / c.per_byte-per_byte.result)) c.time.ensures) in
+    ∙ ap (λ t. min n ((c.args.limit - t) / c.per_byte-per_byte.result)) c.time.ensures) in
     let all : used ≡ n = omega (arith, u.at_most, c.if-used-count.false) in
     let piece : List ℕ = take used buffer in
     let len : length piece ≡ used =
-        length-take-le used buffer
-            (subst (λ k. k ≤ length buffer) (sym all) c.in-Ok.ensures.bound.0) in
+    length-take-le used buffer
+    (subst (λ k. k ≤ length buffer) (sym all) c.in-Ok.ensures.bound.0) in
     let many : length c.new-piece.result ≡ sample_count packing piece =
     c.new-piece.ensures.count
-        ∙ ap (λ (p : Packing). sample_count p piece) c.format-format.ensures in
+    ∙ ap (λ (p : Packing). sample_count p piece) c.format-format.ensures in
     let time : time_of c.take_piece.new.session
-        ≡ sample_count packing was.0 + sample_count packing piece =
+    ≡ sample_count packing was.0 + sample_count packing piece =
     e.time ∙ ap (λ k. time_of c.loop-reader.session + k) many
-        ∙ ap (λ t. t + sample_count packing piece) was.2 in
+    ∙ ap (λ t. t + sample_count packing piece) was.2 in
     record {
       empty = e.empty;
       format = e.packing ∙ i.format;
       ready = e.ready;
       within =
           subst (λ k. k ≤ c.args.limit)
-              (sym (time ∙ ap (λ k. sample_count packing was.0 + k)
-                  (count_of packing piece used len))) u.within;
+          (sym (time ∙ ap (λ k. sample_count packing was.0 + k)
+          (count_of packing piece used len))) u.within;
       read_failed = c.in-Ok.ensures.failure ∙ i.read_failed;
       asked_again =
           λ sound. c.in-Ok.ensures.again
-              ∙ ap₂ (λ again failed. again || failed) (i.asked_again sound) (i.read_failed ∙ sound)
-              ∙ or-false _;
+          ∙ ap₂ (λ again failed. again || failed) (i.asked_again sound) (i.read_failed ∙ sound)
+          ∙ or-false _;
       grows =
           grows-on (s.contents c.args.writer.now) (s.contents c.send.new.writer)
-              (s.contents c.take_piece.new.writer)
+          (s.contents c.take_piece.new.writer)
           (grows-on (s.contents c.args.writer.now) (s.contents c.loop-reader.writer)
-              (s.contents c.send.new.writer) i.grows c.send.ensures.grows) e.grows;
+          (s.contents c.send.new.writer) i.grows c.send.ensures.grows) e.grows;
       write_failed = e.failure ∙ c.in_ok-send.ensures.failure ∙ i.write_failed;
       read = (
         was.0 ++ take n buffer,
@@ -162,18 +164,18 @@ loop-reader-preserved g c =
         λ settings clients start at.
             let same = ap (λ (r : Settings). r.packing) at.stands.bank.recorded in
             let is : c.new-piece.result ≡ samples settings.packing piece =
-                c.new-piece.ensures.samples
-                    ∙ ap (λ (p : Packing). samples p piece) (c.format-format.ensures ∙ same) in
+            c.new-piece.ensures.samples
+            ∙ ap (λ (p : Packing). samples p piece) (c.format-format.ensures ∙ same) in
             let Q : List Sample → Type 0 =
-                λ ys. IsWrittenTo settings clients start c.take_piece.new.session
-                    (promised (s.contents c.take_piece.new.writer) c.take_piece.new.text) ys in
+            λ ys. IsWrittenTo settings clients start c.take_piece.new.session
+            (promised (s.contents c.take_piece.new.writer) c.take_piece.new.text) ys in
             subst Q (ap (λ (l : List Sample). samples settings.packing was.0 ++ l) is
-                ∙ sym (samples-append settings.packing was.0 piece)
-                ∙ ap (λ k. samples settings.packing (was.0 ++ take k buffer)) all)
-                (e.ok settings clients start (samples settings.packing was.0)
-                    (written-kept settings clients start c.loop-reader.session
-                        _ _ (samples settings.packing was.0) (was.3 settings clients start at)
-                        c.send.ensures.same)),
+            ∙ sym (samples-append settings.packing was.0 piece)
+            ∙ ap (λ k. samples settings.packing (was.0 ++ take k buffer)) all)
+            (e.ok settings clients start (samples settings.packing was.0)
+            (written-kept settings clients start c.loop-reader.session
+            _ _ (samples settings.packing was.0) (was.3 settings clients start at)
+            c.send.ensures.same)),
       );
     }
 
@@ -187,42 +189,45 @@ loop-reader-init g c = record {
   asked_again = λ sound. refl;
   grows = grows-none (g.W.Sink.contents c.args.writer.now);
   write_failed = refl;
-  read =
-      ([], Consumes-nil (g.R.Source.remaining c.args.reader.now), c.requires.start
-          ∙ none_counted (packing_in c.args.session.now),
-          λ settings clients start at. rw (samples-nil settings.packing) at);
+  read = (
+    [],
+    Consumes-nil (g.R.Source.remaining c.args.reader.now),
+    c.requires.start
+        ∙ none_counted (packing_in c.args.session.now),
+    λ settings clients start at. rw (samples-nil settings.packing) at,
+  );
 }
 
 pub returns-in_err-send-clause-grows : goal.returns-in_err-send-clause-grows
 returns-in_err-send-clause-grows g c = let s = g.W.Sink in
     grows-on (s.contents c.args.writer.now) (s.contents c.loop-reader.writer)
-        (s.contents c.send.new.writer) c.loop-reader.invariant.grows c.send.ensures.grows
+    (s.contents c.send.new.writer) c.loop-reader.invariant.grows c.send.ensures.grows
 
 pub returns-in_default-clause-grows : goal.returns-in_default-clause-grows
 returns-in_default-clause-grows g c = let s = g.W.Sink in
     grows-on (s.contents c.args.writer.now) (s.contents c.loop-reader.writer)
-        (s.contents c.send.new.writer) c.loop-reader.invariant.grows c.send.ensures.grows
+    (s.contents c.send.new.writer) c.loop-reader.invariant.grows c.send.ensures.grows
 
 pub returns-then-count-eq0-clause-grows : goal.returns-then-count-eq0-clause-grows
 returns-then-count-eq0-clause-grows g c = let s = g.W.Sink in
     grows-on (s.contents c.args.writer.now) (s.contents c.loop-reader.writer)
-        (s.contents c.send.new.writer) c.loop-reader.invariant.grows c.send.ensures.grows
+    (s.contents c.send.new.writer) c.loop-reader.invariant.grows c.send.ensures.grows
 
 pub returns-in_err-take_piece-clause-grows : goal.returns-in_err-take_piece-clause-grows
 returns-in_err-take_piece-clause-grows g c = let s = g.W.Sink in
     grows-on (s.contents c.args.writer.now) (s.contents c.send.new.writer)
-        (s.contents c.take_piece.new.writer)
+    (s.contents c.take_piece.new.writer)
     (grows-on (s.contents c.args.writer.now) (s.contents c.loop-reader.writer)
-        (s.contents c.send.new.writer) c.loop-reader.invariant.grows c.send.ensures.grows)
-        c.take_piece.ensures.grows
+    (s.contents c.send.new.writer) c.loop-reader.invariant.grows c.send.ensures.grows)
+    c.take_piece.ensures.grows
 
 pub returns-then-used-count-clause-grows : goal.returns-then-used-count-clause-grows
 returns-then-used-count-clause-grows g c = let s = g.W.Sink in
     grows-on (s.contents c.args.writer.now) (s.contents c.send.new.writer)
-        (s.contents c.take_piece.new.writer)
+    (s.contents c.take_piece.new.writer)
     (grows-on (s.contents c.args.writer.now) (s.contents c.loop-reader.writer)
-        (s.contents c.send.new.writer) c.loop-reader.invariant.grows c.send.ensures.grows)
-        c.take_piece.ensures.grows
+    (s.contents c.send.new.writer) c.loop-reader.invariant.grows c.send.ensures.grows)
+    c.take_piece.ensures.grows
 
 pub returns-in_err-send-clause-broken : goal.returns-in_err-send-clause-broken
 returns-in_err-send-clause-broken g c =
@@ -230,16 +235,16 @@ returns-in_err-send-clause-broken g c =
     let was = c.loop-reader.invariant.read in
     let same = (ap (λ (r : Settings). r.packing) at.stands.bank.recorded) in
     let all =
-        all-read settings.packing was.0 c.args.limit (time_of c.loop-reader.session)
-            (was.2 ∙ ap (λ (p : Packing). sample_count p was.0) same)
-            c.loop-reader.invariant.within in
+    all-read settings.packing was.0 c.args.limit (time_of c.loop-reader.session)
+    (was.2 ∙ ap (λ (p : Packing). sample_count p was.0) same)
+    c.loop-reader.invariant.within in
     record {
       read = was.0;
       consumed = was.1;
       read_failed = c.loop-reader.invariant.read_failed;
       written =
           appended-part start _ _ _ (rw all (was.3 settings clients start at).written)
-              c.send.ensures.same;
+          c.send.ensures.same;
     })
 
 pub returns-in_default-clause-read : goal.returns-in_default-clause-read
@@ -249,21 +254,22 @@ returns-in_default-clause-read g c settings clients start at =
     let same = (ap (λ (r : Settings). r.packing) at.stands.bank.recorded) in
     let time = was.2 ∙ ap (λ (p : Packing). sample_count p was.0) same in
     let all =
-        all-read settings.packing was.0 c.args.limit (time_of c.loop-reader.session) time
-            c.loop-reader.invariant.within in
+    all-read settings.packing was.0 c.args.limit (time_of c.loop-reader.session) time
+    c.loop-reader.invariant.within in
     record {
       read = was.0;
       consumed =
           Consumes-kept (r.remaining c.args.reader.now) (r.remaining c.loop-reader.reader)
-              (r.remaining c.read.new.self) was.0 was.1 c.in_default.ensures.bytes;
-      why =
-          (c.in_default.ensures.failure,
-              within-limit settings.packing was.0 c.args.limit (time_of c.loop-reader.session) time
-                  c.loop-reader.invariant.within);
+          (r.remaining c.read.new.self) was.0 was.1 c.in_default.ensures.bytes;
+      why = (
+        c.in_default.ensures.failure,
+        within-limit settings.packing was.0 c.args.limit (time_of c.loop-reader.session) time
+            c.loop-reader.invariant.within,
+      );
       at =
           rw all (written-kept settings clients start c.loop-reader.session
-              _ _ (samples settings.packing was.0) (was.3 settings clients start at)
-              c.send.ensures.same);
+          _ _ (samples settings.packing was.0) (was.3 settings clients start at)
+          c.send.ensures.same);
     }
 
 pub returns-then-count-eq0-clause-read : goal.returns-then-count-eq0-clause-read
@@ -273,19 +279,19 @@ returns-then-count-eq0-clause-read g c settings clients start at =
     let same = (ap (λ (r : Settings). r.packing) at.stands.bank.recorded) in
     let time = was.2 ∙ ap (λ (p : Packing). sample_count p was.0) same in
     let all =
-        all-read settings.packing was.0 c.args.limit (time_of c.loop-reader.session) time
-            c.loop-reader.invariant.within in
+    all-read settings.packing was.0 c.args.limit (time_of c.loop-reader.session) time
+    c.loop-reader.invariant.within in
     let buffer = c.read.new.buffer in
     let none : was.0 ++ take c.in-Ok.count buffer ≡ was.0 =
-        ap (λ k. was.0 ++ take k buffer) c.if-count-eq0.true ∙ append-nil was.0 in
+    ap (λ k. was.0 ++ take k buffer) c.if-count-eq0.true ∙ append-nil was.0 in
     let a = r.remaining c.args.reader.now in
     let d = r.remaining c.read.new.self in
     record {
       read = was.0;
       consumed =
           subst (Consumes a d) none
-              (Consumes-trans a (r.remaining c.loop-reader.reader) d was.0
-                  (take c.in-Ok.count buffer) was.1 c.in-Ok.ensures.bytes.0);
+          (Consumes-trans a (r.remaining c.loop-reader.reader) d was.0
+          (take c.in-Ok.count buffer) was.1 c.in-Ok.ensures.bytes.0);
       why = (
         c.in-Ok.ensures.bytes.1 c.if-count-eq0.true (search rules),
         within-limit settings.packing was.0 c.args.limit (time_of c.loop-reader.session) time
@@ -294,6 +300,6 @@ returns-then-count-eq0-clause-read g c settings clients start at =
       );
       at =
           rw all (written-kept settings clients start c.loop-reader.session
-              _ _ (samples settings.packing was.0) (was.3 settings clients start at)
-              c.send.ensures.same);
+          _ _ (samples settings.packing was.0) (was.3 settings clients start at)
+          c.send.ensures.same);
     }

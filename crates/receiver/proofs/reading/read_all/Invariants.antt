@@ -26,10 +26,10 @@ invariant-loop-reader g l = let source = g.R.Source in let sink = g.W.Sink in re
       × Consumes (source.remaining l.fn.reader) (source.remaining l.reader) bytes
       × (time_of l.session ≡ sample_count (packing_in l.fn.session) bytes)
       × ((settings : Settings) (clients : List Client) (start : Option (List ℕ))
-          → IsWrittenTo settings clients start l.fn.session
-              (promised (sink.contents l.fn.writer) l.fn.text) []
+      → IsWrittenTo settings clients start l.fn.session
+      (promised (sink.contents l.fn.writer) l.fn.text) []
       → IsWrittenTo settings clients start l.session (promised (sink.contents l.writer) l.text)
-          (samples settings.packing bytes));
+      (samples settings.packing bytes));
 }
 
 abbrev pub decreases-loop-reader : goal.decreases-loop-reader

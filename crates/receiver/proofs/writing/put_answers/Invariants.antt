@@ -17,7 +17,7 @@ invariant-loop-line g l = let sink = g.W.Sink in record {
   answered : (settings : Settings) (clients : List Client) (xs : List Sample)
       (waiting : List (List ℕ)) → StandsFor settings clients l.fn.session xs waiting
       → HasAnswered settings clients xs waiting (promised (sink.contents l.fn.writer) l.fn.text)
-          l.session (promised (sink.contents l.writer) l.text);
+      l.session (promised (sink.contents l.writer) l.text);
 }
 
 abbrev pub decreases-loop-line : goal.decreases-loop-line

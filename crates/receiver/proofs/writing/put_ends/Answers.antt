@@ -24,22 +24,25 @@ use Rattle.receiver.proofs.writing.put_ends.Goals as goal
 all-ends : (settings : Settings) (clients : List Client) (session : Session) (xs : List Sample)
     (n : ℕ) → StandsFor settings clients session xs [] → n ≡ session.bank.clients
     → full offered settings xs clients
-        ≡ body offered settings xs clients ++ as_bytes (ends (time_of session) 1 n)
+    ≡ body offered settings xs clients ++ as_bytes (ends (time_of session) 1 n)
 all-ends settings clients session xs n s is =
     let many : length clients ≡ n =
-        same-number xs s.done 1 clients session.queues.items s.queues ∙ session.clients ∙ sym is in
+    same-number xs s.done 1 clients session.queues.items s.queues ∙ session.clients ∙ sym is in
     full-is settings xs clients
     ∙ ap (λ (l : List (List ℕ)). body offered settings xs clients ++ as_bytes l)
-        (ends-are (time_of session) xs clients (sym s.bank.now))
+    (ends-are (time_of session) xs clients (sym s.bank.now))
     ∙ ap (λ (m : ℕ). body offered settings xs clients ++ as_bytes (ends (time_of session) 1 m)) many
 
 pub loop-client-init : goal.loop-client-init
 loop-client-init g c =
     let z : c.clients-client-end.result - 0 ≡ c.clients-client-end.result = omega arith in
-    rw z (record { grows = grows-none (g.W.Sink.contents c.args.writer.now); failure = refl;
-        wrote =
-            wrote-none (promised (g.W.Sink.contents c.args.writer.now) c.args.text.now)
-                (as_bytes (ends (time_of c.args.session.now) 1 c.clients-client-end.result)) })
+    rw z (record {
+      grows = grows-none (g.W.Sink.contents c.args.writer.now);
+      failure = refl;
+      wrote =
+          wrote-none (promised (g.W.Sink.contents c.args.writer.now) c.args.text.now)
+          (as_bytes (ends (time_of c.args.session.now) 1 c.clients-client-end.result));
+    })
 
 pub loop-client-preserved : goal.loop-client-preserved
 loop-client-preserved g c =
@@ -48,24 +51,24 @@ loop-client-preserved g c =
     let k = c.loop-client.client in
     let n = c.clients-client-end.result in
     let e =
-        c.deref.ensures.0 ∙ c.end_line.ensures
-            ∙ ap (λ (t : ℕ). ended_line (for_client (k + 1) (at_time t (codes "end"))))
-                c.time.ensures in
+    c.deref.ensures.0 ∙ c.end_line.ensures
+    ∙ ap (λ (t : ℕ). ended_line (for_client (k + 1) (at_time t (codes "end"))))
+    c.time.ensures in
     record {
       failure = c.in_ok-put.ensures.failure ∙ c.loop-client.invariant.failure;
       grows =
           grows-on (s.contents c.args.writer.now) (s.contents c.loop-client.writer)
-              (s.contents c.put.new.writer) c.loop-client.invariant.grows c.put.ensures.grows;
+          (s.contents c.put.new.writer) c.loop-client.invariant.grows c.put.ensures.grows;
       wrote =
           wrote-text (promised (s.contents c.args.writer.now) c.args.text.now)
-              (promised (s.contents c.loop-client.writer) c.loop-client.text)
-              (promised (s.contents c.put.new.writer) c.put.new.self) (as_bytes (ends time 1 n))
-              (as_bytes (ends time (k + 1) (n - k)))
-              _ (as_bytes (ends time (k + 1 + 1) (n - (k + 1))))
+          (promised (s.contents c.loop-client.writer) c.loop-client.text)
+          (promised (s.contents c.put.new.writer) c.put.new.self) (as_bytes (ends time 1 n))
+          (as_bytes (ends time (k + 1) (n - k)))
+          _ (as_bytes (ends time (k + 1 + 1) (n - (k + 1))))
           c.loop-client.invariant.wrote (ends-next time k n c.loop-client-test.true)
-              (subst (Appends (promised (s.contents c.loop-client.writer) c.loop-client.text)
-                  (promised (s.contents c.put.new.writer) c.put.new.self)) e
-                  c.in_ok-put.ensures.ok);
+          (subst (Appends (promised (s.contents c.loop-client.writer) c.loop-client.text)
+          (promised (s.contents c.put.new.writer) c.put.new.self)) e
+          c.in_ok-put.ensures.ok);
     }
 
 pub returns-in_err-put-clause-err : goal.returns-in_err-put-clause-err
@@ -75,29 +78,29 @@ returns-in_err-put-clause-err g c =
     let k = c.loop-client.client in
     let n = c.clients-client-end.result in
     let e =
-        c.deref.ensures.0 ∙ c.end_line.ensures
-            ∙ ap (λ (t : ℕ). ended_line (for_client (k + 1) (at_time t (codes "end"))))
-                c.time.ensures in
+    c.deref.ensures.0 ∙ c.end_line.ensures
+    ∙ ap (λ (t : ℕ). ended_line (for_client (k + 1) (at_time t (codes "end"))))
+    c.time.ensures in
     let part =
-        wrote-part (promised (s.contents c.args.writer.now) c.args.text.now)
-            (promised (s.contents c.loop-client.writer) c.loop-client.text)
-            (promised (s.contents c.put.new.writer) c.put.new.self) (as_bytes (ends time 1 n))
-            (as_bytes (ends time (k + 1) (n - k)))
-            _ (as_bytes (ends time (k + 1 + 1) (n - (k + 1))))
+    wrote-part (promised (s.contents c.args.writer.now) c.args.text.now)
+    (promised (s.contents c.loop-client.writer) c.loop-client.text)
+    (promised (s.contents c.put.new.writer) c.put.new.self) (as_bytes (ends time 1 n))
+    (as_bytes (ends time (k + 1) (n - k)))
+    _ (as_bytes (ends time (k + 1 + 1) (n - (k + 1))))
     c.loop-client.invariant.wrote (ends-next time k n c.loop-client-test.true)
-        (kept-part (promised (s.contents c.loop-client.writer) c.loop-client.text)
-            (promised (s.contents c.put.new.writer) c.put.new.self) _ c.in_err-put.ensures.err) in
+    (kept-part (promised (s.contents c.loop-client.writer) c.loop-client.text)
+    (promised (s.contents c.put.new.writer) c.put.new.self) _ c.in_err-put.ensures.err) in
     on_err c.from_residual.result _ (λ settings clients start xs at.
     let whole =
-        all-ends settings clients c.args.session.now xs n at.stands
-            c.clients-client-end.ensures.number in
+    all-ends settings clients c.args.session.now xs n at.stands
+    c.clients-client-end.ensures.number in
     wrote-part start (promised (s.contents c.args.writer.now) c.args.text.now)
-        (promised (s.contents c.put.new.writer) c.put.new.self) (full offered settings xs clients)
-        (as_bytes (ends time 1 n)) (as_bytes (ends time 1 n)) []
+    (promised (s.contents c.put.new.writer) c.put.new.self) (full offered settings xs clients)
+    (as_bytes (ends time 1 n)) (as_bytes (ends time 1 n)) []
     (wrote-front start (promised (s.contents c.args.writer.now) c.args.text.now)
-        (full offered settings xs clients) (body offered settings xs clients)
-        (as_bytes (ends time 1 n)) at.written whole) (sym (append-nil (as_bytes (ends time 1 n))))
-        part)
+    (full offered settings xs clients) (body offered settings xs clients)
+    (as_bytes (ends time 1 n)) at.written whole) (sym (append-nil (as_bytes (ends time 1 n))))
+    part)
 
 pub returns-clause-ok : goal.returns-clause-ok
 returns-clause-ok g c settings clients start xs at =
@@ -107,27 +110,27 @@ returns-clause-ok g c settings clients start xs at =
     let n = c.clients-client-end.result in
     let text = as_bytes (ends time 1 n) in
     let all =
-        wrote-all (promised (s.contents c.args.writer.now) c.args.text.now)
-            (promised (s.contents c.loop-client.writer) c.loop-client.text) text
-            (as_bytes (ends time (k + 1) (n - k))) (ends-done time k n c.loop-client-test.false)
-            c.loop-client.invariant.wrote in
+    wrote-all (promised (s.contents c.args.writer.now) c.args.text.now)
+    (promised (s.contents c.loop-client.writer) c.loop-client.text) text
+    (as_bytes (ends time (k + 1) (n - k))) (ends-done time k n c.loop-client-test.false)
+    c.loop-client.invariant.wrote in
     let whole =
-        all-ends settings clients c.args.session.now xs n at.stands
-            c.clients-client-end.ensures.number in
+    all-ends settings clients c.args.session.now xs n at.stands
+    c.clients-client-end.ensures.number in
     let first =
-        wrote-front start (promised (s.contents c.args.writer.now) c.args.text.now)
-            (full offered settings xs clients) (body offered settings xs clients) text at.written
-            whole in
+    wrote-front start (promised (s.contents c.args.writer.now) c.args.text.now)
+    (full offered settings xs clients) (body offered settings xs clients) text at.written
+    whole in
     wrote-all start (promised (s.contents c.loop-client.writer) c.loop-client.text)
-        (full offered settings xs clients) [] refl
+    (full offered settings xs clients) [] refl
     (wrote-text start (promised (s.contents c.args.writer.now) c.args.text.now)
-        (promised (s.contents c.loop-client.writer) c.loop-client.text)
-        (full offered settings xs clients) text text [] first (sym (append-nil text)) all)
+    (promised (s.contents c.loop-client.writer) c.loop-client.text)
+    (full offered settings xs clients) text text [] first (sym (append-nil text)) all)
 
 pub returns-in_err-put-clause-grows : goal.returns-in_err-put-clause-grows
 returns-in_err-put-clause-grows g c = let s = g.W.Sink in
     grows-on (s.contents c.args.writer.now) (s.contents c.loop-client.writer)
-        (s.contents c.put.new.writer) c.loop-client.invariant.grows c.put.ensures.grows
+    (s.contents c.put.new.writer) c.loop-client.invariant.grows c.put.ensures.grows
 
 pub returns-clause-grows : goal.returns-clause-grows
 returns-clause-grows g c = c.loop-client.invariant.grows

@@ -33,7 +33,7 @@ returns-in-Ok c = record {
       c.answer_line.ensures
       ∙ same-line client c.time-time.result (length xs) _ _ (c.time-time.ensures ∙ s.now)
       (ap (answer_text c.get-slot.result)
-          (c.command-answer.ensures.answer settings xs (asked_of done) s)
+      (c.command-answer.ensures.answer settings xs (asked_of done) s)
       ∙ ap (λ (k : ℕ). answer_text k (answer_at_end settings xs
       (asked_of done client command.slot) command.request)) slot
       ∙ ap (reply_text settings xs (done client)) (sym what));
@@ -43,7 +43,7 @@ returns-in-Ok c = record {
       let what : Ok command ≡ result_in c.args.self.what = sym (ap result_in c.in-Ok.is) in
       subst (λ (r : Result Asked ℕ). StandsFor settings xs
       (asked_of (with_entry done client (record { time = length xs; what = r })))
-          c.command-answer.new.self)
+      c.command-answer.new.self)
       what
       (subst (λ (a : ℕ → ℕ → List TimedRequest). StandsFor settings xs a c.command-answer.new.self)
       (command-added done client (length xs) command)

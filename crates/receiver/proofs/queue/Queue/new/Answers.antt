@@ -17,4 +17,4 @@ pub returns : goal.returns
 unfolding entries_of
 returns c =
     left-next c.next-next.result c.new-rest.result c.next-next.new.self c.next-next.ensures.some
-        c.next-next.ensures.none c.next-next.ensures.ended ∙ c.new-rest.ensures
+    c.next-next.ensures.none c.next-next.ensures.ended ∙ c.new-rest.ensures

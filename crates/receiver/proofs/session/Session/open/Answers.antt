@@ -10,8 +10,8 @@ returns-clause-stands c = record {
   bank = c.in_ok-bank.ensures.stands;
   queues =
       queues-open (λ script. script.now) 1 c.args.scripts.now c.queues_of.result.items
-          c.queues_of.ensures;
+      c.queues_of.ensures;
   waits =
       waiting-open (λ script. script.now) c.args.settings c.args.scripts.now
-          c.queues_of.result.items c.queues_of.ensures;
+      c.queues_of.result.items c.queues_of.ensures;
 }
