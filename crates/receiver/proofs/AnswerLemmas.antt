@@ -1,5 +1,6 @@
 -- Answers that are written one by one.
-use Rattle.std.proofs.Common.{◌≡◌, ◌+◌, ◌<◌, ◌≤◌, ℕ, List, [], ◌∷◌, ◌++◌, refl, sym, ap, ◌∙◌, subst, append_assoc, append-nil, add-one, length, drop, get_or}
+use Rattle.std.proofs.Common.{◌≡◌, ◌+◌, ◌<◌, ◌≤◌, ℕ, List, [], ◌++◌, refl, sym, ap, ◌∙◌, subst}
+use Rattle.std.proofs.Common.{append_assoc, append-nil, add-one, length, drop, get_or}
 use Rattle.std.specs.Prelude.{Option, map}
 use Rattle.std.proofs.Math.Seq.{drop-cons}
 use Rattle.std.proofs.Math.ListN.{drop_of_length-le}
@@ -20,9 +21,12 @@ use Rattle.channel_slots.specs.Events.{line_of}
 use Rattle.receiver.specs.Runs.{HasAnswered}
 use Rattle.receiver.proofs.TextLemmas.{wrote-none, wrote-text, wrote-part, wrote-all, wrote-front}
 
-pub answered-none : (settings : Settings) (clients : List Client) (xs : List Sample) (waiting : List (List ℕ)) (session : Session) (start : Option (List ℕ))
-    → StandsFor settings clients session xs waiting → HasAnswered settings clients xs waiting start session start
-answered-none settings clients xs waiting session start s = record { left = waiting; stands = s; wrote = wrote-none start (as_bytes waiting) }
+pub answered-none : (settings : Settings) (clients : List Client) (xs : List Sample)
+    (waiting : List (List ℕ)) (session : Session) (start : Option (List ℕ))
+    → StandsFor settings clients session xs waiting
+    → HasAnswered settings clients xs waiting start session start
+answered-none settings clients xs waiting session start s =
+    record { left = waiting; stands = s; wrote = wrote-none start (as_bytes waiting) }
 
 pub answered-more : (settings : Settings) (clients : List Client) (xs : List Sample)
     (waiting : List (List ℕ)) (start b c : Option (List ℕ)) (old new : Session) (line : List ℕ)
@@ -57,40 +61,68 @@ unfolding as_bytes
 events-next events i d h = rw (drop-cons events i d h, add-one) refl
 
 -- none are left
-pub events-done : (events : List SlotEvent) (i : ℕ) → length events ≤ i → as_bytes (map line_of (drop i events)) ≡ []
+pub events-done : (events : List SlotEvent) (i : ℕ) → length events ≤ i
+    → as_bytes (map line_of (drop i events)) ≡ []
 unfolding as_bytes
 events-done events i h = rw (drop_of_length-le events h) refl
 
 -- ---- a stretch: what was told, and then the answers
-pub stretch-text : (before told answers all : List (List ℕ)) → all ≡ before ++ told ++ answers → as_bytes all ≡ as_bytes before ++ (as_bytes told ++ as_bytes answers)
+pub stretch-text : (before told answers all : List (List ℕ)) → all ≡ before ++ told ++ answers
+    → as_bytes all ≡ as_bytes before ++ (as_bytes told ++ as_bytes answers)
 unfolding as_bytes
-stretch-text before told answers all e = ap as_bytes e ∙ flat_map-append ended_line (before ++ told) answers ∙ ap (λ r. r ++ as_bytes answers) (flat_map-append ended_line before told) ∙ append_assoc (as_bytes before) (as_bytes told) (as_bytes answers)
+stretch-text before told answers all e =
+    ap as_bytes e ∙ flat_map-append ended_line (before ++ told) answers
+    ∙ ap (λ r. r ++ as_bytes answers) (flat_map-append ended_line before told)
+    ∙ append_assoc (as_bytes before) (as_bytes told) (as_bytes answers)
 
-pub stretch-all : (start b c d : Option (List ℕ)) (before told answers all : List (List ℕ)) → all ≡ before ++ told ++ answers
-    → Appends start b (as_bytes before) → Appends b c (as_bytes told) → Appends c d (as_bytes answers) → Appends start d (as_bytes all)
+pub stretch-all : (start b c d : Option (List ℕ)) (before told answers all : List (List ℕ))
+    → all ≡ before ++ told ++ answers
+    → Appends start b (as_bytes before) → Appends b c (as_bytes told)
+    → Appends c d (as_bytes answers) → Appends start d (as_bytes all)
 stretch-all start b c d before told answers all e p q r =
     let whole = stretch-text before told answers all e in
-    let first = wrote-front start b (as_bytes all) (as_bytes before) (as_bytes told ++ as_bytes answers) p whole in
-    let second = wrote-text start b c (as_bytes all) (as_bytes told ++ as_bytes answers) (as_bytes told) (as_bytes answers) first refl q in
-    let third = wrote-text start c d (as_bytes all) (as_bytes answers) (as_bytes answers) [] second (sym (append-nil (as_bytes answers))) r in
+    let first =
+    wrote-front start b (as_bytes all) (as_bytes before) (as_bytes told ++ as_bytes answers) p
+    whole in
+    let second =
+    wrote-text start b c (as_bytes all) (as_bytes told ++ as_bytes answers) (as_bytes told)
+    (as_bytes answers) first refl q in
+    let third =
+    wrote-text start c d (as_bytes all) (as_bytes answers) (as_bytes answers) [] second
+    (sym (append-nil (as_bytes answers))) r in
     wrote-all start d (as_bytes all) [] refl third
 
-pub stretch-part-told : (start b c : Option (List ℕ)) (before told answers all : List (List ℕ)) → all ≡ before ++ told ++ answers
-    → Appends start b (as_bytes before) → AppendsPart b c (as_bytes told) → AppendsPart start c (as_bytes all)
+pub stretch-part-told : (start b c : Option (List ℕ)) (before told answers all : List (List ℕ))
+    → all ≡ before ++ told ++ answers
+    → Appends start b (as_bytes before) → AppendsPart b c (as_bytes told)
+    → AppendsPart start c (as_bytes all)
 stretch-part-told start b c before told answers all e p q =
     let whole = stretch-text before told answers all e in
-    let first = wrote-front start b (as_bytes all) (as_bytes before) (as_bytes told ++ as_bytes answers) p whole in
-    wrote-part start b c (as_bytes all) (as_bytes told ++ as_bytes answers) (as_bytes told) (as_bytes answers) first refl q
+    let first =
+    wrote-front start b (as_bytes all) (as_bytes before) (as_bytes told ++ as_bytes answers) p
+    whole in
+    wrote-part start b c (as_bytes all) (as_bytes told ++ as_bytes answers) (as_bytes told)
+    (as_bytes answers) first refl q
 
-pub stretch-part-answers : (start b c d : Option (List ℕ)) (before told answers all : List (List ℕ)) → all ≡ before ++ told ++ answers
-    → Appends start b (as_bytes before) → Appends b c (as_bytes told) → AppendsPart c d (as_bytes answers) → AppendsPart start d (as_bytes all)
+pub stretch-part-answers : (start b c d : Option (List ℕ)) (before told answers all : List (List ℕ))
+    → all ≡ before ++ told ++ answers
+    → Appends start b (as_bytes before) → Appends b c (as_bytes told)
+    → AppendsPart c d (as_bytes answers) → AppendsPart start d (as_bytes all)
 stretch-part-answers start b c d before told answers all e p q r =
     let whole = stretch-text before told answers all e in
-    let first = wrote-front start b (as_bytes all) (as_bytes before) (as_bytes told ++ as_bytes answers) p whole in
-    let second = wrote-text start b c (as_bytes all) (as_bytes told ++ as_bytes answers) (as_bytes told) (as_bytes answers) first refl q in
-    wrote-part start c d (as_bytes all) (as_bytes answers) (as_bytes answers) [] second (sym (append-nil (as_bytes answers))) r
+    let first =
+    wrote-front start b (as_bytes all) (as_bytes before) (as_bytes told ++ as_bytes answers) p
+    whole in
+    let second =
+    wrote-text start b c (as_bytes all) (as_bytes told ++ as_bytes answers) (as_bytes told)
+    (as_bytes answers) first refl q in
+    wrote-part start c d (as_bytes all) (as_bytes answers) (as_bytes answers) [] second
+    (sym (append-nil (as_bytes answers))) r
 
 -- ---- the whole text: the lines of all times, and then `end`
-pub full-is : (settings : Settings) (xs : List Sample) (clients : List Client) → full offered settings xs clients ≡ body offered settings xs clients ++ as_bytes (end_lines xs clients)
+pub full-is : (settings : Settings) (xs : List Sample) (clients : List Client)
+    → full offered settings xs clients
+    ≡ body offered settings xs clients ++ as_bytes (end_lines xs clients)
 unfolding full full_lines body
-full-is settings xs clients = as_bytes-append (body_lines offered settings xs clients) (end_lines xs clients)
+full-is settings xs clients =
+    as_bytes-append (body_lines offered settings xs clients) (end_lines xs clients)

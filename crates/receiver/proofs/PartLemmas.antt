@@ -8,10 +8,21 @@ use Rattle.definitions.proofs.BodyLemmas.{body-append}
 use Rattle.receiver.specs.Offered.{offered}
 use Rattle.receiver.specs.Texts.{AppendsPart}
 
-pub part-longer : (a b : Option (List ℕ)) (text rest whole : List ℕ) → whole ≡ text ++ rest → AppendsPart a b text → AppendsPart a b whole
-part-longer a b text rest whole e p = (p.0 ++ rest, record { written = (p.1).written; appended = (p.1).appended; whole = e ∙ ap (λ r. r ++ rest) (p.1).whole ∙ append_assoc (p.1).written p.0 rest })
+pub part-longer : (a b : Option (List ℕ)) (text rest whole : List ℕ) → whole ≡ text ++ rest
+    → AppendsPart a b text → AppendsPart a b whole
+part-longer a b text rest whole e p = (
+  p.0 ++ rest,
+  record {
+    written = (p.1).written;
+    appended = (p.1).appended;
+    whole = e ∙ ap (λ r. r ++ rest) (p.1).whole ∙ append_assoc (p.1).written p.0 rest;
+  },
+)
 
-pub body-part-longer : (settings : Settings) (clients : List Client) (a b : Option (List ℕ)) (xs ys all : List Sample) → xs ++ ys ≡ all → AppendsPart a b (body offered settings xs clients) → AppendsPart a b (body offered settings all clients)
+pub body-part-longer : (settings : Settings) (clients : List Client) (a b : Option (List ℕ))
+    (xs ys all : List Sample) → xs ++ ys ≡ all → AppendsPart a b (body offered settings xs clients)
+    → AppendsPart a b (body offered settings all clients)
 body-part-longer settings clients a b xs ys all e p =
     let longer = body-append offered settings clients xs ys in
-    part-longer a b (body offered settings xs clients) longer.0 (body offered settings all clients) (ap (λ r. body offered settings r clients) (sym e) ∙ longer.1) p
+    part-longer a b (body offered settings xs clients) longer.0 (body offered settings all clients)
+    (ap (λ r. body offered settings r clients) (sym e) ∙ longer.1) p

@@ -1,11 +1,13 @@
 -- A run from its parts.
-use Rattle.std.proofs.Common.{◌≡◌, ◌≤◌, ◌<◌, ℕ, List, [], length, take, refl, sym, ap, ◌∙◌, subst, arith, ◌⊎◌, inl, inr}
+use Rattle.std.proofs.Common.{◌≡◌, ◌≤◌, ◌<◌, ℕ, List, [], length, take, refl, sym, ap, ◌∙◌, subst}
+use Rattle.std.proofs.Common.{arith, ◌⊎◌, inl, inr}
 use Rattle.std.specs.Prelude.{Option}
 use Rattle.std.specs.Io.KnownBytes.{Appends, Keeps}
 use Rattle.std.proofs.KnownBytes.{Appends-kept}
 use Rattle.std.proofs.lemmas.List.{take_all}
 use Rattle.definitions.specs.Oscillators.{Settings}
-use Rattle.definitions.specs.Samples.{Sample, Packing, real1, real2, iq1, iq2, samples, samples_from}
+use Rattle.definitions.specs.Samples.{Sample, Packing, real1, real2, iq1, iq2, samples}
+use Rattle.definitions.specs.Samples.{samples_from}
 use Rattle.definitions.specs.Receiver.{Client}
 use Rattle.definitions.specs.Lines.{as_bytes}
 use Rattle.definitions.specs.Receiver.{body, full}
@@ -14,19 +16,34 @@ use Rattle.receiver.specs.declared.session.Session.{Session}
 use Rattle.receiver.specs.declared.faults.Stop.{Stop}
 use Rattle.receiver.specs.declared.faults.Stop.TheVariants.{AtEnd, ReadFailed, PastLimit}
 use Rattle.receiver.specs.Texts.{AppendsPart}
+use Rattle.receiver.specs.HeldTexts.{held, promised}
+use Rattle.receiver.specs.declared.held_text.HeldText.{HeldText}
+use Rattle.receiver.proofs.HeldLemmas.{none-held}
 use Rattle.definitions.specs.Receiver.{answer_lines}
 use Rattle.receiver.specs.Sessions.{StandsFor}
 use Rattle.definitions.proofs.TextLemmas.{client-alone}
 use Rattle.definitions.specs.Receiver.{alone_to_end}
 use Rattle.std.specs.Prelude.{Result, Ok, Err, ◌↔◌}
 use Rattle.std.proofs.lemmas.Bool.{cases_lt}
-use Rattle.receiver.specs.Runs.{ServesEachAlone, Ran, Devices, IsOpen, IsWrittenTo, samples_read, text_for}
+use Rattle.receiver.specs.Runs.{ServesEachAlone, Ran, Devices, IsOpen, IsWrittenTo, samples_read}
+use Rattle.receiver.specs.Runs.{text_for}
 use Rattle.receiver.proofs.TextLemmas.{appended-part}
 
-pub opened : (settings : Settings) (clients : List Client) (session answered : Session) (start contents : Option (List ℕ)) → IsOpen settings clients session
-    → Appends start contents (as_bytes (answer_lines offered settings clients [])) → StandsFor settings clients answered [] [] → IsWrittenTo settings clients start answered contents []
+-- before the first read all answers at time 0 are written or held back, where nothing was held back
+-- before
+pub opened : (settings : Settings) (clients : List Client) (session answered : Session)
+    (start contents : Option (List ℕ)) (none later : HeldText) → held none ≡ []
+    → IsOpen settings clients session
+    → Appends (promised start none) (promised contents later)
+    (as_bytes (answer_lines offered settings clients []))
+    × StandsFor settings clients answered [] []
+    → IsWrittenTo settings clients start answered (promised contents later) []
 unfolding body
-opened settings clients session answered start contents open_is p stands = record { stands = stands; written = subst (Appends start contents) (ap as_bytes (sym open_is.first)) p }
+opened settings clients session answered start contents none later empty open_is p = record {
+  stands = p.1;
+  written = subst (Appends start (promised contents later)) (ap as_bytes (sym open_is.first))
+      (rw (none-held start (held none) empty) at p.0);
+}
 
 pub samples-nil : (packing : Packing) → samples packing [] ≡ []
 unfolding samples_from
@@ -36,43 +53,62 @@ samples-nil iq1 = refl
 samples-nil iq2 = refl
 
 pub none-read : (settings : Settings) (limit : ℕ) → [] ≡ samples_read settings limit []
-none-read settings limit = sym (ap (take limit) (samples-nil settings.packing) ∙ take_all limit [] (omega arith))
+none-read settings limit =
+    sym (ap (take limit) (samples-nil settings.packing) ∙ take_all limit [] (omega arith))
 
 -- what is written stays where the bytes are kept
-pub written-kept : (settings : Settings) (clients : List Client) (start : Option (List ℕ)) (session : Session) (b c : Option (List ℕ)) (xs : List Sample)
-    → IsWrittenTo settings clients start session b xs → Keeps b c → IsWrittenTo settings clients start session c xs
-written-kept settings clients start session b c xs at k = record { stands = at.stands; written = Appends-kept start b c (body offered settings xs clients) at.written k }
+pub written-kept : (settings : Settings) (clients : List Client) (start : Option (List ℕ))
+    (session : Session) (b c : Option (List ℕ)) (xs : List Sample)
+    → IsWrittenTo settings clients start session b xs → Keeps b c
+    → IsWrittenTo settings clients start session c xs
+written-kept settings clients start session b c xs at k =
+    record {
+      stands = at.stands;
+      written = Appends-kept start b c (body offered settings xs clients) at.written k;
+    }
 
 -- what was written stays through the flush
-pub flushed-part : (settings : Settings) (clients : List Client) (xs : List Sample) (a b c : Option (List ℕ)) (stop : Stop) (text : List ℕ) → text ≡ text_for stop settings xs clients → Appends a b text → Keeps b c → AppendsPart a c (text_for stop settings xs clients)
-flushed-part settings clients xs a b c stop text e p k = subst (AppendsPart a c) e (appended-part a b c text p k)
+pub flushed-part : (settings : Settings) (clients : List Client) (xs : List Sample)
+    (a b c : Option (List ℕ)) (stop : Stop) (text : List ℕ)
+    → text ≡ text_for stop settings xs clients → Appends a b text → Keeps b c
+    → AppendsPart a c (text_for stop settings xs clients)
+flushed-part settings clients xs a b c stop text e p k =
+    subst (AppendsPart a c) e (appended-part a b c text p k)
 
-pub no-end : (settings : Settings) (clients : List Client) (xs : List Sample) (stop : Stop) → ((stop ≡ ReadFailed) ⊎ (stop ≡ PastLimit)) → body offered settings xs clients ≡ text_for stop settings xs clients
+pub no-end : (settings : Settings) (clients : List Client) (xs : List Sample) (stop : Stop)
+    → ((stop ≡ ReadFailed) ⊎ (stop ≡ PastLimit))
+    → body offered settings xs clients ≡ text_for stop settings xs clients
 no-end settings clients xs stop (inl e) = rw e refl
 no-end settings clients xs stop (inr e) = rw e refl
 
 -- what was opened isn't refused
 pub not-both : {A E W : Type 0} (opened : A) (fault : E) → (Ok opened ≡ Err fault) ↔ W → W → ⊥
-not-both {A} {E} opened fault when wrong = let no : 1 ≡ 0 = ap how (when.1 wrong) in omega (arith, no)
+not-both {A} {E} opened fault when wrong =
+    let no : 1 ≡ 0 = ap how (when.1 wrong) in omega (arith, no)
   where
     how : Result A E → ℕ
     how (Ok x) = 1
     how (Err e) = 0
 
 -- a session was opened, so there were at most eight clients
-pub few-clients : {A E : Type 0} (opened : A) (fault : E) (n : ℕ) → (Ok opened ≡ Err fault) ↔ ((n ≡ 0) ⊎ (8 < n)) → n ≤ 8
+pub few-clients : {A E : Type 0} (opened : A) (fault : E) (n : ℕ) → (Ok opened ≡ Err fault)
+    ↔ ((n ≡ 0) ⊎ (8 < n)) → n ≤ 8
 few-clients opened fault n when = elim (cases_lt 8 n) [
   | inl many ↦ absurd (not-both opened fault when (inr many))
   | inr few ↦ few
 ]
 
-pub served-alone : (settings : Settings) (clients : List Client) (limit : ℕ) (session : Session) (old new : Devices) → Ran settings clients limit session old new AtEnd → length clients ≤ 8 → ServesEachAlone settings clients old new
+pub served-alone : (settings : Settings) (clients : List Client) (limit : ℕ) (session : Session)
+    (old new : Devices) → Ran settings clients limit session old new AtEnd → length clients ≤ 8
+    → ServesEachAlone settings clients old new
 served-alone settings clients limit session old new r few = record {
   read = r.read;
   text = full offered settings (samples_read settings limit r.read) clients;
   consumed = r.consumed;
   written = r.completes.written;
   alone = λ k client found.
-      client-alone offered settings (samples_read settings limit r.read) clients k client found (omega (arith, few))
-      ∙ ap (λ (xs : List Sample). alone_to_end offered settings xs client) (take_all limit (samples settings.packing r.read) r.completes.why.1);
+      client-alone offered settings (samples_read settings limit r.read) clients k client found
+      (omega (arith, few))
+      ∙ ap (λ (xs : List Sample). alone_to_end offered settings xs client)
+      (take_all limit (samples settings.packing r.read) r.completes.why.1);
 }

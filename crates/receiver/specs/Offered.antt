@@ -4,7 +4,8 @@ use Rattle.definitions.specs.Scripts.{hold_verb, counts_verb, state_verb, stop_v
 use Rattle.definitions.specs.Receiver.{Profile, Client}
 
 abbrev pub offered : Profile
-offered = record { verbs = hold_verb ∷ counts_verb ∷ state_verb ∷ stop_verb ∷ []; prints = λ event. true }
+offered =
+    record { verbs = hold_verb ∷ counts_verb ∷ state_verb ∷ stop_verb ∷ []; prints = λ event. true }
 
 -- a client with the text of its script; each has four slots
 abbrev pub client_with : List ℕ → Client

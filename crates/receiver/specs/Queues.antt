@@ -40,4 +40,6 @@ pub record IsTaken (now : ℕ) (old new : Queue) (due : Due) : Type 0 where
 abbrev pub TakesDue : ℕ → ℕ → List Queue → List Queue → Due → Type 0
 TakesDue now b [] new due = ⊥
 TakesDue now b (q ∷ qs) [] due = ⊥
-TakesDue now b (q ∷ qs) (r ∷ rs) due = ((due.client ≡ b) × IsTaken now q r due × (rs ≡ qs)) ⊎ (NoneDue now (left_of q) × (r ≡ q) × TakesDue now (b + 1) qs rs due)
+TakesDue now b (q ∷ qs) (r ∷ rs) due =
+    ((due.client ≡ b) × IsTaken now q r due × (rs ≡ qs))
+    ⊎ (NoneDue now (left_of q) × (r ≡ q) × TakesDue now (b + 1) qs rs due)

@@ -1,6 +1,6 @@
 -- What a run reads and writes, by its answer.
 use Rattle.std.specs.Prelude.{◌≡◌, ◌≤◌, ◌<◌, ℕ, Bool, true, List, [], length, take, replicate}
-use Rattle.std.specs.Prelude.{slice_get, ◌+◌, Option, Some, Result, Ok, Err}
+use Rattle.std.specs.Prelude.{slice_get, ◌++◌, ◌+◌, Option, Some, Result, Ok, Err}
 use Rattle.std.specs.Io.KnownBytes.{Appends, Consumes, IsAtEnd}
 use Rattle.definitions.specs.Oscillators.{Settings}
 use Rattle.definitions.specs.Samples.{Sample, samples}
@@ -138,6 +138,34 @@ pub record IsWrittenTo (settings : Settings) (clients : List Client) (start : Op
     (session : Session) (contents : Option (List ℕ)) (xs : List Sample) : Type 0 where
   pub stands : StandsFor settings clients session xs []
   pub written : Appends start contents (body offered settings xs clients)
+
+-- a run of samples was taken: all that is to be written by its end is written behind what was
+abbrev pub TakesOn : List Sample → Session → Session → Option (List ℕ) → Option (List ℕ) → Type 0
+TakesOn run before after old new =
+    (settings : Settings) (clients : List Client) (start : Option (List ℕ)) (xs : List Sample)
+    → IsWrittenTo settings clients start before old xs
+    → IsWrittenTo settings clients start after new (xs ++ run)
+
+-- a write failed on the way: a front of it is written
+abbrev pub TakesFront : List Sample → Session → Option (List ℕ) → Option (List ℕ) → Type 0
+TakesFront run before old new =
+    (settings : Settings) (clients : List Client) (start : Option (List ℕ)) (xs : List Sample)
+    → IsWrittenTo settings clients start before old xs
+    → AppendsPart start new (body offered settings (xs ++ run) clients)
+
+-- behind what was to be written so far, the whole text for a stop is written
+abbrev pub WritesAll : Stop → Session → Option (List ℕ) → Option (List ℕ) → Type 0
+WritesAll stop session old new =
+    (settings : Settings) (clients : List Client) (start : Option (List ℕ)) (xs : List Sample)
+    → IsWrittenTo settings clients start session old xs
+    → Appends start new (text_for stop settings xs clients)
+
+-- a write failed on the way: a front of that text is written
+abbrev pub WritesFront : Stop → Session → Option (List ℕ) → Option (List ℕ) → Type 0
+WritesFront stop session old new =
+    (settings : Settings) (clients : List Client) (start : Option (List ℕ)) (xs : List Sample)
+    → IsWrittenTo settings clients start session old xs
+    → AppendsPart start new (text_for stop settings xs clients)
 
 -- of these answers some have been written since the writer held `start`, and the session has the
 -- others

@@ -1,5 +1,6 @@
 -- A session: the clients' scripts beside the slots.
-use Rattle.std.specs.Prelude.{◌≡◌, ◌≤◌, ◌+◌, ℕ, List, [], ◌∷◌, ◌++◌, length, map, nat_eq, if◌then◌else◌}
+use Rattle.std.specs.Prelude.{◌≡◌, ◌≤◌, ◌+◌, ℕ, List, [], ◌∷◌, ◌++◌, length, map, nat_eq}
+use Rattle.std.specs.Prelude.{if◌then◌else◌}
 use Rattle.std.specs.List.{AllByRecursion}
 use Rattle.definitions.specs.Samples.{Sample, Packing}
 use Rattle.definitions.specs.Oscillators.{Settings}
@@ -8,7 +9,8 @@ use Rattle.definitions.specs.Receiver.{Client, entries_of, commands_to, reply_te
 use Rattle.definitions.specs.Texts.{for_client, at_time}
 use Rattle.definitions.specs.Lines.{ended_line}
 use Rattle.definitions.proofs.EntryLemmas.{NoneBefore, answers_left}
-use Rattle.channel_slots.specs.BankStates.{StandsFor as BankStandsFor, settings_of, clients_of, time_of as time_of_bank}
+use Rattle.channel_slots.specs.BankStates.{StandsFor as BankStandsFor, settings_of, clients_of}
+use Rattle.channel_slots.specs.BankStates.{time_of as time_of_bank}
 use Rattle.channel_slots.specs.declared.bank.Bank.{Bank}
 use Rattle.client_commands.specs.Entries.{result_in}
 use Rattle.definitions.specs.Commands.{TimedRequest}
@@ -47,7 +49,8 @@ abbrev pub AreQueues : List Sample → (ℕ → List Entry) → ℕ → List Cli
 AreQueues xs done b [] [] = Unit {0}
 AreQueues xs done b [] (q ∷ qs) = ⊥
 AreQueues xs done b (c ∷ cs) [] = ⊥
-AreQueues xs done b (c ∷ cs) (q ∷ qs) = IsQueue xs c (done b) (left_of q) × AreQueues xs done (b + 1) cs qs
+AreQueues xs done b (c ∷ cs) (q ∷ qs) =
+    IsQueue xs c (done b) (left_of q) × AreQueues xs done (b + 1) cs qs
 
 -- the lines of the answers that they have still to get at this time
 abbrev pub answers_waiting : Settings → List Sample → (ℕ → List Entry) → ℕ → List Queue

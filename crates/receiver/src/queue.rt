@@ -41,7 +41,8 @@ impl<'a> Queue<'a> {
         Some(due)
     }
 
-    /// How many samples there are until the entry that is next, and more than any run has where there is none.
+    /// How many samples there are until the entry that is next, and more than any run has where
+    /// there is none.
     pub fn gap(&self, now: u64) -> u64
         ensures { result ≡ gap now (left_of self.now) }
     {

@@ -1,18 +1,17 @@
 //! The samples of a run, read and taken piece by piece.
 
-ghost use Rattle.std.specs.Prelude.{◌≡◌, ◌≤◌, ◌<◌, ◌+◌, ◌%◌, ◌^◌, ℕ, Option, List, [], ◌++◌};
+ghost use Rattle.std.specs.Prelude.{◌≡◌, ◌≤◌, ◌<◌, ◌+◌, ◌%◌, ◌^◌, ℕ, Option, List, []};
 ghost use Rattle.std.specs.Prelude.{length, false, OnOk, OnErr, IfOk};
 ghost use Rattle.definitions.specs.Oscillators.{Settings as Recording};
-ghost use Rattle.definitions.specs.Samples.{Sample};
 ghost use Rattle.channel_slots.specs.declared.bank.TheConstants.{MOST_TIME};
 ghost use Rattle.sample_planes.specs.declared.planes.TheConstants.{MAX_SAMPLES};
-ghost use Rattle.definitions.specs.Receiver.{Client, body};
+ghost use Rattle.definitions.specs.Receiver.{Client};
 ghost use Rattle.receiver.specs.Devices.{TellsFailure};
 ghost use Rattle.receiver.specs.HeldTexts.{held, promised};
-ghost use Rattle.receiver.specs.Offered.{offered};
-ghost use Rattle.receiver.specs.Runs.{seen, once_sent, IsWrittenTo, HasRead, BrokeOffReading};
+ghost use Rattle.receiver.specs.Runs.{seen, once_sent, IsWrittenTo, TakesOn, TakesFront};
+ghost use Rattle.receiver.specs.Runs.{HasRead, BrokeOffReading};
 ghost use Rattle.receiver.specs.Sessions.{packing_in, time_of, until_next};
-ghost use Rattle.receiver.specs.Texts.{AppendsPart, Grows};
+ghost use Rattle.receiver.specs.Texts.{Grows};
 
 use crate::devices::{DeviceFault, Sink, Source};
 use crate::faults::Stop;
@@ -44,17 +43,10 @@ fn take_samples<W: Sink>(
     ensures packing { packing_in session.new ≡ packing_in session.old }
     ensures time { time_of session.new ≡ time_of session.old + length run.now }
     ensures ready { OnOk result (0 < until_next session.new) }
-    ensures ok { OnOk result ((settings : Recording) (clients : List Client)
-        (start : Option (List ℕ)) (xs : List Sample)
-        → IsWrittenTo settings clients start session.old
-        (promised (W.contents writer.old) text.old) xs → IsWrittenTo settings clients start
-        session.new (promised (W.contents writer.new) text.new) (xs ++ run.now)) }
-    ensures err { OnErr result ((settings : Recording) (clients : List Client)
-        (start : Option (List ℕ)) (xs : List Sample)
-        → IsWrittenTo settings clients start session.old
-        (promised (W.contents writer.old) text.old) xs →
-        AppendsPart start (promised (W.contents writer.new) text.new)
-        (body offered settings (xs ++ run.now) clients)) }
+    ensures ok { OnOk result (TakesOn run.now session.old session.new
+        (promised (W.contents writer.old) text.old) (promised (W.contents writer.new) text.new)) }
+    ensures err { OnErr result (TakesFront run.now session.old
+        (promised (W.contents writer.old) text.old) (promised (W.contents writer.new) text.new)) }
     ensures grows { Grows (W.contents writer.old) (W.contents writer.new) }
     ensures failure { TellsFailure (W.has_failed writer.old) (W.has_failed writer.new) result }
 {
@@ -79,17 +71,10 @@ fn take_piece<W: Sink>(
     ensures packing { packing_in session.new ≡ packing_in session.old }
     ensures time { OnOk result (time_of session.new ≡ time_of session.old + length piece.now) }
     ensures ready { OnOk result (0 < until_next session.new) }
-    ensures ok { OnOk result ((settings : Recording) (clients : List Client)
-        (start : Option (List ℕ)) (xs : List Sample)
-        → IsWrittenTo settings clients start session.old
-        (promised (W.contents writer.old) text.old) xs → IsWrittenTo settings clients start
-        session.new (promised (W.contents writer.new) text.new) (xs ++ piece.now)) }
-    ensures err { OnErr result ((settings : Recording) (clients : List Client)
-        (start : Option (List ℕ)) (xs : List Sample)
-        → IsWrittenTo settings clients start session.old
-        (promised (W.contents writer.old) text.old) xs →
-        AppendsPart start (promised (W.contents writer.new) text.new)
-        (body offered settings (xs ++ piece.now) clients)) }
+    ensures ok { OnOk result (TakesOn piece.now session.old session.new
+        (promised (W.contents writer.old) text.old) (promised (W.contents writer.new) text.new)) }
+    ensures err { OnErr result (TakesFront piece.now session.old
+        (promised (W.contents writer.old) text.old) (promised (W.contents writer.new) text.new)) }
     ensures grows { Grows (W.contents writer.old) (W.contents writer.new) }
     ensures failure { TellsFailure (W.has_failed writer.old) (W.has_failed writer.new) result }
 {

@@ -1,15 +1,14 @@
 //! A whole run: what is written, and what it answers.
 
-ghost use Rattle.std.specs.Prelude.{◌≡◌, ◌≤◌, ◌<◌, ◌%◌, ◌^◌, ℕ, List, length, map, false, OnErr};
-ghost use Rattle.std.specs.Prelude.{IfOk, Err, IsErrOf, ◌⊎◌, ◌↔◌};
+ghost use Rattle.std.specs.Prelude.{◌≡◌, ◌≤◌, ◌<◌, ◌%◌, ◌^◌, ◌⊎◌, ◌↔◌, ℕ, List, length, map};
+ghost use Rattle.std.specs.Prelude.{false, OnErr, IfOk, Err, IsErrOf};
 ghost use Rattle.definitions.specs.Oscillators.{Settings as Recording};
 ghost use Rattle.channel_slots.specs.declared.bank.TheConstants.{MOST_TIME};
 ghost use Rattle.channel_slots.specs.declared.place.TheConstants.{MOST_CLIENTS};
 ghost use Rattle.definitions.specs.Runs.{clients_of};
 ghost use Rattle.receiver.specs.Offered.{client_with};
-ghost use Rattle.receiver.specs.Printed.{CountsAreSums, AcquisitionsNameTheGreatest, WordsPass};
-ghost use Rattle.receiver.specs.Printed.{PagesPass, AlmanacsAgree};
-ghost use Rattle.receiver.specs.Runs.{seen, task_of, IsOpen, Ran, BrokeOff, IsRun, ServesEachAlone};
+ghost use Rattle.receiver.specs.Printed.{LinesAreRight};
+ghost use Rattle.receiver.specs.Runs.{seen, task_of, IsOpen, Ran, BrokeOff, IsRun};
 ghost use Rattle.receiver.specs.Sessions.{time_of};
 
 use crate::devices::{DeviceFault, Sink, Source};
@@ -52,12 +51,12 @@ fn run_session<R: Source, W: Sink>(
     Ok(stop)
 }
 
-/// Runs one to eight scripts over all samples that a reader gives, at most `MOST_TIME` of them: writes the
-/// lines of all clients, time by time, with an `end` for each behind the last, and answers the
-/// number of samples. However reads cut the bytes, and whatever the other clients ask, each
-/// client's lines are those of a receiver with that client alone. Each count is the plain sum over
-/// its samples, each acquisition names a greatest cell, and each data word that is shown passes the
-/// parity of IS-GPS-200, section 20.3.5.
+/// Runs one to eight scripts over all samples that a reader gives, at most `MOST_TIME` of them:
+/// writes the lines of all clients, time by time, with an `end` for each behind the last, and
+/// answers the number of samples. However reads cut the bytes, and whatever the other clients ask,
+/// each client's lines are those of a receiver with that client alone. Each count is the plain sum
+/// over its samples, each acquisition names a greatest cell, and each data word that is shown
+/// passes the parity of IS-GPS-200, section 20.3.5.
 pub fn run<R: Source, W: Sink>(
     alloc: Global,
     settings: Settings,
@@ -74,27 +73,7 @@ pub fn run<R: Source, W: Sink>(
     ensures run { IsRun (task_of settings (map (λ script. script.now) scripts.now) MOST_TIME)
         (seen R.Source W.Sink reader.old writer.old)
         (seen R.Source W.Sink reader.new writer.new) result }
-    ensures alone { IfOk result (λ _. ServesEachAlone settings
-        (map (λ script. client_with script.now) scripts.now)
-        (seen R.Source W.Sink reader.old writer.old)
-        (seen R.Source W.Sink reader.new writer.new)) }
-    ensures counts { IfOk result (λ _. CountsAreSums settings
-        (map (λ script. client_with script.now) scripts.now)
-        (seen R.Source W.Sink reader.old writer.old)
-        (seen R.Source W.Sink reader.new writer.new)) }
-    ensures acquisitions { IfOk result (λ _. AcquisitionsNameTheGreatest settings
-        (map (λ script. client_with script.now) scripts.now)
-        (seen R.Source W.Sink reader.old writer.old)
-        (seen R.Source W.Sink reader.new writer.new)) }
-    ensures words { IfOk result (λ _. WordsPass settings
-        (map (λ script. client_with script.now) scripts.now)
-        (seen R.Source W.Sink reader.old writer.old)
-        (seen R.Source W.Sink reader.new writer.new)) }
-    ensures pages { IfOk result (λ _. PagesPass settings
-        (map (λ script. client_with script.now) scripts.now)
-        (seen R.Source W.Sink reader.old writer.old)
-        (seen R.Source W.Sink reader.new writer.new)) }
-    ensures almanacs { IfOk result (λ _. AlmanacsAgree settings
+    ensures lines { IfOk result (λ _. LinesAreRight settings
         (map (λ script. client_with script.now) scripts.now)
         (seen R.Source W.Sink reader.old writer.old)
         (seen R.Source W.Sink reader.new writer.new)) }
@@ -122,27 +101,7 @@ pub fn run_to<R: Source, W: Sink>(
     ensures run { IsRun (task_of settings (map (λ script. script.now) scripts.now) limit)
         (seen R.Source W.Sink reader.old writer.old)
         (seen R.Source W.Sink reader.new writer.new) result }
-    ensures alone { IfOk result (λ _. ServesEachAlone settings
-        (map (λ script. client_with script.now) scripts.now)
-        (seen R.Source W.Sink reader.old writer.old)
-        (seen R.Source W.Sink reader.new writer.new)) }
-    ensures counts { IfOk result (λ _. CountsAreSums settings
-        (map (λ script. client_with script.now) scripts.now)
-        (seen R.Source W.Sink reader.old writer.old)
-        (seen R.Source W.Sink reader.new writer.new)) }
-    ensures acquisitions { IfOk result (λ _. AcquisitionsNameTheGreatest settings
-        (map (λ script. client_with script.now) scripts.now)
-        (seen R.Source W.Sink reader.old writer.old)
-        (seen R.Source W.Sink reader.new writer.new)) }
-    ensures words { IfOk result (λ _. WordsPass settings
-        (map (λ script. client_with script.now) scripts.now)
-        (seen R.Source W.Sink reader.old writer.old)
-        (seen R.Source W.Sink reader.new writer.new)) }
-    ensures pages { IfOk result (λ _. PagesPass settings
-        (map (λ script. client_with script.now) scripts.now)
-        (seen R.Source W.Sink reader.old writer.old)
-        (seen R.Source W.Sink reader.new writer.new)) }
-    ensures almanacs { IfOk result (λ _. AlmanacsAgree settings
+    ensures lines { IfOk result (λ _. LinesAreRight settings
         (map (λ script. client_with script.now) scripts.now)
         (seen R.Source W.Sink reader.old writer.old)
         (seen R.Source W.Sink reader.new writer.new)) }

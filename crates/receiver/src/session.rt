@@ -28,13 +28,15 @@ pub struct Session<'a> {
 }
 
 impl<'a> Session<'a> {
-    ghost use Rattle.std.specs.Prelude.{◌≤◌, ◌<◌, ◌+◌, ◌^◌, ◌⊎◌, ◌↔◌, ℕ, List, [], ◌∷◌, ◌++◌, map, IfSome, IsNone, IfOk, Err};
+    ghost use Rattle.std.specs.Prelude.{◌≤◌, ◌<◌, ◌+◌, ◌^◌, ◌⊎◌, ◌↔◌, ℕ, List, [], ◌∷◌, ◌++◌};
+    ghost use Rattle.std.specs.Prelude.{map, IfSome, IsNone, IfOk, Err};
     ghost use Rattle.definitions.specs.Oscillators.{Settings as Recording};
     ghost use Rattle.definitions.specs.Samples.{Sample};
     ghost use Rattle.definitions.specs.Receiver.{Client, body_lines, answer_lines};
     ghost use Rattle.channel_slots.specs.Events.{line_of};
     ghost use Rattle.receiver.specs.Offered.{offered, client_with};
-    ghost use Rattle.receiver.specs.Sessions.{StandsFor, Gives, packing_in, time_of, until_next, lines_left};
+    ghost use Rattle.receiver.specs.Sessions.{StandsFor, Gives, packing_in, time_of};
+    ghost use Rattle.receiver.specs.Sessions.{until_next, lines_left};
 
     /// A session before the first sample. It takes the memory of the slots.
     pub fn open(

@@ -26,9 +26,10 @@ const FIRST_COUNT: &[u8] = b"0 hold 0 1 0 0\n0 counts 0 1\n";
 
 /// What a client alone gets for it over the code file.
 ///
-/// Each sample meets its own chip, so the prompt products are 2,046 times +1, and the carrier's pair is 2 and 1 throughout. The early
-/// and the late chip are half a chip away: half of the samples meet their own chip, the others a neighbouring one. The products of all
-/// neighbouring chips of satellite 1 add up to -1, so 1,023 - 1 is left of these.
+/// Each sample meets its own chip, so the prompt products are 2,046 times +1, and the carrier's
+/// pair is 2 and 1 throughout. The early and the late chip are half a chip away: half of the
+/// samples meet their own chip, the others a neighbouring one. The products of all neighbouring
+/// chips of satellite 1 add up to -1, so 1,023 - 1 is left of these.
 const FIRST_COUNT_LINES: &str = "1 0 ok\n\
     1 0 ok\n\
     1 2046 count 0 2044 -1022 4092 -2046 2044 -1022\n\
@@ -81,7 +82,8 @@ fn run_one(
 
 #[test]
 fn code_file_begins_with_the_code(rt: HostRuntime) -> Result<(), Fail> {
-    // The first chips are 1100100000 (IS-GPS-200, table 3-Ia: octal 1440), each of them in two samples.
+    // The first chips are 1100100000 (IS-GPS-200, table 3-Ia: octal 1440), each of them in two
+    // samples.
     let bytes = code_file()?;
     assert_eq!(rt; &bytes[..2], [0xf0, 0xc0].as_slice());
     Ok(())

@@ -1,16 +1,15 @@
 //! The lines of a run, in their order. Each is put behind the text that is held back.
 
-ghost use Rattle.std.specs.Prelude.{◌≡◌, ◌<◌, ℕ, Option, List, [], map, OnOk, OnErr};
+ghost use Rattle.std.specs.Prelude.{◌≡◌, ◌<◌, ℕ, List, [], map, OnOk, OnErr};
 ghost use Rattle.std.specs.Io.KnownBytes.{Appends};
 ghost use Rattle.definitions.specs.Oscillators.{Settings as Recording};
 ghost use Rattle.definitions.specs.Samples.{Sample};
 ghost use Rattle.definitions.specs.Lines.{as_bytes};
-ghost use Rattle.definitions.specs.Receiver.{Client, full};
+ghost use Rattle.definitions.specs.Receiver.{Client};
 ghost use Rattle.channel_slots.specs.Events.{line_of};
 ghost use Rattle.receiver.specs.Devices.{TellsFailure};
 ghost use Rattle.receiver.specs.HeldTexts.{promised};
-ghost use Rattle.receiver.specs.Offered.{offered};
-ghost use Rattle.receiver.specs.Runs.{IsWrittenTo, text_for};
+ghost use Rattle.receiver.specs.Runs.{WritesAll, WritesFront};
 ghost use Rattle.receiver.specs.Sessions.{StandsFor, packing_in, time_of, until_next};
 ghost use Rattle.receiver.specs.Texts.{AppendsPart, Grows};
 
@@ -73,14 +72,10 @@ fn put_ends<W: Sink>(
     text: &mut HeldText,
     writer: &mut W,
 ) -> Result<(), DeviceFault>
-    ensures ok { OnOk result ((settings : Recording) (clients : List Client)
-        (start : Option (List ℕ)) (xs : List Sample) → IsWrittenTo settings clients start
-        session.now (promised (W.contents writer.old) text.old) xs → Appends start
-        (promised (W.contents writer.new) text.new) (full offered settings xs clients)) }
-    ensures err { OnErr result ((settings : Recording) (clients : List Client)
-        (start : Option (List ℕ)) (xs : List Sample) → IsWrittenTo settings clients start
-        session.now (promised (W.contents writer.old) text.old) xs → AppendsPart start
-        (promised (W.contents writer.new) text.new) (full offered settings xs clients)) }
+    ensures ok { OnOk result (WritesAll Stop.AtEnd session.now
+        (promised (W.contents writer.old) text.old) (promised (W.contents writer.new) text.new)) }
+    ensures err { OnErr result (WritesFront Stop.AtEnd session.now
+        (promised (W.contents writer.old) text.old) (promised (W.contents writer.new) text.new)) }
     ensures grows { Grows (W.contents writer.old) (W.contents writer.new) }
     ensures failure { TellsFailure (W.has_failed writer.old) (W.has_failed writer.new) result }
 {
@@ -97,14 +92,10 @@ fn put_last<W: Sink>(
     text: &mut HeldText,
     writer: &mut W,
 ) -> Result<(), DeviceFault>
-    ensures ok { OnOk result ((settings : Recording) (clients : List Client)
-        (start : Option (List ℕ)) (xs : List Sample) → IsWrittenTo settings clients start
-        session.now (promised (W.contents writer.old) text.old) xs → Appends start
-        (promised (W.contents writer.new) text.new) (text_for stop settings xs clients)) }
-    ensures err { OnErr result ((settings : Recording) (clients : List Client)
-        (start : Option (List ℕ)) (xs : List Sample) → IsWrittenTo settings clients start
-        session.now (promised (W.contents writer.old) text.old) xs → AppendsPart start
-        (promised (W.contents writer.new) text.new) (text_for stop settings xs clients)) }
+    ensures ok { OnOk result (WritesAll stop session.now
+        (promised (W.contents writer.old) text.old) (promised (W.contents writer.new) text.new)) }
+    ensures err { OnErr result (WritesFront stop session.now
+        (promised (W.contents writer.old) text.old) (promised (W.contents writer.new) text.new)) }
     ensures grows { Grows (W.contents writer.old) (W.contents writer.new) }
     ensures failure { TellsFailure (W.has_failed writer.old) (W.has_failed writer.new) result }
 {
@@ -121,14 +112,10 @@ pub fn finish<W: Sink>(
     text: &mut HeldText,
     writer: &mut W,
 ) -> Result<(), DeviceFault>
-    ensures ok { OnOk result ((settings : Recording) (clients : List Client)
-        (start : Option (List ℕ)) (xs : List Sample) → IsWrittenTo settings clients start
-        session.now (promised (W.contents writer.old) text.old) xs →
-        Appends start (W.contents writer.new) (text_for stop settings xs clients)) }
-    ensures err { OnErr result ((settings : Recording) (clients : List Client)
-        (start : Option (List ℕ)) (xs : List Sample) → IsWrittenTo settings clients start
-        session.now (promised (W.contents writer.old) text.old) xs → AppendsPart start
-        (promised (W.contents writer.new) text.new) (text_for stop settings xs clients)) }
+    ensures ok { OnOk result (WritesAll stop session.now
+        (promised (W.contents writer.old) text.old) (W.contents writer.new)) }
+    ensures err { OnErr result (WritesFront stop session.now
+        (promised (W.contents writer.old) text.old) (promised (W.contents writer.new) text.new)) }
     ensures grows { Grows (W.contents writer.old) (W.contents writer.new) }
     ensures failure { TellsFailure (W.has_failed writer.old) (W.has_failed writer.new) result }
 {

@@ -61,7 +61,8 @@ fn strangers_errors(rt: HostRuntime) -> Result<(), Fail> {
     Ok(())
 }
 
-// At one time the lines that samples cause come first, then the answers, by client; so client 2's dump stands before client 1's state.
+// At one time the lines that samples cause come first, then the answers, by client; so client 2's
+// dump stands before client 1's state.
 #[test]
 fn same_time_order(rt: HostRuntime) -> Result<(), Fail> {
     let code = code_file()?;

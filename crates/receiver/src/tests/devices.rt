@@ -9,8 +9,8 @@ use std::test::Fail;
 /// What the client gets before the first sample.
 const ANSWERS: &[u8] = b"1 0 ok\n1 0 ok\n";
 
-// The reader and the writer would go on behind their fault, and aren't asked: the last call on them is the one that failed. The dump
-// comes with the last of the 256 bytes, which has sample 2,046.
+// The reader and the writer would go on behind their fault, and aren't asked: the last call on them
+// is the one that failed. The dump comes with the last of the 256 bytes, which has sample 2,046.
 #[test]
 fn failing_device(rt: HostRuntime) -> Result<(), Fail> {
     let code = code_file()?;

@@ -102,7 +102,8 @@ impl Source for Zeros {
     }
 }
 
-/// Keeps what is written. It fails once, when it holds so many bytes, and would then go on; or it fails at each flush.
+/// Keeps what is written. It fails once, when it holds so many bytes, and would then go on; or it
+/// fails at each flush.
 #[derive(Drop)]
 pub struct Holding {
     bytes: ArrayVec<u8, ROOM>,

@@ -24,7 +24,8 @@ fn stated_limits(rt: HostRuntime) -> Result<(), Fail> {
     Ok(())
 }
 
-// Bytes that end at the limit need one more read: where it gives nothing, that is the end; where it gives a byte, the run is too long.
+// Bytes that end at the limit need one more read: where it gives nothing, that is the end; where it
+// gives a byte, the run is too long.
 #[test]
 fn sample_limit(rt: HostRuntime) -> Result<(), Fail> {
     let script = b"8 state 0\n9 state 0\n";
@@ -79,7 +80,8 @@ fn limit_zero(rt: HostRuntime) -> Result<(), Fail> {
     Ok(())
 }
 
-// 4,096 samples are 512 bytes. With one byte a read, the read behind them shows that there are more.
+// 4,096 samples are 512 bytes. With one byte a read, the read behind them shows that there are
+// more.
 #[test]
 fn endless_reader(rt: HostRuntime) -> Result<(), Fail> {
     for (bytes_a_read, reads) in [(1, 513), (512, 2), (513, 1)] {
@@ -102,7 +104,8 @@ fn endless_reader(rt: HostRuntime) -> Result<(), Fail> {
     Ok(())
 }
 
-// Where memory is refused, nothing was read or written; so this holds whichever of its requests is refused, or none.
+// Where memory is refused, nothing was read or written; so this holds whichever of its requests is
+// refused, or none.
 #[test]
 fn refused_memory_touches_no_device(rt: HostRuntime) -> Result<(), Fail> {
     let code = code_file()?;

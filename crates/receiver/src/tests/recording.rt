@@ -1,4 +1,5 @@
-//! Eight clients with all their slots over the beginning of a recording, beside eight runs with one client each.
+//! Eight clients with all their slots over the beginning of a recording, beside eight runs with one
+//! client each.
 
 use crate::running::run;
 use crate::tests::fakes::{Giving, Holding};
@@ -7,7 +8,8 @@ use sample_planes::Format;
 use std::alloc::Global;
 use std::test::Fail;
 
-/// 9,600 one-bit samples at 2,046,000 a second and an intermediate frequency of 511,500 Hz, of three satellites in noise.
+/// 9,600 one-bit samples at 2,046,000 a second and an intermediate frequency of 511,500 Hz, of
+/// three satellites in noise.
 const RECORDING: [u8; 1200] = [
     0xee, 0x6a, 0x45, 0xfa, 0x59, 0xc7, 0xe0, 0x1f, 0xa7, 0x85, 0x81, 0x5d, 0xfc, 0x5a, 0xf7, 0xf5,
     0x96, 0x9c, 0xbe, 0x0c, 0xd9, 0x9e, 0xf4, 0x41, 0xab, 0xb4, 0x51, 0xcb, 0x52, 0x6e, 0xd3, 0xa4,
@@ -122,11 +124,13 @@ const SCRIPTS: [&[u8]; 8] = [
         1007 hold 3 32 -15854 1147\n1007 counts 3 3\n",
 ];
 
-/// How many dumps each client is told: five or three of each slot, as far as they come within the samples.
+/// How many dumps each client is told: five or three of each slot, as far as they come within the
+/// samples.
 const DUMPS: [usize; 8] = [15, 15, 14, 15, 15, 14, 15, 14];
 
-/// The first client's lines, without its number. A program that adds up sample by sample, apart from this project, gives them and the
-/// numbers of dumps; the lines of slot 0 also came with the recording.
+/// The first client's lines, without its number. A program that adds up sample by sample, apart
+/// from this project, gives them and the numbers of dumps; the lines of slot 0 also came with the
+/// recording.
 const FIRST_LINES: &str = "0 ok\n\
     0 ok\n\
     0 ok\n\
@@ -185,8 +189,8 @@ fn number_of_lines(writer: &Holding) -> Result<usize, Fail> {
 fn clients_do_not_touch_each_other(rt: HostRuntime) -> Result<(), Fail> {
     let together = written(rt.alloc(), &SCRIPTS)?;
     assert_eq!(rt; lines_of(&together, b'1')?.text()?, FIRST_LINES);
-    // Four holds and four counts of each client, its dumps, and its end. They are written before the
-    // two reads and at the end.
+    // Four holds and four counts of each client, its dumps, and its end. They are written before
+    // the two reads and at the end.
     assert_eq!(rt; number_of_lines(&together)?, 189);
     assert_eq!(rt; together.writes, 3);
     for ((client, script), dumps) in (b'1'..=b'8').zip(SCRIPTS).zip(DUMPS) {

@@ -39,8 +39,9 @@ fn first_count(rt: HostRuntime) -> Result<(), Fail> {
     Ok(())
 }
 
-// The slot begins half a chip before the end of the code, so its first segment is one sample. Chips 1,022 and 0 of satellite 1 are 0
-// and 1. The sample and the prompt and late chip are chip 1,022; the early chip is that of the next period, and of the other sign.
+// The slot begins half a chip before the end of the code, so its first segment is one sample. Chips
+// 1,022 and 0 of satellite 1 are 0 and 1. The sample and the prompt and late chip are chip 1,022;
+// the early chip is that of the next period, and of the other sign.
 #[test]
 fn early_wraps(rt: HostRuntime) -> Result<(), Fail> {
     let code = code_file()?;
@@ -57,9 +58,10 @@ fn early_wraps(rt: HostRuntime) -> Result<(), Fail> {
     Ok(())
 }
 
-// The samples are 3, -3, 1, -1, a quarter of a cycle apart, where the carrier's pairs are (2, 1), (-1, 2), (-2, -1), (1, -2). At four
-// samples a chip they are chip 1,022, which is 0 as chip 1,021 is. The early chip of the last two is chip 0, which is 1: so
-// the in-phase products are 6, 3, -2, -1 with the prompt and the late chip, and 6, 3, 2, 1 with the early one; the quadrature products
+// The samples are 3, -3, 1, -1, a quarter of a cycle apart, where the carrier's pairs are (2, 1),
+// (-1, 2), (-2, -1), (1, -2). At four samples a chip they are chip 1,022, which is 0 as chip 1,021
+// is. The early chip of the last two is chip 0, which is 1: so the in-phase products are 6, 3, -2,
+// -1 with the prompt and the late chip, and 6, 3, 2, 1 with the early one; the quadrature products
 // are -3, 6, 1, -2 and -3, 6, -1, 2.
 #[test]
 fn two_bit_byte(rt: HostRuntime) -> Result<(), Fail> {

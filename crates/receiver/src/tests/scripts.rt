@@ -5,7 +5,8 @@ use crate::tests::fakes::{Giving, Holding};
 use arrayvec::ArrayVec;
 use std::test::Fail;
 
-// By one byte there are eight samples, so the line at 9 is never answered. A slot 4 is out of range before `z` is looked at.
+// By one byte there are eight samples, so the line at 9 is never answered. A slot 4 is out of range
+// before `z` is looked at.
 #[test]
 fn every_refusal(rt: HostRuntime) -> Result<(), Fail> {
     let script = b"5 hold 0 1 0 0\n\
@@ -56,10 +57,12 @@ fn long_and_unprintable_lines(rt: HostRuntime) -> Result<(), Fail> {
     Ok(())
 }
 
-// Line by line: 81 bytes are too many; 80 spaces and an empty line have no words and are skipped; 14 digits, and a sign, make no time;
-// `-0` and `00` are the slot 0; 14 digits and two signs make no number; a verb has lower case; there has to be one; `state` takes one
-// word; the shift is out of range before `x` is looked at; so is the number of counts; the slot is idle; 2^40 + 1 is no time; spaces at
-// the ends and between words are allowed. The last two lines stand at 2^40, which no run without samples comes to.
+// Line by line: 81 bytes are too many; 80 spaces and an empty line have no words and are skipped;
+// 14 digits, and a sign, make no time; `-0` and `00` are the slot 0; 14 digits and two signs make
+// no number; a verb has lower case; there has to be one; `state` takes one word; the shift is out
+// of range before `x` is looked at; so is the number of counts; the slot is idle; 2^40 + 1 is no
+// time; spaces at the ends and between words are allowed. The last two lines stand at 2^40, which
+// no run without samples comes to.
 #[test]
 fn hostile_script(rt: HostRuntime) -> Result<(), Fail> {
     let mut script = ArrayVec::<u8, 512>::new();

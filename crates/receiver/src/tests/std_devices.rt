@@ -123,7 +123,8 @@ fn interrupted_reader(rt: HostRuntime) -> Result<(), Fail> {
     Ok(())
 }
 
-// The script has one line, and the reader gives a byte and then none: the lines are `1 0 state 0 idle` and `1 8 end`.
+// The script has one line, and the reader gives a byte and then none: the lines are `1 0 state 0
+// idle` and `1 8 end`.
 #[test]
 fn interrupted_writer(rt: HostRuntime) -> Result<(), Fail> {
     for (at_write, at_flush, writes, flushes) in [(true, false, 1, 0), (false, true, 2, 1)] {
@@ -144,7 +145,8 @@ fn interrupted_writer(rt: HostRuntime) -> Result<(), Fail> {
     Ok(())
 }
 
-// The reader fails behind 100 bytes; but the first line comes before the first read, and nothing takes it.
+// The reader fails behind 100 bytes; but the first line comes before the first read, and nothing
+// takes it.
 #[test]
 fn writer_takes_nothing(rt: HostRuntime) -> Result<(), Fail> {
     let code = code_file()?;

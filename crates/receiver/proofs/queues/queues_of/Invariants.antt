@@ -6,6 +6,7 @@ use Rattle.receiver.proofs.queues.queues_of.Given as goal
 
 abbrev pub invariant-loop-script : goal.invariant-loop-script
 invariant-loop-script l = record {
-  entries : map left_of l.queues.items ≡ map (λ script. entries_of offered (client_with script.now)) (take l.script-index l.scripts);
+  entries : map left_of l.queues.items
+      ≡ map (λ script. entries_of offered (client_with script.now)) (take l.script-index l.scripts);
   many : length l.queues.items ≡ l.script-index;
 }

@@ -18,12 +18,18 @@ invariant-loop-reader g l = let source = g.R.Source in let sink = g.W.Sink in re
   ready : 0 < until_next l.session;
   within : time_of l.session ≤ l.limit;
   read_failed : source.has_failed l.reader ≡ source.has_failed l.fn.reader;
-  asked_again : source.has_failed l.fn.reader ≡ false → source.was_asked_again l.reader ≡ source.was_asked_again l.fn.reader;
+  asked_again : source.has_failed l.fn.reader ≡ false
+      → source.was_asked_again l.reader ≡ source.was_asked_again l.fn.reader;
   grows : Grows (sink.contents l.fn.writer) (sink.contents l.writer);
   write_failed : sink.has_failed l.writer ≡ sink.has_failed l.fn.writer;
-  read : (bytes : List ℕ) × Consumes (source.remaining l.fn.reader) (source.remaining l.reader) bytes × (time_of l.session ≡ sample_count (packing_in l.fn.session) bytes)
-      × ((settings : Settings) (clients : List Client) (start : Option (List ℕ)) → IsWrittenTo settings clients start l.fn.session (promised (sink.contents l.fn.writer) l.fn.text) []
-      → IsWrittenTo settings clients start l.session (promised (sink.contents l.writer) l.text) (samples settings.packing bytes));
+  read : (bytes : List ℕ)
+      × Consumes (source.remaining l.fn.reader) (source.remaining l.reader) bytes
+      × (time_of l.session ≡ sample_count (packing_in l.fn.session) bytes)
+      × ((settings : Settings) (clients : List Client) (start : Option (List ℕ))
+      → IsWrittenTo settings clients start l.fn.session
+      (promised (sink.contents l.fn.writer) l.fn.text) []
+      → IsWrittenTo settings clients start l.session (promised (sink.contents l.writer) l.text)
+      (samples settings.packing bytes));
 }
 
 abbrev pub decreases-loop-reader : goal.decreases-loop-reader

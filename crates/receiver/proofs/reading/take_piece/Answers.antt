@@ -1,4 +1,4 @@
-use Rattle.std.proofs.Common.{◌≡◌, ◌∙◌, ℕ, ◌+◌, ◌≤◌, List, [], ◌++◌, length, take, drop, ap, sym}
+use Rattle.std.proofs.Common.{◌≡◌, ◌∙◌, ℕ, ◌+◌, ◌≤◌, List, ◌++◌, length, take, drop, ap, sym}
 use Rattle.std.proofs.Common.{subst, append-nil, append_assoc, arith, refl}
 use Rattle.std.proofs.lemmas.List.{take-append-drop}
 use Rattle.definitions.specs.Samples.{Sample}

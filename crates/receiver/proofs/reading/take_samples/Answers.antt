@@ -13,36 +13,64 @@ use Rattle.receiver.proofs.reading.take_samples.Goals as goal
 
 pub returns-in_err-put_events-clause-err : goal.returns-in_err-put_events-clause-err
 unfolding body
-returns-in_err-put_events-clause-err g c = let s = g.W.Sink in on_err c.from_residual.result _ (λ settings clients start xs at.
+returns-in_err-put_events-clause-err g c =
+    let s = g.W.Sink in on_err c.from_residual.result _ (λ settings clients start xs at.
     let more = xs ++ c.args.run.now in
-    stretch-part-told start (promised (s.contents c.args.writer.now) c.args.text.now) (promised (s.contents c.put_events.new.writer) c.put_events.new.text) (body_lines offered settings xs clients) (map line_of c.deref.result.now) (answer_lines offered settings clients more)
+    stretch-part-told start (promised (s.contents c.args.writer.now) c.args.text.now)
+    (promised (s.contents c.put_events.new.writer) c.put_events.new.text)
+    (body_lines offered settings xs clients) (map line_of c.deref.result.now)
+    (answer_lines offered settings clients more)
     (body_lines offered settings more clients)
-    (c.feed.ensures.told settings clients xs at.stands ∙ ap (λ r. body_lines offered settings xs clients ++ map line_of r ++ answer_lines offered settings clients more) (sym c.deref.ensures.0))
+    (c.feed.ensures.told settings clients xs at.stands
+    ∙ ap (λ r. body_lines offered settings xs clients ++ map line_of r
+    ++ answer_lines offered settings clients more) (sym c.deref.ensures.0))
     at.written c.in_err-put_events.ensures.err)
 
 pub returns-clause-ok : goal.returns-clause-ok
 unfolding body
-returns-clause-ok g c = let s = g.W.Sink in IfOk-weaker c.put_answers.result _ _ (λ _ answered. λ settings clients start xs at.
+returns-clause-ok g c =
+    let s = g.W.Sink in
+    IfOk-weaker c.put_answers.result _ _ (λ _ answered. λ settings clients start xs at.
     let more = xs ++ c.args.run.now in
-    let said = answered settings clients more (answer_lines offered settings clients more) (c.feed.ensures.stands settings clients xs at.stands) in
+    let said =
+    answered settings clients more (answer_lines offered settings clients more)
+    (c.feed.ensures.stands settings clients xs at.stands) in
     record {
       stands = said.1;
-      written = stretch-all start (promised (s.contents c.args.writer.now) c.args.text.now) (promised (s.contents c.put_events.new.writer) c.put_events.new.text) (promised (s.contents c.put_answers.new.writer) c.put_answers.new.text) (body_lines offered settings xs clients) (map line_of c.deref.result.now) (answer_lines offered settings clients more)
+      written =
+          stretch-all start (promised (s.contents c.args.writer.now) c.args.text.now)
+          (promised (s.contents c.put_events.new.writer) c.put_events.new.text)
+          (promised (s.contents c.put_answers.new.writer) c.put_answers.new.text)
+          (body_lines offered settings xs clients) (map line_of c.deref.result.now)
+          (answer_lines offered settings clients more)
           (body_lines offered settings more clients)
-          (c.feed.ensures.told settings clients xs at.stands ∙ ap (λ r. body_lines offered settings xs clients ++ map line_of r ++ answer_lines offered settings clients more) (sym c.deref.ensures.0))
+          (c.feed.ensures.told settings clients xs at.stands
+          ∙ ap (λ r. body_lines offered settings xs clients ++ map line_of r
+          ++ answer_lines offered settings clients more) (sym c.deref.ensures.0))
           at.written c.in_ok-put_events.ensures.ok said.0;
     }) c.put_answers.ensures.ok
 
 pub returns-clause-err : goal.returns-clause-err
 unfolding body
-returns-clause-err g c = let s = g.W.Sink in IfErr-weaker c.put_answers.result _ _ (λ _ answered. λ settings clients start xs at.
+returns-clause-err g c =
+    let s = g.W.Sink in
+    IfErr-weaker c.put_answers.result _ _ (λ _ answered. λ settings clients start xs at.
     let more = xs ++ c.args.run.now in
-    stretch-part-answers start (promised (s.contents c.args.writer.now) c.args.text.now) (promised (s.contents c.put_events.new.writer) c.put_events.new.text) (promised (s.contents c.put_answers.new.writer) c.put_answers.new.text) (body_lines offered settings xs clients) (map line_of c.deref.result.now) (answer_lines offered settings clients more)
+    stretch-part-answers start (promised (s.contents c.args.writer.now) c.args.text.now)
+    (promised (s.contents c.put_events.new.writer) c.put_events.new.text)
+    (promised (s.contents c.put_answers.new.writer) c.put_answers.new.text)
+    (body_lines offered settings xs clients) (map line_of c.deref.result.now)
+    (answer_lines offered settings clients more)
     (body_lines offered settings more clients)
-    (c.feed.ensures.told settings clients xs at.stands ∙ ap (λ r. body_lines offered settings xs clients ++ map line_of r ++ answer_lines offered settings clients more) (sym c.deref.ensures.0))
-    at.written c.in_ok-put_events.ensures.ok (answered settings clients more (answer_lines offered settings clients more) (c.feed.ensures.stands settings clients xs at.stands)))
+    (c.feed.ensures.told settings clients xs at.stands
+    ∙ ap (λ r. body_lines offered settings xs clients ++ map line_of r
+    ++ answer_lines offered settings clients more) (sym c.deref.ensures.0))
+    at.written c.in_ok-put_events.ensures.ok
+    (answered settings clients more (answer_lines offered settings clients more)
+    (c.feed.ensures.stands settings clients xs at.stands)))
     c.put_answers.ensures.err
 
 pub returns-clause-grows : goal.returns-clause-grows
 returns-clause-grows g c = let s = g.W.Sink in
-    grows-on (s.contents c.args.writer.now) (s.contents c.put_events.new.writer) (s.contents c.put_answers.new.writer) c.put_events.ensures.grows c.put_answers.ensures.grows
+    grows-on (s.contents c.args.writer.now) (s.contents c.put_events.new.writer)
+    (s.contents c.put_answers.new.writer) c.put_events.ensures.grows c.put_answers.ensures.grows

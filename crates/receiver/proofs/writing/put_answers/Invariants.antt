@@ -14,8 +14,10 @@ invariant-loop-line g l = let sink = g.W.Sink in record {
   time : time_of l.session ≡ time_of l.fn.session;
   grows : Grows (sink.contents l.fn.writer) (sink.contents l.writer);
   failure : sink.has_failed l.writer ≡ sink.has_failed l.fn.writer;
-  answered : (settings : Settings) (clients : List Client) (xs : List Sample) (waiting : List (List ℕ)) → StandsFor settings clients l.fn.session xs waiting
-      → HasAnswered settings clients xs waiting (promised (sink.contents l.fn.writer) l.fn.text) l.session (promised (sink.contents l.writer) l.text);
+  answered : (settings : Settings) (clients : List Client) (xs : List Sample)
+      (waiting : List (List ℕ)) → StandsFor settings clients l.fn.session xs waiting
+      → HasAnswered settings clients xs waiting (promised (sink.contents l.fn.writer) l.fn.text)
+      l.session (promised (sink.contents l.writer) l.text);
 }
 
 abbrev pub decreases-loop-line : goal.decreases-loop-line

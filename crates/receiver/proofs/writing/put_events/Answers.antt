@@ -1,7 +1,7 @@
-use Rattle.std.proofs.Common.{◌∙◌, ◌+◌, drop, subst, ap}
+use Rattle.std.proofs.Common.{◌∙◌, ◌+◌, drop, subst}
 use Rattle.std.specs.Prelude.{map}
 use Rattle.std.specs.Io.KnownBytes.{Appends}
-use Rattle.definitions.specs.Lines.{as_bytes, ended_line}
+use Rattle.definitions.specs.Lines.{as_bytes}
 use Rattle.channel_slots.specs.Events.{line_of}
 use Rattle.receiver.specs.Texts.{AppendsPart}
 use Rattle.receiver.proofs.TextLemmas.{wrote-text, wrote-part, wrote-all, on_err}
@@ -18,9 +18,18 @@ loop-event-preserved g c =
     let e = c.deref.ensures.0 ∙ c.event_line.ensures in
     record {
       failure = c.in_ok-put.ensures.failure ∙ c.loop-event.invariant.failure;
-      grows = grows-on (s.contents c.args.writer.now) (s.contents c.loop-event.writer) (s.contents c.put.new.writer) c.loop-event.invariant.grows c.put.ensures.grows;
-      wrote = wrote-text (promised (s.contents c.args.writer.now) c.args.text.now) (promised (s.contents c.loop-event.writer) c.loop-event.text) (promised (s.contents c.put.new.writer) c.put.new.self) (as_bytes (map line_of rs)) (as_bytes (map line_of (drop i rs))) _ (as_bytes (map line_of (drop (i + 1) rs)))
-          c.loop-event.invariant.wrote (events-next rs i (_) c.loop-event-test.true) (subst (Appends (promised (s.contents c.loop-event.writer) c.loop-event.text) (promised (s.contents c.put.new.writer) c.put.new.self)) e c.in_ok-put.ensures.ok);
+      grows =
+          grows-on (s.contents c.args.writer.now) (s.contents c.loop-event.writer)
+          (s.contents c.put.new.writer) c.loop-event.invariant.grows c.put.ensures.grows;
+      wrote =
+          wrote-text (promised (s.contents c.args.writer.now) c.args.text.now)
+          (promised (s.contents c.loop-event.writer) c.loop-event.text)
+          (promised (s.contents c.put.new.writer) c.put.new.self) (as_bytes (map line_of rs))
+          (as_bytes (map line_of (drop i rs))) _ (as_bytes (map line_of (drop (i + 1) rs)))
+          c.loop-event.invariant.wrote (events-next rs i (_) c.loop-event-test.true)
+          (subst (Appends (promised (s.contents c.loop-event.writer) c.loop-event.text)
+          (promised (s.contents c.put.new.writer) c.put.new.self)) e
+          c.in_ok-put.ensures.ok);
     }
 
 pub returns-in_err-put-clause-err : goal.returns-in_err-put-clause-err
@@ -29,18 +38,32 @@ returns-in_err-put-clause-err g c =
     let rs = c.args.events.now in
     let i = c.loop-event.event-index in
     let e = c.deref.ensures.0 ∙ c.event_line.ensures in
-    on_err c.from_residual.result _ (wrote-part (promised (s.contents c.args.writer.now) c.args.text.now) (promised (s.contents c.loop-event.writer) c.loop-event.text) (promised (s.contents c.put.new.writer) c.put.new.self) (as_bytes (map line_of rs)) (as_bytes (map line_of (drop i rs))) _ (as_bytes (map line_of (drop (i + 1) rs)))
-    c.loop-event.invariant.wrote (events-next rs i (_) c.loop-event-test.true) (subst (AppendsPart (promised (s.contents c.loop-event.writer) c.loop-event.text) (promised (s.contents c.put.new.writer) c.put.new.self)) e (kept-part (promised (s.contents c.loop-event.writer) c.loop-event.text) (promised (s.contents c.put.new.writer) c.put.new.self) _ c.in_err-put.ensures.err)))
+    on_err c.from_residual.result
+    _ (wrote-part (promised (s.contents c.args.writer.now) c.args.text.now)
+    (promised (s.contents c.loop-event.writer) c.loop-event.text)
+    (promised (s.contents c.put.new.writer) c.put.new.self) (as_bytes (map line_of rs))
+    (as_bytes (map line_of (drop i rs))) _ (as_bytes (map line_of (drop (i + 1) rs)))
+    c.loop-event.invariant.wrote (events-next rs i (_) c.loop-event-test.true)
+    (subst (AppendsPart (promised (s.contents c.loop-event.writer) c.loop-event.text)
+    (promised (s.contents c.put.new.writer) c.put.new.self)) e
+    (kept-part (promised (s.contents c.loop-event.writer) c.loop-event.text)
+    (promised (s.contents c.put.new.writer) c.put.new.self)
+    _ c.in_err-put.ensures.err)))
 
 pub returns-clause-ok : goal.returns-clause-ok
 returns-clause-ok g c =
     let s = g.W.Sink in
     let rs = c.args.events.now in
-    wrote-all (promised (s.contents c.args.writer.now) c.args.text.now) (promised (s.contents c.loop-event.writer) c.loop-event.text) (as_bytes (map line_of rs)) (as_bytes (map line_of (drop c.loop-event.event-index rs))) (events-done rs c.loop-event.event-index c.loop-event-test.false) c.loop-event.invariant.wrote
+    wrote-all (promised (s.contents c.args.writer.now) c.args.text.now)
+    (promised (s.contents c.loop-event.writer) c.loop-event.text) (as_bytes (map line_of rs))
+    (as_bytes (map line_of (drop c.loop-event.event-index rs)))
+    (events-done rs c.loop-event.event-index c.loop-event-test.false)
+    c.loop-event.invariant.wrote
 
 pub returns-in_err-put-clause-grows : goal.returns-in_err-put-clause-grows
 returns-in_err-put-clause-grows g c = let s = g.W.Sink in
-    grows-on (s.contents c.args.writer.now) (s.contents c.loop-event.writer) (s.contents c.put.new.writer) c.loop-event.invariant.grows c.put.ensures.grows
+    grows-on (s.contents c.args.writer.now) (s.contents c.loop-event.writer)
+    (s.contents c.put.new.writer) c.loop-event.invariant.grows c.put.ensures.grows
 
 pub returns-clause-grows : goal.returns-clause-grows
 returns-clause-grows g c = c.loop-event.invariant.grows

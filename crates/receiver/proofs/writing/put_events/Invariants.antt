@@ -10,5 +10,7 @@ abbrev pub invariant-loop-event : goal.invariant-loop-event
 invariant-loop-event g l = let sink = g.W.Sink in record {
   grows : Grows (sink.contents l.fn.writer) (sink.contents l.writer);
   failure : sink.has_failed l.writer ≡ sink.has_failed l.fn.writer;
-  wrote : WroteUpTo (promised (sink.contents l.fn.writer) l.fn.text) (promised (sink.contents l.writer) l.text) (as_bytes (map line_of l.events)) (as_bytes (map line_of (drop l.event-index l.events)));
+  wrote : WroteUpTo (promised (sink.contents l.fn.writer) l.fn.text)
+      (promised (sink.contents l.writer) l.text) (as_bytes (map line_of l.events))
+      (as_bytes (map line_of (drop l.event-index l.events)));
 }

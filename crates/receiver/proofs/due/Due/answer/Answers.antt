@@ -32,7 +32,8 @@ returns-in-Ok c = record {
       let slot : c.get-slot.result ≡ command.slot = c.get-slot.ensures.same ∙ c.slot.ensures in
       c.answer_line.ensures
       ∙ same-line client c.time-time.result (length xs) _ _ (c.time-time.ensures ∙ s.now)
-      (ap (answer_text c.get-slot.result) (c.command-answer.ensures.answer settings xs (asked_of done) s)
+      (ap (answer_text c.get-slot.result)
+      (c.command-answer.ensures.answer settings xs (asked_of done) s)
       ∙ ap (λ (k : ℕ). answer_text k (answer_at_end settings xs
       (asked_of done client command.slot) command.request)) slot
       ∙ ap (reply_text settings xs (done client)) (sym what));
@@ -41,7 +42,8 @@ returns-in-Ok c = record {
       let client = c.args.self.client in
       let what : Ok command ≡ result_in c.args.self.what = sym (ap result_in c.in-Ok.is) in
       subst (λ (r : Result Asked ℕ). StandsFor settings xs
-      (asked_of (with_entry done client (record { time = length xs; what = r }))) c.command-answer.new.self)
+      (asked_of (with_entry done client (record { time = length xs; what = r })))
+      c.command-answer.new.self)
       what
       (subst (λ (a : ℕ → ℕ → List TimedRequest). StandsFor settings xs a c.command-answer.new.self)
       (command-added done client (length xs) command)

@@ -1,42 +1,68 @@
-use Rattle.std.proofs.Common.{◌≡◌, ◌∷◌, ℕ, List, length, refl, sym, ap, ◌∙◌, subst, arith}
+use Rattle.std.proofs.Common.{◌≡◌, ℕ, List, length, refl, sym, ap, ◌∙◌, subst, arith}
 use Rattle.std.specs.List.{AllByRecursion}
 use Rattle.receiver.specs.declared.queue.Queue.{Queue}
 use Rattle.receiver.specs.Queues.{NoneDue, TakesDue, left_of}
 use Rattle.receiver.specs.Sessions.{until_next, lines_left, answers_waiting, with_entry, entry_now}
-use Rattle.receiver.proofs.SessionLemmas.{none-waiting, none-due-gap, at-least, at-most, as-many, fewer-left, queues-then, waiting-then, written-back}
+use Rattle.receiver.proofs.SessionLemmas.{none-waiting, none-due-gap, at-least, at-most, as-many}
+use Rattle.receiver.proofs.SessionLemmas.{fewer-left, queues-then, waiting-then, written-back}
 use Rattle.receiver.proofs.session.Session.answer.Goals as goal
 
 pub returns-in_err-due-clause-ready : goal.returns-in_err-due-clause-ready
 unfolding until_next
 returns-in_err-due-clause-ready c none =
     let old : List Queue = c.args.self.now.queues.items in
-    let same : c.take_due.new.queues ≡ old = c.in_err-due.ensures.kept refl ∙ c.deref_mut.ensures.value in
+    let same : c.take_due.new.queues ≡ old =
+    c.in_err-due.ensures.kept refl ∙ c.deref_mut.ensures.value in
     let whole = written-back c.args.self.now.queues c.take_due.new.queues (ap length same) ∙ same in
-    let due : AllByRecursion (λ (q : Queue). NoneDue c.time-now.result (left_of q)) old = rw c.deref_mut.ensures.value at (c.in_err-due.ensures.none refl) in
+    let due : AllByRecursion (λ (q : Queue). NoneDue c.time-now.result (left_of q)) old =
+    rw c.deref_mut.ensures.value at (c.in_err-due.ensures.none refl) in
     rw (whole, ← c.time-now.ensures) (none-due-gap c.time-now.result old due)
 
 pub returns-in_err-due-clause-none : goal.returns-in_err-due-clause-none
 returns-in_err-due-clause-none c none settings clients xs waiting s =
     let old : List Queue = c.args.self.now.queues.items in
-    let same : c.take_due.new.queues ≡ old = c.in_err-due.ensures.kept refl ∙ c.deref_mut.ensures.value in
+    let same : c.take_due.new.queues ≡ old =
+    c.in_err-due.ensures.kept refl ∙ c.deref_mut.ensures.value in
     let whole = written-back c.args.self.now.queues c.take_due.new.queues (ap length same) ∙ same in
-    let due : AllByRecursion (λ (q : Queue). NoneDue c.time-now.result (left_of q)) old = rw c.deref_mut.ensures.value at (c.in_err-due.ensures.none refl) in
+    let due : AllByRecursion (λ (q : Queue). NoneDue c.time-now.result (left_of q)) old =
+    rw c.deref_mut.ensures.value at (c.in_err-due.ensures.none refl) in
     let now : c.time-now.result ≡ length xs = c.time-now.ensures ∙ s.bank.now in
-    let nothing = none-waiting settings xs s.done 1 clients old s.queues (subst (λ (t : ℕ). AllByRecursion (λ (q : Queue). NoneDue t (left_of q)) old) now due) in
-    (s.waits ∙ nothing, record { done = s.done; bank = s.bank; queues = rw whole s.queues; waits = rw whole (sym nothing) })
+    let nothing =
+    none-waiting settings xs s.done 1 clients old s.queues
+    (subst (λ (t : ℕ). AllByRecursion (λ (q : Queue). NoneDue t (left_of q)) old) now
+    due) in (
+      s.waits ∙ nothing,
+      record {
+        done = s.done;
+        bank = s.bank;
+        queues = rw whole s.queues;
+        waits = rw whole (sym nothing);
+      },
+    )
 
 pub answer-requires-clause-first : goal.answer-requires-clause-first
-answer-requires-clause-first c = at-least c.time-now.result 1 c.deref_mut.result.now c.take_due.new.queues c.in_ok-due.due c.in_ok-due.ensures.some
+answer-requires-clause-first c =
+    at-least c.time-now.result 1 c.deref_mut.result.now c.take_due.new.queues c.in_ok-due.due
+    c.in_ok-due.ensures.some
 
 pub answer-requires-clause-last : goal.answer-requires-clause-last
-answer-requires-clause-last c = omega (arith, at-most c.time-now.result 1 c.deref_mut.result.now c.take_due.new.queues c.in_ok-due.due c.in_ok-due.ensures.some, ap length c.deref_mut.ensures.value, c.args.self.now.clients)
+answer-requires-clause-last c =
+    omega (
+      arith,
+      at-most c.time-now.result 1 c.deref_mut.result.now c.take_due.new.queues
+          c.in_ok-due.due c.in_ok-due.ensures.some,
+      ap length c.deref_mut.ensures.value,
+      c.args.self.now.clients,
+    )
 
 pub returns-clause-fewer : goal.returns-clause-fewer
 unfolding lines_left
 returns-clause-fewer c =
     let taken = rw c.deref_mut.ensures.value at c.in_ok-due.ensures.some in
     let old : List Queue = c.args.self.now.queues.items in
-    let whole = written-back c.args.self.now.queues c.take_due.new.queues (as-many c.time-now.result 1 old c.take_due.new.queues c.in_ok-due.due taken) in
+    let whole =
+    written-back c.args.self.now.queues c.take_due.new.queues
+    (as-many c.time-now.result 1 old c.take_due.new.queues c.in_ok-due.due taken) in
     rw whole (fewer-left c.time-now.result 1 old c.take_due.new.queues c.in_ok-due.due taken)
 
 pub returns-clause-some : goal.returns-clause-some
@@ -45,7 +71,9 @@ returns-clause-some c settings clients xs waiting s =
     let new : List Queue = c.take_due.new.queues in
     let due = c.in_ok-due.due in
     let now : c.time-now.result ≡ length xs = c.time-now.ensures ∙ s.bank.now in
-    let taken : TakesDue (length xs) 1 old new due = subst (λ (t : ℕ). TakesDue t 1 old new due) now (rw c.deref_mut.ensures.value at c.in_ok-due.ensures.some) in
+    let taken : TakesDue (length xs) 1 old new due =
+    subst (λ (t : ℕ). TakesDue t 1 old new due) now
+    (rw c.deref_mut.ensures.value at c.in_ok-due.ensures.some) in
     let whole = written-back c.args.self.now.queues new (as-many (length xs) 1 old new due taken) in
     let then : ℕ → _ = with_entry s.done due.client (entry_now xs due) in
     record {

@@ -1,4 +1,4 @@
-use Rattle.std.proofs.Common.{◌≡◌, ◌≤◌, ◌<◌, ℕ, List, length, subst, sym, ap, ◌∙◌, arith}
+use Rattle.std.proofs.Common.{◌≡◌, ◌≤◌, ℕ, List, length, subst, sym, ap, ◌∙◌, arith}
 use Rattle.std.specs.Prelude.{replicate}
 use Rattle.definitions.specs.Samples.{Sample}
 use Rattle.definitions.specs.Banks.{bank_events_at_end, layout}
@@ -38,7 +38,13 @@ returns-clause-told c settings clients xs s =
     let queues : List Queue = c.args.self.now.queues.items in
     let free = before-next queues c.args.self.now.bank.time (length xs) (length ys) c.requires.quiet
     s.bank.now in
-    let number : c.args.self.now.bank.clients ≡ length clients = omega (arith, same-number xs s.done 1 clients queues s.queues, c.args.self.now.clients) in
-    let shares : replicate c.args.self.now.bank.clients 4 ≡ shares_of clients = ap (λ n. replicate n 4) number ∙ sym (shares-equal 4 clients (slots-each xs s.done 1 clients queues s.queues)) in
-    told-stretch settings clients queues s.done xs ys c.feed_into.new.events.items c.requires.some s.queues free
-    (subst (λ (l : List ℕ). AreTold c.feed_into.new.events.items (at_each_sample (bank_events_at_end settings (layout l) (asked_of s.done)) xs ys)) shares (c.feed_into.ensures.told settings xs (asked_of s.done) s.bank))
+    let number : c.args.self.now.bank.clients ≡ length clients =
+    omega (arith, same-number xs s.done 1 clients queues s.queues, c.args.self.now.clients) in
+    let shares : replicate c.args.self.now.bank.clients 4 ≡ shares_of clients =
+    ap (λ n. replicate n 4) number
+    ∙ sym (shares-equal 4 clients (slots-each xs s.done 1 clients queues s.queues)) in
+    told-stretch settings clients queues s.done xs ys c.feed_into.new.events.items c.requires.some
+    s.queues free
+    (subst (λ (l : List ℕ). AreTold c.feed_into.new.events.items
+    (at_each_sample (bank_events_at_end settings (layout l) (asked_of s.done)) xs ys)) shares
+    (c.feed_into.ensures.told settings xs (asked_of s.done) s.bank))
