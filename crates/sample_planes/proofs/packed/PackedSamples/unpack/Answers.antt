@@ -6,5 +6,5 @@ use Rattle.sample_planes.proofs.packed.PackedSamples.unpack.Goals as goal
 pub unpack-requires-clause-short : goal.unpack-requires-clause-short
 unpack-requires-clause-short c =
     let i = c.self.inside in
-    short_run (packing_of i.format) i.bytes.now i.first i.len c.args.self.now c.self.view_is MAX_SAMPLES
-    c.requires
+    short_run (packing_of i.format) i.bytes.now i.first i.len c.args.self.now c.self.view_is
+    MAX_SAMPLES c.requires
