@@ -115,7 +115,7 @@ impl<'a> Session<'a> {
     }
 
     /// The line of the next answer at this time, with its end.
-    #[tactic(auto, unfolding(crate::specs::Sessions::until_next, crate::specs::Sessions::lines_left))]
+    #[tactic(auto, unfolding(crate::specs::Sessions::until_next))]
     pub fn answer(&mut self) -> Option<Line>
         ensures packing { packing_in self.new ≡ packing_in self.old }
         ensures time { time_of self.new ≡ time_of self.old }
