@@ -4,6 +4,13 @@
 //! A `Plane` stands for a bit at each place. `pick_bytes` looks up sixteen bytes of a table, and
 //! `top_bits` and its kin give sixteen bits of a plane from them: lane k stands for place 15 - k of
 //! the sixteen, so that a bitmask of lanes has the first place in its top bit.
+//!
+//!     use bit_planes::{Plane, top_bits};
+//!
+//!     let mut plane = Plane::new();
+//!     // The top bits of sixteen bytes are the bits at places 0 to 15.
+//!     plane.put(0, top_bits(bytes));
+//!     let first = plane.bit(0);
 #![tactic(auto)]
 
 mod lanes;

@@ -2,6 +2,15 @@
 //! bit is 20 code periods, since data come at 50 bits a second (IS-GPS-200, sections 3.2.2 and
 //! 20.3.2). The crate promises that what it tells of each sum is what the definition of edge and
 //! bits says of all the sums so far, however many there are.
+//!
+//!     use bit_sync::{BitNews, BitSync};
+//!
+//!     let mut sync = BitSync::new();
+//!     for counts in dumps_since_lock {
+//!         if let BitNews::Bit(bit) = sync.push(counts.ip) {
+//!             bits.push(bit)?;
+//!         }
+//!     }
 #![tactic(auto)]
 
 mod bit_sum;

@@ -4,6 +4,15 @@
 //! last of its 300 bits: a word is there exactly where its parity holds, and a start is the least
 //! header at or behind the end of the subframe before. It keeps a window of 64 bits, and promises
 //! what the definition says of the whole list of bits that were pushed.
+//!
+//!     use frame_sync::FrameSync;
+//!
+//!     let mut sync = FrameSync::new();
+//!     for bit in bits {
+//!         if let Some(found) = sync.push(bit) {
+//!             let (id, time_of_week) = (found.subframe.id(), found.subframe.tow());
+//!         }
+//!     }
 #![tactic(auto)]
 
 mod incoming;

@@ -5,6 +5,12 @@
 //! `pair_sum` those with the prompt chips alone. Both are proved to be the plain sums over every
 //! range of the run, for real and for complex samples. (IS-GPS-200 has the signal alone; how a
 //! receiver correlates with it is this project's own.)
+//!
+//!     use lane_correlator::replica_sums;
+//!
+//!     // A carrier and a code that begin with the run's first sample.
+//!     let (carrier, code) = (CarrierOsc::new(carrier_step), CodeOsc::new(half, code_step));
+//!     let counts = replica_sums(&run, 0, run.len(), &carrier, &code, &mut book, prn);
 #![tactic(auto)]
 
 mod counts;

@@ -5,6 +5,12 @@
 //! bits and has these data. Both are promised against the table of the standard, and beside them
 //! stand laws on all words: what passes does not pass any more with one, two or three bits changed,
 //! and a receiver that sees every bit inverted reads the same.
+//!
+//!     use nav_parity::{check, encode};
+//!
+//!     // The word behind one whose last two bits are 0.
+//!     let word = encode(0x8b_0000, 0);
+//!     let data = check(word, 0);
 #![tactic(auto)]
 
 mod laws;
