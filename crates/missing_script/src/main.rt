@@ -1,5 +1,6 @@
 //! The program of `receiver_cli`, for its stored run with a script that isn't there, behind one
-//! that is: it ends with status 2, nothing is printed, and `receiver: script` goes to standard error.
+//! that is: it ends with status 2, nothing is printed, and `receiver: script` goes to standard
+//! error.
 #![tactic(auto)]
 
 use command_line::{Stored, carry_out};
