@@ -7,9 +7,8 @@ use Rattle.std.proofs.lemmas.Bool.{lt-ltb}
 use Rattle.definitions.specs.Samples.{Sample}
 use Rattle.definitions.specs.Oscillators.{Settings}
 use Rattle.definitions.specs.Segments.{Dump}
-use Rattle.definitions.specs.Lives as defined
-use Rattle.definitions.specs.Lives.{dumps_of_life, life_wanting}
-use Rattle.definitions.specs.Events.{Event, count, unprinted, when}
+use Rattle.definitions.specs.Lives.{Life as DefinedLife, dumps_of_life, life_wanting}
+use Rattle.definitions.specs.Events.{Event, count, unprinted_count, when}
 use Rattle.definitions.proofs.LifeLemmas.{unprinted-more, unprinted-all}
 use Rattle.lane_correlator.specs.declared.counts.Counts.{Counts}
 use Rattle.lane_correlator.specs.Counting.{counts_in}
@@ -19,7 +18,7 @@ use Rattle.channel_slots.specs.Lives.{StandsFor, Steps, events_in}
 use Rattle.channel_slots.proofs.StageLemmas.{dumps-by-now}
 
 -- as many dumps as are wanted from now on are still to be printed
-pub all-to-print : (settings : Settings) (xs : List Sample) (life : defined.Life) (l : Life)
+pub all-to-print : (settings : Settings) (xs : List Sample) (life : DefinedLife) (l : Life)
     → IsHeld settings xs life l.stage → life.wanted_from ≡ length xs
     → l.unprinted ≡ life.wanted → StandsFor settings xs life l
 all-to-print settings xs life l stage from left = record {
@@ -30,7 +29,7 @@ all-to-print settings xs life l stage from left = record {
   asked = omega (arith, from);
 }
 
-module _ (settings : Settings) (xs ys : List Sample) (life : defined.Life) (old : Life)
+module _ (settings : Settings) (xs ys : List Sample) (life : DefinedLife) (old : Life)
     (s : StandsFor settings xs life old) (some : 0 < length ys) where
   both : length (xs ++ ys) ≡ length xs + length ys
   both = simp length-append (omega arith)
@@ -42,7 +41,7 @@ module _ (settings : Settings) (xs ys : List Sample) (life : defined.Life) (old 
     told = t.brings.1;
     stands = record {
       stage = t.stands;
-      left = left ∙ s.left ∙ ap (unprinted life) (sym t.brings.0);
+      left = left ∙ s.left ∙ ap (unprinted_count life) (sym t.brings.0);
       asked = omega (arith, s.asked, both);
     };
   }
@@ -63,7 +62,7 @@ module _ (settings : Settings) (xs ys : List Sample) (life : defined.Life) (old 
           stage = t.stands;
           left = left ∙ ap (λ n. n - 1) s.left
               ∙ sym (unprinted-more life (dumps_of_life settings xs life) d later)
-              ∙ ap (unprinted life) (sym t.brings.0);
+              ∙ ap (unprinted_count life) (sym t.brings.0);
           asked = omega (arith, s.asked, both);
         };
       }

@@ -10,7 +10,7 @@ use Rattle.definitions.specs.Segments.{Channel, Dump, progress}
 use Rattle.definitions.specs.Commands.{TimedRequest, state}
 use Rattle.definitions.specs.Answers.{shown, holding, answer_with, view_of}
 use Rattle.definitions.specs.Lives.{Life, held_channel, dumps_of_life, life_of, life_now}
-use Rattle.definitions.specs.Events.{unprinted, count, life_events, when}
+use Rattle.definitions.specs.Events.{unprinted_count, count, life_events, when}
 use Rattle.definitions.proofs.LifeLemmas.{hold-quiet, hold-tells, dumps-within, life_now-hold}
 use Rattle.lane_correlator.specs.declared.counts.Counts.{Counts}
 use Rattle.lane_correlator.specs.Counting.{counts_in}
@@ -82,7 +82,7 @@ module _ (settings : Settings) (xs ys : List Sample) (life : Life) (h : Held)
             ∙ ap (λ ds. ds ++ d ∷ []) (sym (held-dumps settings xs xs life h s)),
         hold-tells settings (xs ++ ys) life s.prn s.doppler s.half_chip s.start
             (progress settings channel xs).dumps d t.brings refl
-            ∙ ap (λ ds. when (nat_lt 0 (unprinted life ds)) (count (counts_in c)))
+            ∙ ap (λ ds. when (nat_lt 0 (unprinted_count life ds)) (count (counts_in c)))
             (sym (held-dumps settings xs xs life h s)),
       )
 

@@ -10,7 +10,7 @@ use Rattle.channel_slots.specs.declared.slot.Slot.TheVariants.{Idle, On}
 use Rattle.std.proofs.lemmas.List.{map-append}
 use Rattle.definitions.specs.Samples.{Sample}
 use Rattle.definitions.specs.Events.{Event}
-use Rattle.definitions.specs.Banks.{SlotEvent as Told, slot_events}
+use Rattle.definitions.specs.Banks.{SlotEvent as DefinedSlotEvent, slot_events}
 use Rattle.definitions.specs.Receiver.{at_each_sample}
 use Rattle.channel_slots.specs.declared.event.SlotEvent.{SlotEvent}
 use Rattle.channel_slots.specs.declared.place.Place.{Place}
@@ -64,7 +64,7 @@ one-put e (x ∷ es) = by_test (nat_lt e.time x.time) refl (one-put e es)
         ≡ (if nat_lt e.time x.time then told_in e ∷ told_in x ∷ map told_in es
         else told_in x ∷ put_in time_at (told_in e) (map told_in es))
     by_test true is rest = rw is refl
-    by_test false is rest = rw is (ap (λ (l : List Told). told_in x ∷ l) rest)
+    by_test false is rest = rw is (ap (λ (l : List DefinedSlotEvent). told_in x ∷ l) rest)
 
 all-put : (es fs : List SlotEvent)
     → map told_in (put_all time_in es fs) ≡ put_all time_at (map told_in es) (map told_in fs)
@@ -72,12 +72,13 @@ unfolding put_all
 all-put es [] = refl
 all-put es (f ∷ fs) =
     all-put (put_in time_in f es) fs
-    ∙ ap (λ (l : List Told). put_all time_at l (map told_in fs)) (one-put f es)
+    ∙ ap (λ (l : List DefinedSlotEvent). put_all time_at l (map told_in fs)) (one-put f es)
 
-pub all_put : (es fs : List SlotEvent) (ts us : List Told) → AreTold es ts → AreTold fs us
+pub all_put : (es fs : List SlotEvent) (ts us : List DefinedSlotEvent) → AreTold es ts
+    → AreTold fs us
     → AreTold (put_all time_in es fs) (put_all time_at ts us)
 all_put es fs ts us a b =
-    all-put es fs ∙ ap (λ (l : List Told). put_all time_at l (map told_in fs)) a
+    all-put es fs ∙ ap (λ (l : List DefinedSlotEvent). put_all time_at l (map told_in fs)) a
     ∙ ap (put_all time_at ts) b
 
 -- ---- runs in parts
@@ -132,7 +133,8 @@ goes-more left n ys zs time p q r before mid after g a is some within short =
           let one : length ((xs ++ ys) ++ zs) ≡ time + length ys + length zs =
           simp length-append (omega (arith, now)) in
           let step = s.tells settings (xs ++ ys) commands one before_it.stands in
-          let f : List Sample → List Told = slot_tells settings p.client p.number commands in
+          let f : List Sample → List DefinedSlotEvent =
+              slot_tells settings p.client p.number commands in
           let quiet : (j : ℕ) → 0 < j → j < length zs → f ((xs ++ ys) ++ take j zs) ≡ [] =
           λ j first b. ap (λ (l : List Event). slot_events p.client p.number
           (length ((xs ++ ys) ++ take j zs)) l) (step.inside j first b) in
@@ -148,7 +150,8 @@ goes-more left n ys zs time p q r before mid after g a is some within short =
           };
     }
   where
-    both_told : (es fs : List SlotEvent) (ts us : List Told) → AreTold es ts → AreTold fs us
+    both_told : (es fs : List SlotEvent) (ts us : List DefinedSlotEvent) → AreTold es ts
+        → AreTold fs us
         → AreTold (es ++ fs) (ts ++ us)
     both_told es fs ts us a b = map-append told_in es fs ∙ (λ i. a i ++ b i)
 

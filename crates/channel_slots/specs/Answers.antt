@@ -1,6 +1,7 @@
 -- Answers to commands as the definitions have them.
 use Rattle.std.specs.Prelude.{ℕ}
-use Rattle.definitions.specs.Answers.{View, idle, holding, Answer as Defined, accepted, refused}
+use Rattle.definitions.specs.Answers.{View, idle, holding, Answer as DefinedAnswer, accepted}
+use Rattle.definitions.specs.Answers.{refused}
 use Rattle.definitions.specs.Answers.{shown}
 use Rattle.channel_slots.specs.declared.answer.SlotState.{SlotState}
 use Rattle.channel_slots.specs.declared.answer.SlotState.TheVariants as states
@@ -18,7 +19,7 @@ abbrev pub number_of : Refusal → ℕ
 number_of refusals.Busy = 9
 number_of refusals.Idle = 10
 
-abbrev pub answer_in : Answer → Defined
+abbrev pub answer_in : Answer → DefinedAnswer
 answer_in Accepted = accepted
 answer_in (Refused refusal) = refused (number_of refusal)
 answer_in (State state) = shown (view_in state)

@@ -1,6 +1,7 @@
 -- Commands as the definitions have them.
 use Rattle.std.specs.Prelude.{ℕ}
-use Rattle.definitions.specs.Commands.{Request, Command as Asked, begin, hold, counts, state, stop}
+use Rattle.definitions.specs.Commands.{Request, Command as DefinedCommand, begin, hold, counts}
+use Rattle.definitions.specs.Commands.{state, stop}
 use Rattle.channel_slots.specs.declared.command.Command.{Command}
 use Rattle.channel_slots.specs.declared.command.Command.TheVariants.{Hold, Counts, State, Stop}
 
@@ -16,5 +17,5 @@ request_in (Counts slot n) = counts n
 request_in (State slot) = state
 request_in (Stop slot) = stop
 
-abbrev pub command_in : Command → Asked
+abbrev pub command_in : Command → DefinedCommand
 command_in command = record { slot = slot_of command; request = request_in command }

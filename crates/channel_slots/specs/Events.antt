@@ -1,30 +1,30 @@
 -- What slots tell as the definitions have it.
 use Rattle.std.specs.Prelude.{◌≡◌, ℕ, List, map}
-use Rattle.definitions.specs.Events.{Event as Defined, count}
-use Rattle.definitions.specs.Banks.{SlotEvent as Told, line_of as line_of_told}
+use Rattle.definitions.specs.Events.{Event as DefinedEvent, count}
+use Rattle.definitions.specs.Banks.{SlotEvent as DefinedSlotEvent, line_of as defined_line_of}
 use Rattle.lane_correlator.specs.Counting.{counts_in}
 use Rattle.channel_slots.specs.declared.event.Event.{Event}
 use Rattle.channel_slots.specs.declared.event.Event.TheVariants.{Count}
 use Rattle.channel_slots.specs.declared.event.SlotEvent.{SlotEvent}
 
-abbrev pub event_in : Event → Defined
+abbrev pub event_in : Event → DefinedEvent
 event_in (Count counts) = count (counts_in counts)
 
-abbrev pub told_in : SlotEvent → Told
+abbrev pub told_in : SlotEvent → DefinedSlotEvent
 told_in e =
     record { client = e.client; slot = e.slot; time = e.time; event = event_in e.event }
 
 -- they are these events
-abbrev pub AreTold : List SlotEvent → List Told → Type 0
+abbrev pub AreTold : List SlotEvent → List DefinedSlotEvent → Type 0
 AreTold events told = map told_in events ≡ told
 
 -- the line of an event, without its end
 abbrev pub line_of : SlotEvent → List ℕ
-line_of e = line_of_told (told_in e)
+line_of e = defined_line_of (told_in e)
 
 -- when
 abbrev pub time_in : SlotEvent → ℕ
 time_in e = e.time
 
-abbrev pub time_at : Told → ℕ
+abbrev pub time_at : DefinedSlotEvent → ℕ
 time_at e = e.time

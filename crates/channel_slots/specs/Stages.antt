@@ -5,7 +5,7 @@ use Rattle.definitions.specs.Samples.{Sample}
 use Rattle.definitions.specs.Oscillators.{Settings}
 use Rattle.definitions.specs.Commands.{hold}
 use Rattle.definitions.specs.Lives.{Life, held_channel, dumps_of_life}
-use Rattle.definitions.specs.Events.{unprinted, count, life_events, when}
+use Rattle.definitions.specs.Events.{unprinted_count, count, life_events, when}
 use Rattle.lane_correlator.specs.declared.counts.Counts.{Counts}
 use Rattle.lane_correlator.specs.Counting.{counts_in}
 use Rattle.channels.specs.declared.held.Held.{Held}
@@ -30,7 +30,7 @@ Brings settings xs ys life (Some c) =
     (dumps_of_life settings (xs ++ ys) life ≡ dumps_of_life settings xs life
     ++ record { time = length (xs ++ ys); counts = counts_in c } ∷ [])
     × (life_events settings (xs ++ ys) (Some life)
-    ≡ when (nat_lt 0 (unprinted life (dumps_of_life settings xs life))) (count (counts_in c)))
+    ≡ when (nat_lt 0 (unprinted_count life (dumps_of_life settings xs life))) (count (counts_in c)))
 
 -- with ys behind xs the life tells nothing before the last of them, and then what was answered
 pub record Takes (settings : Settings) (xs ys : List Sample) (life : Life) (h : Held)

@@ -22,9 +22,9 @@ pub struct Life {
 impl Life {
     ghost use Rattle.std.specs.Prelude.{ℕ, List, length, Some};
     ghost use Rattle.definitions.specs.Samples.{Sample};
-    ghost use Rattle.definitions.specs.Oscillators.{Settings as Recording};
+    ghost use Rattle.definitions.specs.Oscillators.{Settings as DefinedSettings};
     ghost use Rattle.definitions.specs.Commands.{hold, state};
-    ghost use Rattle.definitions.specs.Lives as defined;
+    ghost use Rattle.definitions.specs.Lives.{Life as DefinedLife, life_wanting};
     ghost use Rattle.definitions.specs.Answers.{shown, answer_with};
     ghost use Rattle.channels.specs.Following.{how_many};
     ghost use Rattle.channels.specs.Parts.{part};
@@ -50,9 +50,9 @@ impl Life {
 
     /// Sets how many dumps are still to be printed.
     pub fn print(&mut self, count: u32)
-        ensures stands { (settings : Recording) (xs : List Sample) (life : defined.Life)
+        ensures stands { (settings : DefinedSettings) (xs : List Sample) (life : DefinedLife)
             → StandsFor settings xs life self.old
-            → StandsFor settings xs (defined.life_wanting life (length xs) count) self.new }
+            → StandsFor settings xs (life_wanting life (length xs) count) self.new }
         ensures dumps { dumps_of self.new.stage ≡ dumps_of self.old.stage }
     {
         self.unprinted = count;
@@ -69,7 +69,7 @@ impl Life {
 
     /// What is shown of it.
     pub fn state(&self) -> SlotState
-        ensures { (settings : Recording) (xs : List Sample) (life : defined.Life)
+        ensures { (settings : DefinedSettings) (xs : List Sample) (life : DefinedLife)
             → StandsFor settings xs life self.now
             → shown (view_in result) ≡ answer_with settings xs (Some life) state }
     {
@@ -92,7 +92,7 @@ impl Life {
         requires within { from + count ≤ length run.now }
         requires before { MayTake self.old.stage count }
         requires few { dumps_of self.old.stage < MOST_DUMPS }
-        ensures steps { (settings : Recording) (xs : List Sample) (life : defined.Life)
+        ensures steps { (settings : DefinedSettings) (xs : List Sample) (life : DefinedLife)
             → StandsFor settings xs life self.old
             → Steps settings xs (part run.now from count) life self.new result }
         ensures dumps { dumps_of self.new.stage ≤ dumps_of self.old.stage + 1 }

@@ -2,7 +2,7 @@
 
 ghost use Rattle.std.specs.Prelude.{◌≡◌, ◌≤◌, ◌<◌, ◌+◌, ◌*◌, ◌^◌, ℕ, length, replicate, [], IfOk};
 ghost use Rattle.std.specs.List.{AllByRecursion};
-ghost use Rattle.definitions.specs.Oscillators.{Settings as Recording};
+ghost use Rattle.definitions.specs.Oscillators.{Settings as DefinedSettings};
 ghost use Rattle.definitions.specs.Banks.{layout};
 ghost use Rattle.channel_slots.specs.Slots.{StandsFor};
 ghost use Rattle.arrayvec.specs.ArrayVec.{array_vec_len};
@@ -130,7 +130,7 @@ pub fn idle_places(alloc: Global, clients: u8) -> Result<Vec<Place>, AllocError>
     ensures keys { IfOk result (λ places. keys_of places.items
         ≡ layout (replicate clients CLIENT_SLOTS)) }
     ensures few { IfOk result (λ places. AllFew 0 places.items) }
-    ensures stand { IfOk result (λ places. (settings : Recording)
+    ensures stand { IfOk result (λ places. (settings : DefinedSettings)
         → AllByRecursion (λ p. StandsFor settings [] [] p.slot) places.items) }
 {
     let mut places = Vec::with_capacity(alloc, (CLIENT_SLOTS * clients) as usize)?;

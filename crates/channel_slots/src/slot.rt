@@ -29,7 +29,7 @@ pub enum Slot {
 impl Slot {
     ghost use Rattle.std.specs.Prelude.{ℕ, List, [], ◌∷◌, ◌++◌, length, Some};
     ghost use Rattle.definitions.specs.Samples.{Sample};
-    ghost use Rattle.definitions.specs.Oscillators.{Settings as Recording};
+    ghost use Rattle.definitions.specs.Oscillators.{Settings as DefinedSettings};
     ghost use Rattle.definitions.specs.Commands.{TimedRequest, state};
     ghost use Rattle.definitions.specs.Answers.{answer_at_end, shown};
     ghost use Rattle.channel_slots.specs.Commands.{request_in};
@@ -40,7 +40,7 @@ impl Slot {
 
     /// A slot that was never asked for anything.
     pub fn new() -> Slot
-        ensures stands { (settings : Recording) → StandsFor settings [] [] result }
+        ensures stands { (settings : DefinedSettings) → StandsFor settings [] [] result }
         ensures dumps { dumps_of result ≡ 0 }
     {
         Slot::Idle
@@ -81,7 +81,8 @@ impl Slot {
         requires within { from + count ≤ length run.now }
         requires may { MayStep self.old count }
         requires few { dumps_of self.old < MOST_DUMPS }
-        ensures tells { (settings : Recording) (xs : List Sample) (commands : List TimedRequest)
+        ensures tells { (settings : DefinedSettings) (xs : List Sample)
+            (commands : List TimedRequest)
             → StandsFor settings xs commands self.old
             → Tells settings xs (part run.now from count) commands self.new result.items }
         ensures dumps { dumps_of self.new ≤ dumps_of self.old + 1 }
@@ -99,7 +100,7 @@ impl Slot {
 
     /// What it shows of itself.
     fn state(&self) -> SlotState
-        ensures { (settings : Recording) (xs : List Sample) (commands : List TimedRequest)
+        ensures { (settings : DefinedSettings) (xs : List Sample) (commands : List TimedRequest)
             → StandsFor settings xs commands self.now
             → shown (view_in result) ≡ answer_at_end settings xs commands state }
     {

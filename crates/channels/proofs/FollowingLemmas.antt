@@ -6,10 +6,11 @@ use Rattle.std.specs.Prelude.{ℤ, pos, false, true}
 use Rattle.std.proofs.Math.Nat.{mul-le-mul_right}
 use Rattle.definitions.specs.Samples.{Sample, sample_at}
 use Rattle.definitions.specs.Oscillators.{Settings, carrier_phase_after, code_step, carrier_step}
-use Rattle.definitions.specs.Correlation.{Counts, Phases, counts_over, six_sums, replica_of, added}
+use Rattle.definitions.specs.Correlation.{Counts, Phases, counts_over, six_sums, replica_of}
+use Rattle.definitions.specs.Correlation.{sum_of_counts}
 use Rattle.definitions.specs.Correlation.{no_counts}
 use Rattle.definitions.specs.Segments.{Channel, Progress, progress, open_phases, is_through}
-use Rattle.definitions.specs.Segments.{closed_at, begun}
+use Rattle.definitions.specs.Segments.{closed_at, first_progress}
 use Rattle.definitions.proofs.BlockLemmas.{progress-begun, progress-quiet, progress-closes}
 use Rattle.definitions.proofs.BlockLemmas.{quiet-through, last-through, phase-split}
 use Rattle.definitions.proofs.SplitLemmas.{counts_over-more, counts_over-none, carrier_on}
@@ -23,7 +24,7 @@ pub record Moves (ys : List Sample) (f : Follower) (phase turn : ℕ) (total : C
   pub code : phase ≡ f.code.phase + length ys * f.code.step
   pub carrier : turn ≡ (f.carrier.phase + length ys * f.carrier.step) % 2 ^ 32
   pub sums : total
-      ≡ added (counts_in f.sums)
+      ≡ sum_of_counts (counts_in f.sums)
       (six_sums (sample_at ys)
       (replica_of f.prn
       (record {
@@ -110,7 +111,7 @@ module _ (settings : Settings) (channel : Channel) (xs ys : List Sample) (f : Fo
     more_sums =
         let start : ℕ = (progress settings channel xs).open_segment.start in
         m.sums
-        ∙ ap (λ (a : Counts). added a
+        ∙ ap (λ (a : Counts). sum_of_counts a
         (six_sums (sample_at ys)
         (replica_of f.prn
         (record {
@@ -120,7 +121,7 @@ module _ (settings : Settings) (channel : Channel) (xs ys : List Sample) (f : Fo
           carrier_step = f.carrier.step;
         })) 0 (length ys)))
         s.at.sums
-        ∙ ap (λ (n : ℕ). added (counts_over channel.prn own xs start (length xs))
+        ∙ ap (λ (n : ℕ). sum_of_counts (counts_over channel.prn own xs start (length xs))
         (six_sums (sample_at ys)
         (replica_of n (record {
           code = f.code.phase;
@@ -129,7 +130,7 @@ module _ (settings : Settings) (channel : Channel) (xs ys : List Sample) (f : Fo
           carrier_step = f.carrier.step;
         })) 0 (length ys)))
         s.at.prn
-        ∙ ap (λ (p : Phases). added (counts_over channel.prn own xs start (length xs))
+        ∙ ap (λ (p : Phases). sum_of_counts (counts_over channel.prn own xs start (length xs))
         (six_sums (sample_at ys) (replica_of channel.prn p) 0 (length ys)))
         (same_phases f.code.phase f.carrier.phase f.code.step f.carrier.step _ _ s.at.code
         s.at.carrier)
@@ -222,7 +223,7 @@ pub started : (settings : Settings) (xs : List Sample) (prn : ℕ) (doppler : �
     → Follows settings (held_channel (length xs) prn doppler half_chip) xs f
 started settings xs prn doppler half_chip f p code carrier a b sums =
     let none : progress settings (held_channel (length xs) prn doppler half_chip) xs
-    ≡ begun (held_channel (length xs) prn doppler half_chip) =
+    ≡ first_progress (held_channel (length xs) prn doppler half_chip) =
     progress-begun settings (held_channel (length xs) prn doppler half_chip) xs
     (omega arith) in
     let zero : length xs - length xs ≡ 0 = omega arith in
@@ -244,7 +245,7 @@ pub steered : (settings : Settings) (channel : Channel) (xs : List Sample) (f g 
     → IsAt channel xs (progress settings channel xs) f
     → (progress settings channel xs).open_segment.start ≡ length xs
     → g.prn ≡ f.prn → g.code.phase ≡ f.code.phase → g.carrier.phase ≡ f.carrier.phase
-    → counts_in g.sums ≡ counts_in f.sums
+    → counts_in g.sums ≡ no_counts
     → g.code.step ≡ (open_phases settings channel (progress settings channel xs)).code_step
     → g.carrier.step ≡ (open_phases settings channel (progress settings channel xs)).carrier_step
     → Follows settings channel xs g
@@ -258,10 +259,7 @@ steered settings channel xs f g at opens prn code carrier sums a b =
         prn = prn ∙ at.prn;
         code = rw zero (code ∙ rw zero at at.code ∙ omega arith);
         carrier = rw zero (carrier ∙ rw zero at at.carrier ∙ omega arith);
-        sums =
-            sums ∙ at.sums ∙ rw opens
-            (counts_over-none channel.prn _ xs (length xs)
-            ∙ sym (counts_over-none channel.prn _ xs (length xs)));
+        sums = sums ∙ rw opens (sym (counts_over-none channel.prn _ xs (length xs)));
       };
       code_step = a;
       carrier_step = b;

@@ -4,7 +4,7 @@ use Rattle.std.proofs.Common.{length-append}
 use Rattle.std.specs.Prelude.{ℤ, Some, None}
 use Rattle.definitions.specs.Samples.{Sample}
 use Rattle.definitions.specs.Oscillators.{Settings, code_step, carrier_step}
-use Rattle.definitions.specs.Segments.{Channel, Shift, counts_of, progress, begun}
+use Rattle.definitions.specs.Segments.{Channel, Shift, counts_of, progress, first_progress}
 use Rattle.definitions.specs.Lives.{held_channel}
 use Rattle.definitions.proofs.BlockLemmas.{progress-begun}
 use Rattle.lane_correlator.specs.declared.counts.Counts.{Counts}
@@ -20,7 +20,7 @@ pub begins : (settings : Settings) (xs : List Sample) (prn : ℕ) (doppler : ℤ
     → Holds settings (held_channel (length xs) prn doppler half_chip) xs h
 begins settings xs prn doppler half_chip h follows dumps =
     let none : progress settings (held_channel (length xs) prn doppler half_chip) xs
-    ≡ begun (held_channel (length xs) prn doppler half_chip) =
+    ≡ first_progress (held_channel (length xs) prn doppler half_chip) =
     progress-begun settings (held_channel (length xs) prn doppler half_chip) xs
     (omega arith) in
     record { steady = λ a b. refl; follows = follows; dumps = rw none dumps }

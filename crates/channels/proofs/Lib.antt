@@ -3,5 +3,7 @@ pub mod FollowingLemmas
 pub mod HeldLemmas
 pub mod MoveLemmas
 pub mod PartLemmas
+pub mod ShiftLemmas
 pub mod SizeLemmas
+pub mod TrackedLemmas
 pub mod WrapLemmas

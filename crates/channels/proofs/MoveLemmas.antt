@@ -2,7 +2,7 @@
 use Rattle.std.proofs.Common.{◌≡◌, ℕ, ◌+◌, ◌*◌, ◌≤◌, List, length, refl, sym, ap, ◌∙◌}
 use Rattle.definitions.specs.Samples.{Sample, sample_at}
 use Rattle.definitions.specs.Oscillators.{carrier_phase_after}
-use Rattle.definitions.specs.Correlation.{Counts, replica_of, six_sums, added}
+use Rattle.definitions.specs.Correlation.{Counts, replica_of, six_sums, sum_of_counts}
 use Rattle.lane_correlator.specs.Counting.{counts_in}
 use Rattle.lane_correlator.specs.ReplicaWords.{phases_of}
 use Rattle.channels.specs.declared.follower.Follower.{Follower}
@@ -15,7 +15,7 @@ pub moves_by : (f : Follower) (run : List Sample) (from count turn : ℕ) (six t
     → turn ≡ carrier_phase_after f.carrier.phase f.carrier.step count
     → six ≡ six_sums (λ j. sample_at run (from + j)) (replica_of f.prn (phases_of f.carrier f.code))
     0 count
-    → total ≡ added (counts_in f.sums) six
+    → total ≡ sum_of_counts (counts_in f.sums) six
     → Moves (part run from count) f (f.code.phase + length (part run from count) * f.code.step) turn
     total
 moves_by f run from count turn six total within turned sums adds =
@@ -24,7 +24,7 @@ moves_by f run from count turn six total within turned sums adds =
       code = refl;
       carrier = turned ∙ ap (λ k. carrier_phase_after f.carrier.phase f.carrier.step k) is;
       sums =
-          adds ∙ ap (λ (b : Counts). added (counts_in f.sums) b)
+          adds ∙ ap (λ (b : Counts). sum_of_counts (counts_in f.sums) b)
           (sums ∙ part-sums run from count (replica_of f.prn (phases_of f.carrier f.code))
           ∙ ap (λ k. six_sums (sample_at (part run from count))
           (replica_of f.prn (phases_of f.carrier f.code)) 0 k) is);

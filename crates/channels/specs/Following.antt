@@ -58,6 +58,17 @@ pub record Follows (settings : Settings) (channel : Channel) (xs : List Sample)
   pub carrier_step : f.carrier.step
       ≡ (open_phases settings channel (progress settings channel xs)).carrier_step
 
+-- the code is so far from the end of its cycle that it doesn't come there within 1,024 samples,
+-- whatever their step is
+abbrev pub IsFar : Follower → Type 0
+IsFar f = f.code.phase < 3000000000
+
+-- the segment that is open has no sample yet; the steps may be those of the segment before
+pub record Opens (settings : Settings) (channel : Channel) (xs : List Sample) (f : Follower)
+    : Type 0 where
+  pub at : IsAt channel xs (progress settings channel xs) f
+  pub opens : (progress settings channel xs).open_segment.start ≡ length xs
+
 -- none of the samples ys but perhaps the last ends the segment
 abbrev pub QuietInside : Settings → Channel → List Sample → List Sample → Type 0
 QuietInside settings channel xs ys =

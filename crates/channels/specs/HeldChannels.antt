@@ -2,7 +2,7 @@
 use Rattle.std.specs.Prelude.{◌≡◌, ℕ, List, [], ◌∷◌, ◌++◌, length, Option, Some, None}
 use Rattle.definitions.specs.Samples.{Sample}
 use Rattle.definitions.specs.Oscillators.{Settings}
-use Rattle.definitions.specs.Correlation.{Counts as Sums}
+use Rattle.definitions.specs.Correlation.{Counts as DefinedCounts}
 use Rattle.definitions.specs.Segments.{Channel, progress}
 use Rattle.lane_correlator.specs.declared.counts.Counts.{Counts}
 use Rattle.lane_correlator.specs.Counting.{counts_in}
@@ -32,7 +32,7 @@ chance h left = segments.chance h.follower left
 
 -- the shift of a channel stays the same, whatever its dumps are
 abbrev pub IsSteady : Channel → Type 0
-IsSteady channel = (a b : List Sums) → channel.steering a ≡ channel.steering b
+IsSteady channel = (a b : List DefinedCounts) → channel.steering a ≡ channel.steering b
 
 pub record Holds (settings : Settings) (channel : Channel) (xs : List Sample) (h : Held) : Type
     0 where

@@ -2,3 +2,4 @@ pub mod Following
 pub mod HeldChannels
 pub mod Parts
 pub mod Sizes
+pub mod TrackedChannels

@@ -2,6 +2,9 @@
 
 ghost use Rattle.std.specs.Prelude.{◌≡◌, ◌≤◌, ◌<◌, ◌+◌, ◌-◌, ◌*◌};
 ghost use Rattle.sample_planes.specs.declared.planes.TheConstants.{MAX_SAMPLES};
+ghost use Rattle.channels.specs.declared.follower.TheConstants.{LEAST_STEP, MOST_STEP};
+ghost use Rattle.oscillators.specs.declared.settings.TheConstants.{MOST_SHIFT, MOST_CORRECTION};
+ghost use Rattle.tracking_loops.specs.declared.limits.TheConstants.{MOST_SUM};
 ghost use Rattle.definitions.specs.Oscillators.{code_cycle};
 ghost use Rattle.channels.specs.Sizes.{GrowWith};
 
@@ -9,6 +12,12 @@ use ca_codes::{CodeBook, Prn};
 use lane_correlator::{Counts, replica_sums};
 use oscillators::{CarrierOsc, CodeOsc, Doppler, HalfChip, Settings};
 use sample_planes::Planes;
+
+/// The least step of a code, in 2^-32 chip a sample: below that of any settings.
+const LEAST_STEP: u32 = 200_000_000;
+
+/// The most of such a step: above that of any settings.
+const MOST_STEP: u32 = 3_000_000_000;
 
 /// The open segment of a channel: the satellite, the code and the carrier at the next sample, and
 /// the sums so far. It stands for the channel and the samples taken.
@@ -19,19 +28,20 @@ pub struct Follower {
     carrier: CarrierOsc,
     sums: Counts,
     ghost in_cycle: { code.phase < code_cycle },
-    ghost moves: { 200000000 ≤ code.step },
-    ghost slow: { code.step ≤ 3000000000 },
+    ghost moves: { LEAST_STEP ≤ code.step },
+    ghost slow: { code.step ≤ MOST_STEP },
     ghost small: { GrowWith sums code.step code.phase },
 }
 
 impl Follower {
-    ghost use Rattle.std.specs.Prelude.{ℕ, List, length, IfSome, IsNone};
+    ghost use Rattle.std.specs.Prelude.{ℕ, List, length, IfSome, IsNone, unsigned_abs};
     ghost use Rattle.definitions.specs.Samples.{Sample};
-    ghost use Rattle.definitions.specs.Oscillators.{Settings as Recording};
-    ghost use Rattle.definitions.specs.Segments.{Channel};
+    ghost use Rattle.definitions.specs.Oscillators.{Settings as DefinedSettings};
+    ghost use Rattle.definitions.specs.Segments.{Channel, counts_of, progress};
     ghost use Rattle.definitions.specs.Lives.{held_channel};
-    ghost use Rattle.lane_correlator.specs.Counting.{counts_in};
-    ghost use Rattle.channels.specs.Following.{Follows, Stays, Closes, MayTake, Ends, prn_of};
+    ghost use Rattle.lane_correlator.specs.Counting.{counts_in, AreWithin};
+    ghost use Rattle.channels.specs.Following.{Follows, Opens, Stays, Closes, MayTake, Ends};
+    ghost use Rattle.channels.specs.Following.{IsFar, prn_of};
     ghost use Rattle.channels.specs.Following.{chance, how_many};
     ghost use Rattle.channels.specs.Parts.{part};
 
@@ -80,15 +90,17 @@ impl Follower {
         requires within { from + count ≤ length run.now }
         requires before { MayTake self.old count }
         ensures stays { IsNone result
-            → (settings : Recording) (channel : Channel) (xs : List Sample)
+            → (settings : DefinedSettings) (channel : Channel) (xs : List Sample)
             → Follows settings channel xs self.old
             → Stays settings channel xs (part run.now from count) self.new }
-        ensures closes { IfSome result (λ c. (settings : Recording) (channel : Channel)
+        ensures closes { IfSome result (λ c. (settings : DefinedSettings) (channel : Channel)
             (xs : List Sample)
             → Follows settings channel xs self.old
             → Closes settings channel xs (part run.now from count) (counts_in c) self.new) }
         ensures chance { (left : ℕ) → count ≤ left → left ≤ MAX_SAMPLES
             → chance self.new (left - count) + how_many result ≤ chance self.old left }
+        ensures small { IfSome result (λ c. AreWithin MOST_SUM (counts_in c)) }
+        ensures far { IfSome result (λ _. IsFar self.new) }
     {
         let more = replica_sums(run, from, count, &self.carrier, &self.code, book, self.prn);
         let sums = self.sums.add(&more);
@@ -102,5 +114,24 @@ impl Follower {
             self.sums = sums;
             None
         }
+    }
+
+    /// Goes on with the steps of a Doppler shift `v`, in 1/65536 Hz, and of a correction `w` of the
+    /// code's rate, in 1/65536 chip a second, where a segment has just been opened. Its sums begin
+    /// at 0.
+    pub fn steer(&mut self, settings: &Settings, v: i64, w: i64)
+        requires shift { unsigned_abs v ≤ MOST_SHIFT }
+        requires correction { unsigned_abs w ≤ MOST_CORRECTION }
+        ensures follows { (channel : Channel) (xs : List Sample)
+            → Opens settings.now channel xs self.old
+            → channel.steering (counts_of (progress settings.now channel xs).dumps)
+            ≡ record { v = v; w = w } → Follows settings.now channel xs self.new }
+        ensures far { IsFar self.old → (left : ℕ) → left ≤ MAX_SAMPLES
+            → chance self.new left ≡ 0 }
+        ensures prn { prn_of self.new ≡ prn_of self.old }
+    {
+        self.code.set_step(settings.code_step(v, w));
+        self.carrier.set_step(settings.carrier_step(v));
+        self.sums = Counts::NONE;
     }
 }

@@ -24,7 +24,7 @@ pub struct Held {
 impl Held {
     ghost use Rattle.std.specs.Prelude.{ℕ, List, length};
     ghost use Rattle.definitions.specs.Samples.{Sample};
-    ghost use Rattle.definitions.specs.Oscillators.{Settings as Recording};
+    ghost use Rattle.definitions.specs.Oscillators.{Settings as DefinedSettings};
     ghost use Rattle.definitions.specs.Segments.{Channel};
     ghost use Rattle.definitions.specs.Lives.{held_channel};
     ghost use Rattle.channels.specs.Following.{how_many};
@@ -81,7 +81,7 @@ impl Held {
         requires within { from + count ≤ length run.now }
         requires before { MayTake self.old count }
         requires few { dumps_of self.old < MOST_DUMPS }
-        ensures takes { (settings : Recording) (channel : Channel) (xs : List Sample)
+        ensures takes { (settings : DefinedSettings) (channel : Channel) (xs : List Sample)
             → Holds settings channel xs self.old
             → Takes settings channel xs (part run.now from count) self.new result }
         ensures dumps { dumps_of self.new ≡ dumps_of self.old + how_many result }

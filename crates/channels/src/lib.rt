@@ -19,6 +19,8 @@ mod follower;
 mod held;
 #[cfg(test)]
 mod tests;
+mod tracked;
 
 pub use follower::Follower;
 pub use held::{Held, MOST_DUMPS};
+pub use tracked::{Tracked, TrackedDump};

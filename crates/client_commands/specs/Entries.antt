@@ -1,6 +1,6 @@
 -- Entries of a script as the definitions have them.
 use Rattle.std.specs.Prelude.{ℕ, List, [], ◌∷◌, Option, Some, None, Result, Ok, Err}
-use Rattle.definitions.specs.Commands.{Command as Asked}
+use Rattle.definitions.specs.Commands.{Command as DefinedCommand}
 use Rattle.definitions.specs.Scripts.{Entry}
 use Rattle.channel_slots.specs.declared.command.Command.{Command}
 use Rattle.channel_slots.specs.Commands.{command_in}
@@ -22,7 +22,7 @@ number_of WrongWordCount = 6
 number_of NotANumber = 7
 number_of OutOfRange = 8
 
-abbrev pub result_in : Result Command Refusal → Result Asked ℕ
+abbrev pub result_in : Result Command Refusal → Result DefinedCommand ℕ
 result_in (Ok command) = Ok (command_in command)
 result_in (Err refusal) = Err (number_of refusal)
 

@@ -1,13 +1,14 @@
 -- The verbs of the code, and the values of words that it reads, as the definitions have them.
 use Rattle.std.specs.Prelude.{ℕ, ℤ, pos, List, [], ◌∷◌, Result, Ok, Err}
-use Rattle.definitions.specs.Scripts.{Verb as Known, hold_verb, counts_verb, state_verb, stop_verb}
+use Rattle.definitions.specs.Scripts.{Verb as DefinedVerb, hold_verb, counts_verb, state_verb}
+use Rattle.definitions.specs.Scripts.{stop_verb}
 use Rattle.client_commands.specs.declared.refusal.Refusal.{Refusal}
 use Rattle.client_commands.specs.declared.verb.Verb.{Verb}
 use Rattle.client_commands.specs.declared.verb.Verb.TheVariants.{Hold, Counts, State, Stop}
 use Rattle.client_commands.specs.Entries.{number_of}
 
 -- a verb of the code
-abbrev pub verb_in : Verb → Known
+abbrev pub verb_in : Verb → DefinedVerb
 verb_in Hold = hold_verb
 verb_in Counts = counts_verb
 verb_in State = state_verb

@@ -1,15 +1,15 @@
 //! The numbers that words write.
 
 ghost use Rattle.std.specs.Prelude.{◌≡◌, ◌<◌, ◌^◌, IfSome, unsigned_abs};
-ghost use Rattle.definitions.specs.Scripts.{number_in as number_of_word};
-ghost use Rattle.definitions.specs.Scripts.{signed_number_in as signed_number_of_word};
+ghost use Rattle.definitions.specs.Scripts.{number_in as defined_number_in};
+ghost use Rattle.definitions.specs.Scripts.{signed_number_in as defined_signed_number_in};
 
 /// The most digits of a number.
 const MOST_DIGITS: usize = 13;
 
 /// The number that a word of 1 to 13 digits writes.
 pub(crate) fn number_in(word: &[u8]) -> Option<u64>
-    ensures same { result ≡ number_of_word word.now }
+    ensures same { result ≡ defined_number_in word.now }
     ensures short { IfSome result (λ number. number < 10 ^ 13) }
 {
     if word.is_empty() || MOST_DIGITS < word.len() {
@@ -27,7 +27,7 @@ pub(crate) fn number_in(word: &[u8]) -> Option<u64>
 
 /// The same, with a `-` in front or not.
 pub(crate) fn signed_number_in(word: &[u8]) -> Option<i64>
-    ensures { result ≡ signed_number_of_word word.now }
+    ensures { result ≡ defined_signed_number_in word.now }
 {
     match word {
         [b'-', digits @ ..] => number_in(digits).map(|number| -(number as i64)),

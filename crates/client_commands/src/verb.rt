@@ -4,7 +4,7 @@ ghost use Rattle.std.specs.Prelude.{◌≡◌, ◌≤◌, ◌+◌, Some, find, o
 ghost use Rattle.definitions.specs.Scripts.{command_with};
 ghost use Rattle.definitions.specs.Lines.{words_of};
 ghost use Rattle.client_commands.specs.Entries.{result_in};
-ghost use Rattle.client_commands.specs.Known.{known};
+ghost use Rattle.client_commands.specs.Known.{known_verbs};
 ghost use Rattle.client_commands.specs.Reading.{verb_in};
 ghost use Rattle.client_commands.specs.declared.words.TheConstants.{MOST_WORDS};
 
@@ -28,7 +28,7 @@ pub(crate) enum Verb {
 impl Verb {
     /// The verb of that name.
     pub(crate) fn named(name: &[u8]) -> Option<Verb>
-        ensures { option_map verb_in result ≡ find (λ v. bytes_eq v.name name.now) known }
+        ensures { option_map verb_in result ≡ find (λ v. bytes_eq v.name name.now) known_verbs }
     {
         match name {
             b"hold" => Some(Verb::Hold),

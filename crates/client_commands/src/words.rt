@@ -84,7 +84,7 @@ impl<'a> Model for Words<'a> {
 impl<'a> Words<'a> {
     ghost use Rattle.std.specs.Prelude.{drop, get_or, ok_or, OkIff, IfErr};
     ghost use Rattle.definitions.specs.Scripts.{up_to, around_zero, values_in};
-    ghost use Rattle.definitions.specs.Scripts.{signed_number_in as signed_number_of_word};
+    ghost use Rattle.definitions.specs.Scripts.{signed_number_in as defined_signed_number_in};
     ghost use Rattle.client_commands.specs.Reading.{number_alone, integer_alone};
     ghost use Rattle.client_commands.specs.declared.words.TheConstants.{MOST_WORDS, MOST_DUMPS};
 
@@ -115,7 +115,7 @@ impl<'a> Words<'a> {
     fn number(&mut self) -> Result<i64, Refusal>
         requires { 0 < length self.old }
         ensures number { result
-            ≡ ok_or (signed_number_of_word (get_or self.old 0 [])) Refusal.NotANumber }
+            ≡ ok_or (defined_signed_number_in (get_or self.old 0 [])) Refusal.NotANumber }
         ensures left { self.new ≡ drop 1 self.old }
     {
         let word = self.words[self.read];

@@ -1,7 +1,7 @@
 -- Runs of the texts that the program read.
 use Rattle.std.proofs.Common.{◌≡◌, ℕ, ◌^◌, List, map, refl, ap, subst, inl, inr}
 use Rattle.std.specs.Prelude.{Option, Result, Ok, Err, IsErrAnd, ◌⊎◌}
-use Rattle.definitions.specs.Oscillators.{Settings as Recording}
+use Rattle.definitions.specs.Oscillators.{Settings as DefinedSettings}
 use Rattle.receiver.specs.declared.faults.RunFault.{RunFault}
 use Rattle.receiver.specs.Runs.{Devices, IsRun, task_of}
 use Rattle.command_line.specs.declared.failure.Failure.{Failure}
@@ -10,7 +10,7 @@ use Rattle.command_line.specs.Programs.{Asked, IsAllowed, recording_of, AreTexts
 use Rattle.command_line.specs.Programs.{SomeMayBeRefused, one_or_more, RunsTexts, Receives}
 
 -- the scripts of a run are those that were handed to it
-pub ran-handed : {A : Type 0} (text : A → List ℕ) (settings : Recording) (handed : List A)
+pub ran-handed : {A : Type 0} (text : A → List ℕ) (settings : DefinedSettings) (handed : List A)
     (texts : List (List ℕ)) (old new : Devices) (answer : Result ℕ RunFault)
     → map text handed ≡ texts
     → IsRun (task_of settings (map text handed) (2 ^ 40)) old new answer
@@ -32,7 +32,7 @@ failed-before asked files devices failure r is allowed (inl e) = rw (is, e) (all
 failed-before asked files devices failure r is allowed (inr h) = rw (is, h.0) (allowed, h.1, refl)
 
 -- or with a run of what it read
-pub received : (asked : Asked) (files : List (Option (List ℕ))) (settings : Recording)
+pub received : (asked : Asked) (files : List (Option (List ℕ))) (settings : DefinedSettings)
     (texts : List (List ℕ)) (old new : Devices) (r : Result ℕ Failure) → IsAllowed asked
     → settings ≡ recording_of asked → AreTextsOf files texts → RunsTexts settings texts old new r
     → Receives asked files old new r
@@ -42,7 +42,8 @@ received asked files settings texts old new (Ok n) allowed is all ran =
       scripts = texts;
       texts = all;
       is_run =
-          subst (λ (s : Recording). IsRun (task_of s (one_or_more texts) (2 ^ 40)) old new (Ok n))
+          subst (λ (s : DefinedSettings). IsRun (task_of s (one_or_more texts) (2 ^ 40)) old new
+              (Ok n))
           is ran;
     }
 received asked files settings texts old new (Err (Run fault)) allowed is all ran =
@@ -51,7 +52,7 @@ received asked files settings texts old new (Err (Run fault)) allowed is all ran
       scripts = texts;
       texts = all;
       is_run =
-          subst (λ (s : Recording). IsRun (task_of s (one_or_more texts) (2 ^ 40)) old new
+          subst (λ (s : DefinedSettings). IsRun (task_of s (one_or_more texts) (2 ^ 40)) old new
           (Err fault)) is ran;
     }
 received asked files settings texts old new (Err NoMemory) allowed is all ran = (allowed, ran)

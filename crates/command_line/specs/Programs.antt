@@ -7,7 +7,7 @@ use Rattle.std.specs.Str.Parse.{digits_value, without_leading_plus}
 use Rattle.std.specs.Char.{digit_value}
 use Rattle.clap.specs.declared.parser.matches.Found.{Found}
 use Rattle.clap.specs.Matches.{matched_of, raw_values, first_value, one_text}
-use Rattle.definitions.specs.Oscillators.{Settings as Recording}
+use Rattle.definitions.specs.Oscillators.{Settings as DefinedSettings}
 use Rattle.definitions.specs.Samples.{Packing, real1, real2}
 use Rattle.oscillators.specs.Limits.{IsRate}
 use Rattle.oscillators.specs.declared.settings.SettingsFault.TheVariants.{Rate, Offset}
@@ -62,7 +62,7 @@ asked_in found = record {
 }
 
 -- the recording that they describe
-abbrev pub recording_of : Asked → Recording
+abbrev pub recording_of : Asked → DefinedSettings
 recording_of asked = record {
   rate = asked.rate;
   offset = if asked.is_minus then neg_ℤ (pos asked.offset) else pos asked.offset;
@@ -106,7 +106,8 @@ one_or_more (text ∷ texts) = text ∷ texts
 
 -- a run of these scripts, one for each client, or no run for want of memory, with nothing read or
 -- written
-abbrev pub RunsTexts : Recording → List (List ℕ) → Devices → Devices → Result ℕ Failure → Type 0
+abbrev pub RunsTexts : DefinedSettings → List (List ℕ) → Devices → Devices → Result ℕ Failure
+    → Type 0
 RunsTexts settings texts old new (Ok n) =
     IsRun (task_of settings (one_or_more texts) MOST_TIME) old new (Ok n)
 RunsTexts settings texts old new (Err (Run fault)) =

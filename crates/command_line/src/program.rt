@@ -3,7 +3,7 @@
 ghost use Rattle.std.specs.Prelude.{◌≡◌};
 ghost use Rattle.std.specs.Process.{exit_status};
 ghost use Rattle.clap.specs.Values.{kind_of};
-ghost use Rattle.receiver.specs.Runs.{seen};
+ghost use Rattle.receiver.specs.Runs.{devices_at};
 ghost use Rattle.command_line.specs.Programs.{status_of};
 ghost use Rattle.command_line.specs.Endings.{HasEnded, parser_status};
 
@@ -30,8 +30,8 @@ where
     R: Source,
     W: Sink,
     ensures status { HasEnded (S.bytes_of files.now)
-        (seen R.Source W.Sink reader.old writer.old)
-        (seen R.Source W.Sink reader.new writer.new) (exit_status result) }
+        (devices_at R.Source W.Sink reader.old writer.old)
+        (devices_at R.Source W.Sink reader.new writer.new) (exit_status result) }
 {
     let words = match words(rt.alloc(), rt) {
         Ok(words) => words,

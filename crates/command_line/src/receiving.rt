@@ -2,7 +2,7 @@
 
 ghost use Rattle.std.specs.Prelude.{◌≡◌, map, IfOk, IfErr};
 ghost use Rattle.clap.specs.Matches.{found_of};
-ghost use Rattle.receiver.specs.Runs.{seen};
+ghost use Rattle.receiver.specs.Runs.{devices_at};
 ghost use Rattle.command_line.specs.Programs.{Receives, RunsTexts, IsBeforeRun, asked_in, paths_in};
 ghost use Rattle.command_line.specs.Programs.{one_or_more};
 
@@ -28,8 +28,8 @@ pub fn receive<S: ScriptFiles, R: Source, W: Sink>(
     ensures receives { Receives
         (asked_in (found_of matches.now))
         (map (λ path. S.bytes_of files.now path) (paths_in (found_of matches.now)))
-        (seen R.Source W.Sink reader.old writer.old)
-        (seen R.Source W.Sink reader.new writer.new) result }
+        (devices_at R.Source W.Sink reader.old writer.old)
+        (devices_at R.Source W.Sink reader.new writer.new) result }
 {
     let settings = match options::settings(matches) {
         Ok(settings) => settings,
@@ -50,8 +50,8 @@ fn run_texts<R: Source, W: Sink>(
     ensures untouched { IfErr result (λ failure. IsBeforeRun failure
         → (reader.new ≡ reader.old) × (writer.new ≡ writer.old)) }
     ensures runs { RunsTexts settings (map (λ text. text.items) texts.now)
-        (seen R.Source W.Sink reader.old writer.old)
-        (seen R.Source W.Sink reader.new writer.new) result }
+        (devices_at R.Source W.Sink reader.old writer.old)
+        (devices_at R.Source W.Sink reader.new writer.new) result }
 {
     let scripts = one_or_more(alloc, texts)?;
     match run(alloc, settings, &scripts, reader, writer) {

@@ -3,7 +3,7 @@ use Rattle.std.proofs.Common.{◌≡◌, ◌≢◌, List, [], ◌∷◌, ◌++�
 use Rattle.std.specs.Prelude.{◌⊎◌, true, false, if◌then◌else◌, ℤ, Option, Some, None, option_map}
 use Rattle.std.specs.Option.{option_and_then}
 use Rattle.definitions.specs.Pages.{Kind, clock, eph2, eph3, Page}
-use Rattle.definitions.specs.DataSets.{is_of, is_ephemeris, last_page, joined, ephemerides}
+use Rattle.definitions.specs.DataSets.{is_of, is_ephemeris, last_page, joined_values, ephemerides}
 use Rattle.definitions.specs.DataSets.{ephemeris_of, differing, later, reported_so_far, new_set}
 use Rattle.definitions.specs.DataSets.{ephemeris, single, page_report, reports_of}
 use Rattle.definitions.proofs.SetLemmas.{new_set-more, reported_so_far-more}
@@ -28,9 +28,9 @@ set_in-is pages last h =
     values_in page = option_map (λ (p : Page). p.values) page
 
     by_pages : (c e2 e3 : Option Page)
-        → joined (option_map (page_with clock) (values_in c))
+        → joined_values (option_map (page_with clock) (values_in c))
         (option_map (page_with eph2) (values_in e2)) (option_map (page_with eph3) (values_in e3))
-        ≡ joined c e2 e3
+        ≡ joined_values c e2 e3
     by_pages (Some c) (Some e2) (Some e3) = refl
     by_pages (Some c) (Some e2) None = refl
     by_pages (Some c) None third = refl

@@ -1,7 +1,8 @@
 -- What is kept stands for the pages so far.
 use Rattle.std.specs.Prelude.{◌≡◌, Bool, ℤ, List, Option, option_map}
 use Rattle.definitions.specs.Pages.{Kind, clock, eph2, eph3, Page}
-use Rattle.definitions.specs.DataSets.{is_of, last_page, belong_together, joined, ephemerides}
+use Rattle.definitions.specs.DataSets.{is_of, last_page, belong_together, joined_values}
+use Rattle.definitions.specs.DataSets.{ephemerides}
 use Rattle.definitions.specs.DataSets.{reported_so_far}
 use Rattle.data_sets.specs.declared.last_pages.LastPages.{LastPages}
 use Rattle.data_sets.specs.declared.ephemerides.Ephemerides.{Ephemerides}
@@ -39,5 +40,5 @@ are_of_one_issue c e2 e3 =
 
 -- the values of all three, where these are there and belong together
 abbrev pub set_in : LastPages → Option (List ℤ)
-set_in last = joined (option_map (page_with clock) last.clock) (option_map
+set_in last = joined_values (option_map (page_with clock) last.clock) (option_map
     (page_with eph2) last.eph2) (option_map (page_with eph3) last.eph3)

@@ -6,7 +6,7 @@ use Rattle.std.specs.Prelude.{option_map, option_and_then, not}
 use Rattle.std.specs.List.{range_with_len}
 use Rattle.std.specs.Int.{bit_at}
 use Rattle.definitions.specs.Sums.{least_below}
-use Rattle.definitions.specs.Parity.{checked, passes, holds, data_of}
+use Rattle.definitions.specs.Parity.{checked_data, passes, holds, data_of}
 use Rattle.definitions.specs.Frames.{found_by, Found, starts_of, starts_from, is_candidate}
 use Rattle.definitions.specs.Frames.{candidate_from, checked_at, subframe_at, id_of, tow_of}
 use Rattle.definitions.specs.Pages.{page_of}
@@ -31,25 +31,25 @@ abbrev gap_found : List Bool → Option ℕ
 gap_found bits = option_and_then (λ (f : Found). f.gap) (found_by bits)
 
 found : words_found example ≡ Some (Some 0x8b0000 ∷ Some 0x84 ∷ replicate 8 (Some 0))
-unfolding found_by starts_of starts_from is_candidate checked_at checked passes holds data_of
+unfolding found_by starts_of starts_from is_candidate checked_at checked_data passes holds data_of
     least_below subframe_at
 found = refl
 
 found_without_gap : gap_found example ≡ None
-unfolding found_by starts_of starts_from is_candidate checked_at checked passes holds data_of
+unfolding found_by starts_of starts_from is_candidate checked_at checked_data passes holds data_of
     least_below subframe_at
 found_without_gap = refl
 
 found_id_and_count : option_map (λ (f : Found). id_of f.subframe ∷ tow_of f.subframe
     ∷ []) (found_by example) ≡ Some (1 ∷ 1 ∷ [])
-unfolding found_by starts_of starts_from is_candidate checked_at checked passes holds data_of
+unfolding found_by starts_of starts_from is_candidate checked_at checked_data passes holds data_of
     least_below subframe_at
 found_id_and_count = refl
 
 -- all bits inverted
 found_inverted : words_found (map not example)
     ≡ Some (Some 0x8b0000 ∷ Some 0x84 ∷ replicate 8 (Some 0))
-unfolding found_by starts_of starts_from is_candidate checked_at checked passes holds data_of
+unfolding found_by starts_of starts_from is_candidate checked_at checked_data passes holds data_of
     least_below subframe_at
 found_inverted = refl
 
@@ -59,12 +59,12 @@ damaged = false ∷ false ∷ header ++ replicate 60 false ++ true ∷ replicate
 
 found_damaged : words_found damaged
     ≡ Some (Some 0x8b0000 ∷ Some 0x84 ∷ Some 0 ∷ Some 0 ∷ None ∷ replicate 5 (Some 0))
-unfolding found_by starts_of starts_from is_candidate checked_at checked passes holds data_of
+unfolding found_by starts_of starts_from is_candidate checked_at checked_data passes holds data_of
     least_below subframe_at
 found_damaged = refl
 
 damaged_has_no_page : option_and_then (λ (f : Found). page_of f.subframe) (found_by damaged) ≡ None
-unfolding found_by starts_of starts_from is_candidate checked_at checked passes holds data_of
+unfolding found_by starts_of starts_from is_candidate checked_at checked_data passes holds data_of
     least_below subframe_at page_of
 damaged_has_no_page = refl
 
@@ -74,7 +74,7 @@ false_preamble = false ∷ false ∷ map (λ i. bit_at 0x8b (7 - i) == 1) (range
     ++ replicate 52 false ++ subframe_bits
 
 start_behind_preamble : candidate_from false_preamble 0 ≡ Some 62
-unfolding is_candidate checked_at checked passes holds data_of least_below
+unfolding is_candidate checked_at checked_data passes holds data_of least_below
 start_behind_preamble = refl
 
 -- a header inside a subframe, as words 6 and 7, is no start
@@ -82,12 +82,12 @@ abbrev header_inside : List Bool
 header_inside = false ∷ false ∷ header ++ replicate 90 false ++ header ++ replicate 90 false
 
 one_start : starts_of header_inside ≡ 2 ∷ []
-unfolding starts_of starts_from is_candidate checked_at checked passes holds data_of least_below
+unfolding starts_of starts_from is_candidate checked_at checked_data passes holds data_of least_below
 one_start = refl
 
 -- five bits behind a subframe, and another one: the gap is five
 found_with_gap : gap_found (example ++ replicate 5 false ++ subframe_bits) ≡ Some 5
-unfolding found_by starts_of starts_from is_candidate checked_at checked passes holds data_of
+unfolding found_by starts_of starts_from is_candidate checked_at checked_data passes holds data_of
     least_below subframe_at
 found_with_gap = refl
 
@@ -96,7 +96,7 @@ found_with_gap = refl
 found_inverted_tail : words_found (false ∷ false ∷ header ++ replicate 90 false
     ++ replicate 150 true)
     ≡ Some (Some 0x8b0000 ∷ Some 0x84 ∷ Some 0 ∷ Some 0 ∷ Some 0 ∷ None ∷ replicate 4 (Some 0))
-unfolding found_by starts_of starts_from is_candidate checked_at checked passes holds data_of
+unfolding found_by starts_of starts_from is_candidate checked_at checked_data passes holds data_of
     least_below subframe_at
 found_inverted_tail = refl
 
@@ -104,7 +104,7 @@ found_inverted_tail = refl
 found_changed_last_bit : words_found (false ∷ false ∷ header ++ replicate 89 false
     ++ true ∷ replicate 150 false)
     ≡ Some (Some 0x8b0000 ∷ Some 0x84 ∷ Some 0 ∷ Some 0 ∷ None ∷ None ∷ replicate 4 (Some 0))
-unfolding found_by starts_of starts_from is_candidate checked_at checked passes holds data_of
+unfolding found_by starts_of starts_from is_candidate checked_at checked_data passes holds data_of
     least_below subframe_at
 found_changed_last_bit = refl
 
@@ -113,6 +113,6 @@ found_false_header : words_found (false ∷ false ∷ header ++ replicate 90 fal
     ++ replicate 90 false)
     ≡ Some (Some 0x8b0000 ∷ Some 0x84 ∷ Some 0 ∷ Some 0 ∷ Some 0 ∷ Some 0x8b0000 ∷ Some 0x84
     ∷ Some 0 ∷ Some 0 ∷ Some 0 ∷ [])
-unfolding found_by starts_of starts_from is_candidate checked_at checked passes holds data_of
+unfolding found_by starts_of starts_from is_candidate checked_at checked_data passes holds data_of
     least_below subframe_at
 found_false_header = refl

@@ -3,7 +3,7 @@ use Rattle.std.proofs.Common.{◌≡◌, ℕ, List, [], ◌∷◌, ◌++◌, ref
 use Rattle.std.specs.Prelude.{◌-◌, ◌==◌, option_and_then, map, Bool, false, Some, replicate}
 use Rattle.std.specs.List.{range_with_len}
 use Rattle.definitions.specs.Sums.{least_below}
-use Rattle.definitions.specs.Parity.{checked, passes, holds, data_of}
+use Rattle.definitions.specs.Parity.{checked_data, passes, holds, data_of}
 use Rattle.std.specs.Int.{bit_at}
 use Rattle.std.specs.Option.{is_some}
 use Rattle.definitions.specs.Frames.{Subframe, Found, found_by, starts_of, starts_from}
@@ -25,14 +25,14 @@ whole = header ++ replicate 240 false
 -- behind has a gap
 behind_false_header : option_and_then (λ (f : Found). f.gap)
     (found_by (false ∷ false ∷ header ++ replicate 90 false ++ whole ++ whole)) ≡ Some 150
-unfolding found_by starts_of starts_from is_candidate checked_at checked passes holds data_of
+unfolding found_by starts_of starts_from is_candidate checked_at checked_data passes holds data_of
     least_below subframe_at
 behind_false_header = refl
 
 -- nothing is found with the last bit of the true one
 not_inside : is_some (found_by (false ∷ false ∷ header ++ replicate 90 false ++ header
     ++ replicate 240 false)) ≡ false
-unfolding found_by starts_of starts_from is_candidate checked_at checked passes holds data_of
+unfolding found_by starts_of starts_from is_candidate checked_at checked_data passes holds data_of
     least_below subframe_at
 not_inside = refl
 
@@ -45,6 +45,6 @@ with_five_between = false ∷ false ∷ whole ++ replicate 5 false ++ whole
 -- the gap stands before its subframe
 gap_comes_first : bit_events with_five_between (found_by with_five_between)
     ≡ gap 5 ∷ subframe (words (0x8b0000 ∷ 0x84 ∷ replicate 8 0)) ∷ []
-unfolding found_by starts_of starts_from is_candidate checked_at checked passes holds data_of
+unfolding found_by starts_of starts_from is_candidate checked_at checked_data passes holds data_of
     least_below subframe_at page_of pages_among reports_of new_set last_reported
 gap_comes_first = refl

@@ -13,7 +13,7 @@ use Rattle.definitions.specs.Lock.{news_of, is_locked}
 use Rattle.definitions.specs.BitEdge.{edge_of, bits_of}
 use Rattle.definitions.specs.Lines.{as_bytes, pieces_ended_by}
 use Rattle.definitions.specs.Scripts.{script, entry_of, entries_after, values_in}
-use Rattle.definitions.specs.Events.{steered_events, push_events, last_of, front_of, unprinted, pushes_of, pushes_by, events_at_end, life_events}
+use Rattle.definitions.specs.Events.{steered_events, push_events, last_of, front_of, unprinted_count, pushes_of, pushes_by, events_at_end, life_events}
 use Rattle.definitions.specs.Lives.{is_over, life_of, dumps_of_life, life_now}
 use Rattle.definitions.specs.Answers.{answer_at_end, view_of}
 use Rattle.definitions.specs.Texts.{event_text, answer_text}
@@ -48,32 +48,32 @@ empty_run = refl
 -- each refusal once; the last line is behind the end
 every_refusal : run usual (0 ∷ []) (client 4 (codes "5 hold 0 1 0 0" ∷ codes "4 stop 0" ∷ codes "x" ∷ codes "6 fly 0" ∷ codes "6 stop" ∷ codes "6 stop z" ∷ codes "6 hold 4 z 0 0" ∷ codes "6 hold 0 z 0 0" ∷ codes "6 hold 0 1 0 0" ∷ codes "6 stop 1" ∷ codes "9 stop 0" ∷ []) ∷ [])
     ≡ text (codes "1 5 ok" ∷ codes "1 5 err 4" ∷ codes "1 5 err 3" ∷ codes "1 6 err 5" ∷ codes "1 6 err 6" ∷ codes "1 6 err 7" ∷ codes "1 6 err 8" ∷ codes "1 6 err 7" ∷ codes "1 6 err 9" ∷ codes "1 6 err 10" ∷ codes "1 8 end" ∷ [])
-unfolding full full_lines body_lines end_lines at_each_time lines_at event_lines answer_lines for_each_client event_texts answer_texts entries_of commands_to script entry_of entries_after pieces_ended_by values_in as_bytes digits events_at_end life_now life_of life_events is_over answer_at_end view_of event_text answer_text sample samples_from dumps_of_life last_of front_of unprinted progress behind_segments closed_if_ended next_end end_by is_through closed_at counts_over six_sums in_phase_sum quadrature_sum least_below code_step carrier_step
+unfolding full full_lines body_lines end_lines at_each_time lines_at event_lines answer_lines for_each_client event_texts answer_texts entries_of commands_to script entry_of entries_after pieces_ended_by values_in as_bytes digits events_at_end life_now life_of life_events is_over answer_at_end view_of event_text answer_text sample samples_from dumps_of_life last_of front_of unprinted_count progress behind_segments closed_if_ended next_end end_by is_through closed_at counts_over six_sums in_phase_sum quadrature_sum least_below code_step carrier_step
 every_refusal = refl
 
 -- real samples of two bits
 two_bit_byte : run (quick real2) (0x72 ∷ []) (client 4 (codes "0 hold 0 1 0 2044" ∷ codes "0 counts 0 1" ∷ []) ∷ [])
     ≡ text (codes "1 0 ok" ∷ codes "1 0 ok" ∷ codes "1 4 count 0 12 4 6 2 6 2" ∷ codes "1 4 end" ∷ [])
-unfolding full full_lines body_lines end_lines at_each_time lines_at event_lines answer_lines for_each_client event_texts answer_texts entries_of commands_to script entry_of entries_after pieces_ended_by values_in as_bytes digits events_at_end life_now life_of life_events is_over answer_at_end view_of event_text answer_text sample samples_from dumps_of_life last_of front_of unprinted progress behind_segments closed_if_ended next_end end_by is_through closed_at counts_over six_sums in_phase_sum quadrature_sum least_below code_step carrier_step total chip chip_after register_after
+unfolding full full_lines body_lines end_lines at_each_time lines_at event_lines answer_lines for_each_client event_texts answer_texts entries_of commands_to script entry_of entries_after pieces_ended_by values_in as_bytes digits events_at_end life_now life_of life_events is_over answer_at_end view_of event_text answer_text sample samples_from dumps_of_life last_of front_of unprinted_count progress behind_segments closed_if_ended next_end end_by is_through closed_at counts_over six_sums in_phase_sum quadrature_sum least_below code_step carrier_step total chip chip_after register_after
 two_bit_byte = refl
 
 -- complex samples of one bit for each part
 complex_byte : run (quick iq1) (0x1b ∷ []) (client 4 (codes "0 hold 0 1 0 2044" ∷ codes "0 counts 0 1" ∷ []) ∷ [])
     ≡ text (codes "1 0 ok" ∷ codes "1 0 ok" ∷ codes "1 4 count 0 -2 6 2 -6 2 -6" ∷ codes "1 4 end" ∷ [])
-unfolding full full_lines body_lines end_lines at_each_time lines_at event_lines answer_lines for_each_client event_texts answer_texts entries_of commands_to script entry_of entries_after pieces_ended_by values_in as_bytes digits events_at_end life_now life_of life_events is_over answer_at_end view_of event_text answer_text sample samples_from dumps_of_life last_of front_of unprinted progress behind_segments closed_if_ended next_end end_by is_through closed_at counts_over six_sums in_phase_sum quadrature_sum least_below code_step carrier_step total chip chip_after register_after
+unfolding full full_lines body_lines end_lines at_each_time lines_at event_lines answer_lines for_each_client event_texts answer_texts entries_of commands_to script entry_of entries_after pieces_ended_by values_in as_bytes digits events_at_end life_now life_of life_events is_over answer_at_end view_of event_text answer_text sample samples_from dumps_of_life last_of front_of unprinted_count progress behind_segments closed_if_ended next_end end_by is_through closed_at counts_over six_sums in_phase_sum quadrature_sum least_below code_step carrier_step total chip chip_after register_after
 complex_byte = refl
 
 -- complex samples of two bits for each part
 complex_bytes : run (quick iq2) (0x4b ∷ 0x2d ∷ []) (client 4 (codes "0 hold 0 1 0 2044" ∷ codes "0 counts 0 1" ∷ []) ∷ [])
     ≡ text (codes "1 0 ok" ∷ codes "1 0 ok" ∷ codes "1 4 count 0 12 4 -8 4 -8 4" ∷ codes "1 4 end" ∷ [])
-unfolding full full_lines body_lines end_lines at_each_time lines_at event_lines answer_lines for_each_client event_texts answer_texts entries_of commands_to script entry_of entries_after pieces_ended_by values_in as_bytes digits events_at_end life_now life_of life_events is_over answer_at_end view_of event_text answer_text sample samples_from dumps_of_life last_of front_of unprinted progress behind_segments closed_if_ended next_end end_by is_through closed_at counts_over six_sums in_phase_sum quadrature_sum least_below code_step carrier_step total chip chip_after register_after
+unfolding full full_lines body_lines end_lines at_each_time lines_at event_lines answer_lines for_each_client event_texts answer_texts entries_of commands_to script entry_of entries_after pieces_ended_by values_in as_bytes digits events_at_end life_now life_of life_events is_over answer_at_end view_of event_text answer_text sample samples_from dumps_of_life last_of front_of unprinted_count progress behind_segments closed_if_ended next_end end_by is_through closed_at counts_over six_sums in_phase_sum quadrature_sum least_below code_step carrier_step total chip chip_after register_after
 complex_bytes = refl
 
 -- one sample at the end of the code: the early chip is the first of the next period. Of the samples only that one matters, so the
 -- others are zeros here
 early_wraps : run usual (replicate 255 0 ++ 0x03 ∷ []) (client 4 (codes "2045 hold 0 1 0 2045" ∷ codes "2045 counts 0 1" ∷ []) ∷ [])
     ≡ text (codes "1 2045 ok" ∷ codes "1 2045 ok" ∷ codes "1 2046 count 0 -2 1 2 -1 2 -1" ∷ codes "1 2048 end" ∷ [])
-unfolding full full_lines body_lines end_lines at_each_time lines_at event_lines answer_lines for_each_client event_texts answer_texts entries_of commands_to script entry_of entries_after pieces_ended_by values_in as_bytes digits events_at_end life_now life_of life_events is_over answer_at_end view_of event_text answer_text sample samples_from dumps_of_life last_of front_of unprinted progress behind_segments closed_if_ended next_end end_by is_through closed_at counts_over six_sums in_phase_sum quadrature_sum least_below code_step carrier_step total chip chip_after register_after
+unfolding full full_lines body_lines end_lines at_each_time lines_at event_lines answer_lines for_each_client event_texts answer_texts entries_of commands_to script entry_of entries_after pieces_ended_by values_in as_bytes digits events_at_end life_now life_of life_events is_over answer_at_end view_of event_text answer_text sample samples_from dumps_of_life last_of front_of unprinted_count progress behind_segments closed_if_ended next_end end_by is_through closed_at counts_over six_sums in_phase_sum quadrature_sum least_below code_step carrier_step total chip chip_after register_after
 early_wraps = refl
 
 -- odd lines; the last two stand at a time that is never reached
@@ -95,19 +95,19 @@ unequal_layout = refl
 -- two clients: samples come before commands, and at one time the first client before the second
 two_clients : run usual (0 ∷ []) (client 4 (codes "0 hold 0 1 0 2045" ∷ codes "0 counts 0 2" ∷ codes "1 state 0" ∷ []) ∷ client 4 (codes "1 state 3" ∷ codes "0 state 0" ∷ codes "3 hold 2 7 -1000 2045" ∷ codes "3 counts 2 1" ∷ codes "4 state 2" ∷ codes "5 stop 2" ∷ codes "5 stop 2" ∷ []) ∷ [])
     ≡ text (codes "1 0 ok" ∷ codes "1 0 ok" ∷ codes "1 1 count 0 -2 1 2 -1 2 -1" ∷ codes "1 1 state 0 hold 1 1" ∷ codes "2 1 state 3 idle" ∷ codes "2 1 err 4" ∷ codes "2 3 ok" ∷ codes "2 3 ok" ∷ codes "2 4 state 2 hold 7 0" ∷ codes "2 5 count 2 -4 0 4 0 4 0" ∷ codes "2 5 ok" ∷ codes "2 5 err 10" ∷ codes "1 8 end" ∷ codes "2 8 end" ∷ [])
-unfolding full full_lines body_lines end_lines at_each_time lines_at event_lines answer_lines for_each_client event_texts answer_texts entries_of commands_to script entry_of entries_after pieces_ended_by values_in as_bytes digits events_at_end life_now life_of life_events is_over answer_at_end view_of event_text answer_text sample samples_from dumps_of_life last_of front_of unprinted progress behind_segments closed_if_ended next_end end_by is_through closed_at counts_over six_sums in_phase_sum quadrature_sum least_below code_step carrier_step total chip chip_after register_after
+unfolding full full_lines body_lines end_lines at_each_time lines_at event_lines answer_lines for_each_client event_texts answer_texts entries_of commands_to script entry_of entries_after pieces_ended_by values_in as_bytes digits events_at_end life_now life_of life_events is_over answer_at_end view_of event_text answer_text sample samples_from dumps_of_life last_of front_of unprinted_count progress behind_segments closed_if_ended next_end end_by is_through closed_at counts_over six_sums in_phase_sum quadrature_sum least_below code_step carrier_step total chip chip_after register_after
 two_clients = refl
 
 -- a start of tracking, a state, and two stops
 refused_restart : run usual [] (client 4 (codes "0 track 0 1 0 0" ∷ codes "0 state 0" ∷ codes "0 stop 0" ∷ codes "0 stop 0" ∷ codes "0 hold 4 1 0 0" ∷ codes "0 hold 0 33 0 0" ∷ codes "0 hold 0 0 0 0" ∷ []) ∷ [])
     ≡ text (codes "1 0 ok" ∷ codes "1 0 state 0 track 1 0 0 0 open" ∷ codes "1 0 ok" ∷ codes "1 0 err 10" ∷ codes "1 0 err 8" ∷ codes "1 0 err 8" ∷ codes "1 0 err 8" ∷ codes "1 0 end" ∷ [])
-unfolding full full_lines body_lines end_lines at_each_time lines_at event_lines answer_lines for_each_client event_texts answer_texts entries_of commands_to script entry_of entries_after pieces_ended_by values_in as_bytes digits events_at_end life_now life_of life_events is_over answer_at_end view_of event_text answer_text sample samples_from dumps_of_life last_of front_of unprinted progress behind_segments closed_if_ended next_end end_by is_through closed_at counts_over six_sums in_phase_sum quadrature_sum least_below code_step carrier_step loops_after is_locked pushes_of pushes_by news_of edge_of
+unfolding full full_lines body_lines end_lines at_each_time lines_at event_lines answer_lines for_each_client event_texts answer_texts entries_of commands_to script entry_of entries_after pieces_ended_by values_in as_bytes digits events_at_end life_now life_of life_events is_over answer_at_end view_of event_text answer_text sample samples_from dumps_of_life last_of front_of unprinted_count progress behind_segments closed_if_ended next_end end_by is_through closed_at counts_over six_sums in_phase_sum quadrature_sum least_below code_step carrier_step loops_after is_locked pushes_of pushes_by news_of edge_of
 refused_restart = refl
 
 -- a number of dumps asked for at the very time of a dump, and one that is taken back; lives of no samples
 counts_and_lives : run usual (0 ∷ []) (client 4 (codes "0 hold 0 1 0 2045" ∷ codes "1 counts 0 1" ∷ codes "1 state 0" ∷ codes "0 hold 1 1 0 2045" ∷ []) ∷ client 4 (codes "0 hold 1 3 0 2045" ∷ codes "0 counts 1 2" ∷ codes "0 counts 1 0" ∷ codes "0 hold 0 1 0 2045" ∷ codes "0 stop 0" ∷ codes "0 track 0 1 0 2045" ∷ codes "0 counts 0 1" ∷ codes "1 stop 0" ∷ codes "1 hold 0 2 0 2044" ∷ codes "1 counts 0 1" ∷ codes "3 state 0" ∷ codes "4 stop 0" ∷ []) ∷ [])
     ≡ text (codes "1 0 ok" ∷ codes "2 0 ok" ∷ codes "2 0 ok" ∷ codes "2 0 ok" ∷ codes "2 0 ok" ∷ codes "2 0 ok" ∷ codes "2 0 ok" ∷ codes "2 0 ok" ∷ codes "2 1 count 0 -2 1 2 -1 2 -1" ∷ codes "1 1 ok" ∷ codes "1 1 state 0 hold 1 1" ∷ codes "1 1 err 4" ∷ codes "2 1 ok" ∷ codes "2 1 ok" ∷ codes "2 1 ok" ∷ codes "2 3 count 0 0 0 4 -2 4 -2" ∷ codes "2 3 state 0 hold 2 1" ∷ codes "2 4 ok" ∷ codes "1 8 end" ∷ codes "2 8 end" ∷ [])
-unfolding full full_lines body_lines end_lines at_each_time lines_at event_lines answer_lines for_each_client event_texts answer_texts entries_of commands_to script entry_of entries_after pieces_ended_by values_in as_bytes digits events_at_end life_now life_of life_events is_over answer_at_end view_of event_text answer_text sample samples_from dumps_of_life last_of front_of unprinted progress behind_segments closed_if_ended next_end end_by is_through closed_at counts_over six_sums in_phase_sum quadrature_sum least_below code_step carrier_step total chip chip_after register_after loops_after is_locked pushes_of pushes_by news_of edge_of steered_events push_events bits_of
+unfolding full full_lines body_lines end_lines at_each_time lines_at event_lines answer_lines for_each_client event_texts answer_texts entries_of commands_to script entry_of entries_after pieces_ended_by values_in as_bytes digits events_at_end life_now life_of life_events is_over answer_at_end view_of event_text answer_text sample samples_from dumps_of_life last_of front_of unprinted_count progress behind_segments closed_if_ended next_end end_by is_through closed_at counts_over six_sums in_phase_sum quadrature_sum least_below code_step carrier_step total chip chip_after register_after loops_after is_locked pushes_of pushes_by news_of edge_of steered_events push_events bits_of
 counts_and_lives = refl
 
 -- ---- the end of a run

@@ -10,7 +10,7 @@ use Rattle.definitions.specs.Oscillators.{Settings, code_cycle}
 use Rattle.definitions.specs.Correlation.{Phases, phases_after, counts_over}
 use Rattle.definitions.specs.Segments.{Channel, Dump, Segment, Progress, open_phases, is_through}
 use Rattle.definitions.specs.Segments.{end_by, next_end, closed_at, progress, behind_segments}
-use Rattle.definitions.specs.Segments.{closed_if_ended, begun, next_segment}
+use Rattle.definitions.specs.Segments.{closed_if_ended, first_progress, next_segment}
 use Rattle.definitions.specs.SlotLaws.{time_behind, segment_behind, phases_behind, IsDump}
 use Rattle.definitions.specs.SlotLaws.{DumpsArePlainSums}
 use Rattle.definitions.proofs.SumsLemmas.{IsLeast, least_below-some, least_below-none}
@@ -122,7 +122,7 @@ module _ (settings : Settings) (channel : Channel) (xs : List Sample) where
         sums = refl;
       }
 
-  stands-begun : Stands (begun channel)
+  stands-begun : Stands (first_progress channel)
   unfolding segment_behind
   stands-begun = record { each = λ k d e. none k d e; behind = refl }
     where

@@ -18,7 +18,7 @@ use Rattle.definitions.specs.DataSets.{reports_of}
 use Rattle.definitions.specs.Commands.{Start, hold, track, acquire}
 use Rattle.definitions.specs.Lives.{Life, is_steered, dumps_of_life, life_now}
 use Rattle.definitions.specs.Events.{Event, acquired, count, edge, gap, subframe, reported}
-use Rattle.definitions.specs.Events.{almanacs, when, events_of, unprinted, last_of, front_of}
+use Rattle.definitions.specs.Events.{almanacs, when, events_of, unprinted_count, last_of, front_of}
 use Rattle.definitions.specs.Events.{news_events, pages_among, page_events, bit_events, push_events}
 use Rattle.definitions.specs.Events.{steered_events, dump_events, last_dump_events, due_events}
 use Rattle.definitions.specs.Events.{life_events, events_at_end}
@@ -151,7 +151,7 @@ module _ (settings : Settings) (xs : List Sample) (life : Life) where
       (bit_events bits (found_by bits)) (bits-right (found_by bits) refl)))
 
   count-right : (d : Dump) → last_of dumps ≡ Some d → d.time ≡ length xs
-      → nat_lt 0 (unprinted life (front_of dumps)) ≡ true
+      → nat_lt 0 (unprinted_count life (front_of dumps)) ≡ true
       → (channel : Channel) × (k : ℕ) × IsCount settings xs life channel k d.counts
   unfolding last_of dumps
   count-right d last time wanted =
@@ -160,7 +160,7 @@ module _ (settings : Settings) (xs : List Sample) (life : Life) where
         it.0,
         length dumps - 1,
         record {
-          is_wanted = ltb-true 0 (unprinted life (front_of dumps)) wanted;
+          is_wanted = ltb-true 0 (unprinted_count life (front_of dumps)) wanted;
           is_followed = it.1;
           is_dump = dump;
           is_sum =
@@ -179,9 +179,9 @@ module _ (settings : Settings) (xs : List Sample) (life : Life) where
           → All P (if b then dump_events life dumps d else [])
       by_time false is = tt
       by_time true is =
-          all-append P (when (nat_lt 0 (unprinted life (front_of dumps))) (count d.counts))
+          all-append P (when (nat_lt 0 (unprinted_count life (front_of dumps))) (count d.counts))
           (if is_steered life.start then steered_events (counts_of dumps) else [])
-          (all-when P (nat_lt 0 (unprinted life (front_of dumps))) (count d.counts)
+          (all-when P (nat_lt 0 (unprinted_count life (front_of dumps))) (count d.counts)
           (λ wanted. count-right d e (eqb-true d.time (length xs) is) wanted))
           (all-if P (is_steered life.start) (steered_events (counts_of dumps)) steered-right)
 

@@ -19,7 +19,8 @@ use Rattle.definitions.specs.DataSets.{reports_of}
 use Rattle.definitions.specs.Commands.{Start, hold, track, acquire}
 use Rattle.definitions.specs.Lives.{Life, is_steered, dumps_of_life, life_now}
 use Rattle.definitions.specs.Events.{Event, acquired, count, locked, unlocked, signal_lost, edge}
-use Rattle.definitions.specs.Events.{gap, subframe, reported, almanacs, when, events_of, unprinted}
+use Rattle.definitions.specs.Events.{gap, subframe, reported, almanacs, when, events_of}
+use Rattle.definitions.specs.Events.{unprinted_count}
 use Rattle.definitions.specs.Events.{last_of, front_of, news_events, pushes_of, pages_among}
 use Rattle.definitions.specs.Events.{page_events, bit_events, push_events, steered_events}
 use Rattle.definitions.specs.Events.{dump_events, last_dump_events, due_events, life_events}
@@ -149,9 +150,9 @@ few-steered counts = by_news (news-is counts)
 
 few-dump : (life : Life) (dumps : List Dump) (d : Dump) → Few 4 1 (dump_events life dumps d)
 few-dump life dumps d =
-    few-append 1 0 3 1 (when (nat_lt 0 (unprinted life (front_of dumps))) (count d.counts))
+    few-append 1 0 3 1 (when (nat_lt 0 (unprinted_count life (front_of dumps))) (count d.counts))
     (if is_steered life.start then steered_events (counts_of dumps) else [])
-    (few-when (nat_lt 0 (unprinted life (front_of dumps))) (count d.counts) refl)
+    (few-when (nat_lt 0 (unprinted_count life (front_of dumps))) (count d.counts) refl)
     (few-if (is_steered life.start))
   where
     few-if : (b : Bool) → Few 3 1 (if b then steered_events (counts_of dumps) else [])

@@ -7,7 +7,7 @@ use Rattle.std.specs.List.{AllByRecursion}
 use Rattle.std.specs.Fmt.{decimal, signed_decimal, digits, digits_onto, digit_glyph}
 use Rattle.std.proofs.lemmas.Bool.{leb-true}
 use Rattle.std.proofs.lemmas.Fmt.{length-decimal-le}
-use Rattle.definitions.specs.Texts.{spaced, hex_of_bytes}
+use Rattle.definitions.specs.Texts.{words_text, hex_of_bytes}
 
 -- ---- numbers
 pub length-if : (b : Bool) (x y : List ℕ) (m : ℕ) → length x ≤ m → length y ≤ m
@@ -48,12 +48,12 @@ unfoldable pub size : List (List ℕ) → ℕ
 size [] = 0
 size (w ∷ ws) = suc (length w) + size ws
 
-pub spaced-size : (ws : List (List ℕ)) → length (spaced ws) ≤ size ws
+pub spaced-size : (ws : List (List ℕ)) → length (words_text ws) ≤ size ws
 unfolding size
 spaced-size [] = omega arith
 spaced-size (w ∷ []) = omega arith
 spaced-size (w ∷ v ∷ ws) =
-    let rest = spaced-size (v ∷ ws) in let both = length-append w (32 ∷ spaced (v ∷ ws)) in
+    let rest = spaced-size (v ∷ ws) in let both = length-append w (32 ∷ words_text (v ∷ ws)) in
     omega (arith, rest, both)
 
 pub size-none : size [] ≤ 0

@@ -10,10 +10,10 @@ use Rattle.std.proofs.lemmas.List.Elements.{filter-append}
 use Rattle.definitions.specs.Samples.{Sample}
 use Rattle.definitions.specs.Oscillators.{Settings}
 use Rattle.definitions.specs.Segments.{counts_of, Channel, Progress, Dump, progress, next_end}
-use Rattle.definitions.specs.Segments.{closed_at, begun}
+use Rattle.definitions.specs.Segments.{closed_at, first_progress}
 use Rattle.definitions.specs.Commands.{Start, hold, TimedRequest, Request}
 use Rattle.definitions.specs.Events.{due_events, dump_events, steered_events, last_of, front_of}
-use Rattle.definitions.specs.Events.{unprinted, life_events, last_dump_events, when, count}
+use Rattle.definitions.specs.Events.{unprinted_count, life_events, last_dump_events, when, count}
 use Rattle.definitions.specs.Events.{events_at_end}
 use Rattle.definitions.specs.Lives.{is_steered, found_nothing, is_over, lost_after, Life}
 use Rattle.definitions.specs.Lives.{dumps_of_life, life_of, life_now, life_with, still_on}
@@ -137,13 +137,14 @@ life_events-hold settings xs life prn doppler half_chip e =
 -- a held dump tells its sums and no more
 dump_events-hold : (life : Life) (prn : ℕ) (doppler : ℤ) (half_chip : ℕ) (dumps : List Dump)
     (d : Dump) → life.start ≡ hold prn doppler half_chip
-    → dump_events life dumps d ≡ when (nat_lt 0 (unprinted life (front_of dumps))) (count d.counts)
+    → dump_events life dumps d
+        ≡ when (nat_lt 0 (unprinted_count life (front_of dumps))) (count d.counts)
 dump_events-hold life prn doppler half_chip dumps d e = by_start life.start e
   where
     by_start : (start : Start) → start ≡ hold prn doppler half_chip
-        → when (nat_lt 0 (unprinted life (front_of dumps))) (count d.counts)
+        → when (nat_lt 0 (unprinted_count life (front_of dumps))) (count d.counts)
         ++ (if is_steered start then steered_events (counts_of dumps) else [])
-        ≡ when (nat_lt 0 (unprinted life (front_of dumps))) (count d.counts)
+        ≡ when (nat_lt 0 (unprinted_count life (front_of dumps))) (count d.counts)
     by_start start e = rw e (append-nil _)
 
 pub hold-quiet : (settings : Settings) (xs ys : List Sample) (life : Life) (prn : ℕ) (doppler : ℤ)
@@ -169,19 +170,20 @@ pub hold-tells : (settings : Settings) (xs : List Sample) (life : Life) (prn : �
     (half_chip : ℕ) → life.start ≡ hold prn doppler half_chip → (dumps : List Dump) (d : Dump)
     → (progress settings (held_channel life.begun prn doppler half_chip) xs).dumps ≡ dumps ++ d ∷ []
     → d.time ≡ length xs
-    → life_events settings xs (Some life) ≡ when (nat_lt 0 (unprinted life dumps)) (count d.counts)
+    → life_events settings xs (Some life)
+        ≡ when (nat_lt 0 (unprinted_count life dumps)) (count d.counts)
 hold-tells settings xs life prn doppler half_chip is dumps d ends time =
     life_events-hold settings xs life prn doppler half_chip is
     ∙ rw (held_dumps settings xs life prn doppler half_chip is, ends, last_of-push dumps d)
     (event_lines life (length xs) (dumps ++ d ∷ []) d time)
     ∙ (dump_events-hold life prn doppler half_chip (dumps ++ d ∷ []) d is)
-    ∙ ap (λ (ds : List Dump). when (nat_lt 0 (unprinted life ds)) (count d.counts))
+    ∙ ap (λ (ds : List Dump). when (nat_lt 0 (unprinted_count life ds)) (count d.counts))
     (front_of-push dumps d)
 
 -- ---- how many dumps are still to be printed
 pub unprinted-more : (life : Life) (dumps : List Dump) (d : Dump) → life.wanted_from < d.time
-    → unprinted life (dumps ++ d ∷ []) ≡ unprinted life dumps - 1
-unfolding unprinted
+    → unprinted_count life (dumps ++ d ∷ []) ≡ unprinted_count life dumps - 1
+unfolding unprinted_count
 unprinted-more life dumps d later =
     let one : filter (λ (d : Dump). nat_lt life.wanted_from d.time) (d ∷ []) ≡ d ∷ [] =
     rw (lt-ltb life.wanted_from d.time later) in
@@ -197,8 +199,8 @@ none_later n (d ∷ dumps) all = rw (le-leb_not n d.time all.0) (none_later n du
 
 pub unprinted-all : (life : Life) (dumps : List Dump)
     → AllByRecursion (λ (d : Dump). d.time ≤ life.wanted_from) dumps
-    → unprinted life dumps ≡ life.wanted
-unfolding unprinted
+    → unprinted_count life dumps ≡ life.wanted
+unfolding unprinted_count
 unprinted-all life dumps all = rw (none_later life.wanted_from dumps all) (omega arith)
 
 pub dumps-within : (settings : Settings) (channel : Channel) (xs : List Sample)

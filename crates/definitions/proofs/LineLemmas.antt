@@ -24,7 +24,7 @@ use Rattle.definitions.specs.Events.{Event, acquired, count, locked, unlocked, s
 use Rattle.definitions.specs.Events.{gap, subframe, reported, almanacs}
 use Rattle.definitions.specs.Answers.{View, idle, acquiring, holding, tracking, Answer, accepted}
 use Rattle.definitions.specs.Answers.{refused, shown, answer_at_end}
-use Rattle.definitions.specs.Texts.{spaced, hex_of_bytes, word_text, field_text, field_texts}
+use Rattle.definitions.specs.Texts.{words_text, hex_of_bytes, word_text, field_text, field_texts}
 use Rattle.definitions.specs.Texts.{counts_texts, page_text, report_text, almanacs_text, event_text}
 use Rattle.definitions.specs.Texts.{view_text, refusal_text, answer_text, at_time, for_client}
 use Rattle.definitions.specs.Receiver.{Client, Profile, entries_of, event_texts, slot_event_texts}
@@ -105,12 +105,12 @@ unfolding OneLine NoFeed
 signed-line (pos n) = decimal-line n
 signed-line (negsuc n) = (refl, decimal-line (suc n))
 
-spaced-line : (words : List (List ℕ)) → OneLines words → OneLine (spaced words)
+spaced-line : (words : List (List ℕ)) → OneLines words → OneLine (words_text words)
 unfolding OneLine OneLines NoFeed
 spaced-line [] h = tt
 spaced-line (w ∷ []) h = h.0
 spaced-line (w ∷ v ∷ words) h =
-    all-append NoFeed w (32 ∷ spaced (v ∷ words)) h.0 (refl, spaced-line (v ∷ words) h.1)
+    all-append NoFeed w (32 ∷ words_text (v ∷ words)) h.0 (refl, spaced-line (v ∷ words) h.1)
 
 hex-line : (bytes : List ℕ) → OneLine (hex_of_bytes bytes)
 unfolding OneLine
@@ -149,7 +149,7 @@ fields-lines (f ∷ fields) (v ∷ values) e =
 
 -- a text of words, the second of them a number
 named-line : (name : List ℕ) (slot : ℕ) (words : List (List ℕ)) → OneLine name → OneLines words
-    → OneLine (spaced (name ∷ decimal slot ∷ words))
+    → OneLine (words_text (name ∷ decimal slot ∷ words))
 unfolding OneLines
 named-line name slot words h ws =
     spaced-line (name ∷ decimal slot ∷ words) (h, (decimal-line slot, ws))

@@ -7,7 +7,7 @@ use Rattle.std.specs.List.{range_with_len, list_all, AllByRecursion}
 use Rattle.std.specs.List.{cons_option}
 use Rattle.std.specs.Option.{is_some}
 use Rattle.std.proofs.lemmas.Bool.{and_parts, leb-true}
-use Rattle.definitions.specs.Parity.{passes, data_of, checked}
+use Rattle.definitions.specs.Parity.{passes, data_of, checked_data}
 use Rattle.definitions.specs.Frames.{Subframe, starts_of, subframe_at, checked_at, word_at}
 use Rattle.definitions.specs.Frames.{prior_at, is_complete}
 use Rattle.definitions.specs.Fields.{value_of}
@@ -24,8 +24,8 @@ all-some f a (suc k) zero e h = let z : a + 0 ≡ a = omega arith in rw z ((and_
 all-some f a (suc k) (suc i) e h = let z : a + suc i ≡ (a + 1) + i = omega arith in
     rw z (all-some f (a + 1) k i (and_parts _ _ e).1 (omega arith))
 
-some-passes : (word prior : ℕ) → is_some (checked word prior) ≡ true → passes word prior ≡ true
-unfolding checked
+some-passes : (word prior : ℕ) → is_some (checked_data word prior) ≡ true → passes word prior ≡ true
+unfolding checked_data
 some-passes word prior e = by_test (passes word prior) (data_of word prior) e
   where
     by_test : (b : Bool) (d : ℕ) → is_some (cond b (Some d) None) ≡ true → b ≡ true

@@ -13,7 +13,7 @@ use Rattle.definitions.specs.Pages.{fields_of}
 use Rattle.definitions.specs.DataSets.{Report, ephemeris, single, AlmanacSet, last_page, is_of}
 use Rattle.definitions.specs.DataSets.{health_of, last_almanac}
 use Rattle.definitions.specs.Events.{pages_among}
-use Rattle.definitions.specs.Texts.{spaced, hex_of_bytes, field_text, field_texts, page_text}
+use Rattle.definitions.specs.Texts.{words_text, hex_of_bytes, field_text, field_texts, page_text}
 use Rattle.definitions.specs.Texts.{report_text, almanacs_text}
 use Rattle.definitions.specs.EventLaws.{IsReport, IsAlmanacSet}
 use Rattle.definitions.proofs.AlmanacLemmas.{page_of-whole, length-map, filter-at, within}
@@ -23,7 +23,7 @@ use Rattle.definitions.proofs.LengthLemmas.{size-map, length-hex}
 use Rattle.definitions.proofs.SmallLemmas.{page-small, pages_among-small, get-small}
 
 -- a text of words of such sizes
-pub spaced-short : (n m : ℕ) (ws : List (List ℕ)) → size ws ≤ n → n ≤ m → length (spaced ws) ≤ m
+pub spaced-short : (n m : ℕ) (ws : List (List ℕ)) → size ws ≤ n → n ≤ m → length (words_text ws) ≤ m
 spaced-short n m ws h k = omega (arith, spaced-size ws, h, k)
 
 pub number : (m n : ℕ) (ws : List (List ℕ)) → size ws ≤ m → size (decimal n ∷ ws) ≤ 65 + m
@@ -67,7 +67,7 @@ tabled fields values m all e =
 fields-short : (name : List ℕ) (slot : ℕ) (fields : List Field) (values : List ℤ)
     → nat_le (length name) 10 ≡ true → AllByRecursion (λ v. Small v) values
     → nat_le (table_size fields) 700 ≡ true
-    → length (spaced (name ∷ decimal slot ∷ field_texts fields values)) ≤ 880
+    → length (words_text (name ∷ decimal slot ∷ field_texts fields values)) ≤ 880
 fields-short name slot fields values short small e =
     spaced-short (11 + (65 + 700)) 880 (name ∷ decimal slot ∷ field_texts fields values)
     (size-written (65 + 700) name _ short

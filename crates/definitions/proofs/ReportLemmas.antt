@@ -7,7 +7,8 @@ use Rattle.std.specs.Option.{option_map_or}
 use Rattle.std.proofs.Math.Seq.{take-length}
 use Rattle.definitions.specs.Pages.{Page, clock, eph2, eph3}
 use Rattle.definitions.specs.DataSets.{SetKind, Report, ephemeris, single, AlmanacSet, almanac_set}
-use Rattle.definitions.specs.DataSets.{last_page, is_of, is_ephemeris, belong_together, joined}
+use Rattle.definitions.specs.DataSets.{last_page, is_of, is_ephemeris, belong_together}
+use Rattle.definitions.specs.DataSets.{joined_values}
 use Rattle.definitions.specs.DataSets.{ephemeris_of, ephemerides, almanac_sets, new_set}
 use Rattle.definitions.specs.DataSets.{reported_with, last_reported, differing, same_values}
 use Rattle.definitions.specs.DataSets.{page_report, reports_of}
@@ -63,7 +64,7 @@ is-ephemeris pages values e =
 
     by_pages : (o p q : Option Page) → last_page (is_of clock) pages ≡ o
         → last_page (is_of eph2) pages ≡ p → last_page (is_of eph3) pages ≡ q
-        → joined o p q ≡ Some values → IsEphemeris pages values
+        → joined_values o p q ≡ Some values → IsEphemeris pages values
     by_pages (Some c) (Some e2) (Some e3) f g h e =
         let it = by_issue (belong_together c e2 e3) (c.values ++ e2.values ++ e3.values) e in
         (c, e2, e3, f, g, h, it.0, it.1)

@@ -18,7 +18,7 @@ use Rattle.definitions.specs.Events.{Event, acquired, count, locked, unlocked, s
 use Rattle.definitions.specs.Events.{gap, subframe, reported, almanacs}
 use Rattle.definitions.specs.Answers.{View, idle, acquiring, holding, tracking, Answer, accepted}
 use Rattle.definitions.specs.Answers.{refused, shown, answer_at_end}
-use Rattle.definitions.specs.Texts.{spaced, word_text, counts_texts, event_text, view_text}
+use Rattle.definitions.specs.Texts.{words_text, word_text, counts_texts, event_text, view_text}
 use Rattle.definitions.specs.Texts.{refusal_text, answer_text, at_time, for_client}
 use Rattle.definitions.specs.Receiver.{entries_of, reply_text}
 use Rattle.definitions.specs.EventLaws.{bits_so_far, IsSubframe, IsOfLife}
@@ -59,7 +59,7 @@ subframe-short slot bits s (n, two, ends, is, pass) =
     (omega arith)
 
 named-short : (name : List ℕ) (slot : ℕ) → nat_le (length name) 10 ≡ true
-    → length (spaced (name ∷ decimal slot ∷ [])) ≤ 880
+    → length (words_text (name ∷ decimal slot ∷ [])) ≤ 880
 named-short name slot short =
     spaced-short (11 + (65 + 0)) 880 (name ∷ decimal slot ∷ [])
     (size-written (65 + 0) name _ short (number 0 slot [] size-none)) (omega arith)

@@ -54,16 +54,16 @@ abbrev pub belong_together : Page → Page → Page → Bool
 belong_together c e2 e3 =
     int_eq (int_rem_euclid (iodc c) (pos 256)) (iode e2) && int_eq (iode e2) (iode3 e3)
 
-abbrev pub joined : Option Page → Option Page → Option Page → Option (List ℤ)
-joined (Some c) (Some e2) (Some e3) =
+abbrev pub joined_values : Option Page → Option Page → Option Page → Option (List ℤ)
+joined_values (Some c) (Some e2) (Some e3) =
     if belong_together c e2 e3 then Some (c.values ++ e2.values ++ e3.values) else None
-joined (Some c) (Some e2) None = None
-joined (Some c) None third = None
-joined None second third = None
+joined_values (Some c) (Some e2) None = None
+joined_values (Some c) None third = None
+joined_values None second third = None
 
 -- the 31 values of the last page of each of the three kinds, where these belong together
 abbrev pub ephemeris_of : List Page → Option (List ℤ)
-ephemeris_of pages = joined (last_page (is_of clock) pages) (last_page (is_of eph2) pages)
+ephemeris_of pages = joined_values (last_page (is_of clock) pages) (last_page (is_of eph2) pages)
     (last_page (is_of eph3) pages)
 
 -- ---- almanacs

@@ -21,7 +21,7 @@ use Rattle.definitions.specs.Commands.{TimedRequest, acquire}
 use Rattle.definitions.specs.Lives.{Life, acquired_channel, channel_of, dumps_of_life, life_now}
 use Rattle.definitions.specs.Events.{Event, acquired, count, locked, unlocked, signal_lost, edge}
 use Rattle.definitions.specs.Events.{gap, subframe, reported, almanacs, events_at_end, front_of}
-use Rattle.definitions.specs.Events.{pages_among, pushes_of, unprinted}
+use Rattle.definitions.specs.Events.{pages_among, pushes_of, unprinted_count}
 use Rattle.definitions.specs.Laws.{IsFirstGreatest, IsChecked}
 use Rattle.definitions.specs.SlotLaws.{IsDump, time_behind, phases_behind}
 
@@ -45,7 +45,7 @@ dump_now xs c = record { time = length xs; counts = c }
 -- over one run of the code. And not all that were asked for had come before.
 pub record IsCount (settings : Settings) (xs : List Sample) (life : Life) (channel : Channel)
     (k : ℕ) (c : Counts) : Type 0 where
-  pub is_wanted : 0 < unprinted life (front_of (dumps_of_life settings xs life))
+  pub is_wanted : 0 < unprinted_count life (front_of (dumps_of_life settings xs life))
   pub is_followed : channel_of settings xs life.begun life.start ≡ Some channel
   pub is_dump : slice_get (dumps_of settings channel xs) k ≡ Some (dump_now xs c)
   pub is_sum : IsDump channel xs (time_behind channel (dumps_of settings channel xs) k)

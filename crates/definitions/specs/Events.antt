@@ -42,8 +42,8 @@ events_of f (Some x) = f x ∷ []
 
 -- behind such dumps, how many are still to be printed: as many as were asked for, less those that
 -- have come since
-unfoldable pub unprinted : Life → List Dump → ℕ
-unprinted life dumps =
+unfoldable pub unprinted_count : Life → List Dump → ℕ
+unprinted_count life dumps =
     life.wanted - length (filter (λ (d : Dump). nat_lt life.wanted_from d.time) dumps)
 
 unfoldable pub last_of : {A : Type 0} → List A → Option A
@@ -103,7 +103,7 @@ unfoldable pub steered_events : List Counts → List Event
 steered_events dumps = news_events (news_of dumps) ++ push_events (pushes_of dumps)
 
 abbrev pub dump_events : Life → List Dump → Dump → List Event
-dump_events life dumps d = when (nat_lt 0 (unprinted life (front_of dumps))) (count d.counts)
+dump_events life dumps d = when (nat_lt 0 (unprinted_count life (front_of dumps))) (count d.counts)
     ++ (if is_steered life.start then steered_events (counts_of dumps) else [])
 
 -- what a dump tells, where it ends with the last sample

@@ -6,7 +6,8 @@ use Rattle.std.specs.List.{AllByRecursion}
 use Rattle.definitions.specs.Sums.{sum_between}
 use Rattle.definitions.specs.Samples.{Sample, real}
 use Rattle.definitions.specs.Oscillators.{Settings}
-use Rattle.definitions.specs.Correlation.{Replica, in_phase_sum, quadrature_sum, six_sums, added}
+use Rattle.definitions.specs.Correlation.{Replica, in_phase_sum, quadrature_sum, six_sums}
+use Rattle.definitions.specs.Correlation.{sum_of_counts}
 use Rattle.definitions.specs.Segments.{Channel, Dump, dumps_of, progress, closed_if_ended}
 use Rattle.definitions.specs.Acquisition.{Plan, cell_count, bin_of, half_chip_of, named_cell}
 use Rattle.definitions.specs.Acquisition.{dwell_end, result_of}
@@ -96,7 +97,8 @@ RealSamplesInQuadrature = (x : ℕ → ℤ) (cos sin chip : ℕ → ℤ) (from t
 -- The sums over a range that is split in two add up.
 abbrev pub RangesAddUp : Type 0
 RangesAddUp = (x : ℕ → Sample) (replica : Replica) (from mid to : ℕ) → from ≤ mid → mid ≤ to
-    → six_sums x replica from to ≡ added (six_sums x replica from mid) (six_sums x replica mid to)
+    → six_sums x replica from to
+        ≡ sum_of_counts (six_sums x replica from mid) (six_sums x replica mid to)
 
 -- ---- bits and words
 

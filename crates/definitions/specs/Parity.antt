@@ -77,5 +77,5 @@ unfoldable pub data_of : ℕ → ℕ → ℕ
 data_of word prior = number_from_digits 2 (map (data_bit word prior) (range_with_len 1 24))
 
 -- the data of a word that passes
-unfoldable pub checked : ℕ → ℕ → Option ℕ
-checked word prior = if passes word prior then Some (data_of word prior) else None
+unfoldable pub checked_data : ℕ → ℕ → Option ℕ
+checked_data word prior = if passes word prior then Some (data_of word prior) else None

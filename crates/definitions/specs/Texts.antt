@@ -17,8 +17,8 @@ use Rattle.definitions.specs.Answers.{View, idle, acquiring, holding, tracking, 
 use Rattle.definitions.specs.Answers.{refused, shown}
 
 -- words with one space between each two
-abbrev pub spaced : List (List ℕ) → List ℕ
-spaced words = join_with_byte 32 words
+abbrev pub words_text : List (List ℕ) → List ℕ
+words_text words = join_with_byte 32 words
 
 -- two lower case hexadecimal digits for each byte
 abbrev pub hex_of_bytes : List ℕ → List ℕ
@@ -42,10 +42,11 @@ counts_texts c = map signed_decimal (c.ie ∷ c.qe ∷ c.ip ∷ c.qp ∷ c.il �
 
 unfoldable pub page_text : ℕ → Page → List ℕ
 page_text slot page = elim page.kind [
-  | almanac ↦ spaced (codes "alm" ∷ decimal slot ∷ field_texts (fields_of page.kind) page.values)
-  | utc ↦ spaced (codes "utc" ∷ decimal slot ∷ field_texts (fields_of page.kind) page.values)
-  | health ↦ spaced (codes "hlt" ∷ decimal slot ∷ field_texts (fields_of page.kind) page.values)
-  | message ↦ spaced (codes "msg" ∷ decimal slot ∷ hex_of_bytes (map natural page.values) ∷ [])
+  | almanac ↦ words_text
+      (codes "alm" ∷ decimal slot ∷ field_texts (fields_of page.kind) page.values)
+  | utc ↦ words_text (codes "utc" ∷ decimal slot ∷ field_texts (fields_of page.kind) page.values)
+  | health ↦ words_text (codes "hlt" ∷ decimal slot ∷ field_texts (fields_of page.kind) page.values)
+  | message ↦ words_text (codes "msg" ∷ decimal slot ∷ hex_of_bytes (map natural page.values) ∷ [])
   | clock ↦ []
   | eph2 ↦ []
   | eph3 ↦ []
@@ -53,7 +54,7 @@ page_text slot page = elim page.kind [
 
 abbrev pub report_text : ℕ → Report → List ℕ
 report_text slot (ephemeris values) =
-    spaced (codes "eph" ∷ decimal slot
+    words_text (codes "eph" ∷ decimal slot
     ∷ field_texts (clock_fields ++ eph2_fields ++ eph3_fields) values)
 report_text slot (single page) = page_text slot page
 
@@ -61,40 +62,40 @@ report_text slot (single page) = page_text slot page
 -- health values
 abbrev pub almanacs_text : ℕ → AlmanacSet → List ℕ
 almanacs_text slot set =
-    spaced (codes "als" ∷ decimal slot ∷ (codes "toa=" ++ signed_decimal set.toa ++ codes ":12")
+    words_text (codes "als" ∷ decimal slot ∷ (codes "toa=" ++ signed_decimal set.toa ++ codes ":12")
     ∷ map signed_decimal set.health)
 
 -- what a slot tells
 unfoldable pub event_text : ℕ → Event → List ℕ
 event_text slot (acquired prn cell) =
-    spaced (codes "acq" ∷ decimal slot ∷ decimal prn ∷ (if cell.found then codes "found"
+    words_text (codes "acq" ∷ decimal slot ∷ decimal prn ∷ (if cell.found then codes "found"
     else codes "none") ∷ signed_decimal cell.bin ∷ decimal cell.half_chip ∷ decimal cell.power ∷ [])
-event_text slot (count c) = spaced (codes "count" ∷ decimal slot ∷ counts_texts c)
-event_text slot locked = spaced (codes "lock" ∷ decimal slot ∷ [])
-event_text slot unlocked = spaced (codes "unlock" ∷ decimal slot ∷ [])
-event_text slot signal_lost = spaced (codes "lost" ∷ decimal slot ∷ [])
-event_text slot edge = spaced (codes "bits" ∷ decimal slot ∷ [])
-event_text slot (gap n) = spaced (codes "gap" ∷ decimal slot ∷ decimal n ∷ [])
+event_text slot (count c) = words_text (codes "count" ∷ decimal slot ∷ counts_texts c)
+event_text slot locked = words_text (codes "lock" ∷ decimal slot ∷ [])
+event_text slot unlocked = words_text (codes "unlock" ∷ decimal slot ∷ [])
+event_text slot signal_lost = words_text (codes "lost" ∷ decimal slot ∷ [])
+event_text slot edge = words_text (codes "bits" ∷ decimal slot ∷ [])
+event_text slot (gap n) = words_text (codes "gap" ∷ decimal slot ∷ decimal n ∷ [])
 event_text slot (subframe s) =
-    spaced (codes "sub" ∷ decimal slot ∷ decimal (id_of s) ∷ decimal (tow_of s)
+    words_text (codes "sub" ∷ decimal slot ∷ decimal (id_of s) ∷ decimal (tow_of s)
     ∷ map word_text s.words)
 event_text slot (reported r) = report_text slot r
 event_text slot (almanacs set) = almanacs_text slot set
 
 abbrev pub view_text : ℕ → View → List ℕ
-view_text slot idle = spaced (codes "state" ∷ decimal slot ∷ codes "idle" ∷ [])
+view_text slot idle = words_text (codes "state" ∷ decimal slot ∷ codes "idle" ∷ [])
 view_text slot (acquiring prn done cells) =
-    spaced (codes "state" ∷ decimal slot ∷ codes "acquire" ∷ decimal prn ∷ decimal done
+    words_text (codes "state" ∷ decimal slot ∷ codes "acquire" ∷ decimal prn ∷ decimal done
     ∷ decimal cells ∷ [])
 view_text slot (holding prn dumps) =
-    spaced (codes "state" ∷ decimal slot ∷ codes "hold" ∷ decimal prn ∷ decimal dumps ∷ [])
+    words_text (codes "state" ∷ decimal slot ∷ codes "hold" ∷ decimal prn ∷ decimal dumps ∷ [])
 view_text slot (tracking prn dumps shift is_locked has_edge) =
-    spaced (codes "state" ∷ decimal slot ∷ codes "track" ∷ decimal prn ∷ decimal dumps
+    words_text (codes "state" ∷ decimal slot ∷ codes "track" ∷ decimal prn ∷ decimal dumps
     ∷ signed_decimal shift.v ∷ signed_decimal shift.w ∷ (if has_edge then codes "bits"
     else if is_locked then codes "lock" else codes "open") ∷ [])
 
 abbrev pub refusal_text : ℕ → List ℕ
-refusal_text n = spaced (codes "err" ∷ decimal n ∷ [])
+refusal_text n = words_text (codes "err" ∷ decimal n ∷ [])
 
 -- what a slot answers
 unfoldable pub answer_text : ℕ → Answer → List ℕ

@@ -5,7 +5,7 @@ use Rattle.std.specs.Prelude.{Bool, bit_and, bit_or}
 use Rattle.std.proofs.Math.Path.{ap₂}
 use Rattle.std.proofs.lemmas.Nat.{mod_low, mod-pow-add, field_of, and_mask, one_shl, or_shifted}
 use Rattle.std.proofs.lemmas.Nat.{mod_below, pow_pos}
-use Rattle.definitions.specs.Parity.{checked}
+use Rattle.definitions.specs.Parity.{checked_data}
 use Rattle.definitions.specs.Frames.{bit_number, number_at, checked_at}
 use Rattle.frame_sync.specs.Bits.{number_of, bits_in, word_in}
 use Rattle.frame_sync.proofs.Numbers.{number_at-is, number_of-push}
@@ -36,7 +36,7 @@ module _ (bits : List Bool) (window : ℕ) (seen : window ≡ number_of bits % 2
       → checked_at bits n ≡ word_in window behind
   unfolding checked_at word_in
   checked_at-window n behind second long within =
-      ap₂ (λ (w p : ℕ). checked w p) (number_at-window n 30 behind long (omega arith))
+      ap₂ (λ (w p : ℕ). checked_data w p) (number_at-window n 30 behind long (omega arith))
       (number_at-window (n - 2) 2 (behind + 30) (omega arith) (omega arith))
 
 -- one more bit moves into the window

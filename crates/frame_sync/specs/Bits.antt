@@ -2,7 +2,7 @@
 use Rattle.std.specs.Prelude.{ℕ, ◌+◌, ◌/◌, ◌%◌, ◌^◌, ◌==◌, ◌&&◌, ◌||◌, Bool, List, ◌∷◌, map}
 use Rattle.std.specs.Prelude.{replicate, Option, None}
 use Rattle.std.specs.Int.Digits.{number_from_digits}
-use Rattle.definitions.specs.Parity.{checked}
+use Rattle.definitions.specs.Parity.{checked_data}
 use Rattle.definitions.specs.Frames.{bit_number, is_header}
 
 -- the number that bits write, the last of them lowest
@@ -16,7 +16,7 @@ bits_in window behind count = window / 2 ^ behind % 2 ^ count
 
 -- the data of the word that ends this far behind, where it passes with the two bits before it
 unfoldable pub word_in : ℕ → ℕ → Option ℕ
-word_in window behind = checked (bits_in window behind 30) (bits_in window (behind + 30) 2)
+word_in window behind = checked_data (bits_in window behind 30) (bits_in window (behind + 30) 2)
 
 -- the two bits before the newest 60 are equal, and the last two are the same
 abbrev pub is_framed_in : ℕ → Bool

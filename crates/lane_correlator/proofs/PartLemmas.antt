@@ -11,7 +11,8 @@ use Rattle.definitions.specs.Samples.{Sample, sign_of}
 use Rattle.definitions.specs.Sums.{total}
 use Rattle.definitions.proofs.SumsLemmas.{total-same, total-bound}
 use Rattle.definitions.specs.Correlation.{Replica, six_sums, in_phase_sum, quadrature_sum}
-use Rattle.definitions.specs.Correlation.{wiped_in_phase, wiped_quadrature, added, no_counts}
+use Rattle.definitions.specs.Correlation.{wiped_in_phase, wiped_quadrature, sum_of_counts}
+use Rattle.definitions.specs.Correlation.{no_counts}
 use Rattle.sample_planes.specs.Signs.{part_of}
 use Rattle.oscillators.specs.Signs.{signed}
 use Rattle.lane_correlator.specs.Counting.{AreWithin}
@@ -131,7 +132,8 @@ pub record HasSigns (r : Replica) (from to : ℕ) : Type 0 where
   pub late_signs : AreSigns r.late from to
 
 pub six_by_parts : (x : ℕ → Sample) (r : Replica) (from to : ℕ) → HasSigns r from to
-    → six_sums x r from to ≡ added (part_sums (λ j. (x j).in_phase) r.cos (λ j. pos 0 -ℤ r.sin j) r
+    → six_sums x r from to
+        ≡ sum_of_counts (part_sums (λ j. (x j).in_phase) r.cos (λ j. pos 0 -ℤ r.sin j) r
     from to) (part_sums (λ j. (x j).quadrature) r.sin r.cos r from to)
 unfolding six_sums
 six_by_parts x r from to s = rw (

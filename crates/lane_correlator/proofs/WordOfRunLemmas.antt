@@ -3,7 +3,7 @@ use Rattle.std.proofs.Common.{◌≡◌, ℕ, ◌+◌, ◌-◌, ◌*◌, ◌≤�
 use Rattle.std.specs.Prelude.{ℤ, pos, ◌-ℤ◌}
 use Rattle.std.proofs.Math.Path.{ap₂}
 use Rattle.definitions.specs.Samples.{Sample, sample_at}
-use Rattle.definitions.specs.Correlation.{Replica, Counts, six_sums, added, no_counts}
+use Rattle.definitions.specs.Correlation.{Replica, Counts, six_sums, sum_of_counts, no_counts}
 use Rattle.sample_planes.specs.Signs.{IsWord, IsQuadratureWord, AreReal}
 use Rattle.lane_correlator.specs.Counting.{AreWithin}
 use Rattle.lane_correlator.specs.Tallies.{tally_in}
@@ -90,9 +90,9 @@ signs d = record {
   late_signs = chips_are_signs d.replica.late (64 * d.w) d.first d.end d.chips.2 d.three.late;
 }
 
-pub sums_are : (d : RunWord) (i q all : Counts) → all ≡ added i q → i ≡ in_phase_part d
+pub sums_are : (d : RunWord) (i q all : Counts) → all ≡ sum_of_counts i q → i ≡ in_phase_part d
     → q ≡ quadrature_part d → all ≡ word_sums_of d
-sums_are d i q all is in_phase quadrature = is ∙ ap₂ added in_phase quadrature
+sums_are d i q all is in_phase quadrature = is ∙ ap₂ sum_of_counts in_phase quadrature
     ∙ sym (six_by_parts (sample_at d.run) d.replica (from d) (to d) (signs d))
 
 pub sums_small : (d : RunWord)

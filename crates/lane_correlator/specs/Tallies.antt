@@ -1,10 +1,10 @@
 -- Six sums by the sizes of their products.
 use Rattle.std.specs.Prelude.{ℕ, ◌*◌, ◌≤◌, pos, ◌-ℤ◌}
-use Rattle.definitions.specs.Correlation.{Counts as Sums}
+use Rattle.definitions.specs.Correlation.{Counts as DefinedCounts}
 use Rattle.lane_correlator.specs.declared.tally.Tally.{Tally}
 
 -- each sum is all sizes less twice those below 0
-abbrev pub tally_in : Tally → Sums
+abbrev pub tally_in : Tally → DefinedCounts
 tally_in t = record {
   ie = pos t.all_i -ℤ pos (2 * t.ie);
   qe = pos t.all_q -ℤ pos (2 * t.qe);

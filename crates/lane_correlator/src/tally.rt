@@ -1,7 +1,7 @@
 //! Six sums while they are added up.
 
 ghost use Rattle.std.specs.Prelude.{◌≡◌, ◌+◌, ◌*◌, ◌≤◌, ℕ, pos, ◌-ℤ◌, unsigned_abs};
-ghost use Rattle.definitions.specs.Correlation.{added};
+ghost use Rattle.definitions.specs.Correlation.{sum_of_counts};
 ghost use Rattle.lane_correlator.specs.Counting.{counts_in};
 ghost use Rattle.lane_correlator.specs.declared.tally.TheConstants.{MOST_SIZES};
 
@@ -45,7 +45,7 @@ impl Tally {
     pub(crate) fn add(&self, other: &Tally) -> Tally
         requires these { AreFew MOST_SIZES self.now }
         requires those { AreFew MOST_SIZES other.now }
-        ensures sums { tally_in result ≡ added (tally_in self.now) (tally_in other.now) }
+        ensures sums { tally_in result ≡ sum_of_counts (tally_in self.now) (tally_in other.now) }
         ensures few { (m n : ℕ) → AreFew m self.now → AreFew n other.now → AreFew (m + n) result }
     {
         Tally {

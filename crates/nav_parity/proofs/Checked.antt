@@ -3,7 +3,7 @@ use Rattle.std.proofs.Common.{◌≡◌, ℕ, ◌+◌, ◌*◌, ◌%◌, ◌/◌
 use Rattle.std.specs.Prelude.{bit_and, bit_or, bit_xor}
 use Rattle.std.proofs.lemmas.Nat.{and_mask, or_shifted, xor_lt}
 use Rattle.std.proofs.Math.Nat.{mod-eq_of_lt}
-use Rattle.definitions.specs.Parity.{checked}
+use Rattle.definitions.specs.Parity.{checked_data}
 use Rattle.nav_parity.specs.Words.{HasParity, IsEncoded}
 use Rattle.nav_parity.specs.Laws.{EachDataHaveAWord, EachWordIsEncoded}
 use Rattle.nav_parity.proofs.Digits.{number}
@@ -26,7 +26,7 @@ module _ (word prior inversion parity : ℕ) (is_word : word < 2 ^ 30)
   found-is = ap (bit_xor (word / 2 ^ 6)) is
 
   pub equal_parity_checks : bit_and word 63 ≡ parity
-      → Some (bit_xor (word / 2 ^ 6) inversion) ≡ checked word prior
+      → Some (bit_xor (word / 2 ^ 6) inversion) ≡ checked_data word prior
   equal_parity_checks same =
       let last : parity ≡ word % 2 ^ 6 = sym same ∙ and_mask word 6 in
       let passes : Passes word prior =
@@ -34,7 +34,8 @@ module _ (word prior inversion parity : ℕ) (is_word : word < 2 ^ 30)
       sym (checked-some word prior (bit_xor (word / 2 ^ 6) inversion) passes
       (data_of-uninverted word prior is_word ∙ sym found-is))
 
-  pub other_parity_fails : parity < 2 ^ 6 → ¬ (bit_and word 63 ≡ parity) → None ≡ checked word prior
+  pub other_parity_fails : parity < 2 ^ 6 → ¬ (bit_and word 63 ≡ parity)
+      → None ≡ checked_data word prior
   other_parity_fails short differs =
       sym (checked-none word prior (λ passes. differs
       (and_mask word 6

@@ -10,7 +10,7 @@ use Rattle.std.proofs.lemmas.Nat.{xor_lt, shr-shr, shr_split, shr_high, mod_low}
 use Rattle.std.proofs.lemmas.Nat.Bits.{bit_at_xor, bit_at_lowest, bit_at-zero, bit_at_ones}
 use Rattle.std.proofs.lemmas.Nat.Bits.{bit_at_cat_low}
 use Rattle.definitions.specs.Parity.{Equation, equations, word_bit, data_bit, parity_bit, passes}
-use Rattle.definitions.specs.Parity.{data_of, checked}
+use Rattle.definitions.specs.Parity.{data_of, checked_data}
 use Rattle.nav_parity.specs.Words.{digit, HasParity, IsEncoded}
 use Rattle.nav_parity.proofs.Digits.{number-same, number-digit, data_of-is}
 use Rattle.nav_parity.proofs.Equations.{has_places, places_are_known, places_of, parity_bit-same}
@@ -114,21 +114,21 @@ same_parity p r source prior hp hr (p25, (p26, (p27, (p28, (p29, (p30, _))))))
 
 -- what `checked` says of a word that passes, and of one that does not
 pub checked-some : (word prior found : ℕ) → Passes word prior → data_of word prior ≡ found
-    → checked word prior ≡ Some found
-unfolding checked
+    → checked_data word prior ≡ Some found
+unfolding checked_data
 checked-some word prior found h is =
     cond-true (passes word prior) (Some (data_of word prior)) None (passes-true word prior h)
     ∙ ap Some is
 
-pub checked-none : (word prior : ℕ) → ¬ Passes word prior → checked word prior ≡ None
-unfolding checked
+pub checked-none : (word prior : ℕ) → ¬ Passes word prior → checked_data word prior ≡ None
+unfolding checked_data
 checked-none word prior h =
     cond-false (passes word prior) (Some (data_of word prior)) None
     (false_from_ne_true (passes word prior) (λ all. h (Passes-from_true word prior all)))
 
-pub checked-parts : (word prior found : ℕ) → checked word prior ≡ Some found
+pub checked-parts : (word prior found : ℕ) → checked_data word prior ≡ Some found
     → Passes word prior × (data_of word prior ≡ found)
-unfolding checked
+unfolding checked_data
 checked-parts word prior found h = by_test (passes word prior) refl h
   where
     by_test : (t : Bool) → passes word prior ≡ t

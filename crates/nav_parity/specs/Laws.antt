@@ -1,6 +1,6 @@
 -- What holds of all words (IS-GPS-200, section 20.3.5).
 use Rattle.std.specs.Prelude.{◌≡◌, ℕ, ◌^◌, ◌<◌, ◌≤◌, true, false, Some, bit_xor, count_ones}
-use Rattle.definitions.specs.Parity.{passes, data_of, checked}
+use Rattle.definitions.specs.Parity.{passes, data_of, checked_data}
 use Rattle.nav_parity.specs.Words.{IsEncoded}
 
 -- in how many bits two words differ
@@ -37,5 +37,5 @@ EachDataHaveAWord =
 -- a word that checks to some data is the one word for them
 abbrev pub EachWordIsEncoded : Type 0
 EachWordIsEncoded =
-    (word prior found : ℕ) → word < 2 ^ 30 → prior < 4 → checked word prior ≡ Some found
+    (word prior found : ℕ) → word < 2 ^ 30 → prior < 4 → checked_data word prior ≡ Some found
     → (found < 2 ^ 24) × IsEncoded word found prior

@@ -2,7 +2,7 @@
 use Rattle.std.specs.Prelude.{◌≡◌, ℕ, ◌-◌, ◌^◌, ◌<◌, Some}
 use Rattle.std.specs.Int.{bit_at}
 use Rattle.std.specs.List.{AllByRecursion}
-use Rattle.definitions.specs.Parity.{word_bit, equations, parity_bit, checked}
+use Rattle.definitions.specs.Parity.{word_bit, equations, parity_bit, checked_data}
 
 -- d_i of data that are given as a number, d1 the highest of 24
 abbrev pub digit : ℕ → ℕ → ℕ
@@ -16,5 +16,6 @@ HasParity parity source prior =
 -- the one word that passes with this prior and has these data
 pub record IsEncoded (coded source prior : ℕ) : Type 0 where
   pub is_word : coded < 2 ^ 30
-  pub is_checked : checked coded prior ≡ Some source
-  pub is_only : (other : ℕ) → other < 2 ^ 30 → checked other prior ≡ Some source → other ≡ coded
+  pub is_checked : checked_data coded prior ≡ Some source
+  pub is_only : (other : ℕ) → other < 2 ^ 30 → checked_data other prior ≡ Some source
+      → other ≡ coded

@@ -3,7 +3,7 @@
 //! before ended in a 1, and D25 to D30 are the parity.
 
 ghost use Rattle.std.specs.Prelude.{◌≡◌, ◌*◌, ◌%◌, ◌^◌, ◌<◌, IfSome};
-ghost use Rattle.definitions.specs.Parity.{checked};
+ghost use Rattle.definitions.specs.Parity.{checked_data};
 ghost use Rattle.nav_parity.specs.Words.{HasParity, IsEncoded};
 
 const PARITY_WIDTH: u32 = 6;
@@ -39,7 +39,7 @@ const SUMMED: [u32; 6] = [
 pub fn check(word: u32, prior: u8) -> Option<u32>
     requires is_word { word < 2 ^ 30 }
     requires is_prior { prior < 4 }
-    ensures checked { result ≡ checked word prior }
+    ensures checked_data { result ≡ checked_data word prior }
     ensures in_range { IfSome result (λ found. found < 2 ^ 24) }
 {
     let data = (word >> PARITY_WIDTH) ^ inversion(prior);

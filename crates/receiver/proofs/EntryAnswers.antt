@@ -4,7 +4,7 @@ use Rattle.std.specs.Prelude.{Bool, true, false, nat_eq, if◌then◌else◌, Op
 use Rattle.std.specs.Prelude.{filter_map}
 use Rattle.std.proofs.lemmas.Bool.{eqb-true, ne_eqb, eq-eqb, eqb-false}
 use Rattle.definitions.specs.Scripts.{Entry}
-use Rattle.definitions.specs.Commands.{Command as Asked, TimedRequest}
+use Rattle.definitions.specs.Commands.{Command as DefinedCommand, TimedRequest}
 use Rattle.definitions.specs.Receiver.{commands_to, command_to}
 use Rattle.definitions.specs.Banks.{with_command}
 use Rattle.receiver.specs.Sessions.{asked_of, with_entry}
@@ -37,7 +37,8 @@ refused-asks-nothing slot entries time number =
     ∙ append-nil (filter_map (given_to slot) entries)
 
 -- a command asks of its own slot alone
-asks-own : (slot : ℕ) (entries : List Entry) (time : ℕ) (command : Asked) → command.slot ≡ slot
+asks-own : (slot : ℕ) (entries : List Entry) (time : ℕ) (command : DefinedCommand)
+    → command.slot ≡ slot
     → commands_to slot (entries ++ record { time = time; what = Ok command } ∷ [])
     ≡ commands_to slot entries ++ record { time = time; request = command.request } ∷ []
 unfolding commands_to given_to
@@ -48,7 +49,7 @@ asks-own slot entries time command own =
     one-more slot entries (record { time = time; what = Ok command })
     ∙ ap (λ (l : List TimedRequest). filter_map (given_to slot) entries ++ l) last
 
-asks-not : (slot : ℕ) (entries : List Entry) (time : ℕ) (command : Asked)
+asks-not : (slot : ℕ) (entries : List Entry) (time : ℕ) (command : DefinedCommand)
     → (command.slot ≡ slot → ⊥)
     → commands_to slot (entries ++ record { time = time; what = Ok command } ∷ [])
     ≡ commands_to slot entries
@@ -65,7 +66,7 @@ module _ (done : ℕ → List Entry) (client time : ℕ) where
   abbrev refused : ℕ → Entry
   refused number = record { time = time; what = Err number }
 
-  abbrev given : Asked → Entry
+  abbrev given : DefinedCommand → Entry
   given command = record { time = time; what = Ok command }
 
   -- tables of commands that agree everywhere are one
@@ -84,7 +85,7 @@ module _ (done : ℕ → List Entry) (client time : ℕ) where
       at c s true is = rw is (sym (refused-asks-nothing s (done c) time number))
       at c s false is = rw is refl
 
-  pub command-added : (command : Asked)
+  pub command-added : (command : DefinedCommand)
       → with_command (asked_of done) client command.slot time command.request
       ≡ asked_of (with_entry done client (given command))
   command-added command =

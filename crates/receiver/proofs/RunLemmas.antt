@@ -11,12 +11,12 @@ use Rattle.definitions.specs.Samples.{samples_from}
 use Rattle.definitions.specs.Receiver.{Client}
 use Rattle.definitions.specs.Lines.{as_bytes}
 use Rattle.definitions.specs.Receiver.{body, full}
-use Rattle.receiver.specs.Offered.{offered}
+use Rattle.receiver.specs.Offered.{offer}
 use Rattle.receiver.specs.declared.session.Session.{Session}
 use Rattle.receiver.specs.declared.faults.Stop.{Stop}
 use Rattle.receiver.specs.declared.faults.Stop.TheVariants.{AtEnd, ReadFailed, PastLimit}
 use Rattle.receiver.specs.Texts.{AppendsPart}
-use Rattle.receiver.specs.HeldTexts.{held, promised}
+use Rattle.receiver.specs.HeldTexts.{held_text, promise}
 use Rattle.receiver.specs.declared.held_text.HeldText.{HeldText}
 use Rattle.receiver.proofs.HeldLemmas.{none-held}
 use Rattle.definitions.specs.Receiver.{answer_lines}
@@ -32,17 +32,17 @@ use Rattle.receiver.proofs.TextLemmas.{appended-part}
 -- before the first read all answers at time 0 are written or held back, where nothing was held back
 -- before
 pub opened : (settings : Settings) (clients : List Client) (session answered : Session)
-    (start contents : Option (List ℕ)) (none later : HeldText) → held none ≡ []
+    (start contents : Option (List ℕ)) (none later : HeldText) → held_text none ≡ []
     → IsOpen settings clients session
-    → Appends (promised start none) (promised contents later)
-    (as_bytes (answer_lines offered settings clients []))
+    → Appends (promise start none) (promise contents later)
+    (as_bytes (answer_lines offer settings clients []))
     × StandsFor settings clients answered [] []
-    → IsWrittenTo settings clients start answered (promised contents later) []
+    → IsWrittenTo settings clients start answered (promise contents later) []
 unfolding body
 opened settings clients session answered start contents none later empty open_is p = record {
   stands = p.1;
-  written = subst (Appends start (promised contents later)) (ap as_bytes (sym open_is.first))
-      (rw (none-held start (held none) empty) at p.0);
+  written = subst (Appends start (promise contents later)) (ap as_bytes (sym open_is.first))
+      (rw (none-held start (held_text none) empty) at p.0);
 }
 
 pub samples-nil : (packing : Packing) → samples packing [] ≡ []
@@ -64,7 +64,7 @@ pub written-kept : (settings : Settings) (clients : List Client) (start : Option
 written-kept settings clients start session b c xs at k =
     record {
       stands = at.stands;
-      written = Appends-kept start b c (body offered settings xs clients) at.written k;
+      written = Appends-kept start b c (body offer settings xs clients) at.written k;
     }
 
 -- what was written stays through the flush
@@ -77,7 +77,7 @@ flushed-part settings clients xs a b c stop text e p k =
 
 pub no-end : (settings : Settings) (clients : List Client) (xs : List Sample) (stop : Stop)
     → ((stop ≡ ReadFailed) ⊎ (stop ≡ PastLimit))
-    → body offered settings xs clients ≡ text_for stop settings xs clients
+    → body offer settings xs clients ≡ text_for stop settings xs clients
 no-end settings clients xs stop (inl e) = rw e refl
 no-end settings clients xs stop (inr e) = rw e refl
 
@@ -103,12 +103,12 @@ pub served-alone : (settings : Settings) (clients : List Client) (limit : ℕ) (
     → ServesEachAlone settings clients old new
 served-alone settings clients limit session old new r few = record {
   read = r.read;
-  text = full offered settings (samples_read settings limit r.read) clients;
+  text = full offer settings (samples_read settings limit r.read) clients;
   consumed = r.consumed;
   written = r.completes.written;
   alone = λ k client found.
-      client-alone offered settings (samples_read settings limit r.read) clients k client found
+      client-alone offer settings (samples_read settings limit r.read) clients k client found
       (omega (arith, few))
-      ∙ ap (λ (xs : List Sample). alone_to_end offered settings xs client)
+      ∙ ap (λ (xs : List Sample). alone_to_end offer settings xs client)
       (take_all limit (samples settings.packing r.read) r.completes.why.1);
 }

@@ -16,9 +16,9 @@ use Rattle.definitions.specs.Receiver.{Client, answer_lines, body}
 use Rattle.definitions.specs.Runs.{Task, Input, InputEnd, clients_of, is_share, are_clients}
 use Rattle.definitions.specs.Runs.{AreRight, taken_samples, is_too_long, body_text, full_text}
 use Rattle.definitions.specs.Runs.{due_text, IsAnswer}
-use Rattle.definitions.specs.Runs as defined
+use Rattle.definitions.specs.Runs as runs
 use Rattle.definitions.proofs.SampleLemmas.{samples-length}
-use Rattle.receiver.specs.Offered.{offered, client_with}
+use Rattle.receiver.specs.Offered.{offer, client_with}
 use Rattle.receiver.specs.Texts.{AppendsPart}
 use Rattle.receiver.specs.Sessions.{StandsFor, time_of}
 use Rattle.channel_slots.specs.declared.open_fault.OpenFault.{OpenFault}
@@ -58,7 +58,7 @@ same-clients text settings handed limit =
 opens : {A : Type 0} (text : A → List ℕ) (settings : Settings) (handed : List A) (limit : ℕ)
     (session : Session)
     → StandsFor settings (map (λ a. client_with (text a)) handed) session []
-    (answer_lines offered settings (map (λ a. client_with (text a)) handed) [])
+    (answer_lines offer settings (map (λ a. client_with (text a)) handed) [])
     → IsOpen settings (clients_of (task_of settings (map text handed) limit)) session
 opens text settings handed limit session stands =
     subst (λ (l : List Client). IsOpen settings l session)
@@ -118,18 +118,18 @@ same-either true text = refl
 same-either false text = refl
 
 due-unfinished : (task : Task) (read : List ℕ)
-    → due_text task (record { bytes = read; end = defined.unfinished })
-    ≡ body_text task (record { bytes = read; end = defined.unfinished })
+    → due_text task (record { bytes = read; end = runs.unfinished })
+    ≡ body_text task (record { bytes = read; end = runs.unfinished })
 due-unfinished task read =
     same-either (nat_lt task.limit (sample_count task.settings.packing read))
-    (body_text task (record { bytes = read; end = defined.unfinished }))
+    (body_text task (record { bytes = read; end = runs.unfinished }))
 
 due-failed : (task : Task) (read : List ℕ)
-    → due_text task (record { bytes = read; end = defined.failed })
-    ≡ body_text task (record { bytes = read; end = defined.failed })
+    → due_text task (record { bytes = read; end = runs.failed })
+    ≡ body_text task (record { bytes = read; end = runs.failed })
 due-failed task read =
     same-either (nat_lt task.limit (sample_count task.settings.packing read))
-    (body_text task (record { bytes = read; end = defined.failed }))
+    (body_text task (record { bytes = read; end = runs.failed }))
 
 within : (settings : Settings) (limit : ℕ) (read : List ℕ)
     → length (samples settings.packing read) ≤ limit
@@ -154,12 +154,12 @@ module _ (settings : Settings) (scripts : List (List ℕ)) (limit : ℕ) where
       → Consumes old.remaining new.remaining read → new.read_failed ≡ old.read_failed
       → new.write_failed ≡ true
       → AppendsPart old.contents new.contents
-      (body offered settings (samples_read settings limit read)
+      (body offer settings (samples_read settings limit read)
       (clients_of (task_of settings scripts limit)))
       → BrokeOff (task_of settings scripts limit) old new
   unfolding taken_samples task
   breaks-in-body read old new consumed same failed p = record {
-    input = record { bytes = read; end = defined.unfinished };
+    input = record { bytes = read; end = runs.unfinished };
     consumed = consumed;
     ended = same;
     write_failed = failed;
@@ -179,14 +179,14 @@ module _ (settings : Settings) (scripts : List (List ℕ)) (limit : ℕ) where
   breaks-in-end read old new PastLimit consumed broke why p =
       breaks-in-body read old new consumed why.1 broke p
   breaks-in-end read old new ReadFailed consumed broke why p = record {
-    input = record { bytes = read; end = defined.failed };
+    input = record { bytes = read; end = runs.failed };
     consumed = consumed;
     ended = why.0;
     write_failed = broke;
     written = subst (AppendsPart old.contents new.contents) (sym (due-failed task read)) p;
   }
   breaks-in-end read old new AtEnd consumed broke why p = record {
-    input = record { bytes = read; end = defined.exhausted };
+    input = record { bytes = read; end = runs.exhausted };
     consumed = consumed;
     ended = (why.0, why.2);
     write_failed = broke;
@@ -235,7 +235,7 @@ module _ (settings : Settings) (scripts : List (List ℕ)) (limit : ℕ) where
       → n ≡ time_of session → IsRun (task_of settings scripts limit) old new (Ok n)
   unfolding IsAnswer taken_samples task
   ran-to-end n session old new right r is =
-      ran-to defined.exhausted AtEnd session old new (Ok n) r
+      ran-to runs.exhausted AtEnd session old new (Ok n) r
       (r.completes.why.0, r.completes.why.2) r.completes.write_failed
       (right, within settings limit r.read r.completes.why.1, refl, is ∙ r.stands.bank.now, refl)
 
@@ -245,7 +245,7 @@ module _ (settings : Settings) (scripts : List (List ℕ)) (limit : ℕ) where
       → IsRun (task_of settings scripts limit) old new (Err Read)
   unfolding IsAnswer taken_samples task
   ran-to-fault session old new right r =
-      ran-to defined.failed ReadFailed session old new (Err Read) r
+      ran-to runs.failed ReadFailed session old new (Err Read) r
       r.completes.why.0 r.completes.write_failed
       (right, within settings limit r.read r.completes.why.1, refl, refl)
 
@@ -255,7 +255,7 @@ module _ (settings : Settings) (scripts : List (List ℕ)) (limit : ℕ) where
       → IsRun (task_of settings scripts limit) old new (Err TooLong)
   unfolding IsAnswer taken_samples task
   ran-to-limit session old new right r =
-      ran-to defined.unfinished PastLimit session old new (Err TooLong) r
+      ran-to runs.unfinished PastLimit session old new (Err TooLong) r
       r.completes.why.1 r.completes.write_failed
       (right, beyond settings limit r.read r.completes.why.0, refl)
 
@@ -264,10 +264,10 @@ module _ (settings : Settings) (scripts : List (List ℕ)) (limit : ℕ) where
 -- a run that was refused before it read or wrote
 refused : (asked : Task) (old : Devices) (result : Result ℕ RunFault)
     → WriterTells result old old
-    → IsAnswer asked (record { bytes = []; end = defined.unfinished }) [] (answer_of result)
+    → IsAnswer asked (record { bytes = []; end = runs.unfinished }) [] (answer_of result)
     → IsRun asked old old result
 refused asked old result writer answer = record {
-  input = record { bytes = []; end = defined.unfinished };
+  input = record { bytes = []; end = runs.unfinished };
   text = [];
   consumed = Consumes-nil old.remaining;
   ended = refl;
@@ -304,7 +304,7 @@ pub record IsOpened {A : Type 0} (text : A → List ℕ) (settings : Settings) (
 pub was-opened : {A : Type 0} (text : A → List ℕ) (settings : Settings) (handed : List A)
     (limit : ℕ) (session : Session)
     → StandsFor settings (map (λ a. client_with (text a)) handed) session []
-    (answer_lines offered settings (map (λ a. client_with (text a)) handed) [])
+    (answer_lines offer settings (map (λ a. client_with (text a)) handed) [])
     → (Ok session ≡ Err Faults.Clients) ↔ AreWrong (length handed)
     → IsOpened text settings handed limit session
 was-opened text settings handed limit session stands when = record {

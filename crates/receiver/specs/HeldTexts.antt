@@ -4,9 +4,9 @@ use Rattle.std.specs.Io.KnownBytes.{append_known}
 use Rattle.receiver.specs.declared.held_text.HeldText.{HeldText}
 
 -- what the writer hasn't taken yet
-abbrev pub held : HeldText → List ℕ
-held text = drop text.sent text.bytes.items
+abbrev pub held_text : HeldText → List ℕ
+held_text text = drop text.sent text.bytes.items
 
 -- what a writer will hold when it has taken all that is held back for it
-abbrev pub promised : Option (List ℕ) → HeldText → Option (List ℕ)
-promised contents text = append_known contents (held text)
+abbrev pub promise : Option (List ℕ) → HeldText → Option (List ℕ)
+promise contents text = append_known contents (held_text text)

@@ -3,8 +3,8 @@ use Rattle.std.specs.Prelude.{ℕ, true, List, [], ◌∷◌}
 use Rattle.definitions.specs.Scripts.{hold_verb, counts_verb, state_verb, stop_verb}
 use Rattle.definitions.specs.Receiver.{Profile, Client}
 
-abbrev pub offered : Profile
-offered =
+abbrev pub offer : Profile
+offer =
     record { verbs = hold_verb ∷ counts_verb ∷ state_verb ∷ stop_verb ∷ []; prints = λ event. true }
 
 -- a client with the text of its script; each has four slots

@@ -6,14 +6,14 @@ use Rattle.definitions.specs.Oscillators.{Settings}
 use Rattle.definitions.specs.Samples.{Sample, samples}
 use Rattle.definitions.specs.Receiver.{Client}
 use Rattle.definitions.specs.Runs.{Task, Input, InputEnd, RunAnswer, due_text, IsAnswer}
-use Rattle.definitions.specs.Runs as defined
+use Rattle.definitions.specs.Runs as runs
 use Rattle.definitions.specs.Receiver.{body, full, body_lines, lines_of_client, alone_to_end}
 use Rattle.definitions.specs.Lines.{as_bytes, lines_of}
-use Rattle.receiver.specs.Offered.{offered}
+use Rattle.receiver.specs.Offered.{offer}
 use Rattle.receiver.specs.Texts.{AppendsPart, WroteUpTo}
 use Rattle.definitions.specs.Receiver.{answer_lines}
 use Rattle.receiver.specs.Sessions.{StandsFor}
-use Rattle.receiver.specs.HeldTexts.{promised}
+use Rattle.receiver.specs.HeldTexts.{promise}
 use Rattle.receiver.specs.declared.held_text.HeldText.{HeldText}
 use Rattle.receiver.specs.declared.devices.Source.{Ghosts as Source}
 use Rattle.receiver.specs.declared.devices.Sink.{Ghosts as Sink}
@@ -32,8 +32,8 @@ pub record Devices : Type 0 where
   pub write_failed : Bool
 
 -- what they tell at one moment, by the members of their traits
-abbrev pub seen : {R W : Type 0} → Source R → Sink W → R → W → Devices
-seen source sink reader writer = record {
+abbrev pub devices_at : {R W : Type 0} → Source R → Sink W → R → W → Devices
+devices_at source sink reader writer = record {
   remaining = source.remaining reader;
   read_failed = source.has_failed reader;
   contents = sink.contents writer;
@@ -41,11 +41,11 @@ seen source sink reader writer = record {
 }
 
 -- the same as though the writer had taken all text that is held back for it
-abbrev pub once_sent : HeldText → Devices → Devices
-once_sent text devices = record {
+abbrev pub devices_once_sent : HeldText → Devices → Devices
+devices_once_sent text devices = record {
   remaining = devices.remaining;
   read_failed = devices.read_failed;
-  contents = promised devices.contents text;
+  contents = promise devices.contents text;
   write_failed = devices.write_failed;
 }
 
@@ -64,14 +64,14 @@ StopsFor limit count failed_before failed remaining PastLimit =
 
 -- the lines of all clients, with `end` only where all was read
 abbrev pub text_for : Stop → Settings → List Sample → List Client → List ℕ
-text_for AtEnd settings xs clients = full offered settings xs clients
-text_for ReadFailed settings xs clients = body offered settings xs clients
-text_for PastLimit settings xs clients = body offered settings xs clients
+text_for AtEnd settings xs clients = full offer settings xs clients
+text_for ReadFailed settings xs clients = body offer settings xs clients
+text_for PastLimit settings xs clients = body offer settings xs clients
 
 -- what a run is asked for: scripts of clients that have four slots each
 abbrev pub task_of : Settings → List (List ℕ) → ℕ → Task
 task_of settings scripts limit = record {
-  profile = offered;
+  profile = offer;
   settings = settings;
   shares = replicate (length scripts) 4;
   scripts = scripts;
@@ -80,18 +80,18 @@ task_of settings scripts limit = record {
 
 -- a run's result, as the definitions' table names it
 abbrev pub answer_of : Result ℕ RunFault → RunAnswer
-answer_of (Ok n) = defined.finished n
-answer_of (Err NoMemory) = defined.no_memory
-answer_of (Err Clients) = defined.wrong_clients
-answer_of (Err Read) = defined.read_failed
-answer_of (Err Write) = defined.write_failed
-answer_of (Err TooLong) = defined.too_long
+answer_of (Ok n) = runs.finished n
+answer_of (Err NoMemory) = runs.no_memory
+answer_of (Err Clients) = runs.wrong_clients
+answer_of (Err Read) = runs.read_failed
+answer_of (Err Write) = runs.write_failed
+answer_of (Err TooLong) = runs.too_long
 
 -- reading came so to an end, as the reader tells it: no byte is left, a read failed, or neither
 abbrev pub EndedAs : InputEnd → Devices → Devices → Type 0
-EndedAs defined.exhausted old new = IsAtEnd new.remaining × (new.read_failed ≡ old.read_failed)
-EndedAs defined.failed old new = new.read_failed ≡ true
-EndedAs defined.unfinished old new = new.read_failed ≡ old.read_failed
+EndedAs runs.exhausted old new = IsAtEnd new.remaining × (new.read_failed ≡ old.read_failed)
+EndedAs runs.failed old new = new.read_failed ≡ true
+EndedAs runs.unfinished old new = new.read_failed ≡ old.read_failed
 
 -- the writer failed where the result says so, and nowhere else
 abbrev pub WriterTells : Result ℕ RunFault → Devices → Devices → Type 0
@@ -123,21 +123,21 @@ pub record ServesEachAlone (settings : Settings) (clients : List Client)
   pub written : Appends old.contents new.contents text
   pub alone : (k : ℕ) (client : Client) → slice_get clients k ≡ Some client
       → lines_of_client (1 + k) (lines_of text)
-      ≡ alone_to_end offered settings (samples settings.packing read) client
+      ≡ alone_to_end offer settings (samples settings.packing read) client
 
 -- ---- within a run
 
 -- a session before the first sample, with the answers at time 0 to come
 pub record IsOpen (settings : Settings) (clients : List Client) (session : Session) : Type 0 where
-  pub stands : StandsFor settings clients session [] (answer_lines offered settings clients [])
-  pub first : body_lines offered settings [] clients ≡ answer_lines offered settings clients []
+  pub stands : StandsFor settings clients session [] (answer_lines offer settings clients [])
+  pub first : body_lines offer settings [] clients ≡ answer_lines offer settings clients []
 
 -- a session at the end of samples, with all that was to be written by then, since the writer held
 -- `start`
 pub record IsWrittenTo (settings : Settings) (clients : List Client) (start : Option (List ℕ))
     (session : Session) (contents : Option (List ℕ)) (xs : List Sample) : Type 0 where
   pub stands : StandsFor settings clients session xs []
-  pub written : Appends start contents (body offered settings xs clients)
+  pub written : Appends start contents (body offer settings xs clients)
 
 -- a run of samples was taken: all that is to be written by its end is written behind what was
 abbrev pub TakesOn : List Sample → Session → Session → Option (List ℕ) → Option (List ℕ) → Type 0
@@ -151,7 +151,7 @@ abbrev pub TakesFront : List Sample → Session → Option (List ℕ) → Option
 TakesFront run before old new =
     (settings : Settings) (clients : List Client) (start : Option (List ℕ)) (xs : List Sample)
     → IsWrittenTo settings clients start before old xs
-    → AppendsPart start new (body offered settings (xs ++ run) clients)
+    → AppendsPart start new (body offer settings (xs ++ run) clients)
 
 -- behind what was to be written so far, the whole text for a stop is written
 abbrev pub WritesAll : Stop → Session → Option (List ℕ) → Option (List ℕ) → Type 0
@@ -193,7 +193,7 @@ pub record BrokeOffReading (settings : Settings) (clients : List Client) (limit 
   pub consumed : Consumes old.remaining new.remaining read
   pub read_failed : new.read_failed ≡ old.read_failed
   pub written : AppendsPart start new.contents
-      (body offered settings (samples_read settings limit read) clients)
+      (body offer settings (samples_read settings limit read) clients)
 
 -- all of the text was written
 pub record Completes (settings : Settings) (clients : List Client) (limit : ℕ) (read : List ℕ)

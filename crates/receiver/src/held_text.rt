@@ -21,13 +21,13 @@ impl HeldText {
     ghost use Rattle.std.specs.Prelude.{◌≡◌, [], OnOk, OnErr};
     ghost use Rattle.std.specs.Io.KnownBytes.{Appends, Keeps};
     ghost use Rattle.receiver.specs.Devices.{TellsFailure};
-    ghost use Rattle.receiver.specs.HeldTexts.{held, promised};
+    ghost use Rattle.receiver.specs.HeldTexts.{held_text, promise};
     ghost use Rattle.receiver.specs.Texts.{Grows};
     ghost use Rattle.printed_lines.specs.declared.words.TheConstants.{LINE_BYTES};
 
     /// Nothing is held back.
     pub fn new() -> Self
-        ensures { held result ≡ [] }
+        ensures { held_text result ≡ [] }
     {
         HeldText {
             bytes: ArrayVec::new(),
@@ -38,10 +38,10 @@ impl HeldText {
     /// Holds a line back, and first writes what there was where there is no room for the line.
     pub fn put<W: Sink>(&mut self, writer: &mut W, line: &[u8]) -> Result<(), DeviceFault>
         requires short { length line.now ≤ LINE_BYTES }
-        ensures ok { OnOk result (Appends (promised (W.contents writer.old) self.old)
-            (promised (W.contents writer.new) self.new) line.now) }
-        ensures err { OnErr result (Keeps (promised (W.contents writer.old) self.old)
-            (promised (W.contents writer.new) self.new)) }
+        ensures ok { OnOk result (Appends (promise (W.contents writer.old) self.old)
+            (promise (W.contents writer.new) self.new) line.now) }
+        ensures err { OnErr result (Keeps (promise (W.contents writer.old) self.old)
+            (promise (W.contents writer.new) self.new)) }
         ensures grows { Grows (W.contents writer.old) (W.contents writer.new) }
         ensures failure { TellsFailure (W.has_failed writer.old) (W.has_failed writer.new) result }
     {
@@ -54,10 +54,10 @@ impl HeldText {
 
     /// Writes all that is held back, by as many writes as it takes. No failed write is tried again.
     pub fn send<W: Sink>(&mut self, writer: &mut W) -> Result<(), DeviceFault>
-        ensures none { OnOk result (held self.new ≡ []) }
+        ensures none { OnOk result (held_text self.new ≡ []) }
         ensures empty { OnOk result (self.new.bytes.items ≡ []) }
-        ensures same { Keeps (promised (W.contents writer.old) self.old)
-            (promised (W.contents writer.new) self.new) }
+        ensures same { Keeps (promise (W.contents writer.old) self.old)
+            (promise (W.contents writer.new) self.new) }
         ensures grows { Grows (W.contents writer.old) (W.contents writer.new) }
         ensures failure { TellsFailure (W.has_failed writer.old) (W.has_failed writer.new) result }
     {

@@ -2,13 +2,14 @@
 
 ghost use Rattle.std.specs.Prelude.{◌≡◌, ◌≤◌, ◌<◌, ◌+◌, ◌%◌, ◌^◌, ℕ, Option, List, []};
 ghost use Rattle.std.specs.Prelude.{length, false, OnOk, OnErr, IfOk};
-ghost use Rattle.definitions.specs.Oscillators.{Settings as Recording};
+ghost use Rattle.definitions.specs.Oscillators.{Settings as DefinedSettings};
 ghost use Rattle.channel_slots.specs.declared.bank.TheConstants.{MOST_TIME};
 ghost use Rattle.sample_planes.specs.declared.planes.TheConstants.{MAX_SAMPLES};
 ghost use Rattle.definitions.specs.Receiver.{Client};
 ghost use Rattle.receiver.specs.Devices.{TellsFailure};
-ghost use Rattle.receiver.specs.HeldTexts.{held, promised};
-ghost use Rattle.receiver.specs.Runs.{seen, once_sent, IsWrittenTo, TakesOn, TakesFront};
+ghost use Rattle.receiver.specs.HeldTexts.{held_text, promise};
+ghost use Rattle.receiver.specs.Runs.{devices_at, devices_once_sent, IsWrittenTo, TakesOn};
+ghost use Rattle.receiver.specs.Runs.{TakesFront};
 ghost use Rattle.receiver.specs.Runs.{HasRead, BrokeOffReading};
 ghost use Rattle.receiver.specs.Sessions.{packing_in, time_of, until_next};
 ghost use Rattle.receiver.specs.Texts.{Grows};
@@ -44,9 +45,9 @@ fn take_samples<W: Sink>(
     ensures time { time_of session.new ≡ time_of session.old + length run.now }
     ensures ready { OnOk result (0 < until_next session.new) }
     ensures ok { OnOk result (TakesOn run.now session.old session.new
-        (promised (W.contents writer.old) text.old) (promised (W.contents writer.new) text.new)) }
+        (promise (W.contents writer.old) text.old) (promise (W.contents writer.new) text.new)) }
     ensures err { OnErr result (TakesFront run.now session.old
-        (promised (W.contents writer.old) text.old) (promised (W.contents writer.new) text.new)) }
+        (promise (W.contents writer.old) text.old) (promise (W.contents writer.new) text.new)) }
     ensures grows { Grows (W.contents writer.old) (W.contents writer.new) }
     ensures failure { TellsFailure (W.has_failed writer.old) (W.has_failed writer.new) result }
 {
@@ -72,9 +73,9 @@ fn take_piece<W: Sink>(
     ensures time { OnOk result (time_of session.new ≡ time_of session.old + length piece.now) }
     ensures ready { OnOk result (0 < until_next session.new) }
     ensures ok { OnOk result (TakesOn piece.now session.old session.new
-        (promised (W.contents writer.old) text.old) (promised (W.contents writer.new) text.new)) }
+        (promise (W.contents writer.old) text.old) (promise (W.contents writer.new) text.new)) }
     ensures err { OnErr result (TakesFront piece.now session.old
-        (promised (W.contents writer.old) text.old) (promised (W.contents writer.new) text.new)) }
+        (promise (W.contents writer.old) text.old) (promise (W.contents writer.new) text.new)) }
     ensures grows { Grows (W.contents writer.old) (W.contents writer.new) }
     ensures failure { TellsFailure (W.has_failed writer.old) (W.has_failed writer.new) result }
 {
@@ -105,19 +106,19 @@ pub fn read_all<R: Source, W: Sink>(
     ensures once { R.has_failed reader.old ≡ false
         → R.was_asked_again reader.new ≡ R.was_asked_again reader.old }
     ensures packing { packing_in session.new ≡ packing_in session.old }
-    ensures read { IfOk result (λ stop. (settings : Recording) (clients : List Client)
+    ensures read { IfOk result (λ stop. (settings : DefinedSettings) (clients : List Client)
         (start : Option (List ℕ))
         → IsWrittenTo settings clients start session.old
-        (promised (W.contents writer.old) text.old) [] →
+        (promise (W.contents writer.old) text.old) [] →
         HasRead settings clients limit start session.new
-        (once_sent text.old (seen R.Source W.Sink reader.old writer.old))
-        (once_sent text.new (seen R.Source W.Sink reader.new writer.new)) stop) }
-    ensures broken { OnErr result ((settings : Recording) (clients : List Client)
+        (devices_once_sent text.old (devices_at R.Source W.Sink reader.old writer.old))
+        (devices_once_sent text.new (devices_at R.Source W.Sink reader.new writer.new)) stop) }
+    ensures broken { OnErr result ((settings : DefinedSettings) (clients : List Client)
         (start : Option (List ℕ)) → IsWrittenTo settings clients start session.old
-        (promised (W.contents writer.old) text.old) [] →
+        (promise (W.contents writer.old) text.old) [] →
         BrokeOffReading settings clients limit start
-        (once_sent text.old (seen R.Source W.Sink reader.old writer.old))
-        (once_sent text.new (seen R.Source W.Sink reader.new writer.new))) }
+        (devices_once_sent text.old (devices_at R.Source W.Sink reader.old writer.old))
+        (devices_once_sent text.new (devices_at R.Source W.Sink reader.new writer.new))) }
     ensures grows { Grows (W.contents writer.old) (W.contents writer.new) }
     ensures failure { TellsFailure (W.has_failed writer.old) (W.has_failed writer.new) result }
 {

@@ -2,13 +2,13 @@
 
 ghost use Rattle.std.specs.Prelude.{◌≡◌, ◌≤◌, ◌<◌, ◌%◌, ◌^◌, ◌⊎◌, ◌↔◌, ℕ, List, length, map};
 ghost use Rattle.std.specs.Prelude.{false, OnErr, IfOk, Err, IsErrOf};
-ghost use Rattle.definitions.specs.Oscillators.{Settings as Recording};
+ghost use Rattle.definitions.specs.Oscillators.{Settings as DefinedSettings};
 ghost use Rattle.channel_slots.specs.declared.bank.TheConstants.{MOST_TIME};
 ghost use Rattle.channel_slots.specs.declared.place.TheConstants.{MOST_CLIENTS};
 ghost use Rattle.definitions.specs.Runs.{clients_of};
 ghost use Rattle.receiver.specs.Offered.{client_with};
 ghost use Rattle.receiver.specs.Printed.{LinesAreRight};
-ghost use Rattle.receiver.specs.Runs.{seen, task_of, IsOpen, Ran, BrokeOff, IsRun};
+ghost use Rattle.receiver.specs.Runs.{devices_at, task_of, IsOpen, Ran, BrokeOff, IsRun};
 ghost use Rattle.receiver.specs.Sessions.{time_of};
 
 use crate::devices::{DeviceFault, Sink, Source};
@@ -33,16 +33,16 @@ fn run_session<R: Source, W: Sink>(
     requires start { time_of session.old ≡ 0 }
     ensures once { R.has_failed reader.old ≡ false
         → R.was_asked_again reader.new ≡ R.was_asked_again reader.old }
-    ensures ran { IfOk result (λ stop. (settings : Recording) (scripts : List (List ℕ))
+    ensures ran { IfOk result (λ stop. (settings : DefinedSettings) (scripts : List (List ℕ))
         → IsOpen settings (clients_of (task_of settings scripts limit)) session.old
         → Ran settings (clients_of (task_of settings scripts limit)) limit session.new
-        (seen R.Source W.Sink reader.old writer.old)
-        (seen R.Source W.Sink reader.new writer.new) stop) }
-    ensures broken { OnErr result ((settings : Recording) (scripts : List (List ℕ))
+        (devices_at R.Source W.Sink reader.old writer.old)
+        (devices_at R.Source W.Sink reader.new writer.new) stop) }
+    ensures broken { OnErr result ((settings : DefinedSettings) (scripts : List (List ℕ))
         → IsOpen settings (clients_of (task_of settings scripts limit)) session.old
         → BrokeOff (task_of settings scripts limit)
-        (seen R.Source W.Sink reader.old writer.old)
-        (seen R.Source W.Sink reader.new writer.new)) }
+        (devices_at R.Source W.Sink reader.old writer.old)
+        (devices_at R.Source W.Sink reader.new writer.new)) }
 {
     let mut text = HeldText::new();
     put_answers(session, &mut text, writer)?;
@@ -71,12 +71,12 @@ pub fn run<R: Source, W: Sink>(
     ensures once { R.has_failed reader.old ≡ false
         → R.was_asked_again reader.new ≡ R.was_asked_again reader.old }
     ensures run { IsRun (task_of settings (map (λ script. script.now) scripts.now) MOST_TIME)
-        (seen R.Source W.Sink reader.old writer.old)
-        (seen R.Source W.Sink reader.new writer.new) result }
+        (devices_at R.Source W.Sink reader.old writer.old)
+        (devices_at R.Source W.Sink reader.new writer.new) result }
     ensures lines { IfOk result (λ _. LinesAreRight settings
         (map (λ script. client_with script.now) scripts.now)
-        (seen R.Source W.Sink reader.old writer.old)
-        (seen R.Source W.Sink reader.new writer.new)) }
+        (devices_at R.Source W.Sink reader.old writer.old)
+        (devices_at R.Source W.Sink reader.new writer.new)) }
 {
     run_to(alloc, settings, scripts, MOST_TIME, reader, writer)
 }
@@ -99,12 +99,12 @@ pub fn run_to<R: Source, W: Sink>(
     ensures once { R.has_failed reader.old ≡ false
         → R.was_asked_again reader.new ≡ R.was_asked_again reader.old }
     ensures run { IsRun (task_of settings (map (λ script. script.now) scripts.now) limit)
-        (seen R.Source W.Sink reader.old writer.old)
-        (seen R.Source W.Sink reader.new writer.new) result }
+        (devices_at R.Source W.Sink reader.old writer.old)
+        (devices_at R.Source W.Sink reader.new writer.new) result }
     ensures lines { IfOk result (λ _. LinesAreRight settings
         (map (λ script. client_with script.now) scripts.now)
-        (seen R.Source W.Sink reader.old writer.old)
-        (seen R.Source W.Sink reader.new writer.new)) }
+        (devices_at R.Source W.Sink reader.old writer.old)
+        (devices_at R.Source W.Sink reader.new writer.new)) }
 {
     let mut session = match Session::open(alloc, settings, scripts) {
         Ok(session) => session,

@@ -30,11 +30,11 @@ pub struct Session<'a> {
 impl<'a> Session<'a> {
     ghost use Rattle.std.specs.Prelude.{◌≤◌, ◌<◌, ◌+◌, ◌^◌, ◌⊎◌, ◌↔◌, ℕ, List, [], ◌∷◌, ◌++◌};
     ghost use Rattle.std.specs.Prelude.{map, IfSome, IsNone, IfOk, Err};
-    ghost use Rattle.definitions.specs.Oscillators.{Settings as Recording};
+    ghost use Rattle.definitions.specs.Oscillators.{Settings as DefinedSettings};
     ghost use Rattle.definitions.specs.Samples.{Sample};
     ghost use Rattle.definitions.specs.Receiver.{Client, body_lines, answer_lines};
     ghost use Rattle.channel_slots.specs.Events.{line_of};
-    ghost use Rattle.receiver.specs.Offered.{offered, client_with};
+    ghost use Rattle.receiver.specs.Offered.{offer, client_with};
     ghost use Rattle.receiver.specs.Sessions.{StandsFor, Gives, packing_in, time_of};
     ghost use Rattle.receiver.specs.Sessions.{until_next, lines_left};
 
@@ -50,7 +50,7 @@ impl<'a> Session<'a> {
         ensures time { IfOk result (λ session. time_of session ≡ 0) }
         ensures stands { IfOk result (λ session. StandsFor settings (map
             (λ script. client_with script.now) scripts.now) session []
-            (answer_lines offered settings
+            (answer_lines offer settings
             (map (λ script. client_with script.now) scripts.now) [])) }
     {
         let clients = scripts.len().min(QUEUES + 1);
@@ -101,15 +101,15 @@ impl<'a> Session<'a> {
         requires empty { events.old.items ≡ [] }
         ensures packing { packing_in self.new ≡ packing_in self.old }
         ensures time { time_of self.new ≡ time_of self.old + length run.now }
-        ensures stands { (settings : Recording) (clients : List Client) (xs : List Sample)
+        ensures stands { (settings : DefinedSettings) (clients : List Client) (xs : List Sample)
             → StandsFor settings clients self.old xs []
             → StandsFor settings clients self.new (xs ++ run.now)
-            (answer_lines offered settings clients (xs ++ run.now)) }
-        ensures told { (settings : Recording) (clients : List Client) (xs : List Sample)
+            (answer_lines offer settings clients (xs ++ run.now)) }
+        ensures told { (settings : DefinedSettings) (clients : List Client) (xs : List Sample)
             → StandsFor settings clients self.old xs []
-            → body_lines offered settings (xs ++ run.now) clients
-            ≡ body_lines offered settings xs clients ++ map line_of events.new.items
-            ++ answer_lines offered settings clients (xs ++ run.now) }
+            → body_lines offer settings (xs ++ run.now) clients
+            ≡ body_lines offer settings xs clients ++ map line_of events.new.items
+            ++ answer_lines offer settings clients (xs ++ run.now) }
     {
         self.bank.feed_into(run, events);
     }
@@ -123,7 +123,7 @@ impl<'a> Session<'a> {
         ensures fewer { IfSome result (λ _. lines_left self.new < lines_left self.old) }
         ensures some { IfSome result (λ line. Gives self.old line self.new) }
         ensures none { IsNone result
-            → (settings : Recording) (clients : List Client) (xs : List Sample)
+            → (settings : DefinedSettings) (clients : List Client) (xs : List Sample)
             (waiting : List (List ℕ)) → StandsFor settings clients self.old xs waiting
             → (waiting ≡ []) × StandsFor settings clients self.new xs [] }
     {

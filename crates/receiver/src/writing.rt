@@ -2,13 +2,13 @@
 
 ghost use Rattle.std.specs.Prelude.{◌≡◌, ◌<◌, ℕ, List, [], map, OnOk, OnErr};
 ghost use Rattle.std.specs.Io.KnownBytes.{Appends};
-ghost use Rattle.definitions.specs.Oscillators.{Settings as Recording};
+ghost use Rattle.definitions.specs.Oscillators.{Settings as DefinedSettings};
 ghost use Rattle.definitions.specs.Samples.{Sample};
 ghost use Rattle.definitions.specs.Lines.{as_bytes};
 ghost use Rattle.definitions.specs.Receiver.{Client};
 ghost use Rattle.channel_slots.specs.Events.{line_of};
 ghost use Rattle.receiver.specs.Devices.{TellsFailure};
-ghost use Rattle.receiver.specs.HeldTexts.{promised};
+ghost use Rattle.receiver.specs.HeldTexts.{promise};
 ghost use Rattle.receiver.specs.Runs.{WritesAll, WritesFront};
 ghost use Rattle.receiver.specs.Sessions.{StandsFor, packing_in, time_of, until_next};
 ghost use Rattle.receiver.specs.Texts.{AppendsPart, Grows};
@@ -26,10 +26,10 @@ pub fn put_events<W: Sink>(
     text: &mut HeldText,
     writer: &mut W,
 ) -> Result<(), DeviceFault>
-    ensures ok { OnOk result (Appends (promised (W.contents writer.old) text.old)
-        (promised (W.contents writer.new) text.new) (as_bytes (map line_of events.now))) }
-    ensures err { OnErr result (AppendsPart (promised (W.contents writer.old) text.old)
-        (promised (W.contents writer.new) text.new) (as_bytes (map line_of events.now))) }
+    ensures ok { OnOk result (Appends (promise (W.contents writer.old) text.old)
+        (promise (W.contents writer.new) text.new) (as_bytes (map line_of events.now))) }
+    ensures err { OnErr result (AppendsPart (promise (W.contents writer.old) text.old)
+        (promise (W.contents writer.new) text.new) (as_bytes (map line_of events.now))) }
     ensures grows { Grows (W.contents writer.old) (W.contents writer.new) }
     ensures failure { TellsFailure (W.has_failed writer.old) (W.has_failed writer.new) result }
 {
@@ -48,15 +48,17 @@ pub fn put_answers<W: Sink>(
     ensures packing { packing_in session.new ≡ packing_in session.old }
     ensures time { time_of session.new ≡ time_of session.old }
     ensures ready { OnOk result (0 < until_next session.new) }
-    ensures ok { OnOk result ((settings : Recording) (clients : List Client) (xs : List Sample)
+    ensures ok { OnOk result ((settings : DefinedSettings) (clients : List Client)
+        (xs : List Sample)
         (waiting : List (List ℕ)) → StandsFor settings clients session.old xs waiting →
-        Appends (promised (W.contents writer.old) text.old)
-        (promised (W.contents writer.new) text.new) (as_bytes waiting)
+        Appends (promise (W.contents writer.old) text.old)
+        (promise (W.contents writer.new) text.new) (as_bytes waiting)
         × StandsFor settings clients session.new xs []) }
-    ensures err { OnErr result ((settings : Recording) (clients : List Client) (xs : List Sample)
+    ensures err { OnErr result ((settings : DefinedSettings) (clients : List Client)
+        (xs : List Sample)
         (waiting : List (List ℕ)) → StandsFor settings clients session.old xs waiting →
-        AppendsPart (promised (W.contents writer.old) text.old)
-        (promised (W.contents writer.new) text.new) (as_bytes waiting)) }
+        AppendsPart (promise (W.contents writer.old) text.old)
+        (promise (W.contents writer.new) text.new) (as_bytes waiting)) }
     ensures grows { Grows (W.contents writer.old) (W.contents writer.new) }
     ensures failure { TellsFailure (W.has_failed writer.old) (W.has_failed writer.new) result }
 {
@@ -73,9 +75,9 @@ fn put_ends<W: Sink>(
     writer: &mut W,
 ) -> Result<(), DeviceFault>
     ensures ok { OnOk result (WritesAll Stop.AtEnd session.now
-        (promised (W.contents writer.old) text.old) (promised (W.contents writer.new) text.new)) }
+        (promise (W.contents writer.old) text.old) (promise (W.contents writer.new) text.new)) }
     ensures err { OnErr result (WritesFront Stop.AtEnd session.now
-        (promised (W.contents writer.old) text.old) (promised (W.contents writer.new) text.new)) }
+        (promise (W.contents writer.old) text.old) (promise (W.contents writer.new) text.new)) }
     ensures grows { Grows (W.contents writer.old) (W.contents writer.new) }
     ensures failure { TellsFailure (W.has_failed writer.old) (W.has_failed writer.new) result }
 {
@@ -93,9 +95,9 @@ fn put_last<W: Sink>(
     writer: &mut W,
 ) -> Result<(), DeviceFault>
     ensures ok { OnOk result (WritesAll stop session.now
-        (promised (W.contents writer.old) text.old) (promised (W.contents writer.new) text.new)) }
+        (promise (W.contents writer.old) text.old) (promise (W.contents writer.new) text.new)) }
     ensures err { OnErr result (WritesFront stop session.now
-        (promised (W.contents writer.old) text.old) (promised (W.contents writer.new) text.new)) }
+        (promise (W.contents writer.old) text.old) (promise (W.contents writer.new) text.new)) }
     ensures grows { Grows (W.contents writer.old) (W.contents writer.new) }
     ensures failure { TellsFailure (W.has_failed writer.old) (W.has_failed writer.new) result }
 {
@@ -113,9 +115,9 @@ pub fn finish<W: Sink>(
     writer: &mut W,
 ) -> Result<(), DeviceFault>
     ensures ok { OnOk result (WritesAll stop session.now
-        (promised (W.contents writer.old) text.old) (W.contents writer.new)) }
+        (promise (W.contents writer.old) text.old) (W.contents writer.new)) }
     ensures err { OnErr result (WritesFront stop session.now
-        (promised (W.contents writer.old) text.old) (promised (W.contents writer.new) text.new)) }
+        (promise (W.contents writer.old) text.old) (promise (W.contents writer.new) text.new)) }
     ensures grows { Grows (W.contents writer.old) (W.contents writer.new) }
     ensures failure { TellsFailure (W.has_failed writer.old) (W.has_failed writer.new) result }
 {

@@ -9,7 +9,7 @@ use Rattle.std.proofs.lemmas.Bool.{cases_lt, lt-ltb, le-ltb, cond-true, cond-fal
 use Rattle.std.proofs.lemmas.Fmt.{decimal_digit, decimal_step}
 use Rattle.definitions.specs.Fields as fields
 use Rattle.definitions.specs.Fields.{unsigned, bits, place_of, health_field, health_fields}
-use Rattle.subframes.specs.Entries.{health_name, named}
+use Rattle.subframes.specs.Entries.{health_name, field_named}
 use Rattle.subframes.specs.declared.health.HealthField.{HealthField}
 use Rattle.subframes.specs.declared.health.HealthField.TheVariants as health
 
@@ -60,8 +60,9 @@ health_fields-written =
 
 -- a line, and a place, that is found there by its name
 pub line : (f : HealthField) (found : fields.Field)
-    → found ≡ named written_fields (health_name f) → found ≡ named health_fields (health_name f)
-line f found e = e ∙ ap (λ table. named table (health_name f)) (sym health_fields-written)
+    → found ≡ field_named written_fields (health_name f)
+    → found ≡ field_named health_fields (health_name f)
+line f found e = e ∙ ap (λ table. field_named table (health_name f)) (sym health_fields-written)
 
 pub place : (f : HealthField) (found : ℕ)
     → found ≡ place_of (health_name f) written_fields
@@ -76,8 +77,8 @@ in_order = health.Data ∷ health.Sv ∷ health.Toa ∷ health.Wna
     ∷ health.H19 ∷ health.H20 ∷ health.H21 ∷ health.H22 ∷ health.H23 ∷ health.H24 ∷ []
 
 found_in_order : (table : List fields.Field) → table ≡ written_fields
-    → map (λ f. named table (health_name f)) in_order ≡ table
+    → map (λ f. field_named table (health_name f)) in_order ≡ table
 found_in_order table e = rw e refl
 
-pub entries_in_order : map (λ f. named health_fields (health_name f)) in_order ≡ health_fields
+pub entries_in_order : map (λ f. field_named health_fields (health_name f)) in_order ≡ health_fields
 entries_in_order = found_in_order health_fields health_fields-written

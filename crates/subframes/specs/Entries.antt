@@ -123,8 +123,8 @@ health_name health.H23 = codes "h23"
 health_name health.H24 = codes "h24"
 
 -- the entry of a table with a name
-abbrev pub named : List fields.Field → List ℕ → fields.Field
-named table name =
+abbrev pub field_named : List fields.Field → List ℕ → fields.Field
+field_named table name =
     unwrap_or (find (λ (f : fields.Field). bytes_eq f.name name) table) (unsigned [] [] (pos 0))
 
 unfoldable pub name_of : Field → List ℕ
@@ -146,4 +146,4 @@ kind_with (Health f) = pages.health
 
 -- the entry that a field is
 unfoldable pub entry_of : Field → fields.Field
-entry_of f = named (fields_of (kind_with f)) (name_of f)
+entry_of f = field_named (fields_of (kind_with f)) (name_of f)

@@ -2,7 +2,7 @@
 
 ghost use Rattle.std.specs.Prelude.{◌≡◌, IsTrue};
 ghost use Rattle.definitions.specs.Fields.{almanac_fields};
-ghost use Rattle.subframes.specs.Entries.{almanac_name, named};
+ghost use Rattle.subframes.specs.Entries.{almanac_name, field_named};
 ghost use Rattle.subframes.specs.Layouts.{layout_in, is_readable};
 
 use crate::fields::Field;
@@ -65,7 +65,7 @@ impl AlmanacField {
     /// Where the field stands, and the power of two of its scale factor.
     pub(crate) fn layout(self) -> Layout
         ensures name { result.name.now ≡ almanac_name self }
-        ensures entry { layout_in result ≡ named almanac_fields (almanac_name self) }
+        ensures entry { layout_in result ≡ field_named almanac_fields (almanac_name self) }
         ensures readable { IsTrue (is_readable (layout_in result)) }
     {
         almanac_rows!(layout_of self)

@@ -2,7 +2,7 @@
 
 ghost use Rattle.std.specs.Prelude.{◌≡◌, IsTrue};
 ghost use Rattle.definitions.specs.Fields.{clock_fields};
-ghost use Rattle.subframes.specs.Entries.{clock_name, named};
+ghost use Rattle.subframes.specs.Entries.{clock_name, field_named};
 ghost use Rattle.subframes.specs.Layouts.{layout_in, is_readable};
 
 use crate::fields::Field;
@@ -59,7 +59,7 @@ impl ClockField {
     /// Where the field stands, and the power of two of its scale factor.
     pub(crate) fn layout(self) -> Layout
         ensures name { result.name.now ≡ clock_name self }
-        ensures entry { layout_in result ≡ named clock_fields (clock_name self) }
+        ensures entry { layout_in result ≡ field_named clock_fields (clock_name self) }
         ensures readable { IsTrue (is_readable (layout_in result)) }
     {
         clock_rows!(layout_of self)

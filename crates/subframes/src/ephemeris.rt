@@ -3,7 +3,7 @@
 
 ghost use Rattle.std.specs.Prelude.{◌≡◌, ◌++◌, IsTrue, map};
 ghost use Rattle.definitions.specs.Fields.{clock_fields, eph2_fields, eph3_fields};
-ghost use Rattle.subframes.specs.Entries.{entry_of, eph2_name, eph3_name, named};
+ghost use Rattle.subframes.specs.Entries.{entry_of, eph2_name, eph3_name, field_named};
 ghost use Rattle.subframes.specs.Layouts.{layout_in, is_readable};
 
 use crate::clock::{ClockField, clock_rows};
@@ -61,7 +61,7 @@ impl Eph2Field {
     /// Where the field stands, and the power of two of its scale factor.
     pub(crate) fn layout(self) -> Layout
         ensures name { result.name.now ≡ eph2_name self }
-        ensures entry { layout_in result ≡ named eph2_fields (eph2_name self) }
+        ensures entry { layout_in result ≡ field_named eph2_fields (eph2_name self) }
         ensures readable { IsTrue (is_readable (layout_in result)) }
     {
         eph2_rows!(layout_of self)
@@ -115,7 +115,7 @@ impl Eph3Field {
     /// Where the field stands, and the power of two of its scale factor.
     pub(crate) fn layout(self) -> Layout
         ensures name { result.name.now ≡ eph3_name self }
-        ensures entry { layout_in result ≡ named eph3_fields (eph3_name self) }
+        ensures entry { layout_in result ≡ field_named eph3_fields (eph3_name self) }
         ensures readable { IsTrue (is_readable (layout_in result)) }
     {
         eph3_rows!(layout_of self)

@@ -2,7 +2,7 @@
 
 ghost use Rattle.std.specs.Prelude.{◌≡◌, IsTrue};
 ghost use Rattle.definitions.specs.Fields.{health_fields};
-ghost use Rattle.subframes.specs.Entries.{health_name, named};
+ghost use Rattle.subframes.specs.Entries.{health_name, field_named};
 ghost use Rattle.subframes.specs.Layouts.{layout_in, is_readable};
 
 use crate::fields::Field;
@@ -111,7 +111,7 @@ impl HealthField {
     #[tactic(auto, using(crate::proofs::Written::line))]
     pub(crate) fn layout(self) -> Layout
         ensures name { result.name.now ≡ health_name self }
-        ensures entry { layout_in result ≡ named health_fields (health_name self) }
+        ensures entry { layout_in result ≡ field_named health_fields (health_name self) }
         ensures readable { IsTrue (is_readable (layout_in result)) }
     {
         health_rows!(layout_of self)

@@ -3,7 +3,7 @@
 
 ghost use Rattle.std.specs.Prelude.{◌≡◌, IsTrue};
 ghost use Rattle.definitions.specs.Fields.{utc_fields};
-ghost use Rattle.subframes.specs.Entries.{utc_name, named};
+ghost use Rattle.subframes.specs.Entries.{utc_name, field_named};
 ghost use Rattle.subframes.specs.Layouts.{layout_in, is_readable};
 
 use crate::fields::Field;
@@ -81,7 +81,7 @@ impl UtcField {
     /// Where the field stands, and the power of two of its scale factor.
     pub(crate) fn layout(self) -> Layout
         ensures name { result.name.now ≡ utc_name self }
-        ensures entry { layout_in result ≡ named utc_fields (utc_name self) }
+        ensures entry { layout_in result ≡ field_named utc_fields (utc_name self) }
         ensures readable { IsTrue (is_readable (layout_in result)) }
     {
         utc_rows!(layout_of self)

@@ -4,23 +4,24 @@ use Rattle.std.specs.Prelude.{ℤ, pos, ◌+ℤ◌, ◌*ℤ◌, unsigned_abs}
 use Rattle.std.proofs.lemmas.Int.{ints}
 use Rattle.std.proofs.lemmas.Bool.{lt-ltb, le-ltb}
 use Rattle.definitions.specs.Correlation.{Counts}
-use Rattle.definitions.specs.Loops.{Loops, loops_after_dump, clamped, frequency_error, phase_error}
+use Rattle.definitions.specs.Loops.{Loops, loops_after_dump, clamp_shift, frequency_error}
+use Rattle.definitions.specs.Loops.{phase_error}
 
 module _ (l : Loops) (d : Counts) where
   pub pulled-u : l.taken + 1 < 200 → (loops_after_dump l d).u
-      ≡ clamped (l.u +ℤ pos 160 *ℤ frequency_error l.last d)
+      ≡ clamp_shift (l.u +ℤ pos 160 *ℤ frequency_error l.last d)
   pulled-u h = rw (lt-ltb (l.taken + 1) 200 h) refl
 
   pub pulled-v : l.taken + 1 < 200 → (loops_after_dump l d).v
-      ≡ clamped (l.u +ℤ pos 160 *ℤ frequency_error l.last d)
+      ≡ clamp_shift (l.u +ℤ pos 160 *ℤ frequency_error l.last d)
   pulled-v h = rw (lt-ltb (l.taken + 1) 200 h) refl
 
   pub held-u : 200 ≤ l.taken + 1 → (loops_after_dump l d).u
-      ≡ clamped (l.u +ℤ pos 6 *ℤ phase_error d)
+      ≡ clamp_shift (l.u +ℤ pos 6 *ℤ phase_error d)
   held-u h = rw (le-ltb (l.taken + 1) 200 h) refl
 
   pub held-v : 200 ≤ l.taken + 1 → (loops_after_dump l d).v
-      ≡ clamped (clamped (l.u +ℤ pos 6 *ℤ phase_error d) +ℤ pos 170 *ℤ phase_error d)
+      ≡ clamp_shift (clamp_shift (l.u +ℤ pos 6 *ℤ phase_error d) +ℤ pos 170 *ℤ phase_error d)
   held-v h = rw (le-ltb (l.taken + 1) 200 h) refl
 
 module _ (u e : ℤ) (u_in : unsigned_abs u ≤ 2 ^ 30) (e_in : unsigned_abs e ≤ 4096) where

@@ -1,10 +1,10 @@
 //! What a dump says of the frequency, the phase and the code.
 
 ghost use Rattle.std.specs.Prelude.{◌≡◌, ◌^◌, ◌≤◌, ◌+◌, ◌*◌, ℤ, ◌*ℤ◌, ◌+ℤ◌, ◌-ℤ◌, unsigned_abs};
-ghost use Rattle.definitions.specs.Loops.{sgn, ratio as ratio_of};
-ghost use Rattle.definitions.specs.Loops.{frequency_error as frequency_error_of};
-ghost use Rattle.definitions.specs.Loops.{phase_error as phase_error_of};
-ghost use Rattle.definitions.specs.Loops.{code_error as code_error_of};
+ghost use Rattle.definitions.specs.Loops.{sgn, ratio as defined_ratio};
+ghost use Rattle.definitions.specs.Loops.{frequency_error as defined_frequency_error};
+ghost use Rattle.definitions.specs.Loops.{phase_error as defined_phase_error};
+ghost use Rattle.definitions.specs.Loops.{code_error as defined_code_error};
 ghost use Rattle.lane_correlator.specs.Counting.{counts_in, AreWithin};
 ghost use Rattle.tracking_loops.specs.declared.limits.TheConstants.{MOST_SUM};
 ghost use Rattle.tracking_loops.specs.declared.limits.TheConstants.{MOST_ERROR};
@@ -18,7 +18,7 @@ const UNITS: i64 = 4096;
 pub fn frequency_error(before: &Counts, counts: &Counts) -> i64
     requires before_small { AreWithin MOST_SUM (counts_in before.now) }
     requires counts_small { AreWithin MOST_SUM (counts_in counts.now) }
-    ensures is { result ≡ frequency_error_of (counts_in before.now) (counts_in counts.now) }
+    ensures is { result ≡ defined_frequency_error (counts_in before.now) (counts_in counts.now) }
     ensures small { unsigned_abs result ≤ MOST_ERROR }
 {
     let cross = cross(before, counts);
@@ -30,7 +30,7 @@ pub fn frequency_error(before: &Counts, counts: &Counts) -> i64
 /// How far the prompt sum is turned away from the in-phase axis.
 pub fn phase_error(counts: &Counts) -> i64
     requires { AreWithin MOST_SUM (counts_in counts.now) }
-    ensures is { result ≡ phase_error_of (counts_in counts.now) }
+    ensures is { result ≡ defined_phase_error (counts_in counts.now) }
     ensures small { unsigned_abs result ≤ MOST_ERROR }
 {
     let in_phase = i64::from(counts.ip);
@@ -42,7 +42,7 @@ pub fn phase_error(counts: &Counts) -> i64
 /// How much more power the early chips have than the late ones.
 pub fn code_error(counts: &Counts) -> i64
     requires { AreWithin MOST_SUM (counts_in counts.now) }
-    ensures is { result ≡ code_error_of (counts_in counts.now) }
+    ensures is { result ≡ defined_code_error (counts_in counts.now) }
     ensures small { unsigned_abs result ≤ MOST_ERROR }
 {
     let early = power(counts.ie, counts.qe);
@@ -55,7 +55,7 @@ pub fn code_error(counts: &Counts) -> i64
 fn ratio(a: i64, size: u64) -> i64
     requires within { unsigned_abs a ≤ size }
     requires fits { size ≤ 2 ^ 38 }
-    ensures is { result ≡ ratio_of a size }
+    ensures is { result ≡ defined_ratio a size }
     ensures small { unsigned_abs result ≤ MOST_ERROR }
 {
     (UNITS * a).div_euclid(size.max(1) as i64)

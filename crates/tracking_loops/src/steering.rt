@@ -1,7 +1,8 @@
 //! The carrier's shift and the code's rate, dump by dump.
 
 ghost use Rattle.std.specs.Prelude.{◌≡◌, ◌^◌, ◌≤◌, ◌<◌, unsigned_abs};
-ghost use Rattle.definitions.specs.Loops.{loops_start, loops_after_dump, clamped as clamped_to};
+ghost use Rattle.definitions.specs.Loops.{loops_start, loops_after_dump};
+ghost use Rattle.definitions.specs.Loops.{clamp_shift as defined_clamp_shift};
 ghost use Rattle.lane_correlator.specs.Counting.{counts_in, AreWithin};
 ghost use Rattle.tracking_loops.specs.declared.limits.TheConstants.{MOST_SUM, MOST_SHIFT};
 ghost use Rattle.tracking_loops.specs.declared.limits.TheConstants.{MOST_DUMPS, MOST_CORRECTION};
@@ -86,17 +87,17 @@ impl Steering {
         ensures v_small { unsigned_abs result.1 ≤ MOST_SHIFT }
     {
         if self.dumps + 1 < FIRST_HOLDING {
-            let u = clamped(self.u + PULLING_GAIN * frequency_error(&self.last, counts));
+            let u = clamp_shift(self.u + PULLING_GAIN * frequency_error(&self.last, counts));
             return (u, u);
         }
         let error = phase_error(counts);
-        let u = clamped(self.u + SLOW_GAIN * error);
-        (u, clamped(u + FAST_GAIN * error))
+        let u = clamp_shift(self.u + SLOW_GAIN * error);
+        (u, clamp_shift(u + FAST_GAIN * error))
     }
 }
 
-fn clamped(shift: i64) -> i64
-    ensures is { result ≡ clamped_to shift }
+fn clamp_shift(shift: i64) -> i64
+    ensures is { result ≡ defined_clamp_shift shift }
     ensures small { unsigned_abs result ≤ MOST_SHIFT }
 {
     shift.clamp(-SHIFT_LIMIT, SHIFT_LIMIT)

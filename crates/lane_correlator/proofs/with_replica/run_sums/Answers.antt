@@ -3,7 +3,7 @@ use Rattle.std.specs.Prelude.{min, max}
 use Rattle.std.proofs.Math.Path.{ap₂}
 use Rattle.definitions.specs.Samples.{sample_at}
 use Rattle.definitions.specs.Oscillators.{carrier_phase_after, code_phase_after}
-use Rattle.definitions.specs.Correlation.{Replica, Phases, six_sums, added}
+use Rattle.definitions.specs.Correlation.{Replica, Phases, six_sums, sum_of_counts}
 use Rattle.definitions.proofs.CorrelationLemmas.{six_sums-split}
 use Rattle.oscillators.specs.Views.{Oscillation}
 use Rattle.lane_correlator.specs.Tallies.{tally_in}
@@ -109,7 +109,7 @@ loop-w-preserved c =
           ∙ ap (λ (s : ℕ). code_phase_after c.loop-w.code.phase s 64) i.code_step) i.code;
       code_step = ap (λ (o : Oscillation). o.step) chips.moved ∙ i.code_step;
       sums = c.add-sums.ensures.sums
-          ∙ ap₂ added i.sums
+          ∙ ap₂ sum_of_counts i.sums
           (c.word_sums.ensures.sums r of ∙ ap₂ (λ (a b : ℕ). six_sums x r a b) a_is b_is)
           ∙ sym (six_sums-split x r from p q low high);
       small = rw c.add-sums.ensures.sums

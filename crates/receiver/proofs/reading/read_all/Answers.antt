@@ -9,7 +9,7 @@ use Rattle.definitions.specs.Samples.{Sample, Packing, samples, sample_count, sa
 use Rattle.definitions.specs.Receiver.{body}
 use Rattle.definitions.specs.Oscillators.{Settings}
 use Rattle.receiver.specs.Sessions.{packing_in, time_of}
-use Rattle.receiver.specs.Offered.{offered}
+use Rattle.receiver.specs.Offered.{offer}
 use Rattle.receiver.specs.Texts.{AppendsPart}
 use Rattle.receiver.specs.Runs.{IsWrittenTo}
 use Rattle.receiver.proofs.TextLemmas.{on_err, appended-part}
@@ -17,7 +17,7 @@ use Rattle.definitions.proofs.SampleLemmas.{samples-append, sample_count-append,
 use Rattle.receiver.proofs.RunLemmas.{samples-nil}
 use Rattle.receiver.proofs.ReadLemmas.{all-read, within-limit, none_counted, Uses, uses, up_to-used}
 use Rattle.receiver.proofs.ReadLemmas.{beyond-limit}
-use Rattle.receiver.specs.HeldTexts.{promised}
+use Rattle.receiver.specs.HeldTexts.{promise}
 use Rattle.receiver.proofs.HeldLemmas.{grows-none, grows-on}
 use Rattle.receiver.proofs.RunLemmas.{written-kept}
 use Rattle.receiver.proofs.reading.read_all.Goals as goal
@@ -45,8 +45,8 @@ returns-in_err-take_piece-clause-broken g c =
     ∙ ap (λ (p : Packing). samples p (take used buffer)) (c.format-format.ensures ∙ same) in
     let Q : List Sample → Type 0 =
     λ ys. AppendsPart start
-    (promised (s.contents c.take_piece.new.writer) c.take_piece.new.text)
-    (body offered settings ys clients) in
+    (promise (s.contents c.take_piece.new.writer) c.take_piece.new.text)
+    (body offer settings ys clients) in
     record {
       read = was.0 ++ take n buffer;
       consumed =
@@ -86,7 +86,7 @@ returns-then-used-count-clause-read g c =
     ∙ ap (λ (p : Packing). samples p (take used buffer)) (c.format-format.ensures ∙ same) in
     let Q : List Sample → Type 0 =
     λ ys. IsWrittenTo settings clients start c.take_piece.new.session
-    (promised (s.contents c.take_piece.new.writer) c.take_piece.new.text) ys in
+    (promise (s.contents c.take_piece.new.writer) c.take_piece.new.text) ys in
     record {
       read = was.0 ++ take n buffer;
       consumed =
@@ -168,7 +168,7 @@ loop-reader-preserved g c =
             ∙ ap (λ (p : Packing). samples p piece) (c.format-format.ensures ∙ same) in
             let Q : List Sample → Type 0 =
             λ ys. IsWrittenTo settings clients start c.take_piece.new.session
-            (promised (s.contents c.take_piece.new.writer) c.take_piece.new.text) ys in
+            (promise (s.contents c.take_piece.new.writer) c.take_piece.new.text) ys in
             subst Q (ap (λ (l : List Sample). samples settings.packing was.0 ++ l) is
             ∙ sym (samples-append settings.packing was.0 piece)
             ∙ ap (λ k. samples settings.packing (was.0 ++ take k buffer)) all)

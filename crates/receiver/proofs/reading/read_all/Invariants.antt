@@ -8,7 +8,7 @@ use Rattle.receiver.specs.Sessions.{packing_in, time_of}
 use Rattle.receiver.specs.Sessions.{until_next}
 use Rattle.receiver.specs.Runs.{IsWrittenTo}
 use Rattle.receiver.specs.Texts.{Grows}
-use Rattle.receiver.specs.HeldTexts.{promised}
+use Rattle.receiver.specs.HeldTexts.{promise}
 use Rattle.receiver.proofs.reading.read_all.Given as goal
 
 abbrev pub invariant-loop-reader : goal.invariant-loop-reader
@@ -27,8 +27,8 @@ invariant-loop-reader g l = let source = g.R.Source in let sink = g.W.Sink in re
       × (time_of l.session ≡ sample_count (packing_in l.fn.session) bytes)
       × ((settings : Settings) (clients : List Client) (start : Option (List ℕ))
       → IsWrittenTo settings clients start l.fn.session
-      (promised (sink.contents l.fn.writer) l.fn.text) []
-      → IsWrittenTo settings clients start l.session (promised (sink.contents l.writer) l.text)
+      (promise (sink.contents l.fn.writer) l.fn.text) []
+      → IsWrittenTo settings clients start l.session (promise (sink.contents l.writer) l.text)
       (samples settings.packing bytes));
 }
 

@@ -8,7 +8,7 @@ use Rattle.receiver.specs.Runs.{IsWrittenTo}
 use Rattle.receiver.proofs.TextLemmas.{on_err}
 use Rattle.receiver.proofs.PartLemmas.{body-part-longer}
 use Rattle.receiver.specs.Sessions.{time_of}
-use Rattle.receiver.specs.HeldTexts.{promised}
+use Rattle.receiver.specs.HeldTexts.{promise}
 use Rattle.receiver.proofs.HeldLemmas.{grows-none, grows-on}
 use Rattle.receiver.proofs.reading.take_piece.Goals as goal
 
@@ -33,7 +33,7 @@ returns-in_err-take_samples-clause-err g c =
     let next : ℕ = first + c.min-len.result in
     on_err c.from_residual.result _ (λ settings clients start xs at.
     body-part-longer settings clients start
-    (promised (s.contents c.take_samples.new.writer) c.take_samples.new.text)
+    (promise (s.contents c.take_samples.new.writer) c.take_samples.new.text)
     ((xs ++ take first piece) ++ c.part.result) (drop next piece) (xs ++ piece)
     (ap (λ (l : List Sample). ((xs ++ take first piece) ++ l) ++ drop next piece) c.part.ensures
     ∙ ap (λ (l : List Sample). l ++ drop next piece) (behind xs piece first c.min-len.result)
@@ -78,7 +78,7 @@ loop-first-preserved g c =
           (s.contents c.take_samples.new.writer) i.grows e.grows;
       written = λ settings clients start xs at.
           subst (IsWrittenTo settings clients start c.take_samples.new.session
-          (promised (s.contents c.take_samples.new.writer) c.take_samples.new.text))
+          (promise (s.contents c.take_samples.new.writer) c.take_samples.new.text))
           (ap (λ (l : List Sample). (xs ++ take first piece) ++ l) c.part.ensures
           ∙ behind xs piece first len)
           (e.ok settings clients start (xs ++ take first piece)

@@ -6,7 +6,7 @@ use Rattle.definitions.specs.Receiver.{Client}
 use Rattle.receiver.specs.Sessions.{packing_in, time_of, until_next}
 use Rattle.receiver.specs.Runs.{IsWrittenTo}
 use Rattle.receiver.specs.Texts.{Grows}
-use Rattle.receiver.specs.HeldTexts.{promised}
+use Rattle.receiver.specs.HeldTexts.{promise}
 use Rattle.receiver.proofs.reading.take_piece.Given as goal
 
 abbrev pub invariant-loop-first : goal.invariant-loop-first
@@ -20,8 +20,8 @@ invariant-loop-first g l = let sink = g.W.Sink in record {
   failure : sink.has_failed l.writer ≡ sink.has_failed l.fn.writer;
   written : (settings : Settings) (clients : List Client) (start : Option (List ℕ))
       (xs : List Sample) → IsWrittenTo settings clients start l.fn.session
-      (promised (sink.contents l.fn.writer) l.fn.text) xs
-      → IsWrittenTo settings clients start l.session (promised (sink.contents l.writer) l.text)
+      (promise (sink.contents l.fn.writer) l.fn.text) xs
+      → IsWrittenTo settings clients start l.session (promise (sink.contents l.writer) l.text)
       (xs ++ take l.first l.piece);
 }
 

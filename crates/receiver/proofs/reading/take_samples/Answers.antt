@@ -3,11 +3,11 @@ use Rattle.std.specs.Prelude.{map}
 use Rattle.std.proofs.lemmas.Result.{IfOk-weaker, IfErr-weaker}
 use Rattle.definitions.specs.Receiver.{body_lines, body}
 use Rattle.definitions.specs.Receiver.{answer_lines}
-use Rattle.receiver.specs.Offered.{offered}
+use Rattle.receiver.specs.Offered.{offer}
 use Rattle.channel_slots.specs.Events.{line_of}
 use Rattle.receiver.proofs.TextLemmas.{on_err}
 use Rattle.receiver.proofs.AnswerLemmas.{stretch-all, stretch-part-told, stretch-part-answers}
-use Rattle.receiver.specs.HeldTexts.{promised}
+use Rattle.receiver.specs.HeldTexts.{promise}
 use Rattle.receiver.proofs.HeldLemmas.{grows-on}
 use Rattle.receiver.proofs.reading.take_samples.Goals as goal
 
@@ -16,14 +16,14 @@ unfolding body
 returns-in_err-put_events-clause-err g c =
     let s = g.W.Sink in on_err c.from_residual.result _ (λ settings clients start xs at.
     let more = xs ++ c.args.run.now in
-    stretch-part-told start (promised (s.contents c.args.writer.now) c.args.text.now)
-    (promised (s.contents c.put_events.new.writer) c.put_events.new.text)
-    (body_lines offered settings xs clients) (map line_of c.deref.result.now)
-    (answer_lines offered settings clients more)
-    (body_lines offered settings more clients)
+    stretch-part-told start (promise (s.contents c.args.writer.now) c.args.text.now)
+    (promise (s.contents c.put_events.new.writer) c.put_events.new.text)
+    (body_lines offer settings xs clients) (map line_of c.deref.result.now)
+    (answer_lines offer settings clients more)
+    (body_lines offer settings more clients)
     (c.feed.ensures.told settings clients xs at.stands
-    ∙ ap (λ r. body_lines offered settings xs clients ++ map line_of r
-    ++ answer_lines offered settings clients more) (sym c.deref.ensures.0))
+    ∙ ap (λ r. body_lines offer settings xs clients ++ map line_of r
+    ++ answer_lines offer settings clients more) (sym c.deref.ensures.0))
     at.written c.in_err-put_events.ensures.err)
 
 pub returns-clause-ok : goal.returns-clause-ok
@@ -33,20 +33,20 @@ returns-clause-ok g c =
     IfOk-weaker c.put_answers.result _ _ (λ _ answered. λ settings clients start xs at.
     let more = xs ++ c.args.run.now in
     let said =
-    answered settings clients more (answer_lines offered settings clients more)
+    answered settings clients more (answer_lines offer settings clients more)
     (c.feed.ensures.stands settings clients xs at.stands) in
     record {
       stands = said.1;
       written =
-          stretch-all start (promised (s.contents c.args.writer.now) c.args.text.now)
-          (promised (s.contents c.put_events.new.writer) c.put_events.new.text)
-          (promised (s.contents c.put_answers.new.writer) c.put_answers.new.text)
-          (body_lines offered settings xs clients) (map line_of c.deref.result.now)
-          (answer_lines offered settings clients more)
-          (body_lines offered settings more clients)
+          stretch-all start (promise (s.contents c.args.writer.now) c.args.text.now)
+          (promise (s.contents c.put_events.new.writer) c.put_events.new.text)
+          (promise (s.contents c.put_answers.new.writer) c.put_answers.new.text)
+          (body_lines offer settings xs clients) (map line_of c.deref.result.now)
+          (answer_lines offer settings clients more)
+          (body_lines offer settings more clients)
           (c.feed.ensures.told settings clients xs at.stands
-          ∙ ap (λ r. body_lines offered settings xs clients ++ map line_of r
-          ++ answer_lines offered settings clients more) (sym c.deref.ensures.0))
+          ∙ ap (λ r. body_lines offer settings xs clients ++ map line_of r
+          ++ answer_lines offer settings clients more) (sym c.deref.ensures.0))
           at.written c.in_ok-put_events.ensures.ok said.0;
     }) c.put_answers.ensures.ok
 
@@ -56,17 +56,17 @@ returns-clause-err g c =
     let s = g.W.Sink in
     IfErr-weaker c.put_answers.result _ _ (λ _ answered. λ settings clients start xs at.
     let more = xs ++ c.args.run.now in
-    stretch-part-answers start (promised (s.contents c.args.writer.now) c.args.text.now)
-    (promised (s.contents c.put_events.new.writer) c.put_events.new.text)
-    (promised (s.contents c.put_answers.new.writer) c.put_answers.new.text)
-    (body_lines offered settings xs clients) (map line_of c.deref.result.now)
-    (answer_lines offered settings clients more)
-    (body_lines offered settings more clients)
+    stretch-part-answers start (promise (s.contents c.args.writer.now) c.args.text.now)
+    (promise (s.contents c.put_events.new.writer) c.put_events.new.text)
+    (promise (s.contents c.put_answers.new.writer) c.put_answers.new.text)
+    (body_lines offer settings xs clients) (map line_of c.deref.result.now)
+    (answer_lines offer settings clients more)
+    (body_lines offer settings more clients)
     (c.feed.ensures.told settings clients xs at.stands
-    ∙ ap (λ r. body_lines offered settings xs clients ++ map line_of r
-    ++ answer_lines offered settings clients more) (sym c.deref.ensures.0))
+    ∙ ap (λ r. body_lines offer settings xs clients ++ map line_of r
+    ++ answer_lines offer settings clients more) (sym c.deref.ensures.0))
     at.written c.in_ok-put_events.ensures.ok
-    (answered settings clients more (answer_lines offered settings clients more)
+    (answered settings clients more (answer_lines offer settings clients more)
     (c.feed.ensures.stands settings clients xs at.stands)))
     c.put_answers.ensures.err
 

@@ -4,7 +4,7 @@ use Rattle.definitions.specs.Samples.{Sample}
 use Rattle.definitions.specs.Lines.{as_bytes}
 use Rattle.definitions.specs.Receiver.{body}
 use Rattle.definitions.specs.Receiver.{answer_lines}
-use Rattle.receiver.specs.Offered.{offered}
+use Rattle.receiver.specs.Offered.{offer}
 use Rattle.receiver.specs.Texts.{AppendsPart}
 use Rattle.receiver.specs.Runs.{samples_read}
 use Rattle.receiver.proofs.TextLemmas.{on_err}
@@ -12,7 +12,7 @@ use Rattle.receiver.proofs.RunLemmas.{opened, none-read}
 use Rattle.receiver.proofs.TableLemmas.{breaks-in-body, breaks-in-end}
 use Rattle.definitions.specs.Runs.{clients_of}
 use Rattle.receiver.specs.Runs.{task_of}
-use Rattle.receiver.specs.HeldTexts.{held, promised}
+use Rattle.receiver.specs.HeldTexts.{held_text, promise}
 use Rattle.receiver.proofs.HeldLemmas.{none-held, unheld, grows-on}
 use Rattle.receiver.proofs.running.run_session.Goals as goal
 
@@ -23,13 +23,13 @@ returns-in_err-put_answers-clause-broken g c =
     let clients = clients_of (task_of settings scripts c.args.limit) in
     let start = s.contents c.args.writer.now in
     let now = s.contents c.put_answers.new.writer in
-    let none : promised start c.new-text.result ≡ start =
-    none-held start (held c.new-text.result) c.new-text.ensures in
+    let none : promise start c.new-text.result ≡ start =
+    none-held start (held_text c.new-text.result) c.new-text.ensures in
     let part =
-    unheld start now (held c.put_answers.new.text) _ c.put_answers.ensures.grows
+    unheld start now (held_text c.put_answers.new.text) _ c.put_answers.ensures.grows
     (rw none at (c.in_err-put_answers.ensures.err settings clients []
-    (answer_lines offered settings clients []) open_is.stands)) in
-    let Q : List Sample → Type 0 = λ ys. AppendsPart start now (body offered settings ys clients) in
+    (answer_lines offer settings clients []) open_is.stands)) in
+    let Q : List Sample → Type 0 = λ ys. AppendsPart start now (body offer settings ys clients) in
     breaks-in-body settings scripts c.args.limit []
     _ _ (Consumes-nil (g.R.Source.remaining c.args.reader.now)) refl
     c.in_err-put_answers.ensures.failure
@@ -45,14 +45,14 @@ returns-in_err-stop-clause-broken g c =
     (s.contents c.put_answers.new.writer) c.new-text.result c.put_answers.new.text
     c.new-text.ensures open_is
     (c.in_ok-put_answers.ensures.ok settings clients []
-    (answer_lines offered settings clients []) open_is.stands) in
+    (answer_lines offer settings clients []) open_is.stands) in
     let broke = c.in_err-stop.ensures.broken settings clients start first in
     let grown =
     grows-on start (s.contents c.put_answers.new.writer) (s.contents c.read_all.new.writer)
     c.put_answers.ensures.grows c.read_all.ensures.grows in
     breaks-in-body settings scripts c.args.limit broke.read _ _ broke.consumed broke.read_failed
     c.in_err-stop.ensures.failure
-    (unheld start (s.contents c.read_all.new.writer) (held c.read_all.new.text) _ grown
+    (unheld start (s.contents c.read_all.new.writer) (held_text c.read_all.new.text) _ grown
     broke.written))
 
 pub returns-in_err-finish-clause-broken : goal.returns-in_err-finish-clause-broken
@@ -64,14 +64,14 @@ returns-in_err-finish-clause-broken g c =
     (s.contents c.put_answers.new.writer) c.new-text.result c.put_answers.new.text
     c.new-text.ensures open_is
     (c.in_ok-put_answers.ensures.ok settings clients []
-    (answer_lines offered settings clients []) open_is.stands) in
+    (answer_lines offer settings clients []) open_is.stands) in
     let has = c.in_ok-stop.ensures.read settings clients start first in
     let grown = grows-on start (s.contents c.read_all.new.writer) (s.contents c.finish.new.writer)
     (grows-on start (s.contents c.put_answers.new.writer) (s.contents c.read_all.new.writer)
     c.put_answers.ensures.grows c.read_all.ensures.grows) c.finish.ensures.grows in
     breaks-in-end settings scripts c.args.limit has.read _ _ c.in_ok-stop.stop has.consumed
     c.in_err-finish.ensures.failure has.why
-    (unheld start (s.contents c.finish.new.writer) (held c.finish.new.text) _ grown
+    (unheld start (s.contents c.finish.new.writer) (held_text c.finish.new.text) _ grown
     (c.in_err-finish.ensures.err settings clients start
     (samples_read settings c.args.limit has.read) has.at)))
 
@@ -83,7 +83,7 @@ returns-clause-ran g c = let s = g.W.Sink in λ settings scripts open_is.
     (s.contents c.put_answers.new.writer) c.new-text.result c.put_answers.new.text
     c.new-text.ensures open_is
     (c.in_ok-put_answers.ensures.ok settings clients []
-    (answer_lines offered settings clients []) open_is.stands) in
+    (answer_lines offer settings clients []) open_is.stands) in
     let has = c.in_ok-stop.ensures.read settings clients start first in
     record {
       read = has.read;

@@ -1,5 +1,5 @@
 use Rattle.std.proofs.KnownBytes.{Keeps-trans, append_known-kept}
-use Rattle.receiver.specs.HeldTexts.{held}
+use Rattle.receiver.specs.HeldTexts.{held_text}
 use Rattle.receiver.specs.Runs.{text_for}
 use Rattle.receiver.proofs.TextLemmas.{on_err, appended-part}
 use Rattle.receiver.proofs.HeldLemmas.{grows-on, grows-kept}
@@ -23,7 +23,7 @@ returns-clause-err g c =
     (c.in_ok-put_last.ensures.ok settings clients start xs at)
     (Keeps-trans _ _ _ c.send.ensures.same
     (append_known-kept (s.contents c.send.new.writer) (s.contents c.flush.new.self)
-    (held c.send.new.self) c.flush.ensures.bytes)))
+    (held_text c.send.new.self) c.flush.ensures.bytes)))
 
 pub returns-clause-grows : goal.returns-clause-grows
 returns-clause-grows g c = let s = g.W.Sink in

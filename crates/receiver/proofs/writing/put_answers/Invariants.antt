@@ -5,7 +5,7 @@ use Rattle.definitions.specs.Receiver.{Client}
 use Rattle.receiver.specs.Sessions.{StandsFor, packing_in, time_of, lines_left}
 use Rattle.receiver.specs.Runs.{HasAnswered}
 use Rattle.receiver.specs.Texts.{Grows}
-use Rattle.receiver.specs.HeldTexts.{promised}
+use Rattle.receiver.specs.HeldTexts.{promise}
 use Rattle.receiver.proofs.writing.put_answers.Given as goal
 
 abbrev pub invariant-loop-line : goal.invariant-loop-line
@@ -16,8 +16,8 @@ invariant-loop-line g l = let sink = g.W.Sink in record {
   failure : sink.has_failed l.writer ≡ sink.has_failed l.fn.writer;
   answered : (settings : Settings) (clients : List Client) (xs : List Sample)
       (waiting : List (List ℕ)) → StandsFor settings clients l.fn.session xs waiting
-      → HasAnswered settings clients xs waiting (promised (sink.contents l.fn.writer) l.fn.text)
-      l.session (promised (sink.contents l.writer) l.text);
+      → HasAnswered settings clients xs waiting (promise (sink.contents l.fn.writer) l.fn.text)
+      l.session (promise (sink.contents l.writer) l.text);
 }
 
 abbrev pub decreases-loop-line : goal.decreases-loop-line

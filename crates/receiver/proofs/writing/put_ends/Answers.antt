@@ -7,7 +7,7 @@ use Rattle.definitions.specs.Texts.{for_client, at_time}
 use Rattle.definitions.specs.Samples.{Sample}
 use Rattle.definitions.specs.Oscillators.{Settings}
 use Rattle.definitions.specs.Receiver.{Client, body, full}
-use Rattle.receiver.specs.Offered.{offered}
+use Rattle.receiver.specs.Offered.{offer}
 use Rattle.receiver.specs.LastLines.{ends}
 use Rattle.receiver.specs.Sessions.{time_of, StandsFor}
 use Rattle.receiver.specs.declared.session.Session.{Session}
@@ -16,22 +16,22 @@ use Rattle.receiver.proofs.TextLemmas.{on_err}
 use Rattle.receiver.proofs.AnswerLemmas.{full-is}
 use Rattle.receiver.proofs.SessionLemmas.{same-number}
 use Rattle.receiver.proofs.OpeningLemmas.{ends-are, ends-next, ends-done}
-use Rattle.receiver.specs.HeldTexts.{promised}
+use Rattle.receiver.specs.HeldTexts.{promise}
 use Rattle.receiver.proofs.HeldLemmas.{grows-none, grows-on, kept-part}
 use Rattle.receiver.proofs.writing.put_ends.Goals as goal
 
 -- the ends of all clients
 all-ends : (settings : Settings) (clients : List Client) (session : Session) (xs : List Sample)
     (n : ℕ) → StandsFor settings clients session xs [] → n ≡ session.bank.clients
-    → full offered settings xs clients
-    ≡ body offered settings xs clients ++ as_bytes (ends (time_of session) 1 n)
+    → full offer settings xs clients
+    ≡ body offer settings xs clients ++ as_bytes (ends (time_of session) 1 n)
 all-ends settings clients session xs n s is =
     let many : length clients ≡ n =
     same-number xs s.done 1 clients session.queues.items s.queues ∙ session.clients ∙ sym is in
     full-is settings xs clients
-    ∙ ap (λ (l : List (List ℕ)). body offered settings xs clients ++ as_bytes l)
+    ∙ ap (λ (l : List (List ℕ)). body offer settings xs clients ++ as_bytes l)
     (ends-are (time_of session) xs clients (sym s.bank.now))
-    ∙ ap (λ (m : ℕ). body offered settings xs clients ++ as_bytes (ends (time_of session) 1 m)) many
+    ∙ ap (λ (m : ℕ). body offer settings xs clients ++ as_bytes (ends (time_of session) 1 m)) many
 
 pub loop-client-init : goal.loop-client-init
 loop-client-init g c =
@@ -40,7 +40,7 @@ loop-client-init g c =
       grows = grows-none (g.W.Sink.contents c.args.writer.now);
       failure = refl;
       wrote =
-          wrote-none (promised (g.W.Sink.contents c.args.writer.now) c.args.text.now)
+          wrote-none (promise (g.W.Sink.contents c.args.writer.now) c.args.text.now)
           (as_bytes (ends (time_of c.args.session.now) 1 c.clients-client-end.result));
     })
 
@@ -60,14 +60,14 @@ loop-client-preserved g c =
           grows-on (s.contents c.args.writer.now) (s.contents c.loop-client.writer)
           (s.contents c.put.new.writer) c.loop-client.invariant.grows c.put.ensures.grows;
       wrote =
-          wrote-text (promised (s.contents c.args.writer.now) c.args.text.now)
-          (promised (s.contents c.loop-client.writer) c.loop-client.text)
-          (promised (s.contents c.put.new.writer) c.put.new.self) (as_bytes (ends time 1 n))
+          wrote-text (promise (s.contents c.args.writer.now) c.args.text.now)
+          (promise (s.contents c.loop-client.writer) c.loop-client.text)
+          (promise (s.contents c.put.new.writer) c.put.new.self) (as_bytes (ends time 1 n))
           (as_bytes (ends time (k + 1) (n - k)))
           _ (as_bytes (ends time (k + 1 + 1) (n - (k + 1))))
           c.loop-client.invariant.wrote (ends-next time k n c.loop-client-test.true)
-          (subst (Appends (promised (s.contents c.loop-client.writer) c.loop-client.text)
-          (promised (s.contents c.put.new.writer) c.put.new.self)) e
+          (subst (Appends (promise (s.contents c.loop-client.writer) c.loop-client.text)
+          (promise (s.contents c.put.new.writer) c.put.new.self)) e
           c.in_ok-put.ensures.ok);
     }
 
@@ -82,23 +82,23 @@ returns-in_err-put-clause-err g c =
     ∙ ap (λ (t : ℕ). ended_line (for_client (k + 1) (at_time t (codes "end"))))
     c.time.ensures in
     let part =
-    wrote-part (promised (s.contents c.args.writer.now) c.args.text.now)
-    (promised (s.contents c.loop-client.writer) c.loop-client.text)
-    (promised (s.contents c.put.new.writer) c.put.new.self) (as_bytes (ends time 1 n))
+    wrote-part (promise (s.contents c.args.writer.now) c.args.text.now)
+    (promise (s.contents c.loop-client.writer) c.loop-client.text)
+    (promise (s.contents c.put.new.writer) c.put.new.self) (as_bytes (ends time 1 n))
     (as_bytes (ends time (k + 1) (n - k)))
     _ (as_bytes (ends time (k + 1 + 1) (n - (k + 1))))
     c.loop-client.invariant.wrote (ends-next time k n c.loop-client-test.true)
-    (kept-part (promised (s.contents c.loop-client.writer) c.loop-client.text)
-    (promised (s.contents c.put.new.writer) c.put.new.self) _ c.in_err-put.ensures.err) in
+    (kept-part (promise (s.contents c.loop-client.writer) c.loop-client.text)
+    (promise (s.contents c.put.new.writer) c.put.new.self) _ c.in_err-put.ensures.err) in
     on_err c.from_residual.result _ (λ settings clients start xs at.
     let whole =
     all-ends settings clients c.args.session.now xs n at.stands
     c.clients-client-end.ensures.number in
-    wrote-part start (promised (s.contents c.args.writer.now) c.args.text.now)
-    (promised (s.contents c.put.new.writer) c.put.new.self) (full offered settings xs clients)
+    wrote-part start (promise (s.contents c.args.writer.now) c.args.text.now)
+    (promise (s.contents c.put.new.writer) c.put.new.self) (full offer settings xs clients)
     (as_bytes (ends time 1 n)) (as_bytes (ends time 1 n)) []
-    (wrote-front start (promised (s.contents c.args.writer.now) c.args.text.now)
-    (full offered settings xs clients) (body offered settings xs clients)
+    (wrote-front start (promise (s.contents c.args.writer.now) c.args.text.now)
+    (full offer settings xs clients) (body offer settings xs clients)
     (as_bytes (ends time 1 n)) at.written whole) (sym (append-nil (as_bytes (ends time 1 n))))
     part)
 
@@ -110,22 +110,22 @@ returns-clause-ok g c settings clients start xs at =
     let n = c.clients-client-end.result in
     let text = as_bytes (ends time 1 n) in
     let all =
-    wrote-all (promised (s.contents c.args.writer.now) c.args.text.now)
-    (promised (s.contents c.loop-client.writer) c.loop-client.text) text
+    wrote-all (promise (s.contents c.args.writer.now) c.args.text.now)
+    (promise (s.contents c.loop-client.writer) c.loop-client.text) text
     (as_bytes (ends time (k + 1) (n - k))) (ends-done time k n c.loop-client-test.false)
     c.loop-client.invariant.wrote in
     let whole =
     all-ends settings clients c.args.session.now xs n at.stands
     c.clients-client-end.ensures.number in
     let first =
-    wrote-front start (promised (s.contents c.args.writer.now) c.args.text.now)
-    (full offered settings xs clients) (body offered settings xs clients) text at.written
+    wrote-front start (promise (s.contents c.args.writer.now) c.args.text.now)
+    (full offer settings xs clients) (body offer settings xs clients) text at.written
     whole in
-    wrote-all start (promised (s.contents c.loop-client.writer) c.loop-client.text)
-    (full offered settings xs clients) [] refl
-    (wrote-text start (promised (s.contents c.args.writer.now) c.args.text.now)
-    (promised (s.contents c.loop-client.writer) c.loop-client.text)
-    (full offered settings xs clients) text text [] first (sym (append-nil text)) all)
+    wrote-all start (promise (s.contents c.loop-client.writer) c.loop-client.text)
+    (full offer settings xs clients) [] refl
+    (wrote-text start (promise (s.contents c.args.writer.now) c.args.text.now)
+    (promise (s.contents c.loop-client.writer) c.loop-client.text)
+    (full offer settings xs clients) text text [] first (sym (append-nil text)) all)
 
 pub returns-in_err-put-clause-grows : goal.returns-in_err-put-clause-grows
 returns-in_err-put-clause-grows g c = let s = g.W.Sink in

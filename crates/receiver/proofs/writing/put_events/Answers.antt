@@ -6,7 +6,7 @@ use Rattle.channel_slots.specs.Events.{line_of}
 use Rattle.receiver.specs.Texts.{AppendsPart}
 use Rattle.receiver.proofs.TextLemmas.{wrote-text, wrote-part, wrote-all, on_err}
 use Rattle.receiver.proofs.AnswerLemmas.{events-next, events-done}
-use Rattle.receiver.specs.HeldTexts.{promised}
+use Rattle.receiver.specs.HeldTexts.{promise}
 use Rattle.receiver.proofs.HeldLemmas.{grows-on, kept-part}
 use Rattle.receiver.proofs.writing.put_events.Goals as goal
 
@@ -22,13 +22,13 @@ loop-event-preserved g c =
           grows-on (s.contents c.args.writer.now) (s.contents c.loop-event.writer)
           (s.contents c.put.new.writer) c.loop-event.invariant.grows c.put.ensures.grows;
       wrote =
-          wrote-text (promised (s.contents c.args.writer.now) c.args.text.now)
-          (promised (s.contents c.loop-event.writer) c.loop-event.text)
-          (promised (s.contents c.put.new.writer) c.put.new.self) (as_bytes (map line_of rs))
+          wrote-text (promise (s.contents c.args.writer.now) c.args.text.now)
+          (promise (s.contents c.loop-event.writer) c.loop-event.text)
+          (promise (s.contents c.put.new.writer) c.put.new.self) (as_bytes (map line_of rs))
           (as_bytes (map line_of (drop i rs))) _ (as_bytes (map line_of (drop (i + 1) rs)))
           c.loop-event.invariant.wrote (events-next rs i (_) c.loop-event-test.true)
-          (subst (Appends (promised (s.contents c.loop-event.writer) c.loop-event.text)
-          (promised (s.contents c.put.new.writer) c.put.new.self)) e
+          (subst (Appends (promise (s.contents c.loop-event.writer) c.loop-event.text)
+          (promise (s.contents c.put.new.writer) c.put.new.self)) e
           c.in_ok-put.ensures.ok);
     }
 
@@ -39,23 +39,23 @@ returns-in_err-put-clause-err g c =
     let i = c.loop-event.event-index in
     let e = c.deref.ensures.0 ∙ c.event_line.ensures in
     on_err c.from_residual.result
-    _ (wrote-part (promised (s.contents c.args.writer.now) c.args.text.now)
-    (promised (s.contents c.loop-event.writer) c.loop-event.text)
-    (promised (s.contents c.put.new.writer) c.put.new.self) (as_bytes (map line_of rs))
+    _ (wrote-part (promise (s.contents c.args.writer.now) c.args.text.now)
+    (promise (s.contents c.loop-event.writer) c.loop-event.text)
+    (promise (s.contents c.put.new.writer) c.put.new.self) (as_bytes (map line_of rs))
     (as_bytes (map line_of (drop i rs))) _ (as_bytes (map line_of (drop (i + 1) rs)))
     c.loop-event.invariant.wrote (events-next rs i (_) c.loop-event-test.true)
-    (subst (AppendsPart (promised (s.contents c.loop-event.writer) c.loop-event.text)
-    (promised (s.contents c.put.new.writer) c.put.new.self)) e
-    (kept-part (promised (s.contents c.loop-event.writer) c.loop-event.text)
-    (promised (s.contents c.put.new.writer) c.put.new.self)
+    (subst (AppendsPart (promise (s.contents c.loop-event.writer) c.loop-event.text)
+    (promise (s.contents c.put.new.writer) c.put.new.self)) e
+    (kept-part (promise (s.contents c.loop-event.writer) c.loop-event.text)
+    (promise (s.contents c.put.new.writer) c.put.new.self)
     _ c.in_err-put.ensures.err)))
 
 pub returns-clause-ok : goal.returns-clause-ok
 returns-clause-ok g c =
     let s = g.W.Sink in
     let rs = c.args.events.now in
-    wrote-all (promised (s.contents c.args.writer.now) c.args.text.now)
-    (promised (s.contents c.loop-event.writer) c.loop-event.text) (as_bytes (map line_of rs))
+    wrote-all (promise (s.contents c.args.writer.now) c.args.text.now)
+    (promise (s.contents c.loop-event.writer) c.loop-event.text) (as_bytes (map line_of rs))
     (as_bytes (map line_of (drop c.loop-event.event-index rs)))
     (events-done rs c.loop-event.event-index c.loop-event-test.false)
     c.loop-event.invariant.wrote

@@ -1,4 +1,4 @@
-use Rattle.std.proofs.Common.{◌≡◌, ◌+◌, ◌-◌, ◌*◌, ◌<◌, List, length, refl, ap, sym, arith}
+use Rattle.std.proofs.Common.{◌≡◌, ◌+◌, ◌-◌, ◌*◌, ◌<◌, ℕ, List, length, refl, ap, sym, arith}
 use Rattle.definitions.specs.Samples.{Sample}
 use Rattle.definitions.specs.Oscillators.{code_cycle}
 use Rattle.oscillators.specs.Views.{Oscillation}
@@ -10,7 +10,7 @@ use Rattle.channels.proofs.MoveLemmas.{moves_by}
 use Rattle.channels.proofs.PartLemmas.{part-length}
 use Rattle.channels.proofs.WrapLemmas.{quiet, wraps, past_less}
 use Rattle.channels.proofs.ChanceLemmas.{chance-moves, chance-wraps}
-use Rattle.channels.proofs.SizeLemmas.{sums_fit, sums_grow}
+use Rattle.channels.proofs.SizeLemmas.{sums_fit, sums_grow, sums_small, last-step}
 use Rattle.channels.proofs.follower.Follower.advance.Goals as goal
 
 pub add-sums-requires : goal.add-sums-requires
@@ -107,3 +107,15 @@ returns-else-ends-clause-chance c left h few =
     c.to_wrap.ensures.least c.if-ends.false in
     chance-moves f.code.phase f.code.step c.args.count left _ _ h
     (ap (λ (o : Oscillation). o.step) c.advance.ensures) (after.1)
+
+pub returns-then-ends-clause-small : goal.returns-then-ends-clause-small
+returns-then-ends-clause-small c =
+    let f = c.args.self.now in
+    let total : ℕ = f.code.phase + c.args.count * f.code.step in
+    let grown : GrowWith c.add-sums.result f.code.step total =
+    sums_grow f.sums c.add-sums.result (counts_in c.replica_sums-more.result) f.code.step
+    f.code.phase c.args.count f.small c.replica_sums-more.ensures.small
+    c.add-sums.ensures in
+    let low : total < code_cycle + f.code.step =
+    last-step f.code.phase c.args.count f.code.step c.requires.some c.requires.before in
+    sums_small c.add-sums.result f.code.step total grown low f.moves

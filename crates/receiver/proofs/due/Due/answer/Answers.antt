@@ -1,6 +1,6 @@
 use Rattle.std.proofs.Common.{◌≡◌, ℕ, List, length, refl, sym, ap, ◌∙◌, subst}
 use Rattle.std.specs.Prelude.{Result, Ok, Err}
-use Rattle.definitions.specs.Commands.{Command as Asked, TimedRequest}
+use Rattle.definitions.specs.Commands.{Command as DefinedCommand, TimedRequest}
 use Rattle.definitions.specs.Lines.{ended_line}
 use Rattle.definitions.specs.Texts.{for_client, at_time, answer_text, refusal_text}
 use Rattle.definitions.specs.Answers.{answer_at_end}
@@ -26,7 +26,7 @@ returns-in-Ok c = record {
   clients = c.command-answer.ensures.clients;
   time = c.command-answer.ensures.time;
   line = λ settings xs done s.
-      let command : Asked = command_in c.in-Ok.command in
+      let command : DefinedCommand = command_in c.in-Ok.command in
       let client = c.args.self.client in
       let what : result_in c.args.self.what ≡ Ok command = ap result_in c.in-Ok.is in
       let slot : c.get-slot.result ≡ command.slot = c.get-slot.ensures.same ∙ c.slot.ensures in
@@ -38,10 +38,10 @@ returns-in-Ok c = record {
       (asked_of done client command.slot) command.request)) slot
       ∙ ap (reply_text settings xs (done client)) (sym what));
   stands = λ settings xs done s.
-      let command : Asked = command_in c.in-Ok.command in
+      let command : DefinedCommand = command_in c.in-Ok.command in
       let client = c.args.self.client in
       let what : Ok command ≡ result_in c.args.self.what = sym (ap result_in c.in-Ok.is) in
-      subst (λ (r : Result Asked ℕ). StandsFor settings xs
+      subst (λ (r : Result DefinedCommand ℕ). StandsFor settings xs
       (asked_of (with_entry done client (record { time = length xs; what = r })))
       c.command-answer.new.self)
       what
@@ -65,7 +65,7 @@ returns-in-Err c = record {
   stands = λ settings xs done s.
       let client = c.args.self.client in
       let what = sym (ap result_in c.in-Err.is) in
-      subst (λ (r : Result Asked ℕ). StandsFor settings xs
+      subst (λ (r : Result DefinedCommand ℕ). StandsFor settings xs
       (asked_of (with_entry done client (record { time = length xs; what = r }))) c.args.bank.now)
       what
       (subst (λ (a : ℕ → ℕ → List TimedRequest). StandsFor settings xs a c.args.bank.now)

@@ -2,14 +2,14 @@ use Rattle.std.proofs.Common.{◌≡◌, ◌-◌, ◌<◌, ◌≤◌, ◌∙◌,
 use Rattle.std.specs.Io.KnownBytes.{Appends}
 use Rattle.std.proofs.KnownBytes.{Keeps-refl, Keeps-trans, append_known-kept}
 use Rattle.std.proofs.lemmas.List.{length-drop}
-use Rattle.receiver.specs.HeldTexts.{promised}
+use Rattle.receiver.specs.HeldTexts.{promise}
 use Rattle.receiver.proofs.HeldLemmas.{grows-none, grows-kept, grows-on, moved, nothing-left}
 use Rattle.receiver.proofs.HeldLemmas.{slice-from}
 use Rattle.receiver.proofs.held_text.HeldText.send.Goals as goal
 
 pub loop-self-init : goal.loop-self-init
 loop-self-init g c = let s = g.W.Sink in record {
-  same = Keeps-refl (promised (s.contents c.args.writer.now) c.args.self.now);
+  same = Keeps-refl (promise (s.contents c.args.writer.now) c.args.self.now);
   grows = grows-none (s.contents c.args.writer.now);
   failure = refl;
 }
@@ -52,14 +52,14 @@ loop-self-preserved g c =
     (slice-from c.deref.result.now text.bytes.items text.sent c.deref.ensures.0)
     c.in_ok-count.ensures.bytes in
     record {
-      same = moved (promised a c.args.self.now) b d text.bytes.items text.sent n i.same took;
+      same = moved (promise a c.args.self.now) b d text.bytes.items text.sent n i.same took;
       grows = grows-on a b d i.grows (take n rest, took);
       failure = c.in_ok-count.ensures.failure ∙ i.failure;
     }
 
 pub returns-clause-same : goal.returns-clause-same
 returns-clause-same g c = let s = g.W.Sink in let text = c.loop-self.self in
-    nothing-left (promised (s.contents c.args.writer.now) c.args.self.now)
+    nothing-left (promise (s.contents c.args.writer.now) c.args.self.now)
     (s.contents c.loop-self.writer) text.bytes.items c.clear.new.self.items text.sent
     (subst (λ n. n ≤ text.sent) c.len.ensures.value c.loop-self-test.false)
     c.clear.ensures c.loop-self.invariant.same

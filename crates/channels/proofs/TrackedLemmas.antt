@@ -1,0 +1,133 @@
+-- A tracked satellite, when it begins and when it takes samples.
+use Rattle.std.proofs.Common.{◌≡◌, ℕ, ℤ, List, [], ◌∷◌, ◌++◌, length, refl, sym, ap, subst, ◌∙◌}
+use Rattle.std.proofs.Common.{arith}
+use Rattle.std.specs.Prelude.{Some, None, pos}
+use Rattle.std.proofs.lemmas.List.{map-append}
+use Rattle.definitions.specs.Samples.{Sample}
+use Rattle.definitions.specs.Oscillators.{Settings}
+use Rattle.definitions.specs.Correlation.{Counts}
+use Rattle.definitions.specs.Segments.{Channel, Dump, Shift, counts_of, progress, first_progress}
+use Rattle.definitions.specs.Loops.{loops_after, shift_after}
+use Rattle.definitions.specs.Lock.{news_of}
+use Rattle.definitions.specs.Lives.{held_channel, tracked_channel, doppler_shift}
+use Rattle.definitions.proofs.BlockLemmas.{progress-begun}
+use Rattle.lane_correlator.specs.Counting.{counts_in}
+use Rattle.tracking_loops.specs.NewsIn.{news_in}
+use Rattle.tracking_loops.specs.Standing.{StandsFor}
+use Rattle.channels.specs.declared.follower.Follower.{Follower}
+use Rattle.channels.specs.declared.tracked.Tracked.{Tracked}
+use Rattle.channels.specs.declared.tracked.TrackedDump.{TrackedDump}
+use Rattle.channels.specs.Following.{Follows, Opens, Stays, Closes}
+use Rattle.channels.specs.TrackedChannels.{Tracks, Takes}
+
+module _ (settings : Settings) (xs : List Sample) (prn : ℕ) (doppler : ℤ) (half_chip : ℕ) where
+  abbrev held : Channel
+  held = held_channel (length xs) prn doppler half_chip
+
+  abbrev tracked : Channel
+  tracked = tracked_channel (length xs) prn doppler half_chip
+
+  held-none : progress settings held xs ≡ first_progress held
+  held-none = progress-begun settings held xs (omega arith)
+
+  tracked-none : progress settings tracked xs ≡ first_progress tracked
+  tracked-none = progress-begun settings tracked xs (omega arith)
+
+  -- before its first dump it goes on as one that is held
+  as-held : (f : Follower) → Follows settings held xs f → Follows settings tracked xs f
+  unfolding loops_after
+  as-held f s =
+      let at = rw held-none at s.at in
+      record {
+        at = rw tracked-none (record {
+          begun = at.begun;
+          opened = at.opened;
+          prn = at.prn;
+          code = at.code;
+          carrier = at.carrier;
+          sums = at.sums;
+        });
+        code_step = rw tracked-none s.code_step;
+        carrier_step = rw tracked-none s.carrier_step;
+      }
+
+  pub begins : (t : Tracked) → t.settings ≡ settings → Follows settings held xs t.follower
+      → StandsFor (doppler_shift doppler) [] t.loops → Tracks settings tracked xs t
+  begins t recorded follows loops = record {
+    shift = doppler_shift doppler;
+    steered = λ dumps. refl;
+    recorded = recorded;
+    follows = as-held t.follower follows;
+    loops = rw tracked-none loops;
+  }
+
+module _ (settings : Settings) (channel : Channel) (xs ys : List Sample) (old new : Tracked)
+    (s : Tracks settings channel xs old) where
+  abbrev before : List Counts
+  before = counts_of (progress settings channel xs).dumps
+
+  pub takes-on : Stays settings channel xs ys new.follower → new.settings ≡ old.settings
+      → new.loops ≡ old.loops → Takes settings channel xs ys new None
+  takes-on st same loops = record {
+    inside = st.inside;
+    brings = st.same;
+    stands = record {
+      shift = s.shift;
+      steered = s.steered;
+      recorded = same ∙ s.recorded;
+      follows = st.follows;
+      loops = rw (st.same, loops) s.loops;
+    };
+  }
+
+  -- the segment that has just been opened may be given other steps
+  Steers : Follower → ℤ → ℤ → Settings → Type 0
+  Steers mid v w known = (channel : Channel) (xs : List Sample) → Opens known channel xs mid
+      → channel.steering (counts_of (progress known channel xs).dumps) ≡ record { v = v; w = w }
+      → Follows known channel xs new.follower
+
+  pub takes-dump : (d : TrackedDump) (mid : Follower) (v w : ℤ)
+      → Closes settings channel xs ys (counts_in d.counts) mid → new.settings ≡ old.settings
+      → ((channel : Channel) (xs : List Sample) → Opens old.settings channel xs mid
+      → channel.steering (counts_of (progress old.settings channel xs).dumps)
+      ≡ record { v = v; w = w } → Follows old.settings channel xs new.follower)
+      → ((start : ℤ) (dumps : List Counts) → StandsFor start dumps old.loops
+      → StandsFor start (dumps ++ counts_in d.counts ∷ []) new.loops)
+      → ((start : ℤ) (dumps : List Counts) → StandsFor start dumps old.loops
+      → news_in d.news ≡ news_of (dumps ++ counts_in d.counts ∷ []))
+      → ((start : ℤ) (dumps : List Counts) → StandsFor start dumps new.loops
+      → v ≡ (loops_after start dumps).v)
+      → ((start : ℤ) (dumps : List Counts) → StandsFor start dumps new.loops
+      → w ≡ (loops_after start dumps).w)
+      → Takes settings channel xs ys new (Some d)
+  unfolding Steers
+  takes-dump d mid v w cl same steers stands news v-is w-is =
+      let dump : Dump = record { time = length (xs ++ ys); counts = counts_in d.counts } in
+      let all : counts_of (progress settings channel (xs ++ ys)).dumps
+      ≡ before ++ counts_in d.counts ∷ [] =
+      ap counts_of cl.dumps
+      ∙ map-append (λ (d : Dump). d.counts) (progress settings channel xs).dumps (dump ∷ []) in
+      let loops : StandsFor s.shift (before ++ counts_in d.counts ∷ []) new.loops =
+      stands s.shift before s.loops in
+      let shift : channel.steering (counts_of (progress settings channel (xs ++ ys)).dumps)
+      ≡ record { v = v; w = w } =
+      s.steered _ ∙ ap (shift_after s.shift) all
+      ∙ sym (same-shift v w _ _ (v-is s.shift _ loops) (w-is s.shift _ loops)) in
+      let go : Steers mid v w settings = subst (Steers mid v w) s.recorded steers in
+      record {
+        inside = cl.inside;
+        brings = (cl.dumps, news s.shift before s.loops ∙ ap news_of (sym all));
+        stands = record {
+          shift = s.shift;
+          steered = s.steered;
+          recorded = same ∙ s.recorded;
+          follows = go channel (xs ++ ys) (record { at = cl.at; opens = cl.opens }) shift;
+          loops = rw all loops;
+        };
+      }
+    where
+      same-shift : (a b c d : ℤ) → a ≡ c → b ≡ d
+          → ◌≡◌ {A = Shift} (record { v = a; w = b }) (record { v = c; w = d })
+      same-shift a b c d e f =
+          ap (λ x. let p : Shift = record { v = x; w = b } in p) e
+          ∙ ap (λ x. let p : Shift = record { v = c; w = x } in p) f

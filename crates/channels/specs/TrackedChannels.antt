@@ -1,0 +1,62 @@
+-- What a tracked satellite stands for: a channel that its loops steer, over the samples so far.
+use Rattle.std.specs.Prelude.{◌≡◌, ℕ, ℤ, List, [], ◌∷◌, ◌++◌, length, Option, Some, None}
+use Rattle.definitions.specs.Samples.{Sample}
+use Rattle.definitions.specs.Oscillators.{Settings}
+use Rattle.definitions.specs.Correlation.{Counts}
+use Rattle.definitions.specs.Segments.{Channel, progress, counts_of}
+use Rattle.definitions.specs.Loops.{shift_after}
+use Rattle.definitions.specs.Lock.{news_of}
+use Rattle.lane_correlator.specs.Counting.{counts_in}
+use Rattle.tracking_loops.specs.NewsIn.{news_in}
+use Rattle.tracking_loops.specs.Standing.{StandsFor, dump_count}
+use Rattle.channels.specs.declared.tracked.Tracked.{Tracked}
+use Rattle.channels.specs.declared.tracked.TrackedDump.{TrackedDump}
+use Rattle.channels.specs.Following as segments
+use Rattle.channels.specs.Following.{Follows, QuietInside}
+
+-- which satellite it is
+abbrev pub prn_of : Tracked → ℕ
+prn_of t = segments.prn_of t.follower
+
+-- how many dumps it has had
+abbrev pub dumps_of : Tracked → ℕ
+dumps_of t = dump_count t.loops
+
+-- so many samples don't go past its next dump
+abbrev pub MayTake : Tracked → ℕ → Type 0
+MayTake t count = segments.MayTake t.follower count
+
+-- its next dump comes with the last of so many samples, or before it
+abbrev pub Ends : Tracked → ℕ → Type 0
+Ends t count = segments.Ends t.follower count
+
+-- how many dumps may come within so many samples, of which there are at most 1,024
+abbrev pub chance : Tracked → ℕ → ℕ
+chance t left = segments.chance t.follower left
+
+-- the channel is steered by loops that begin with a shift, and these have taken its dumps
+pub record Tracks (settings : Settings) (channel : Channel) (xs : List Sample) (t : Tracked)
+    : Type 0 where
+  pub shift : ℤ
+  pub steered : (dumps : List Counts) → channel.steering dumps ≡ shift_after shift dumps
+  pub recorded : t.settings ≡ settings
+  pub follows : Follows settings channel xs t.follower
+  pub loops : StandsFor shift (counts_of (progress settings channel xs).dumps) t.loops
+
+-- what ys behind xs bring is what was answered: no dump, or one with the last of them, with its
+-- news
+abbrev pub Brings : Settings → Channel → List Sample → List Sample → Option TrackedDump → Type 0
+Brings settings channel xs ys None =
+    progress settings channel (xs ++ ys) ≡ progress settings channel xs
+Brings settings channel xs ys (Some d) =
+    ((progress settings channel (xs ++ ys)).dumps
+    ≡ (progress settings channel xs).dumps
+    ++ record { time = length (xs ++ ys); counts = counts_in d.counts } ∷ [])
+    × (news_in d.news ≡ news_of (counts_of (progress settings channel (xs ++ ys)).dumps))
+
+-- with ys behind xs there is no dump before the last of them, and then what was answered
+pub record Takes (settings : Settings) (channel : Channel) (xs ys : List Sample) (t : Tracked)
+    (dump : Option TrackedDump) : Type 0 where
+  pub inside : QuietInside settings channel xs ys
+  pub brings : Brings settings channel xs ys dump
+  pub stands : Tracks settings channel (xs ++ ys) t
