@@ -1,0 +1,32 @@
+//! Signals for tests: the signal of one satellite, made sample by sample from its formula, and a
+//! plain reference of how it is tracked. Only tests use this crate.
+//!
+//! It is written from the formulas alone and calls no other crate, so that a test compares two
+//! things that were written apart. It is proved to be safe and to end, and no more.
+//!
+//!     use made_signals::{MadeSignal, PlainTracker, SampleStream};
+//!
+//!     let signal = MadeSignal::with_tail(&[]);
+//!     let mut stream = SampleStream::new(signal, 2_000_000);
+//!     let mut tracker = PlainTracker::follow(&signal);
+//!     let dump = tracker.take(stream.next_value());
+#![tactic(auto)]
+
+mod chip_signs;
+mod lock;
+mod loops;
+mod news;
+mod noise;
+mod recording;
+mod signal;
+mod steps;
+mod stream;
+#[cfg(test)]
+mod tests;
+mod tracker;
+
+pub use news::PlainNews;
+pub use recording::{RECORDING, code_file};
+pub use signal::MadeSignal;
+pub use stream::SampleStream;
+pub use tracker::{PlainDump, PlainTracker};

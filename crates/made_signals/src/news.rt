@@ -1,0 +1,14 @@
+//! What a dump tells of the lock.
+
+/// What a dump tells of the lock, by the plain reference.
+#[derive(Clone, Copy, Debug, PartialEq, Eq)]
+pub enum PlainNews {
+    /// Nothing new.
+    Nothing,
+    /// The signal is followed well from here on.
+    Lock,
+    /// It no longer is.
+    Unlock,
+    /// It hasn't been for so long that tracking ends.
+    Lost,
+}

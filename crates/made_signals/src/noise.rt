@@ -1,0 +1,33 @@
+//! Values without any signal.
+
+ghost use Rattle.std.specs.Prelude.{◌≤◌, unsigned_abs};
+
+/// Gives values that look like chance, the same ones each time.
+#[derive(Clone, Copy)]
+pub struct Noise {
+    register: u32,
+}
+
+impl Noise {
+    pub fn new() -> Self {
+        Noise {
+            register: 0x2545_f491,
+        }
+    }
+
+    /// The next value, 1, 3, -1 or -3, by a shift register of 32 bits that is folded onto itself
+    /// three times.
+    pub fn next_value(&mut self) -> i32
+        ensures { unsigned_abs result ≤ 3 }
+    {
+        self.register ^= self.register << 13;
+        self.register ^= self.register >> 17;
+        self.register ^= self.register << 5;
+        match self.register >> 30 {
+            0 => 1,
+            1 => 3,
+            2 => -1,
+            _ => -3,
+        }
+    }
+}
