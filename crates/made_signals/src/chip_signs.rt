@@ -1,4 +1,4 @@
-//! The chips of a satellite's code (IS-GPS-200, section 3.3.2.3), and the half chips around a phase.
+//! The chips of a satellite's code, as signs (IS-GPS-200, section 3.3.2.3).
 
 /// The code's cycle of 1,023 chips, in 2^-32 chip.
 pub const CYCLE: u64 = 1023 << 32;

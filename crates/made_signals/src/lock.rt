@@ -23,8 +23,9 @@ impl PlainLock {
         }
     }
 
-    /// Takes the prompt sums of a dump. Window j is dumps 200 + 20j to 219 + 20j, counted from 1. It
-    /// is good where the sizes of the sums in phase add up to at least twice those in quadrature.
+    /// Takes the prompt sums of a dump. Window j is dumps 200 + 20j to 219 + 20j, counted from 1.
+    /// It is good where the sizes of the sums in phase add up to at least twice those in
+    /// quadrature.
     pub fn take(&mut self, ip: i32, qp: i32) -> PlainNews {
         self.dumps = self.dumps.wrapping_add(1);
         if self.dumps < 200 {

@@ -10,12 +10,12 @@ mod limits;
 mod recording;
 mod runs;
 mod scripts;
+mod signals;
 mod std_devices;
 
 use crate::faults::RunFault;
 use crate::running::{run, run_to};
 use crate::tests::fakes::{Giving, Holding};
-use ca_codes::{CodeBook, Prn};
 use oscillators::Settings;
 use sample_planes::Format;
 use std::alloc::Global;
@@ -38,21 +38,6 @@ const FIRST_COUNT_LINES: &str = "1 0 ok\n\
 /// One-bit samples at two samples a chip, with the carrier at 0 Hz.
 fn plain_settings() -> Result<Settings, Fail> {
     Ok(Settings::new(2_046_000, 0, Format::Real1)?)
-}
-
-/// 2,048 samples of one bit: sample n is the chip of satellite 1 with number (n mod 2,046) / 2.
-fn code_file() -> Result<[u8; 256], Fail> {
-    let prn = Prn::new(1).ok_or("a satellite")?;
-    let mut book = CodeBook::new();
-    let mut bytes = [0u8; 256];
-    let mut first: u32 = 0;
-    for byte in &mut bytes {
-        for n in first..first.saturating_add(8) {
-            *byte = byte.wrapping_mul(2) | u8::from(book.chip(prn, n % 2046 / 2));
-        }
-        first = first.saturating_add(8);
-    }
-    Ok(bytes)
 }
 
 /// A run of scripts over plain settings.
@@ -78,13 +63,4 @@ fn run_one(
 {
     let settings = plain_settings()?;
     Ok(run_to(alloc, settings, &[script], limit, reader, writer))
-}
-
-#[test]
-fn code_file_begins_with_the_code(rt: HostRuntime) -> Result<(), Fail> {
-    // The first chips are 1100100000 (IS-GPS-200, table 3-Ia: octal 1440), each of them in two
-    // samples.
-    let bytes = code_file()?;
-    assert_eq!(rt; &bytes[..2], [0xf0, 0xc0].as_slice());
-    Ok(())
 }

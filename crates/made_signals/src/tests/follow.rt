@@ -2,8 +2,8 @@
 
 use crate::{MadeSignal, PlainDump, PlainNews, PlainTracker, SampleStream};
 
-// The specification's number for the lock of this signal. The sums and shifts of the first two dumps
-// and of the last come from a program in another language, apart from this project.
+// The lock comes at the time that the specification's two references give. The last dump's sums and
+// shift come from a program in another language, apart from this project.
 #[test]
 fn made_signal_locks(rt: HostRuntime) {
     let signal = MadeSignal::with_tail(&[]);

@@ -29,9 +29,9 @@ fn code_file_begins_with_the_code(rt: HostRuntime) {
 }
 
 // A program in another language, apart from this project, gives these bytes. By hand for the first
-// of them: the carrier turns by 0.2444 of a cycle with each sample, so the cosines are 2, 1, -2, -1;
-// the first three samples meet chip 50 and the fourth chip 51 of satellite 7, both 0; the first data
-// bit is 0. So the values are 3, 1, -3, -1.
+// of them: the carrier turns by 0.2444 of a cycle with each sample, so the cosines are 2, 1, -2 and
+// -1. The first three samples meet chip 50 and the fourth chip 51 of satellite 7, both of them 0,
+// and the first data bit is 0. So the values are 3, 1, -3 and -1.
 #[test]
 fn first_bytes(rt: HostRuntime) {
     let mut stream = SampleStream::new(MadeSignal::with_tail(&[]), 64);
@@ -47,7 +47,7 @@ fn first_bytes(rt: HostRuntime) {
 }
 
 // The same program gives these, too: the first bit 1 begins with sample 49,878, and the list behind
-// the bits that alternate with sample 1,999,877. It begins with a bit 1 here, which turns the values
+// the bits that alternate with sample 1,999,877. Its first bit is 1 here, which turns the values
 // from there on.
 #[test]
 fn data_bits_turn_the_values(rt: HostRuntime) {

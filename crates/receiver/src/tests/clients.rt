@@ -1,12 +1,13 @@
 //! Several clients over the same samples.
 
-use super::{FIRST_COUNT, code_file, run_plain};
+use super::{FIRST_COUNT, run_plain};
 use crate::tests::fakes::{Giving, Holding};
+use made_signals::code_file;
 use std::test::Fail;
 
 #[test]
 fn two_clients_bytewise(rt: HostRuntime) -> Result<(), Fail> {
-    let code = code_file()?;
+    let code = code_file();
     let second = b"1 state 0\n3 state 0\n777 state 3\n";
     let text = "1 0 ok\n\
         1 0 ok\n\
@@ -43,7 +44,7 @@ fn strange_lines() -> [u8; 400] {
 // A line `x` has no time, so all 200 stand at 0.
 #[test]
 fn strangers_errors(rt: HostRuntime) -> Result<(), Fail> {
-    let code = code_file()?;
+    let code = code_file();
     let mut reader = Giving::whole(&code);
     let mut writer = Holding::whole();
     let strange = strange_lines();
@@ -65,7 +66,7 @@ fn strangers_errors(rt: HostRuntime) -> Result<(), Fail> {
 // dump stands before client 1's state.
 #[test]
 fn same_time_order(rt: HostRuntime) -> Result<(), Fail> {
-    let code = code_file()?;
+    let code = code_file();
     let mut reader = Giving::whole(&code);
     let mut writer = Holding::whole();
     let scripts: [&[u8]; 2] = [b"2046 state 0\n", FIRST_COUNT];

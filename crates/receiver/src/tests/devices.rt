@@ -1,9 +1,10 @@
 //! Readers and writers that fail.
 
-use super::{FIRST_COUNT, FIRST_COUNT_LINES, code_file, plain_settings, run_one, run_plain};
+use super::{FIRST_COUNT, FIRST_COUNT_LINES, plain_settings, run_one, run_plain};
 use crate::faults::RunFault;
 use crate::running::run;
 use crate::tests::fakes::{Giving, Holding, Zeros};
+use made_signals::code_file;
 use std::test::Fail;
 
 /// What the client gets before the first sample.
@@ -13,7 +14,7 @@ const ANSWERS: &[u8] = b"1 0 ok\n1 0 ok\n";
 // is the one that failed. The dump comes with the last of the 256 bytes, which has sample 2,046.
 #[test]
 fn failing_device(rt: HostRuntime) -> Result<(), Fail> {
-    let code = code_file()?;
+    let code = code_file();
     let body = FIRST_COUNT_LINES.as_bytes().strip_suffix(b"1 2048 end\n");
     for until_fault in 0usize..=256 {
         let mut reader = Giving::faulty(&code, usize::MAX, until_fault);
@@ -53,7 +54,7 @@ fn failing_device(rt: HostRuntime) -> Result<(), Fail> {
 // With one byte a read there are 100 reads before the one that fails.
 #[test]
 fn a_failed_read_is_the_last(rt: HostRuntime) -> Result<(), Fail> {
-    let code = code_file()?;
+    let code = code_file();
     let mut reader = Giving::faulty(&code, 1, 100);
     let mut writer = Holding::whole();
     let answer = run_plain(rt.alloc(), &[FIRST_COUNT], &mut reader, &mut writer)?;
@@ -66,7 +67,7 @@ fn a_failed_read_is_the_last(rt: HostRuntime) -> Result<(), Fail> {
 // A write takes what is left before the fault, and the next write of the same line fails.
 #[test]
 fn failing_writer_of_lines(rt: HostRuntime) -> Result<(), Fail> {
-    let code = code_file()?;
+    let code = code_file();
     for until_fault in 0..FIRST_COUNT_LINES.len() {
         let mut reader = Giving::whole(&code);
         let mut writer = Holding::faulty(usize::MAX, until_fault);
@@ -84,7 +85,7 @@ fn failing_writer_of_lines(rt: HostRuntime) -> Result<(), Fail> {
 
 #[test]
 fn failing_flush(rt: HostRuntime) -> Result<(), Fail> {
-    let code = code_file()?;
+    let code = code_file();
     let mut reader = Giving::whole(&code);
     let mut writer = Holding::without_flush();
     let answer = run_plain(rt.alloc(), &[FIRST_COUNT], &mut reader, &mut writer)?;

@@ -1,10 +1,11 @@
 //! What a run takes at most: clients, samples, memory.
 
-use super::{FIRST_COUNT, code_file, plain_settings, run_one, run_plain};
+use super::{FIRST_COUNT, plain_settings, run_one, run_plain};
 use crate::faults::RunFault;
 use crate::running::run_to;
 use crate::tests::fakes::{Giving, Holding, Zeros};
 use channel_slots::{Bank, OpenFault};
+use made_signals::code_file;
 use std::test::Fail;
 
 #[test]
@@ -108,7 +109,7 @@ fn endless_reader(rt: HostRuntime) -> Result<(), Fail> {
 // refused, or none.
 #[test]
 fn refused_memory_touches_no_device(rt: HostRuntime) -> Result<(), Fail> {
-    let code = code_file()?;
+    let code = code_file();
     let mut reader = Giving::whole(&code);
     let mut writer = Holding::whole();
     let answer = run_plain(rt.alloc(), &[FIRST_COUNT], &mut reader, &mut writer)?;

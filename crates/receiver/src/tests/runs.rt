@@ -1,10 +1,11 @@
 //! Runs of one client, and the texts of faults.
 
-use super::{FIRST_COUNT, FIRST_COUNT_LINES, code_file, run_plain};
+use super::{FIRST_COUNT, FIRST_COUNT_LINES, run_plain};
 use crate::devices::DeviceFault;
 use crate::faults::RunFault;
 use crate::running::run;
 use crate::tests::fakes::{Giving, Holding};
+use made_signals::code_file;
 use oscillators::Settings;
 use sample_planes::Format;
 use std::test::Fail;
@@ -23,7 +24,7 @@ fn empty_run(rt: HostRuntime) -> Result<(), Fail> {
 
 #[test]
 fn first_count(rt: HostRuntime) -> Result<(), Fail> {
-    let code = code_file()?;
+    let code = code_file();
     // The last read is the one that gives nothing.
     for (bytes_a_read, reads) in [(256, 2), (7, 38), (1, 257)] {
         for bytes_a_write in [usize::MAX, 1] {
@@ -44,7 +45,7 @@ fn first_count(rt: HostRuntime) -> Result<(), Fail> {
 // the early chip is that of the next period, and of the other sign.
 #[test]
 fn early_wraps(rt: HostRuntime) -> Result<(), Fail> {
-    let code = code_file()?;
+    let code = code_file();
     let mut reader = Giving::whole(&code);
     let mut writer = Holding::whole();
     let script = b"2045 hold 0 1 0 2045\n2045 counts 0 1";
@@ -83,7 +84,7 @@ fn two_bit_byte(rt: HostRuntime) -> Result<(), Fail> {
 // read that gives none.
 #[test]
 fn lines_are_written_before_the_next_read(rt: HostRuntime) -> Result<(), Fail> {
-    let code = code_file()?;
+    let code = code_file();
     let mut reader = Giving::pieces(&code, 1);
     let mut writer = Holding::whole();
     let script = b"x\n0 hold 0 1 0 0\n0 counts 0 1\n2046 state 0\n2047 stop 1\n";

@@ -1,8 +1,9 @@
 //! Scripts whose lines are refused.
 
-use super::{code_file, run_plain};
+use super::run_plain;
 use crate::tests::fakes::{Giving, Holding};
 use arrayvec::ArrayVec;
+use made_signals::code_file;
 use std::test::Fail;
 
 // By one byte there are eight samples, so the line at 9 is never answered. A slot 4 is out of range
@@ -114,7 +115,7 @@ fn hostile_script(rt: HostRuntime) -> Result<(), Fail> {
 // The refused hold changes nothing: the dump is that of the hold before it.
 #[test]
 fn refused_restart(rt: HostRuntime) -> Result<(), Fail> {
-    let code = code_file()?;
+    let code = code_file();
     let mut reader = Giving::whole(&code);
     let mut writer = Holding::whole();
     let script = b"0 hold 0 1 0 0\n0 counts 0 1\n1000 hold 0 1 0 0\n";

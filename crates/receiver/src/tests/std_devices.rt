@@ -1,10 +1,11 @@
 //! Readers and writers of std, each of which is asked once.
 
-use super::{FIRST_COUNT, FIRST_COUNT_LINES, code_file, plain_settings};
+use super::{FIRST_COUNT, FIRST_COUNT_LINES, plain_settings};
 use crate::devices::Plain;
 use crate::faults::RunFault;
 use crate::running::run;
 use crate::tests::fakes::{Giving, Holding};
+use made_signals::code_file;
 use std::io::{self, Read, Write};
 use std::test::Fail;
 
@@ -84,7 +85,7 @@ impl Write for IdleWriter {
 
 #[test]
 fn std_devices_run(rt: HostRuntime) -> Result<(), Fail> {
-    let code = code_file()?;
+    let code = code_file();
     let mut bytes = code.as_slice();
     let mut room = [0u8; 100];
     let mut reader = Plain::new(&mut bytes);
@@ -149,7 +150,7 @@ fn interrupted_writer(rt: HostRuntime) -> Result<(), Fail> {
 // takes it.
 #[test]
 fn writer_takes_nothing(rt: HostRuntime) -> Result<(), Fail> {
-    let code = code_file()?;
+    let code = code_file();
     let mut reader = Giving::faulty(&code, usize::MAX, 100);
     let mut inner = IdleWriter { writes: 0 };
     let mut writer = Plain::new(&mut inner);

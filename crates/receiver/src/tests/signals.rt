@@ -1,0 +1,62 @@
+//! A made signal as a device, and a dump of it.
+
+ghost use Rattle.std.specs.Prelude.{None, false};
+
+use crate::devices::{DeviceFault, Source};
+use crate::running::run;
+use crate::tests::fakes::Holding;
+use made_signals::{MadeSignal, SampleStream};
+use oscillators::Settings;
+use sample_planes::Format;
+use std::test::Fail;
+
+/// Gives the bytes of a stream, at most so many a read.
+#[derive(Drop)]
+pub struct Streaming<'a> {
+    stream: SampleStream<'a>,
+    at_once: usize,
+}
+
+impl<'a> Streaming<'a> {
+    pub fn pieces(stream: SampleStream<'a>, at_once: usize) -> Self {
+        Streaming { stream, at_once }
+    }
+}
+
+impl Source for Streaming<'_> {
+    ghost remaining = { λ _. None };
+
+    ghost has_failed = { λ _. false };
+
+    ghost was_asked_again = { λ _. false };
+
+    fn read(&mut self, buffer: &mut [u8]) -> Result<usize, DeviceFault> {
+        let room = buffer.len().min(self.at_once.max(1));
+        Ok(self.stream.fill(&mut buffer[..room]))
+    }
+}
+
+/// The settings of a signal.
+pub fn settings_of(signal: &MadeSignal) -> Result<Settings, Fail> {
+    Ok(Settings::new(signal.rate, signal.offset, Format::Real2)?)
+}
+
+// The sums of the first segment come from a program in another language, apart from this project.
+#[test]
+fn first_count_of_a_made_signal(rt: HostRuntime) -> Result<(), Fail> {
+    let signal = MadeSignal::with_tail(&[]);
+    for bytes_a_read in [1, 7, usize::MAX] {
+        let mut reader = Streaming::pieces(SampleStream::new(signal, 2_380), bytes_a_read);
+        let mut writer = Holding::whole();
+        let script = b"0 hold 0 7 1000 100\n0 counts 0 1\n";
+        let settings = settings_of(&signal)?;
+        let answer = run(rt.alloc(), settings, &[script], &mut reader, &mut writer);
+        assert_eq!(rt; answer, Ok(2_380));
+        let text = "1 0 ok\n\
+            1 0 ok\n\
+            1 2378 count 0 4362 112 8328 6 4466 -96\n\
+            1 2380 end\n";
+        assert_eq!(rt; writer.text()?, text);
+    }
+    Ok(())
+}
