@@ -1,9 +1,10 @@
 //! What a dump tells of the lock.
 
 /// What a dump tells of the lock, by the plain reference.
-#[derive(Clone, Copy, Debug, PartialEq, Eq)]
+#[derive(Clone, Copy, Debug, Default, PartialEq, Eq)]
 pub enum PlainNews {
     /// Nothing new.
+    #[default]
     Nothing,
     /// The signal is followed well from here on.
     Lock,

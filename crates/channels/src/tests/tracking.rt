@@ -1,0 +1,74 @@
+//! A tracked satellite beside the plain reference of tracking.
+
+use super::sums;
+use crate::Tracked;
+use ca_codes::{CodeBook, Prn};
+use made_signals::{MadeSignal, PlainDump, PlainNews, PlainTracker, SampleStream};
+use oscillators::{Doppler, HalfChip, Settings};
+use sample_planes::{Format, unpack};
+use std::test::Fail;
+use tracking_loops::News;
+
+/// The bytes of 600,000 two-bit samples: 240 segments, or a little less.
+const BYTES: usize = 150_000;
+
+/// The reference's dump behind so many samples more.
+fn plain_dump(
+    stream: &mut SampleStream,
+    tracker: &mut PlainTracker,
+    samples: usize,
+) -> Result<Option<PlainDump>, Fail> {
+    let mut dump = None;
+    for _ in 0..samples {
+        dump = tracker.take(stream.next_value().ok_or("a sample")?);
+    }
+    Ok(dump)
+}
+
+fn news_of(news: PlainNews) -> News {
+    match news {
+        PlainNews::Nothing => News::Nothing,
+        PlainNews::Lock => News::Lock,
+        PlainNews::Unlock => News::Unlock,
+        PlainNews::Lost => News::Lost,
+    }
+}
+
+// Each dump sets the steps of the segment behind it. From dump 200 on they come by another law, and
+// dump 219 is the first that tells a lock.
+#[test]
+fn tracked_dumps_are_those_of_the_reference(rt: HostRuntime) -> Result<(), Fail> {
+    let signal = MadeSignal::with_tail(&[]);
+    let mut stream = SampleStream::new(signal, 600_000);
+    let mut bytes = [0; BYTES];
+    assert_eq!(rt; { stream }.fill(&mut bytes), BYTES);
+    let mut tracker = PlainTracker::follow(&signal);
+    let mut tracked = Tracked::start(
+        &Settings::new(signal.rate, signal.offset, Format::Real2)?,
+        Prn::new(7).ok_or("a satellite")?,
+        Doppler::new(1_000).ok_or("a shift")?,
+        HalfChip::new(100).ok_or("a half chip")?,
+    );
+    let mut book = CodeBook::new();
+    let mut place = 0;
+    for _ in 0..690 {
+        assert!(rt; place <= 599_000);
+        let room = tracked.to_dump().min(1_000) as usize;
+        let run = unpack(Format::Real2, &bytes, place, room);
+        assert_eq!(rt; run.len(), room);
+        assert!(rt; tracked.loops().dumps() < 1_000);
+        let dump = tracked.take(&run, 0, room, &mut book);
+        place += room;
+        let plain = plain_dump(&mut stream, &mut tracker, room)?;
+        assert_eq!(rt; dump.is_some(), plain.is_some());
+        if let (Some(dump), Some(plain)) = (dump, plain) {
+            assert_eq!(rt; dump.counts, sums(plain.counts), "dump {}", plain.number);
+            assert_eq!(rt; dump.news, news_of(plain.news), "dump {}", plain.number);
+            let loops = tracked.loops();
+            let told = (loops.dumps(), loops.v(), loops.w());
+            assert_eq!(rt; told, (plain.number, plain.v, plain.w));
+        }
+    }
+    assert!(rt; tracked.loops().locked());
+    Ok(())
+}
