@@ -1,9 +1,13 @@
 pub mod BankLemmas
 pub mod CommandLemmas
-pub mod LifeLemmas
 pub mod LayoutLemmas
+pub mod LifeLemmas
+pub mod NewsLemmas
 pub mod OrderLemmas
 pub mod PlaceLemmas
+pub mod PutLemmas
+pub mod QuietLemmas
 pub mod SlotLemmas
 pub mod StageLemmas
 pub mod TellingLemmas
+pub mod TrackLemmas

@@ -1,26 +1,28 @@
 -- What a slot answers and becomes with a command, and what it tells with a block.
-use Rattle.std.proofs.Common.{refl, sym, ◌≡◌, ℕ, ◌+◌, ◌<◌, ◌≤◌, List, [], ◌∷◌, ◌++◌, length, take}
-use Rattle.std.proofs.Common.{ap, ◌∙◌, arith, length-append, append-nil, append_assoc}
-use Rattle.std.specs.Prelude.{Option, Some, None, map}
+use Rattle.std.proofs.Common.{refl, sym, ◌≡◌, ℕ, zero, suc, ◌+◌, ◌<◌, ◌≤◌, List, [], ◌∷◌, ◌++◌}
+use Rattle.std.proofs.Common.{length, take, ap, ◌∙◌, arith, length-append, append-nil, append_assoc}
+use Rattle.std.specs.Prelude.{Option, Some, None, map, true, false, ◌-◌}
 use Rattle.std.specs.List.{AllByRecursion}
-use Rattle.std.proofs.lemmas.List.{length-take}
+use Rattle.std.proofs.lemmas.List.{length-take, length-take-le}
 use Rattle.definitions.specs.Samples.{Sample}
 use Rattle.definitions.specs.Oscillators.{Settings}
 use Rattle.definitions.specs.Commands.{TimedRequest, Request, state}
-use Rattle.definitions.specs.Lives.{Life, life_of, life_now, life_with, still_on}
+use Rattle.definitions.specs.Lives.{Life, life_of, life_now, life_with, still_on, is_over}
 use Rattle.definitions.specs.Events.{events_at_end, life_events, front_of}
 use Rattle.definitions.specs.Answers.{answer_at_end, answer_with, view_of, shown, idle}
 use Rattle.definitions.proofs.BodyLemmas.{life_of-append}
 use Rattle.definitions.proofs.LifeLemmas.{life_of-command, events-behind}
-use Rattle.lane_correlator.specs.declared.counts.Counts.{Counts}
+use Rattle.definitions.proofs.EndLemmas.{is_over-append}
+use Rattle.channel_slots.specs.declared.slot_news.SlotNews.{SlotNews}
 use Rattle.channel_slots.specs.declared.slot.Slot.{Slot}
 use Rattle.channel_slots.specs.declared.slot.Slot.TheVariants.{Idle, On}
-use Rattle.channel_slots.specs.declared.event.Event.{Event}
 use Rattle.channel_slots.specs.declared.life.Life.{Life as Kept}
 use Rattle.channel_slots.specs.Events.{event_in}
 use Rattle.channel_slots.specs.Lives as lives
-use Rattle.channel_slots.specs.Lives.{Steps, events_in}
-use Rattle.channel_slots.proofs.StageLemmas.{stays-on}
+use Rattle.channel_slots.specs.Lives.{Steps}
+use Rattle.channel_slots.specs.NewsEvents.{events_of, has_lost}
+use Rattle.channel_slots.proofs.QuietLemmas.{on-now, over-now}
+use Rattle.channel_slots.proofs.StageLemmas.{is-on}
 use Rattle.channel_slots.specs.Slots.{StandsFor, Tells, IsOn}
 
 -- ---- commands that have come by now
@@ -39,6 +41,20 @@ unfolding HaveCome
 by-later n m [] h early = tt
 by-later n m (c ∷ commands) h early =
     (omega (arith, h, early.0), by-later n m commands h early.1)
+
+-- all but the last of the first j
+front-take : {A : Type 0} (j : ℕ) (xs : List A) → j ≤ length xs
+    → front_of (take j xs) ≡ take (j - 1) xs
+unfolding front_of
+front-take j xs h =
+    let n : length (take j xs) ≡ j = length-take-le j xs h in
+    rw n (take-fewer (j - 1) j xs (omega arith))
+  where
+    take-fewer : {A : Type 0} (i j : ℕ) (xs : List A) → i ≤ j → take i (take j xs) ≡ take i xs
+    take-fewer zero j xs h = refl
+    take-fewer (suc i) zero xs h = absurd (omega (arith, h))
+    take-fewer (suc i) (suc j) [] h = refl
+    take-fewer (suc i) (suc j) (x ∷ xs) h = ap (λ l. x ∷ l) (take-fewer i j xs (omega (arith, h)))
 
 -- ---- the life that is on in a slot
 pub record HasLife (settings : Settings) (xs : List Sample) (commands : List TimedRequest)
@@ -63,8 +79,8 @@ module _ (settings : Settings) (xs : List Sample) (commands : List TimedRequest)
         life = on.0;
         of = on.1;
         stands = on.2;
-        now = rw (append-nil xs) at
-            (stays-on settings xs commands on.0 l.stage on.2.stage s.early on.1 []);
+        now = rw (append-nil xs) at (on-now settings xs [] commands on.0 s.early on.1
+            (rw (append-nil xs) (is-on settings xs on.0 l.stage on.2.stage)));
       }
 
   -- ---- what it answers, by the life that is on
@@ -169,32 +185,72 @@ module _ (settings : Settings) (xs : List Sample) (commands : List TimedRequest)
       };
     }
 
-    pub life-tells : (old new : Kept) (r : Option Counts) (events : List Event) → slot ≡ On old
-        → ((life : Life) → lives.StandsFor settings xs life old
-        → Steps settings xs ys life new r)
-        → map event_in events ≡ events_in r → Tells settings xs ys commands (On new) events
-    unfolding HaveCome
-    life-tells old new r events e steps same =
-        let i = has-life old e in
-        let st = steps i.life i.stands in
-        record {
-          inside = λ j first b.
-              told-by i (take j ys) (omega (arith, length-take j ys)) ∙ st.inside j first b;
-          told = same ∙ sym (told-by i ys some ∙ st.told);
-          stands = record {
-            early = by-later (length xs) (length (xs ++ ys)) commands (omega (arith, both)) s.early;
-            on = (i.life, life_of-append settings xs ys commands s.early ∙ i.of, st.stands);
-          };
-        }
-      where
-        told-by : (i : HasLife settings xs commands old) (zs : List Sample) → 0 < length zs
-            → events_at_end settings (xs ++ zs) commands
-            ≡ life_events settings (xs ++ zs) (Some i.life)
-        told-by i zs more =
-            events-behind settings xs zs commands more
-            ∙ ap (life_events settings (xs ++ zs))
-            (stays-on settings xs commands i.life old.stage i.stands.stage s.early i.of
-            (front_of zs))
+    -- what is told by a life that is on before the last of these
+    told-by : (old : Kept) (i : HasLife settings xs commands old) (zs : List Sample)
+        → 0 < length zs → is_over settings (xs ++ front_of zs) i.life ≡ false
+        → events_at_end settings (xs ++ zs) commands
+        ≡ life_events settings (xs ++ zs) (Some i.life)
+    told-by old i zs more on =
+        events-behind settings xs zs commands more
+        ∙ ap (life_events settings (xs ++ zs))
+        (on-now settings xs (front_of zs) commands i.life s.early i.of on)
+
+    module _ (old new : Kept) (news : Option SlotNews) (e : slot ≡ On old)
+        (steps : (life : Life) → lives.StandsFor settings xs life old
+        → Steps settings xs ys life new news) where
+      own : HasLife settings xs commands old
+      own = has-life old e
+
+      step : Steps settings xs ys own.life new news
+      step = steps own.life own.stands
+
+      quiet : (j : ℕ) → 0 < j → j < length ys
+          → events_at_end settings (xs ++ take j ys) commands ≡ []
+      quiet j first b =
+          told-by old own (take j ys) (omega (arith, first, b, length-take j ys))
+          (rw (front-take j ys (omega (arith, b))) (step.on (j - 1) (omega (arith, b))))
+          ∙ step.inside j first b
+
+      told : map event_in (events_of news) ≡ events_at_end settings (xs ++ ys) commands
+      unfolding front_of
+      told = step.told
+          ∙ sym (told-by old own ys some (step.on (length ys - 1) (omega (arith, some))))
+
+      early : HaveCome (length (xs ++ ys)) commands
+      unfolding HaveCome
+      early = by-later (length xs) (length (xs ++ ys)) commands (omega (arith, both)) s.early
+
+      -- it goes on
+      pub life-tells : has_lost news ≡ false
+          → Tells settings xs ys commands (On new) (events_of news)
+      unfolding HaveCome
+      life-tells on = record {
+        inside = quiet;
+        told = told;
+        stands = record {
+          early = early;
+          on = (
+            own.life,
+            life_of-append settings xs ys commands s.early ∙ own.of,
+            step.stands on,
+          );
+        };
+      }
+
+      -- or the slot is idle from then on
+      pub lost-tells : has_lost news ≡ true
+          → Tells settings xs ys commands Idle (events_of news)
+      unfolding HaveCome
+      lost-tells lost = record {
+        inside = quiet;
+        told = told;
+        stands = record {
+          early = early;
+          on = λ zs. rw (append_assoc xs ys zs) (over-now settings xs (ys ++ zs) commands own.life
+              s.early own.of (rw (← append_assoc xs ys zs) (is_over-append settings (xs ++ ys) zs
+              own.life (step.ends lost))));
+        };
+      }
 
 -- before the first sample and command
 pub stands-new : (settings : Settings) → StandsFor settings [] [] Idle

@@ -1,65 +1,139 @@
 -- What a life follows: what is shown of it, and what it brings to the life.
 use Rattle.std.proofs.Common.{◌≡◌, ℕ, ◌<◌, ◌≤◌, List, [], ◌∷◌, ◌++◌, length, take, refl, sym, ap}
-use Rattle.std.proofs.Common.{◌∙◌, arith}
-use Rattle.std.specs.Prelude.{Option, Some, None, nat_lt}
+use Rattle.std.proofs.Common.{◌∙◌, arith, append-nil, true, false}
+use Rattle.std.specs.Prelude.{ℤ, Bool, Option, Some, None, nat_lt, option_map}
+use Rattle.std.specs.Prelude.{MatchOption, IsSomeAnd}
 use Rattle.std.specs.List.{AllByRecursion}
 use Rattle.std.proofs.lemmas.List.{length-take}
 use Rattle.definitions.specs.Samples.{Sample}
 use Rattle.definitions.specs.Oscillators.{Settings}
-use Rattle.definitions.specs.Segments.{Channel, Dump, progress}
-use Rattle.definitions.specs.Commands.{TimedRequest, state}
-use Rattle.definitions.specs.Answers.{shown, holding, answer_with, view_of}
-use Rattle.definitions.specs.Lives.{Life, held_channel, dumps_of_life, life_of, life_now}
-use Rattle.definitions.specs.Events.{unprinted_count, count, life_events, when}
-use Rattle.definitions.proofs.LifeLemmas.{hold-quiet, hold-tells, dumps-within, life_now-hold}
+use Rattle.definitions.specs.Segments.{Channel, Dump as DefinedDump, progress, counts_of}
+use Rattle.definitions.specs.Loops.{shift_after}
+use Rattle.definitions.specs.Lock.{is_locked}
+use Rattle.definitions.specs.BitEdge.{has_edge}
+use Rattle.definitions.specs.Commands.{hold, track, state}
+use Rattle.definitions.specs.Answers.{shown, holding, tracking, answer_with, view_of}
+use Rattle.definitions.specs.Answers.{life_view, channel_view}
+use Rattle.definitions.specs.Lives.{Life, held_channel, tracked_channel, channel_of}
+use Rattle.definitions.specs.Lives.{dumps_of_life, is_over, lost_after, doppler_shift}
+use Rattle.definitions.specs.Events.{unprinted_count, count, life_events, when, pushes_of}
+use Rattle.std.specs.Option.{is_some}
+use Rattle.definitions.proofs.BlockLemmas.{progress-begun}
+use Rattle.definitions.proofs.EndLemmas.{no_counts-not_lost}
+use Rattle.definitions.proofs.LifeLemmas.{hold-quiet, hold-tells, dumps-within}
 use Rattle.lane_correlator.specs.declared.counts.Counts.{Counts}
 use Rattle.lane_correlator.specs.Counting.{counts_in}
+use Rattle.channels.specs.declared.dump.Dump.{Dump}
 use Rattle.channels.specs.declared.held.Held.{Held}
+use Rattle.channels.specs.declared.tracked.Tracked.{Tracked}
+use Rattle.channels.specs.Dumps.{plain_dump}
 use Rattle.channels.specs.Following.{QuietInside}
 use Rattle.channels.specs.HeldChannels as held
-use Rattle.channel_slots.specs.Stages.{IsHeld, Takes, Brings}
+use Rattle.channels.specs.TrackedChannels as tracked
+use Rattle.channels.specs.TrackedChannels.{counts_so_far}
+use Rattle.channels.proofs.LockedLemmas.{edge-locked}
+use Rattle.channel_slots.specs.declared.stage.Stage.{Stage}
+use Rattle.channel_slots.specs.declared.stage.Stage.TheVariants.{Holding, Tracking}
+use Rattle.channel_slots.specs.Stages as stages
+use Rattle.channel_slots.specs.Stages.{IsHeld, IsTracked, Follows, Takes, Brings}
+use Rattle.channel_slots.proofs.TrackLemmas.{own, tracked-dumps, tracked-by-now, tracked-on}
+use Rattle.channel_slots.proofs.TrackLemmas.{quiet-dumps, quiet-on, quiet-events, goes-on}
+use Rattle.channel_slots.proofs.TrackLemmas.{ends-here, tracked-brings}
 
-abbrev pub channel_of : (settings : Settings) (xs : List Sample) (life : Life) (h : Held)
+abbrev pub own_channel : (settings : Settings) (xs : List Sample) (life : Life) (h : Held)
     → IsHeld settings xs life h → Channel
-channel_of settings xs life h s = held_channel life.begun s.prn s.doppler s.half_chip
+own_channel settings xs life h s = held_channel life.begun s.prn s.doppler s.half_chip
 
--- its dumps are those of its channel
+-- the dumps of a held life are those of its channel
 held-dumps : (settings : Settings) (xs ys : List Sample) (life : Life) (h : Held)
     → (s : IsHeld settings xs life h) → dumps_of_life settings ys life
-    ≡ (progress settings (channel_of settings xs life h s) ys).dumps
+    ≡ (progress settings (own_channel settings xs life h s) ys).dumps
 unfolding dumps_of_life
 held-dumps settings xs ys life h s = rw s.start
 
--- they are all among the samples
-pub dumps-by-now : (settings : Settings) (xs : List Sample) (life : Life) (h : Held)
-    → IsHeld settings xs life h
-    → AllByRecursion (λ (d : Dump). d.time ≤ length xs) (dumps_of_life settings xs life)
-dumps-by-now settings xs life h s =
-    rw (held-dumps settings xs xs life h s)
-    (dumps-within settings (channel_of settings xs life h s) xs s.holds.follows.at.begun)
+-- it isn't over, whatever samples come
+held-on : (settings : Settings) (xs ys : List Sample) (life : Life) (h : Held)
+    → IsHeld settings xs life h → is_over settings ys life ≡ false
+unfolding is_over
+held-on settings xs ys life h s = rw s.start
 
--- a life that is followed is on, whatever samples come
-pub stays-on : (settings : Settings) (xs : List Sample) (commands : List TimedRequest)
-    (life : Life) (h : Held) → IsHeld settings xs life h
-    → AllByRecursion (λ (c : TimedRequest). c.time ≤ length xs) commands
-    → life_of settings xs commands ≡ Some life → (ys : List Sample)
-    → life_now settings (xs ++ ys) commands ≡ Some life
-stays-on settings xs commands life h s early of ys =
-    life_now-hold settings xs ys commands life s.prn s.doppler s.half_chip s.start early of
+-- all dumps are among the samples
+pub dumps-by-now : (settings : Settings) (xs : List Sample) (life : Life) (stage : Stage)
+    → Follows settings xs life stage
+    → AllByRecursion (λ (d : DefinedDump). d.time ≤ length xs) (dumps_of_life settings xs life)
+dumps-by-now settings xs life (Holding h) s =
+    rw (held-dumps settings xs xs life h s)
+    (dumps-within settings (own_channel settings xs life h s) xs s.holds.follows.at.begun)
+dumps-by-now settings xs life (Tracking t) s = tracked-by-now settings xs life t s
+
+-- a life that is followed is on
+pub is-on : (settings : Settings) (xs : List Sample) (life : Life) (stage : Stage)
+    → Follows settings xs life stage → is_over settings xs life ≡ false
+is-on settings xs life (Holding h) s = held-on settings xs xs life h s
+is-on settings xs life (Tracking t) s = tracked-on settings xs life t s
 
 -- what is shown of it
-pub shows : (settings : Settings) (xs : List Sample) (life : Life) (h : Held) (n dumps : ℕ)
+pub shows-held : (settings : Settings) (xs : List Sample) (life : Life) (h : Held) (n dumps : ℕ)
     → IsHeld settings xs life h → n ≡ held.prn_of h → dumps ≡ held.dumps_of h
     → shown (holding n dumps) ≡ answer_with settings xs (Some life) state
 unfolding dumps_of_life view_of
-shows settings xs life h n dumps s prn is =
+shows-held settings xs life h n dumps s prn is =
     rw (s.start, prn, s.holds.follows.at.prn, is, s.holds.dumps)
 
--- what it answers is what ys behind xs bring
+-- before the first dump no signal is lost
+none-yet : (settings : Settings) (xs : List Sample) (prn : ℕ) (doppler : ℤ) (half_chip : ℕ)
+    → lost_after (counts_so_far settings (tracked_channel (length xs) prn doppler half_chip) xs)
+    ≡ None
+none-yet settings xs prn doppler half_chip =
+    ap (λ p. lost_after (counts_of p.dumps))
+    (progress-begun settings (tracked_channel (length xs) prn doppler half_chip) xs (omega arith))
+    ∙ by_lost (lost_after []) no_counts-not_lost
+  where
+    by_lost : (o : Option ℕ) → is_some o ≡ false → o ≡ None
+    by_lost None e = refl
+    by_lost (Some k) e = cc
+
+-- a life that begins now
+pub starts-held : (settings : Settings) (xs : List Sample) (life : Life) (h : Held) (prn : ℕ)
+    (doppler : ℤ) (half_chip : ℕ) → life.begun ≡ length xs
+    → life.start ≡ hold prn doppler half_chip
+    → held.Holds settings (held_channel (length xs) prn doppler half_chip) xs h
+    → IsHeld settings xs life h
+starts-held settings xs life h prn doppler half_chip begun start holds = record {
+  prn = prn;
+  doppler = doppler;
+  half_chip = half_chip;
+  start = start;
+  holds = rw begun holds;
+}
+
+pub starts-tracked : (settings : Settings) (xs : List Sample) (life : Life) (t : Tracked)
+    (prn : ℕ) (doppler : ℤ) (half_chip : ℕ) → life.begun ≡ length xs
+    → life.start ≡ track prn doppler half_chip
+    → tracked.Tracks settings (tracked_channel (length xs) prn doppler half_chip) xs t
+    → IsTracked settings xs life t
+starts-tracked settings xs life t prn doppler half_chip begun start tracks = record {
+  prn = prn;
+  doppler = doppler;
+  half_chip = half_chip;
+  start = start;
+  tracks = rw begun tracks;
+  not_lost = rw begun (none-yet settings xs prn doppler half_chip);
+}
+
+-- held dumps tell their sums alone
+pub plain-map : (o : Option Counts) (r : Option Dump)
+    → MatchOption o (r ≡ None) (λ c. IsSomeAnd r (λ d. d ≡ plain_dump c))
+    → r ≡ option_map plain_dump o
+plain-map None r h = h
+plain-map (Some c) None h = absurd h
+plain-map (Some c) (Some d) h = ap (λ e. Some e) h
+
+-- a held life and what ys behind xs bring to it
 module _ (settings : Settings) (xs ys : List Sample) (life : Life) (h : Held)
     (s : IsHeld settings xs life h) (some : 0 < length ys) where
   abbrev channel : Channel
-  channel = channel_of settings xs life h s
+  channel = own_channel settings xs life h s
 
   quiet-inside : QuietInside settings channel xs ys → (j : ℕ) → 0 < j → j < length ys
       → life_events settings (xs ++ take j ys) (Some life) ≡ []
@@ -67,35 +141,127 @@ module _ (settings : Settings) (xs ys : List Sample) (life : Life) (h : Held)
       hold-quiet settings xs (take j ys) life s.prn s.doppler s.half_chip s.start
       s.holds.follows.at.begun (omega (arith, length-take j ys)) (inside j b)
 
-  brings : (r : Option Counts) (g : Held) → held.Takes settings channel xs ys g r
-      → Brings settings xs ys life r
-  brings None g t = (
+  held-brings : (r : Option Counts) (g : Held) → held.Takes settings channel xs ys g r
+      → Brings settings xs ys life (option_map plain_dump r)
+  held-brings None g t = (
     held-dumps settings xs (xs ++ ys) life h s
         ∙ ap (λ p. p.dumps) t.brings ∙ sym (held-dumps settings xs xs life h s),
     hold-quiet settings xs ys life s.prn s.doppler s.half_chip s.start
         s.holds.follows.at.begun some t.brings,
   )
-  brings (Some c) g t =
-      let d : Dump = record { time = length (xs ++ ys); counts = counts_in c } in (
+  held-brings (Some c) g t =
+      let d : DefinedDump = record { time = length (xs ++ ys); counts = counts_in c } in (
         held-dumps settings xs (xs ++ ys) life h s
             ∙ t.brings
             ∙ ap (λ ds. ds ++ d ∷ []) (sym (held-dumps settings xs xs life h s)),
         hold-tells settings (xs ++ ys) life s.prn s.doppler s.half_chip s.start
             (progress settings channel xs).dumps d t.brings refl
             ∙ ap (λ ds. when (nat_lt 0 (unprinted_count life ds)) (count (counts_in c)))
-            (sym (held-dumps settings xs xs life h s)),
+            (sym (held-dumps settings xs xs life h s))
+            ∙ sym (append-nil _),
       )
 
-  pub takes : (r : Option Counts) (g : Held) → held.Takes settings channel xs ys g r
-      → Takes settings xs ys life g r
-  takes r g t = record {
+  pub held-takes : (r : Option Counts) (g : Held) → held.Takes settings channel xs ys g r
+      → Takes settings xs ys life (Holding g) (option_map plain_dump r)
+  held-takes r g t = record {
     inside = quiet-inside t.inside;
-    brings = brings r g t;
-    stands = record {
+    on = λ j b. held-on settings xs (xs ++ take j ys) life h s;
+    brings = held-brings r g t;
+    stands = λ on. record {
       prn = s.prn;
       doppler = s.doppler;
       half_chip = s.half_chip;
       start = s.start;
       holds = t.stands;
     };
+    ends = λ over. absurd (never r over);
   }
+    where
+      never : (r : Option Counts) → stages.is_lost_with (option_map plain_dump r) ≡ true → ⊥
+      never None e = cc
+      never (Some c) e = cc
+
+tracked-view : (settings : Settings) (xs : List Sample) (life : Life) (prn : ℕ) (doppler : ℤ)
+    (half_chip : ℕ) → life.start ≡ track prn doppler half_chip → (dumps : List DefinedDump)
+    → dumps_of_life settings xs life ≡ dumps → answer_with settings xs (Some life) state
+    ≡ shown (tracking prn (length (counts_of dumps))
+    (shift_after (doppler_shift doppler) (counts_of dumps)) (is_locked (counts_of dumps))
+    (has_edge (pushes_of (counts_of dumps))))
+unfolding view_of
+tracked-view settings xs life prn doppler half_chip is dumps all =
+    ap (λ o. shown (life_view settings xs life o)) (ap (channel_of settings xs life.begun) is)
+    ∙ ap (λ start. shown (channel_view start (dumps_of_life settings xs life)
+    (tracked_channel life.begun prn doppler half_chip))) is
+    ∙ ap (λ ds. shown (channel_view (track prn doppler half_chip) ds
+    (tracked_channel life.begun prn doppler half_chip))) all
+
+-- a tracked life, what is shown of it, and what ys behind xs bring to it
+module _ (settings : Settings) (xs : List Sample) (life : Life) (t : Tracked)
+    (s : IsTracked settings xs life t) where
+  pub shows-tracked : (n dumps : ℕ) (v w : ℤ) (locked edge phase_locked phase_edge : Bool)
+      → n ≡ (own settings xs life t s).prn
+      → dumps ≡ length (counts_so_far settings (own settings xs life t s) xs)
+      → v ≡ ((own settings xs life t s).steering
+      (counts_so_far settings (own settings xs life t s) xs)).v
+      → w ≡ ((own settings xs life t s).steering
+      (counts_so_far settings (own settings xs life t s) xs)).w
+      → locked ≡ is_locked (counts_so_far settings (own settings xs life t s) xs)
+      → edge ≡ has_edge (pushes_of (counts_so_far settings (own settings xs life t s) xs))
+      → phase_edge ≡ edge → ((edge ≡ true → locked ≡ true) → phase_locked ≡ locked)
+      → shown (tracking n dumps (record { v = v; w = w }) phase_locked phase_edge)
+      ≡ answer_with settings xs (Some life) state
+  shows-tracked n dumps v w locked edge phase_locked phase_edge prn many v-is w-is lock-is edge-is
+      phase same =
+      let known : edge ≡ true → locked ≡ true =
+      λ e. lock-is ∙ edge-locked _ (sym edge-is ∙ e) in
+      rw (prn, many, v-is, w-is, same known ∙ lock-is, phase ∙ edge-is) (sym view)
+    where
+      view : answer_with settings xs (Some life) state
+          ≡ shown (tracking (own settings xs life t s).prn
+          (length (counts_so_far settings (own settings xs life t s) xs))
+          ((own settings xs life t s).steering
+          (counts_so_far settings (own settings xs life t s) xs))
+          (is_locked (counts_so_far settings (own settings xs life t s) xs))
+          (has_edge (pushes_of (counts_so_far settings (own settings xs life t s) xs))))
+      view = tracked-view settings xs life s.prn s.doppler s.half_chip s.start
+          (progress settings (own settings xs life t s) xs).dumps
+          (tracked-dumps settings xs life t s)
+
+  pub tracked-takes : (ys : List Sample) → 0 < length ys → (d : Option Dump) (g : Tracked)
+      → tracked.Takes settings (own settings xs life t s) xs ys g d
+      → Takes settings xs ys life (Tracking g) d
+  tracked-takes ys some d g r = record {
+    inside = λ j first b.
+        quiet-events settings xs life t s ys some (take j ys) (r.inside j b)
+        (omega (arith, first, b, length-take j ys));
+    on = λ j b. quiet-on settings xs life t s ys some (take j ys) (r.inside j b);
+    brings = by_dump d r;
+    stands = λ on. record {
+      prn = s.prn;
+      doppler = s.doppler;
+      half_chip = s.half_chip;
+      start = s.start;
+      tracks = r.stands;
+      not_lost = still d r on;
+    };
+    ends = over d r;
+  }
+    where
+      by_dump : (d : Option Dump) → tracked.Takes settings (own settings xs life t s) xs ys g d
+          → Brings settings xs ys life d
+      by_dump None r = (
+        quiet-dumps settings xs life t s ys some ys r.brings,
+        quiet-events settings xs life t s ys some ys r.brings some,
+      )
+      by_dump (Some d) r = tracked-brings settings xs life t s ys some d g r
+
+      still : (d : Option Dump) → tracked.Takes settings (own settings xs life t s) xs ys g d
+          → stages.is_lost_with d ≡ false
+          → lost_after (counts_so_far settings (own settings xs life t s) (xs ++ ys)) ≡ None
+      still None r on = rw r.brings s.not_lost
+      still (Some d) r on = goes-on settings xs life t s ys some d g r on
+
+      over : (d : Option Dump) → tracked.Takes settings (own settings xs life t s) xs ys g d
+          → stages.is_lost_with d ≡ true → is_over settings (xs ++ ys) life ≡ true
+      over None r now = cc
+      over (Some d) r now = ends-here settings xs life t s ys some d g r now

@@ -4,7 +4,10 @@ use Rattle.std.proofs.Common.{◌≡◌, ℕ, zero, suc, ◌+◌, ◌-◌, ◌<�
 use Rattle.std.proofs.Common.{take, drop, refl, sym, ap, ◌∙◌, arith, length-append, append-nil}
 use Rattle.std.proofs.Common.{append_assoc}
 use Rattle.std.specs.Prelude.{Bool, true, false, map, nat_lt, if◌then◌else◌}
-use Rattle.channels.proofs.HeldLemmas.{one-dump}
+use Rattle.channels.proofs.ChanceLemmas.{one-chance as one-segment}
+use Rattle.channel_slots.specs.declared.stage.Stage.{Stage}
+use Rattle.channel_slots.specs.declared.stage.Stage.TheVariants.{Holding, Tracking}
+use Rattle.channel_slots.specs.Stages.{chance}
 use Rattle.channel_slots.specs.declared.slot.Slot.{Slot}
 use Rattle.channel_slots.specs.declared.slot.Slot.TheVariants.{Idle, On}
 use Rattle.std.proofs.lemmas.List.{map-append}
@@ -94,7 +97,7 @@ take_part (x ∷ xs) (suc n) m =
     ap (λ (k : ℕ). take k (x ∷ xs)) e ∙ ap (λ (l : List Sample). x ∷ l) (take_part xs n m)
 
 -- ---- a place through a run
-pub goes-begin : (left time : ℕ) (p : Place) (before : List SlotEvent) → chances p.slot left ≤ 1
+pub goes-begin : (left time : ℕ) (p : Place) (before : List SlotEvent) → chances p.slot left ≤ 6
     → PlaceGoes left [] time p p before before
 unfolding at_each_sample put_all
 goes-begin left time p before few = record {
@@ -134,7 +137,7 @@ goes-more left n ys zs time p q r before mid after g a is some within short =
           simp length-append (omega (arith, now)) in
           let step = s.tells settings (xs ++ ys) commands one before_it.stands in
           let f : List Sample → List DefinedSlotEvent =
-              slot_tells settings p.client p.number commands in
+          slot_tells settings p.client p.number commands in
           let quiet : (j : ℕ) → 0 < j → j < length zs → f ((xs ++ ys) ++ take j zs) ≡ [] =
           λ j first b. ap (λ (l : List Event). slot_events p.client p.number
           (length ((xs ++ ys) ++ take j zs)) l) (step.inside j first b) in
@@ -156,6 +159,10 @@ goes-more left n ys zs time p q r before mid after g a is some within short =
     both_told es fs ts us a b = map-append told_in es fs ∙ (λ i. a i ++ b i)
 
 -- in 1,024 samples there is one dump of a slot at most
-pub one-chance : (slot : Slot) (left : ℕ) → chances slot left ≤ 1
+one-stage : (stage : Stage) (left : ℕ) → chance stage left ≤ 1
+one-stage (Holding h) left = one-segment h.follower left
+one-stage (Tracking t) left = one-segment t.follower left
+
+pub one-chance : (slot : Slot) (left : ℕ) → chances slot left ≤ 6
 one-chance Idle left = omega arith
-one-chance (On life) left = one-dump life.stage left
+one-chance (On life) left = omega (arith, one-stage life.stage left)

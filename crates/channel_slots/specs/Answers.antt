@@ -1,8 +1,9 @@
 -- Answers to commands as the definitions have them.
-use Rattle.std.specs.Prelude.{ℕ}
-use Rattle.definitions.specs.Answers.{View, idle, holding, Answer as DefinedAnswer, accepted}
-use Rattle.definitions.specs.Answers.{refused}
-use Rattle.definitions.specs.Answers.{shown}
+use Rattle.std.specs.Prelude.{ℕ, Bool, true, false}
+use Rattle.definitions.specs.Answers.{View, idle, holding, tracking, Answer as DefinedAnswer}
+use Rattle.definitions.specs.Answers.{accepted, refused, shown}
+use Rattle.channel_slots.specs.declared.answer.Phase.{Phase}
+use Rattle.channel_slots.specs.declared.answer.Phase.TheVariants.{Unlocked, Locked, Edged}
 use Rattle.channel_slots.specs.declared.answer.SlotState.{SlotState}
 use Rattle.channel_slots.specs.declared.answer.SlotState.TheVariants as states
 use Rattle.channel_slots.specs.declared.answer.Refusal.{Refusal}
@@ -10,9 +11,21 @@ use Rattle.channel_slots.specs.declared.answer.Refusal.TheVariants as refusals
 use Rattle.channel_slots.specs.declared.answer.Answer.{Answer}
 use Rattle.channel_slots.specs.declared.answer.Answer.TheVariants.{Accepted, Refused, State}
 
+abbrev pub is_locked_in : Phase → Bool
+is_locked_in Unlocked = false
+is_locked_in Locked = true
+is_locked_in Edged = true
+
+abbrev pub has_edge_in : Phase → Bool
+has_edge_in Unlocked = false
+has_edge_in Locked = false
+has_edge_in Edged = true
+
 abbrev pub view_in : SlotState → View
 view_in states.Idle = idle
 view_in (states.Hold prn dumps) = holding prn dumps
+view_in (states.Track prn dumps v w phase) =
+    tracking prn dumps (record { v = v; w = w }) (is_locked_in phase) (has_edge_in phase)
 
 -- the number that is printed
 abbrev pub number_of : Refusal → ℕ

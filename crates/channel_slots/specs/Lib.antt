@@ -4,6 +4,7 @@ pub mod Banks
 pub mod Commands
 pub mod Events
 pub mod Lives
+pub mod NewsEvents
 pub mod Orders
 pub mod Slots
 pub mod Stages

@@ -1,29 +1,35 @@
 -- What a slot that is on stands for: a life over the samples so far.
-use Rattle.std.specs.Prelude.{◌≡◌, ◌≤◌, ◌<◌, ℕ, List, [], ◌∷◌, ◌++◌, length, take}
-use Rattle.std.specs.Prelude.{Option, Some, None}
+use Rattle.std.specs.Prelude.{◌≡◌, ◌≤◌, ◌<◌, ℕ, true, false, List, [], ◌++◌, length, take, map}
+use Rattle.std.specs.Prelude.{Option, Some}
 use Rattle.definitions.specs.Samples.{Sample}
 use Rattle.definitions.specs.Oscillators.{Settings}
-use Rattle.definitions.specs.Lives.{Life as DefinedLife, dumps_of_life}
-use Rattle.definitions.specs.Events.{Event, unprinted_count, count, life_events}
-use Rattle.lane_correlator.specs.declared.counts.Counts.{Counts}
-use Rattle.lane_correlator.specs.Counting.{counts_in}
+use Rattle.definitions.specs.Commands.{Start}
+use Rattle.definitions.specs.Lives.{Life as DefinedLife, dumps_of_life, is_over}
+use Rattle.definitions.specs.Events.{unprinted_count, life_events}
 use Rattle.channel_slots.specs.declared.life.Life.{Life}
-use Rattle.channel_slots.specs.Stages.{IsHeld}
+use Rattle.channel_slots.specs.declared.slot_news.SlotNews.{SlotNews}
+use Rattle.channel_slots.specs.Events.{event_in}
+use Rattle.channel_slots.specs.NewsEvents.{events_of, has_lost}
+use Rattle.channel_slots.specs.Stages.{Follows}
+
+-- a life that begins at a time, before any counts are asked for
+abbrev pub first_life : ℕ → Start → DefinedLife
+first_life time start =
+    record { begun = time; start = start; wanted = 0; wanted_from = time }
 
 pub record StandsFor (settings : Settings) (xs : List Sample) (life : DefinedLife) (l : Life)
     : Type 0 where
-  pub stage : IsHeld settings xs life l.stage
+  pub stage : Follows settings xs life l.stage
   pub left : l.unprinted ≡ unprinted_count life (dumps_of_life settings xs life)
   pub asked : life.wanted_from ≤ length xs
 
-abbrev pub events_in : Option Counts → List Event
-events_in None = []
-events_in (Some c) = count (counts_in c) ∷ []
-
--- with ys behind xs the life tells nothing before the last of them, and then what was answered
+-- with ys behind xs the life tells nothing before the last of them, and then what was answered; it
+-- goes on, or is over where the signal is lost
 pub record Steps (settings : Settings) (xs ys : List Sample) (life : DefinedLife) (l : Life)
-    (counts : Option Counts) : Type 0 where
+    (news : Option SlotNews) : Type 0 where
   pub inside : (j : ℕ) → 0 < j → j < length ys
       → life_events settings (xs ++ take j ys) (Some life) ≡ []
-  pub told : life_events settings (xs ++ ys) (Some life) ≡ events_in counts
-  pub stands : StandsFor settings (xs ++ ys) life l
+  pub on : (j : ℕ) → j < length ys → is_over settings (xs ++ take j ys) life ≡ false
+  pub told : map event_in (events_of news) ≡ life_events settings (xs ++ ys) (Some life)
+  pub stands : has_lost news ≡ false → StandsFor settings (xs ++ ys) life l
+  pub ends : has_lost news ≡ true → is_over settings (xs ++ ys) life ≡ true

@@ -1,5 +1,5 @@
 -- What a slot stands for: the samples so far and the commands that it was given.
-use Rattle.std.specs.Prelude.{◌≡◌, ◌≤◌, ◌<◌, ℕ, List, [], ◌++◌, length, take, map, Some, None}
+use Rattle.std.specs.Prelude.{◌≡◌, ◌≤◌, ◌<◌, ◌*◌, ℕ, List, [], ◌++◌, length, take, map, Some, None}
 use Rattle.std.specs.List.{AllByRecursion}
 use Rattle.definitions.specs.Samples.{Sample}
 use Rattle.definitions.specs.Oscillators.{Settings}
@@ -10,27 +10,28 @@ use Rattle.channel_slots.specs.declared.slot.Slot.{Slot}
 use Rattle.channel_slots.specs.declared.slot.Slot.TheVariants.{Idle, On}
 use Rattle.channel_slots.specs.declared.event.Event.{Event}
 use Rattle.channel_slots.specs.Events.{event_in}
-use Rattle.channels.specs.HeldChannels as held
+use Rattle.channel_slots.specs.Stages as stages
 use Rattle.channel_slots.specs.Lives as lives
+use Rattle.channel_slots.specs.declared.slot.TheConstants.{SLOT_EVENTS}
 
 -- a run of n samples doesn't go past the slot's next event
 abbrev pub MayStep : Slot → ℕ → Type 0
 MayStep Idle n = Unit
-MayStep (On life) n = held.MayTake life.stage n
+MayStep (On life) n = stages.MayTake life.stage n
 
 -- the slot's next event comes with the last of n samples, or before it
 abbrev pub ComesToEvent : Slot → ℕ → Type 0
 ComesToEvent Idle n = ⊥
-ComesToEvent (On life) n = held.Ends life.stage n
+ComesToEvent (On life) n = stages.Ends life.stage n
 
--- how many events the slot may tell within so many samples
+-- how many events the slot may tell within so many samples, of which there are at most 1,024
 abbrev pub chances : Slot → ℕ → ℕ
 chances Idle left = 0
-chances (On life) left = held.chance life.stage left
+chances (On life) left = SLOT_EVENTS * stages.chance life.stage left
 
 abbrev pub dumps_of : Slot → ℕ
 dumps_of Idle = 0
-dumps_of (On life) = held.dumps_of life.stage
+dumps_of (On life) = stages.dumps_of life.stage
 
 -- the life that is on after the samples and commands: none, whatever samples come, or its own
 abbrev pub IsOn : Settings → List Sample → List TimedRequest → Slot → Type 0

@@ -1,9 +1,36 @@
 //! What commands are answered.
 
-ghost use Rattle.std.specs.Prelude.{◌≡◌};
-ghost use Rattle.channel_slots.specs.Answers.{number_of};
+ghost use Rattle.std.specs.Prelude.{◌≡◌, true};
+ghost use Rattle.channel_slots.specs.Answers.{number_of, is_locked_in, has_edge_in};
 
 use ca_codes::Prn;
+
+/// How far a tracking slot has come with its signal.
+#[derive(Clone, Copy, Debug, PartialEq, Eq)]
+pub enum Phase {
+    /// Its loops aren't locked.
+    Unlocked,
+    /// They are locked, and the edge of the data bits isn't found.
+    Locked,
+    /// They are locked, and the edge is found.
+    Edged,
+}
+
+impl Phase {
+    /// The phase of a channel that is locked or not, and whose edge is found or not. Where it is
+    /// found the channel is locked.
+    pub fn of(is_locked: bool, has_edge: bool) -> Phase
+        ensures edge { has_edge_in result ≡ has_edge }
+        ensures locked { (has_edge ≡ true → is_locked ≡ true)
+            → is_locked_in result ≡ is_locked }
+    {
+        match (is_locked, has_edge) {
+            (_, true) => Phase::Edged,
+            (true, false) => Phase::Locked,
+            (false, false) => Phase::Unlocked,
+        }
+    }
+}
 
 /// What a slot shows of itself.
 #[derive(Clone, Copy, Debug, PartialEq, Eq)]
@@ -11,7 +38,19 @@ pub enum SlotState {
     /// Nothing is asked of it.
     Idle,
     /// It follows a satellite at a fixed Doppler shift, and has had so many dumps.
-    Hold { prn: Prn, dumps: u64 },
+    Hold {
+        prn: Prn,
+        dumps: u64,
+    },
+    /// It tracks a satellite, and has had so many dumps. Its carrier is shifted by `v`, in 1/65536
+    /// Hz, and its code's rate corrected by `w`, in 1/65536 chip a second.
+    Track {
+        prn: Prn,
+        dumps: u64,
+        v: i64,
+        w: i64,
+        phase: Phase,
+    },
 }
 
 /// Why a slot refuses a command.

@@ -56,6 +56,13 @@ pub enum Command {
         doppler: Doppler,
         half: HalfChip,
     },
+    /// Track a satellite, from a Doppler shift and a half chip of its code on: its loops steer it.
+    Track {
+        slot: SlotNo,
+        prn: Prn,
+        doppler: Doppler,
+        half: HalfChip,
+    },
     /// Print the next `n` dumps; 0 ends printing.
     Counts {
         slot: SlotNo,
@@ -80,6 +87,7 @@ impl Command {
     {
         match self {
             Command::Hold { slot, .. }
+            | Command::Track { slot, .. }
             | Command::Counts { slot, .. }
             | Command::State { slot }
             | Command::Stop { slot } => *slot,

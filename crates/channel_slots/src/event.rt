@@ -1,5 +1,7 @@
 //! What the samples make the slots tell.
 
+use data_sets::{AlmanacSet, Report};
+use frame_sync::Subframe;
 use lane_correlator::Counts;
 
 /// What the samples make a slot tell.
@@ -7,12 +9,28 @@ use lane_correlator::Counts;
 pub enum Event {
     /// A dump that was asked for: its six sums.
     Count(Counts),
+    /// With this dump the loops are locked.
+    Lock,
+    /// With this dump they aren't any more.
+    Unlock,
+    /// The signal is lost, and the slot is idle.
+    Lost,
+    /// The edge of the data bits was found.
+    Bits,
+    /// So many bits lie between the end of the subframe before and the start of the next one.
+    Gap(u64),
+    /// A subframe is whole.
+    Sub(Subframe),
+    /// A page, or the clock and ephemeris that it completes.
+    Page(Report),
+    /// The almanacs of all satellites.
+    Almanacs(AlmanacSet),
 }
 
 // The rooms of a list that no event was put into.
 impl Default for Event {
     fn default() -> Self {
-        Event::Count(Counts::NONE)
+        Event::Lock
     }
 }
 

@@ -1,14 +1,14 @@
 //! A slot that is on.
 
-ghost use Rattle.std.specs.Prelude.{◌≡◌, ◌≤◌, ◌<◌, ◌+◌, ◌-◌, ◌^◌};
-ghost use Rattle.channels.specs.declared.held.TheConstants.{MOST_DUMPS};
+ghost use Rattle.std.specs.Prelude.{◌≡◌, ◌≤◌, ◌<◌, ◌+◌, ◌-◌};
+ghost use Rattle.tracking_loops.specs.declared.limits.TheConstants.{MOST_DUMPS};
 ghost use Rattle.sample_planes.specs.declared.planes.TheConstants.{MAX_SAMPLES};
 
 use crate::answer::SlotState;
-use ca_codes::{CodeBook, Prn};
-use channels::Held;
+use crate::slot_news::SlotNews;
+use crate::stage::Stage;
+use ca_codes::CodeBook;
 use lane_correlator::Counts;
-use oscillators::{Doppler, HalfChip, Settings};
 use sample_planes::Planes;
 
 /// What a slot does from its start on: how many dumps are still to be printed, which only commands
@@ -16,35 +16,35 @@ use sample_planes::Planes;
 #[derive(Debug, Drop)]
 pub struct Life {
     unprinted: u32,
-    stage: Held,
+    stage: Stage,
 }
 
 impl Life {
-    ghost use Rattle.std.specs.Prelude.{ℕ, List, length, Some};
+    ghost use Rattle.std.specs.Prelude.{ℕ, List, length, Some, nat_lt};
     ghost use Rattle.definitions.specs.Samples.{Sample};
     ghost use Rattle.definitions.specs.Oscillators.{Settings as DefinedSettings};
-    ghost use Rattle.definitions.specs.Commands.{hold, state};
+    ghost use Rattle.definitions.specs.Commands.{Start, state};
     ghost use Rattle.definitions.specs.Lives.{Life as DefinedLife, life_wanting};
     ghost use Rattle.definitions.specs.Answers.{shown, answer_with};
+    ghost use Rattle.definitions.specs.Events.{count, when};
+    ghost use Rattle.lane_correlator.specs.Counting.{counts_in};
+    ghost use Rattle.channel_slots.specs.NewsEvents.{count_in};
     ghost use Rattle.channels.specs.Following.{how_many};
     ghost use Rattle.channels.specs.Parts.{part};
     ghost use Rattle.channel_slots.specs.Answers.{view_in};
-    ghost use Rattle.channels.specs.HeldChannels.{MayTake, Ends, chance, dumps_of};
-    ghost use Rattle.channel_slots.specs.Lives.{StandsFor, Steps};
+    ghost use Rattle.channel_slots.specs.Stages.{Follows, MayTake, Ends, chance, dumps_of};
+    ghost use Rattle.channel_slots.specs.Lives.{StandsFor, Steps, first_life};
 
-    /// It holds a satellite from the next sample on, and prints nothing.
-    pub fn hold(settings: &Settings, prn: Prn, doppler: Doppler, half: HalfChip) -> Life
-        ensures stands { (xs : List Sample) → StandsFor settings.now xs (record {
-          begun = length xs;
-          start = hold prn doppler half;
-          wanted = 0;
-          wanted_from = length xs;
-        }) result }
-        ensures dumps { dumps_of result.stage ≡ 0 }
+    /// It follows a stage from the next sample on, and prints nothing.
+    pub fn start(stage: Stage) -> Life
+        ensures stands { (settings : DefinedSettings) (xs : List Sample) (start : Start)
+            → Follows settings xs (first_life (length xs) start) stage
+            → StandsFor settings xs (first_life (length xs) start) result }
+        ensures dumps { dumps_of result.stage ≡ dumps_of stage }
     {
         Life {
             unprinted: 0,
-            stage: Held::start(settings, prn, doppler, half),
+            stage,
         }
     }
 
@@ -67,27 +67,39 @@ impl Life {
         self.stage.to_dump()
     }
 
-    /// What is shown of it.
+    /// What it shows of itself.
     pub fn state(&self) -> SlotState
         ensures { (settings : DefinedSettings) (xs : List Sample) (life : DefinedLife)
             → StandsFor settings xs life self.now
             → shown (view_in result) ≡ answer_with settings xs (Some life) state }
     {
-        SlotState::Hold {
-            prn: self.stage.prn(),
-            dumps: self.stage.dumps(),
+        self.stage.state()
+    }
+
+    /// The sums of the next dump, if some are still to be printed. That is one fewer then.
+    fn count(&mut self, counts: Counts) -> Option<Counts>
+        ensures count { count_in result
+            ≡ when (nat_lt 0 self.old.unprinted) (count (counts_in counts)) }
+        ensures left { self.new.unprinted ≡ self.old.unprinted - 1 }
+        ensures stage { self.new.stage ≡ self.old.stage }
+    {
+        if self.unprinted == 0 {
+            return None;
         }
+        self.unprinted -= 1;
+        Some(counts)
     }
 
     /// Takes `count` samples of a run, from sample `from` on, that don't go past its next event. It
-    /// answers the dump that comes with the last of them, if one comes and is to be printed.
+    /// answers what is told with the dump that comes with the last of them, if one comes. Where the
+    /// signal is lost with it, the life is over.
     pub fn step(
         &mut self,
         run: &Planes,
         from: usize,
         count: usize,
         book: &mut CodeBook,
-    ) -> Option<Counts>
+    ) -> Option<SlotNews>
         requires some { 0 < count }
         requires within { from + count ≤ length run.now }
         requires before { MayTake self.old.stage count }
@@ -100,11 +112,11 @@ impl Life {
             → chance self.new.stage (left - count) + how_many result
             ≤ chance self.old.stage left }
     {
-        let counts = self.stage.take(run, from, count, book)?;
-        if self.unprinted == 0 {
-            return None;
-        }
-        self.unprinted -= 1;
-        Some(counts)
+        let dump = self.stage.take(run, from, count, book)?;
+        Some(SlotNews {
+            count: self.count(dump.counts),
+            lock: dump.lock,
+            message: dump.message,
+        })
     }
 }

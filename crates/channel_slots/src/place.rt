@@ -11,27 +11,37 @@ ghost use Rattle.channel_slots.specs.Commands.{request_in};
 ghost use Rattle.channel_slots.specs.declared.bank.TheConstants.{MOST_TIME};
 ghost use Rattle.channel_slots.specs.declared.command.TheConstants.{CLIENT_SLOTS};
 ghost use Rattle.channel_slots.specs.declared.place.TheConstants.{MOST_CLIENTS, RUN_EVENTS};
+ghost use Rattle.channel_slots.specs.declared.place.TheConstants.{FRAME_EVENTS};
+ghost use Rattle.channel_slots.specs.NewsEvents.{if_any, lock_events, frame_events, events_with};
 ghost use Rattle.channel_slots.specs.declared.slot.TheConstants.{SLOT_EVENTS};
-ghost use Rattle.channels.specs.declared.held.TheConstants.{MOST_DUMPS};
+ghost use Rattle.tracking_loops.specs.declared.limits.TheConstants.{MOST_DUMPS};
 ghost use Rattle.sample_planes.specs.declared.planes.TheConstants.{MAX_SAMPLES};
 
 use crate::answer::Answer;
 use crate::command::{CLIENT_SLOTS, Command};
-use crate::event::SlotEvent;
+use crate::event::{Event, SlotEvent};
 use crate::slot::{SLOT_EVENTS, Slot};
+use crate::slot_news::SlotNews;
 use crate::timeline::put_in_time;
 use arrayvec::ArrayVec;
 use ca_codes::CodeBook;
+use data_sets::Reports;
+use frame_sync::Found;
+use nav_message::MessageNews;
 use oscillators::Settings;
 use sample_planes::Planes;
 use std::alloc::{AllocError, Global};
+use tracking_loops::News;
 
 /// The most clients.
 pub const MOST_CLIENTS: u8 = 8;
 
-/// The most events of a run of samples: at most one dump in each slot, and what else comes with
-/// it.
+/// The most events of a run of samples: each slot has at most one dump in it, with all that comes
+/// with it.
 pub const RUN_EVENTS: usize = 256;
+
+/// The most events that come with a subframe: a gap, the subframe, a page and a set of almanacs.
+const FRAME_EVENTS: usize = 4;
 
 /// A client's slot: clients are numbered from 1, their slots from 0.
 #[derive(Debug, Default, Drop)]
@@ -49,7 +59,7 @@ impl Place {
     ghost use Rattle.channels.specs.Parts.{part};
     ghost use Rattle.channel_slots.specs.Answers.{answer_in, IsRefusal};
     ghost use Rattle.channel_slots.specs.Slots.{MayStep, StandsFor, dumps_of};
-    ghost use Rattle.channel_slots.specs.Banks.{PlaceAdds, PlaceGoes};
+    ghost use Rattle.channel_slots.specs.Banks.{PlaceAdds, PlaceGoes, PutsIn};
 
     /// Takes `count` samples of a run, from sample `from` on, that don't go past the slot's next
     /// event. It adds what they tell with the last of them, at that time.
@@ -70,16 +80,58 @@ impl Place {
         ensures { PlaceAdds (part run.now from count) time self.old self.new events.old.items
             events.new.items }
     {
-        let news = self.slot.step(run, from, count, book);
-        for event in news.as_slice() {
-            let told = SlotEvent {
-                client: self.client,
-                slot: self.number,
-                time,
-                event: *event,
-            };
-            put_in_time(events, told);
+        if let Some(news) = self.slot.step(run, from, count, book) {
+            self.put_news(&news, time, events);
         }
+    }
+
+    /// Puts in an event of its slot, if there is one.
+    fn put(&self, event: Option<Event>, time: u64, events: &mut ArrayVec<SlotEvent, RUN_EVENTS>)
+        requires { array_vec_len events.old < RUN_EVENTS }
+        ensures { PutsIn self.now time (if_any event) events.old.items events.new.items }
+    {
+        let Some(event) = event else {
+            return;
+        };
+        let told = SlotEvent {
+            client: self.client,
+            slot: self.number,
+            time,
+            event,
+        };
+        put_in_time(events, told);
+    }
+
+    /// Puts in all that comes with a dump.
+    fn put_news(&self, news: &SlotNews, time: u64, events: &mut ArrayVec<SlotEvent, RUN_EVENTS>)
+        requires { array_vec_len events.old + SLOT_EVENTS ≤ RUN_EVENTS }
+        ensures { PutsIn self.now time (events_with news.now) events.old.items events.new.items }
+    {
+        self.put(news.count.map(Event::Count), time, events);
+        self.put(lock_event(news.lock), time, events);
+        match &news.message {
+            MessageNews::Nothing => {}
+            MessageNews::Edge => self.put(Some(Event::Bits), time, events),
+            MessageNews::Frame { found, reports } => self.put_frame(found, reports, time, events),
+        }
+    }
+
+    /// Puts in a subframe, with the gap before it and what its page makes reported.
+    fn put_frame(
+        &self,
+        found: &Found,
+        reports: &Reports,
+        time: u64,
+        events: &mut ArrayVec<SlotEvent, RUN_EVENTS>,
+    )
+        requires { array_vec_len events.old + FRAME_EVENTS ≤ RUN_EVENTS }
+        ensures { PutsIn self.now time (frame_events found.now reports.now) events.old.items
+            events.new.items }
+    {
+        self.put(found.gap.map(Event::Gap), time, events);
+        self.put(Some(Event::Sub(found.subframe)), time, events);
+        self.put(reports.page.map(Event::Page), time, events);
+        self.put(reports.set.map(Event::Almanacs), time, events);
     }
 
     /// Takes a run of samples, and puts in by time what they tell.
@@ -92,8 +144,8 @@ impl Place {
     )
         requires short { length run.now ≤ MAX_SAMPLES }
         requires room { time + length run.now ≤ MOST_TIME }
-        requires few { dumps_of self.old.slot ≤ MOST_TIME }
-        requires fits { array_vec_len events.old + SLOT_EVENTS < RUN_EVENTS }
+        requires few { dumps_of self.old.slot ≤ time }
+        requires fits { array_vec_len events.old + 2 * SLOT_EVENTS ≤ RUN_EVENTS }
         ensures { PlaceGoes 0 run.now time self.old self.new events.old.items events.new.items }
     {
         let len = run.len();
@@ -121,6 +173,18 @@ impl Place {
         ensures dumps { dumps_of self.new.slot ≤ dumps_of self.old.slot }
     {
         self.slot.command(settings, command)
+    }
+}
+
+/// What a slot tells of the lock.
+fn lock_event(lock: News) -> Option<Event>
+    ensures { if_any result ≡ lock_events lock }
+{
+    match lock {
+        News::Nothing => None,
+        News::Lock => Some(Event::Lock),
+        News::Unlock => Some(Event::Unlock),
+        News::Lost => Some(Event::Lost),
     }
 }
 
@@ -154,8 +218,9 @@ pub fn run_all(
 )
     requires short { length run.now ≤ MAX_SAMPLES }
     requires room { time + length run.now ≤ MOST_TIME }
-    requires few { AllFew MOST_TIME places.old }
-    requires fits { array_vec_len events.old + length places.old + SLOT_EVENTS < RUN_EVENTS }
+    requires few { AllFew time places.old }
+    requires fits { array_vec_len events.old + SLOT_EVENTS * (length places.old + 1)
+        ≤ RUN_EVENTS }
     ensures { RunsAll run.now time places.old places.new events.old.items events.new.items }
 {
     for place in places.iter_mut() {

@@ -1,22 +1,21 @@
 //! One slot: what it tells of the samples, and what it answers to its client.
 
-ghost use Rattle.std.specs.Prelude.{◌≡◌, ◌≤◌, ◌<◌, ◌+◌, ◌-◌, ◌*◌, ◌^◌, [], ◌∷◌};
-ghost use Rattle.channels.specs.declared.held.TheConstants.{MOST_DUMPS};
+ghost use Rattle.std.specs.Prelude.{◌≡◌, ◌≤◌, ◌<◌, ◌+◌, ◌-◌};
+ghost use Rattle.tracking_loops.specs.declared.limits.TheConstants.{MOST_DUMPS};
 ghost use Rattle.sample_planes.specs.declared.planes.TheConstants.{MAX_SAMPLES};
-ghost use Rattle.channel_slots.specs.declared.event.Event.TheVariants.{Count};
 
 use crate::answer::{Answer, Refusal, SlotState};
 use crate::command::Command;
-use crate::event::Event;
 use crate::life::Life;
-use arrayvec::ArrayVec;
+use crate::slot_news::SlotNews;
+use crate::stage::Stage;
 use ca_codes::CodeBook;
-use lane_correlator::Counts;
 use oscillators::Settings;
 use sample_planes::Planes;
 
-/// The most events of a slot that come together.
-pub const SLOT_EVENTS: usize = 4;
+/// The most events that a slot tells with a dump: the dump, a change of lock, and a gap, a
+/// subframe, a page and a set of almanacs.
+pub const SLOT_EVENTS: usize = 6;
 
 /// A slot: idle, or with a life of its own.
 #[derive(Debug, Default, Drop)]
@@ -30,13 +29,17 @@ impl Slot {
     ghost use Rattle.std.specs.Prelude.{ℕ, List, [], ◌∷◌, ◌++◌, length, Some};
     ghost use Rattle.definitions.specs.Samples.{Sample};
     ghost use Rattle.definitions.specs.Oscillators.{Settings as DefinedSettings};
-    ghost use Rattle.definitions.specs.Commands.{TimedRequest, state};
+    ghost use Rattle.definitions.specs.Commands.{TimedRequest, Start, begin, state};
     ghost use Rattle.definitions.specs.Answers.{answer_at_end, shown};
     ghost use Rattle.channel_slots.specs.Commands.{request_in};
     ghost use Rattle.channels.specs.Parts.{part};
     ghost use Rattle.channel_slots.specs.Answers.{answer_in, view_in, IsRefusal};
     ghost use Rattle.channel_slots.specs.Slots.{chances, StandsFor, Tells, MayStep, ComesToEvent};
     ghost use Rattle.channel_slots.specs.Slots.{dumps_of};
+    ghost use Rattle.channel_slots.specs.Lives.{first_life};
+    ghost use Rattle.channel_slots.specs.NewsEvents.{events_of};
+    ghost use Rattle.channel_slots.specs.Stages.{Follows};
+    ghost use Rattle.channel_slots.specs.Stages as stages;
 
     /// A slot that was never asked for anything.
     pub fn new() -> Slot
@@ -68,15 +71,14 @@ impl Slot {
     }
 
     /// Takes `count` samples of a run, from sample `from` on, that don't go past the slot's next
-    /// event. It answers the events that are told with the last of them, in their order. The book
-    /// is any book of codes.
+    /// event. It answers what is told with the last of them. The book is any book of codes.
     pub fn step(
         &mut self,
         run: &Planes,
         from: usize,
         count: usize,
         book: &mut CodeBook,
-    ) -> ArrayVec<Event, SLOT_EVENTS>
+    ) -> Option<SlotNews>
         requires some { 0 < count }
         requires within { from + count ≤ length run.now }
         requires may { MayStep self.old count }
@@ -84,18 +86,20 @@ impl Slot {
         ensures tells { (settings : DefinedSettings) (xs : List Sample)
             (commands : List TimedRequest)
             → StandsFor settings xs commands self.old
-            → Tells settings xs (part run.now from count) commands self.new result.items }
+            → Tells settings xs (part run.now from count) commands self.new (events_of result) }
         ensures dumps { dumps_of self.new ≤ dumps_of self.old + 1 }
         ensures chances { (left : ℕ) → count ≤ left → left ≤ MAX_SAMPLES
-            → chances self.new (left - count) + length result.items ≤ chances self.old left }
+            → chances self.new (left - count) + length (events_of result)
+            ≤ chances self.old left }
     {
-        match self {
-            Slot::Idle => ArrayVec::new(),
-            Slot::On(life) => match life.step(run, from, count, book) {
-                None => ArrayVec::new(),
-                Some(counts) => counted(counts),
-            },
+        let Slot::On(life) = self else {
+            return None;
+        };
+        let news = life.step(run, from, count, book)?;
+        if news.is_loss() {
+            *self = Slot::Idle;
         }
+        Some(news)
     }
 
     /// What it shows of itself.
@@ -107,6 +111,30 @@ impl Slot {
         match self {
             Slot::Idle => SlotState::Idle,
             Slot::On(life) => life.state(),
+        }
+    }
+
+    /// Begins to follow a stage, if it is idle.
+    fn start(&mut self, stage: Stage) -> Answer
+        ensures answer { (settings : DefinedSettings) (xs : List Sample)
+            (commands : List TimedRequest) (start : Start)
+            → StandsFor settings xs commands self.old
+            → answer_in result ≡ answer_at_end settings xs commands (begin start) }
+        ensures stands { (settings : DefinedSettings) (xs : List Sample)
+            (commands : List TimedRequest) (start : Start)
+            → StandsFor settings xs commands self.old
+            → Follows settings xs (first_life (length xs) start) stage
+            → StandsFor settings xs (commands
+            ++ record { time = length xs; request = begin start } ∷ []) self.new }
+        ensures refused { IsRefusal result → self.new ≡ self.old }
+        ensures dumps { stages.dumps_of stage ≡ 0 → dumps_of self.new ≤ dumps_of self.old }
+    {
+        match self {
+            Slot::Idle => {
+                *self = Slot::On(Life::start(stage));
+                Answer::Accepted
+            }
+            Slot::On(_) => Answer::Refused(Refusal::Busy),
         }
     }
 
@@ -128,13 +156,13 @@ impl Slot {
                 prn,
                 doppler,
                 half,
-            } => match self {
-                Slot::Idle => {
-                    *self = Slot::On(Life::hold(settings, prn, doppler, half));
-                    Answer::Accepted
-                }
-                Slot::On(_) => Answer::Refused(Refusal::Busy),
-            },
+            } => self.start(Stage::hold(settings, prn, doppler, half)),
+            Command::Track {
+                slot: _,
+                prn,
+                doppler,
+                half,
+            } => self.start(Stage::track(settings, prn, doppler, half)),
             Command::Counts { slot: _, n } => match self {
                 Slot::Idle => Answer::Refused(Refusal::Idle),
                 Slot::On(life) => {
@@ -152,14 +180,4 @@ impl Slot {
             },
         }
     }
-}
-
-/// The event of a dump that was asked for.
-fn counted(counts: Counts) -> ArrayVec<Event, SLOT_EVENTS>
-    ensures { result.items ≡ Count counts ∷ [] }
-{
-    let mut events = ArrayVec::new();
-    // There is room for it. (The kit has no proof of a `push` of an enum that holds another.)
-    let _ = events.try_extend_from_slice(&[Event::Count(counts)]);
-    events
 }

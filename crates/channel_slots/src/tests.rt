@@ -25,6 +25,16 @@ fn slot_zero() -> Result<SlotNo, Fail> {
     Ok(SlotNo::new(0).ok_or("a slot")?)
 }
 
+/// A track that begins half a chip before the end of the code.
+fn track(prn: u8, doppler: i32) -> Result<Command, Fail> {
+    Ok(Command::Track {
+        slot: slot_zero()?,
+        prn: Prn::new(prn).ok_or("a satellite")?,
+        doppler: Doppler::new(doppler).ok_or("a shift")?,
+        half: HalfChip::new(2_045).ok_or("a half chip")?,
+    })
+}
+
 /// A hold that begins half a chip before the end of the code.
 fn hold(prn: u8, doppler: i32) -> Result<Command, Fail> {
     Ok(Command::Hold {
@@ -49,6 +59,7 @@ fn idle_and_busy_slots_answer(rt: HostRuntime) -> Result<(), Fail> {
         (state, Answer::State(SlotState::Idle)),
         (hold(1, 0)?, Answer::Accepted),
         (hold(2, 0)?, Answer::Refused(Refusal::Busy)),
+        (track(2, 0)?, Answer::Refused(Refusal::Busy)),
         (counts, Answer::Accepted),
         (
             state,
@@ -59,6 +70,21 @@ fn idle_and_busy_slots_answer(rt: HostRuntime) -> Result<(), Fail> {
         ),
         (stop, Answer::Accepted),
         (state, Answer::State(SlotState::Idle)),
+        (track(3, -1_000)?, Answer::Accepted),
+        (hold(1, 0)?, Answer::Refused(Refusal::Busy)),
+        (counts, Answer::Accepted),
+        (
+            state,
+            Answer::State(SlotState::Track {
+                prn: Prn::new(3).ok_or("a satellite")?,
+                dumps: 0,
+                v: -65_536_000,
+                w: 0,
+                phase: Phase::Unlocked,
+            }),
+        ),
+        (stop, Answer::Accepted),
+        (stop, Answer::Refused(Refusal::Idle)),
     ] {
         assert_eq!(rt; held.command(&settings, command), answer);
     }
@@ -103,16 +129,8 @@ fn told(slot: &mut Slot, most: usize, len: usize) -> Option<Counts>
     if samples.len() != slot.room(most) {
         return None;
     }
-    let events = slot.step(&samples, 0, samples.len(), &mut CodeBook::new());
-    counted(&events)
-}
-
-/// The sums of the first of these events, where it is a dump.
-fn counted(events: &[Event]) -> Option<Counts> {
-    match events.first() {
-        Some(Event::Count(counts)) => Some(*counts),
-        _ => None,
-    }
+    let news = slot.step(&samples, 0, samples.len(), &mut CodeBook::new())?;
+    news.count
 }
 
 // At two samples a chip the code begins half a chip before its end, so one sample ends the segment.

@@ -55,7 +55,3 @@ module _ (settings : Settings) (channel : Channel) (xs ys : List Sample) (h g : 
           dumps = rw cl.dumps (simp length-append (omega (arith, dumps, s.dumps)));
         };
       }
-
--- in 1,024 samples there is one dump at most
-pub one-dump : (h : Held) (left : ℕ) → chance h left ≤ 1
-one-dump h left = one-chance h.follower left

@@ -24,3 +24,8 @@ pub part-sums : (run : List Sample) (from count : ℕ) (r : Replica)
 part-sums run from count r =
     six_sums-same (λ j. sample_at run (from + j)) (sample_at (part run from count)) r 0 count
     (λ j low high. sym (part-at run from count j high))
+
+-- a part of some samples has some
+pub part-some : (run : List Sample) (from count : ℕ) → from + count ≤ length run → 0 < count
+    → 0 < length (part run from count)
+part-some run from count within h = rw (part-length run from count within) h

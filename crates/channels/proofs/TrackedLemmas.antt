@@ -1,14 +1,16 @@
 -- A tracked satellite, when it begins and when it takes samples.
 use Rattle.std.proofs.Common.{◌≡◌, ℕ, ℤ, List, [], ◌∷◌, ◌++◌, length, refl, sym, ap, subst, ◌∙◌}
 use Rattle.std.proofs.Common.{arith}
-use Rattle.std.specs.Prelude.{Some, None, pos}
+use Rattle.std.specs.Prelude.{Some, None, Bool}
 use Rattle.std.proofs.lemmas.List.{map-append}
 use Rattle.definitions.specs.Samples.{Sample}
 use Rattle.definitions.specs.Oscillators.{Settings}
 use Rattle.definitions.specs.Correlation.{Counts}
-use Rattle.definitions.specs.Segments.{Channel, Dump, Shift, counts_of, progress, first_progress}
+use Rattle.definitions.specs.Segments.{Channel, Dump as DefinedDump, Shift, counts_of}
+use Rattle.definitions.specs.Segments.{progress, first_progress}
 use Rattle.definitions.specs.Loops.{loops_after, shift_after}
-use Rattle.definitions.specs.Lock.{news_of}
+use Rattle.definitions.specs.Lock.{news_of, is_locked}
+use Rattle.definitions.specs.Events.{pushes_of, push_events, steered_events}
 use Rattle.definitions.specs.Lives.{held_channel, tracked_channel, doppler_shift}
 use Rattle.definitions.proofs.BlockLemmas.{progress-begun}
 use Rattle.lane_correlator.specs.Counting.{counts_in}
@@ -16,9 +18,11 @@ use Rattle.tracking_loops.specs.NewsIn.{news_in}
 use Rattle.tracking_loops.specs.Standing.{StandsFor}
 use Rattle.channels.specs.declared.follower.Follower.{Follower}
 use Rattle.channels.specs.declared.tracked.Tracked.{Tracked}
-use Rattle.channels.specs.declared.tracked.TrackedDump.{TrackedDump}
+use Rattle.channels.specs.declared.dump.Dump.{Dump}
 use Rattle.channels.specs.Following.{Follows, Opens, Stays, Closes}
-use Rattle.channels.specs.TrackedChannels.{Tracks, Takes}
+use Rattle.channels.specs.TrackedChannels.{Tracks, Takes, counts_so_far}
+use Rattle.channels.specs.LockedMessages as messages
+use Rattle.nav_message.specs.News.{events_in}
 
 module _ (settings : Settings) (xs : List Sample) (prn : ℕ) (doppler : ℤ) (half_chip : ℕ) where
   abbrev held : Channel
@@ -52,13 +56,15 @@ module _ (settings : Settings) (xs : List Sample) (prn : ℕ) (doppler : ℤ) (h
       }
 
   pub begins : (t : Tracked) → t.settings ≡ settings → Follows settings held xs t.follower
-      → StandsFor (doppler_shift doppler) [] t.loops → Tracks settings tracked xs t
-  begins t recorded follows loops = record {
+      → StandsFor (doppler_shift doppler) [] t.loops → messages.StandsFor [] t.message
+      → Tracks settings tracked xs t
+  begins t recorded follows loops message = record {
     shift = doppler_shift doppler;
     steered = λ dumps. refl;
     recorded = recorded;
     follows = as-held t.follower follows;
     loops = rw tracked-none loops;
+    message = rw tracked-none message;
   }
 
 module _ (settings : Settings) (channel : Channel) (xs ys : List Sample) (old new : Tracked)
@@ -67,8 +73,9 @@ module _ (settings : Settings) (channel : Channel) (xs ys : List Sample) (old ne
   before = counts_of (progress settings channel xs).dumps
 
   pub takes-on : Stays settings channel xs ys new.follower → new.settings ≡ old.settings
-      → new.loops ≡ old.loops → Takes settings channel xs ys new None
-  takes-on st same loops = record {
+      → new.loops ≡ old.loops → new.message ≡ old.message
+      → Takes settings channel xs ys new None
+  takes-on st same loops message = record {
     inside = st.inside;
     brings = st.same;
     stands = record {
@@ -77,6 +84,7 @@ module _ (settings : Settings) (channel : Channel) (xs ys : List Sample) (old ne
       recorded = same ∙ s.recorded;
       follows = st.follows;
       loops = rw (st.same, loops) s.loops;
+      message = rw (st.same, message) s.message;
     };
   }
 
@@ -86,7 +94,7 @@ module _ (settings : Settings) (channel : Channel) (xs ys : List Sample) (old ne
       → channel.steering (counts_of (progress known channel xs).dumps) ≡ record { v = v; w = w }
       → Follows known channel xs new.follower
 
-  pub takes-dump : (d : TrackedDump) (mid : Follower) (v w : ℤ)
+  pub takes-dump : (d : Dump) (mid : Follower) (v w : ℤ) (locked : Bool)
       → Closes settings channel xs ys (counts_in d.counts) mid → new.settings ≡ old.settings
       → ((channel : Channel) (xs : List Sample) → Opens old.settings channel xs mid
       → channel.steering (counts_of (progress old.settings channel xs).dumps)
@@ -94,35 +102,53 @@ module _ (settings : Settings) (channel : Channel) (xs ys : List Sample) (old ne
       → ((start : ℤ) (dumps : List Counts) → StandsFor start dumps old.loops
       → StandsFor start (dumps ++ counts_in d.counts ∷ []) new.loops)
       → ((start : ℤ) (dumps : List Counts) → StandsFor start dumps old.loops
-      → news_in d.news ≡ news_of (dumps ++ counts_in d.counts ∷ []))
+      → news_in d.lock ≡ news_of (dumps ++ counts_in d.counts ∷ []))
       → ((start : ℤ) (dumps : List Counts) → StandsFor start dumps new.loops
       → v ≡ (loops_after start dumps).v)
       → ((start : ℤ) (dumps : List Counts) → StandsFor start dumps new.loops
       → w ≡ (loops_after start dumps).w)
+      → ((dumps : List Counts) → messages.StandsFor dumps old.message
+      → is_locked (dumps ++ counts_in d.counts ∷ []) ≡ locked
+      → messages.StandsFor (dumps ++ counts_in d.counts ∷ []) new.message)
+      → ((dumps : List Counts) → messages.StandsFor dumps old.message
+      → is_locked (dumps ++ counts_in d.counts ∷ []) ≡ locked
+      → events_in d.message ≡ push_events (pushes_of (dumps ++ counts_in d.counts ∷ [])))
+      → ((start : ℤ) (dumps : List Counts) → StandsFor start dumps new.loops
+      → locked ≡ is_locked dumps)
       → Takes settings channel xs ys new (Some d)
-  unfolding Steers
-  takes-dump d mid v w cl same steers stands news v-is w-is =
-      let dump : Dump = record { time = length (xs ++ ys); counts = counts_in d.counts } in
+  unfolding Steers steered_events
+  takes-dump d mid v w locked cl same steers stands news v-is w-is reads tells locked-is =
+      let dump : DefinedDump = record { time = length (xs ++ ys); counts = counts_in d.counts } in
       let all : counts_of (progress settings channel (xs ++ ys)).dumps
       ≡ before ++ counts_in d.counts ∷ [] =
       ap counts_of cl.dumps
-      ∙ map-append (λ (d : Dump). d.counts) (progress settings channel xs).dumps (dump ∷ []) in
+      ∙ map-append (λ (d : DefinedDump). d.counts) (progress settings channel xs).dumps
+      (dump ∷ []) in
       let loops : StandsFor s.shift (before ++ counts_in d.counts ∷ []) new.loops =
       stands s.shift before s.loops in
       let shift : channel.steering (counts_of (progress settings channel (xs ++ ys)).dumps)
       ≡ record { v = v; w = w } =
       s.steered _ ∙ ap (shift_after s.shift) all
       ∙ sym (same-shift v w _ _ (v-is s.shift _ loops) (w-is s.shift _ loops)) in
+      let now : is_locked (before ++ counts_in d.counts ∷ []) ≡ locked =
+      sym (locked-is s.shift _ loops) in
+      let told : news_in d.lock ≡ news_of (counts_so_far settings channel (xs ++ ys)) =
+      news s.shift before s.loops ∙ ap news_of (sym all) in
       let go : Steers mid v w settings = subst (Steers mid v w) s.recorded steers in
       record {
         inside = cl.inside;
-        brings = (cl.dumps, news s.shift before s.loops ∙ ap news_of (sym all));
+        brings = (
+          cl.dumps,
+          told,
+          rw (told, tells before s.message now, ← all) refl,
+        );
         stands = record {
           shift = s.shift;
           steered = s.steered;
           recorded = same ∙ s.recorded;
           follows = go channel (xs ++ ys) (record { at = cl.at; opens = cl.opens }) shift;
           loops = rw all loops;
+          message = rw all (reads before s.message now);
         };
       }
     where

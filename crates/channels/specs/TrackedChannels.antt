@@ -6,17 +6,17 @@ use Rattle.definitions.specs.Correlation.{Counts}
 use Rattle.definitions.specs.Segments.{Channel, progress, counts_of}
 use Rattle.definitions.specs.Loops.{shift_after}
 use Rattle.definitions.specs.Lock.{news_of}
+use Rattle.definitions.specs.Events.{Event, news_events, steered_events}
 use Rattle.lane_correlator.specs.Counting.{counts_in}
 use Rattle.tracking_loops.specs.NewsIn.{news_in}
 use Rattle.tracking_loops.specs.Standing.{StandsFor, dump_count}
+use Rattle.nav_message.specs.News.{events_in}
+use Rattle.channels.specs.LockedMessages as messages
 use Rattle.channels.specs.declared.tracked.Tracked.{Tracked}
-use Rattle.channels.specs.declared.tracked.TrackedDump.{TrackedDump}
+use Rattle.channels.specs.declared.dump.Dump.{Dump}
+use Rattle.channels.specs.Dumps.{steered_events_in}
 use Rattle.channels.specs.Following as segments
 use Rattle.channels.specs.Following.{Follows, QuietInside}
-
--- which satellite it is
-abbrev pub prn_of : Tracked → ℕ
-prn_of t = segments.prn_of t.follower
 
 -- how many dumps it has had
 abbrev pub dumps_of : Tracked → ℕ
@@ -34,6 +34,10 @@ Ends t count = segments.Ends t.follower count
 abbrev pub chance : Tracked → ℕ → ℕ
 chance t left = segments.chance t.follower left
 
+-- the sums of its dumps
+abbrev pub counts_so_far : Settings → Channel → List Sample → List Counts
+counts_so_far settings channel xs = counts_of (progress settings channel xs).dumps
+
 -- the channel is steered by loops that begin with a shift, and these have taken its dumps
 pub record Tracks (settings : Settings) (channel : Channel) (xs : List Sample) (t : Tracked)
     : Type 0 where
@@ -41,22 +45,24 @@ pub record Tracks (settings : Settings) (channel : Channel) (xs : List Sample) (
   pub steered : (dumps : List Counts) → channel.steering dumps ≡ shift_after shift dumps
   pub recorded : t.settings ≡ settings
   pub follows : Follows settings channel xs t.follower
-  pub loops : StandsFor shift (counts_of (progress settings channel xs).dumps) t.loops
+  pub loops : StandsFor shift (counts_so_far settings channel xs) t.loops
+  pub message : messages.StandsFor (counts_so_far settings channel xs) t.message
 
--- what ys behind xs bring is what was answered: no dump, or one with the last of them, with its
--- news
-abbrev pub Brings : Settings → Channel → List Sample → List Sample → Option TrackedDump → Type 0
+-- what ys behind xs bring is what was answered: no dump, or one with the last of them, with what it
+-- tells
+abbrev pub Brings : Settings → Channel → List Sample → List Sample → Option Dump → Type 0
 Brings settings channel xs ys None =
     progress settings channel (xs ++ ys) ≡ progress settings channel xs
 Brings settings channel xs ys (Some d) =
     ((progress settings channel (xs ++ ys)).dumps
     ≡ (progress settings channel xs).dumps
     ++ record { time = length (xs ++ ys); counts = counts_in d.counts } ∷ [])
-    × (news_in d.news ≡ news_of (counts_of (progress settings channel (xs ++ ys)).dumps))
+    × (news_in d.lock ≡ news_of (counts_so_far settings channel (xs ++ ys)))
+    × (steered_events_in d ≡ steered_events (counts_so_far settings channel (xs ++ ys)))
 
 -- with ys behind xs there is no dump before the last of them, and then what was answered
 pub record Takes (settings : Settings) (channel : Channel) (xs ys : List Sample) (t : Tracked)
-    (dump : Option TrackedDump) : Type 0 where
+    (dump : Option Dump) : Type 0 where
   pub inside : QuietInside settings channel xs ys
   pub brings : Brings settings channel xs ys dump
   pub stands : Tracks settings channel (xs ++ ys) t

@@ -15,12 +15,15 @@
 //!     }
 #![tactic(auto)]
 
+mod dump;
 mod follower;
 mod held;
+mod locked_message;
 #[cfg(test)]
 mod tests;
 mod tracked;
 
+pub use dump::Dump;
 pub use follower::Follower;
 pub use held::{Held, MOST_DUMPS};
-pub use tracked::{Tracked, TrackedDump};
+pub use tracked::Tracked;

@@ -1,32 +1,30 @@
 //! A satellite that is tracked: its loops steer it by its dumps.
 
-ghost use Rattle.std.specs.Prelude.{◌≡◌, ◌≤◌, ◌<◌, ◌+◌, ◌-◌};
+ghost use Rattle.std.specs.Prelude.{◌≡◌, ◌≤◌, ◌<◌, ◌+◌, ◌-◌, unsigned_abs};
+ghost use Rattle.tracking_loops.specs.Standing.{dump_count};
+ghost use Rattle.channels.specs.LockedMessages.{bit_count};
 ghost use Rattle.sample_planes.specs.declared.planes.TheConstants.{MAX_SAMPLES};
-ghost use Rattle.tracking_loops.specs.declared.limits.TheConstants.{MOST_DUMPS};
+ghost use Rattle.tracking_loops.specs.declared.limits.TheConstants.{MOST_DUMPS, MOST_SHIFT};
+ghost use Rattle.tracking_loops.specs.declared.limits.TheConstants.{MOST_CORRECTION};
 
+use crate::dump::Dump;
 use crate::follower::Follower;
+use crate::locked_message::LockedMessage;
 use ca_codes::{CodeBook, Prn};
-use lane_correlator::Counts;
 use oscillators::{Doppler, HalfChip, Settings};
 use sample_planes::Planes;
-use tracking_loops::{Loops, News};
-
-/// A dump of a tracked satellite: its six sums, and what they make of its lock.
-#[derive(Clone, Copy, Debug, PartialEq, Eq)]
-pub struct TrackedDump {
-    /// The sums of the segment.
-    pub counts: Counts,
-    /// What the loops tell with it.
-    pub news: News,
-}
+use tracking_loops::Loops;
 
 /// A satellite that is followed as its loops steer it: each dump goes to the loops, and their shift
-/// sets the steps of the next segment. It stands for its channel and the samples so far.
+/// sets the steps of the next segment. While they are locked its message is read. It stands for its
+/// channel and the samples so far.
 #[derive(Debug, Drop)]
 pub struct Tracked {
     settings: Settings,
     follower: Follower,
     loops: Loops,
+    message: LockedMessage,
+    ghost few_bits: { bit_count message ≤ dump_count loops },
 }
 
 impl Tracked {
@@ -37,7 +35,10 @@ impl Tracked {
     ghost use Rattle.definitions.specs.Lives.{tracked_channel};
     ghost use Rattle.channels.specs.Following.{how_many};
     ghost use Rattle.channels.specs.TrackedChannels.{Tracks, Takes, MayTake, Ends};
-    ghost use Rattle.channels.specs.TrackedChannels.{prn_of, dumps_of, chance};
+    ghost use Rattle.channels.specs.TrackedChannels.{dumps_of, chance, counts_so_far};
+    ghost use Rattle.definitions.specs.BitEdge.{has_edge};
+    ghost use Rattle.definitions.specs.Events.{pushes_of};
+    ghost use Rattle.definitions.specs.Lock.{is_locked};
     ghost use Rattle.channels.specs.Parts.{part};
 
     /// Begins at the next sample, with the code at a half chip of its cycle and the carrier at 0,
@@ -51,21 +52,64 @@ impl Tracked {
             settings: *settings,
             follower: Follower::start(settings, prn, doppler, half),
             loops: Loops::start(i64::from(doppler.get()) * 65_536),
+            message: LockedMessage::new(),
         }
     }
 
     /// The satellite that it follows.
     pub fn prn(&self) -> Prn
-        ensures { result ≡ prn_of self.now }
+        ensures { (settings : DefinedSettings) (channel : Channel) (xs : List Sample)
+            → Tracks settings channel xs self.now → result ≡ channel.prn }
     {
         self.follower.prn()
     }
 
-    /// The loops, which have taken its dumps.
-    pub fn loops(&self) -> &Loops
-        ensures { result.now ≡ self.now.loops }
+    /// How many dumps it has had.
+    pub fn dumps(&self) -> u64
+        ensures counted { result ≡ dumps_of self.now }
+        ensures is { (settings : DefinedSettings) (channel : Channel) (xs : List Sample)
+            → Tracks settings channel xs self.now
+            → result ≡ length (counts_so_far settings channel xs) }
     {
-        &self.loops
+        self.loops.dumps()
+    }
+
+    /// The Doppler shift at which it goes on, in 1/65536 Hz.
+    pub fn v(&self) -> i64
+        ensures small { unsigned_abs result ≤ MOST_SHIFT }
+        ensures is { (settings : DefinedSettings) (channel : Channel) (xs : List Sample)
+            → Tracks settings channel xs self.now
+            → result ≡ (channel.steering (counts_so_far settings channel xs)).v }
+    {
+        self.loops.v()
+    }
+
+    /// The correction of the code's rate at which it goes on, in 1/65536 chip a second.
+    pub fn w(&self) -> i64
+        ensures small { unsigned_abs result ≤ MOST_CORRECTION }
+        ensures is { (settings : DefinedSettings) (channel : Channel) (xs : List Sample)
+            → Tracks settings channel xs self.now
+            → result ≡ (channel.steering (counts_so_far settings channel xs)).w }
+    {
+        self.loops.w()
+    }
+
+    /// Says whether the loops are locked to the signal.
+    pub fn is_locked(&self) -> bool
+        ensures { (settings : DefinedSettings) (channel : Channel) (xs : List Sample)
+            → Tracks settings channel xs self.now
+            → result ≡ is_locked (counts_so_far settings channel xs) }
+    {
+        self.loops.locked()
+    }
+
+    /// Says whether the edge of the data bits is found since the last lock.
+    pub fn has_edge(&self) -> bool
+        ensures { (settings : DefinedSettings) (channel : Channel) (xs : List Sample)
+            → Tracks settings channel xs self.now
+            → result ≡ has_edge (pushes_of (counts_so_far settings channel xs)) }
+    {
+        self.message.has_edge()
     }
 
     /// How many samples there are to the next dump, at least 1.
@@ -86,7 +130,7 @@ impl Tracked {
         from: usize,
         count: usize,
         book: &mut CodeBook,
-    ) -> Option<TrackedDump>
+    ) -> Option<Dump>
         requires some { 0 < count }
         requires within { from + count ≤ length run.now }
         requires before { MayTake self.old count }
@@ -99,9 +143,14 @@ impl Tracked {
             → chance self.new (left - count) + how_many result ≤ chance self.old left }
     {
         let counts = self.follower.advance(run, from, count, book)?;
-        let news = self.loops.take(counts);
+        let lock = self.loops.take(counts);
         self.follower
             .steer(&self.settings, self.loops.v(), self.loops.w());
-        Some(TrackedDump { counts, news })
+        let message = self.message.take(&counts, self.loops.locked());
+        Some(Dump {
+            counts,
+            lock,
+            message,
+        })
     }
 }

@@ -19,6 +19,7 @@ mod line;
 mod number;
 mod refusal;
 mod script;
+mod start;
 #[cfg(test)]
 mod tests;
 mod verb;

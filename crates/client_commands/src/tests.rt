@@ -1,11 +1,11 @@
 //! Scripts and what the rules say of their lines.
 
+mod any_bytes;
+
 use super::*;
 use ca_codes::Prn;
 use channel_slots::{Command, SlotNo};
 use oscillators::{Doppler, HalfChip};
-use std::alloc::{AllocError, Global};
-use std::test::Fail;
 
 /// An entry: its time, and a command or the number of a refusal.
 type Answer = (u64, Result<Command, u8>);
@@ -50,6 +50,15 @@ fn hold(slot: u8, prn: u8, doppler: i32, half: u16) -> Option<Command> {
     })
 }
 
+fn track(slot: u8, prn: u8, doppler: i32, half: u16) -> Option<Command> {
+    Some(Command::Track {
+        slot: SlotNo::new(slot)?,
+        prn: Prn::new(prn)?,
+        doppler: Doppler::new(doppler)?,
+        half: HalfChip::new(half)?,
+    })
+}
+
 fn counts(slot: u8, n: u32) -> Option<Command> {
     Some(Command::Counts {
         slot: SlotNo::new(slot)?,
@@ -80,17 +89,31 @@ fn a_line_is_refused_by_its_first_case(rt: HostRuntime) {
         ("0 State 0", 0, 5),
         ("0", 0, 5),
         ("6 fly 0", 6, 5),
-        ("0 track 0 1 0 0", 0, 5),
+        ("0 Track 0 1 0 0", 0, 5),
+        ("0 acquire 0 1 0 0 1 20", 0, 5),
         ("6 stop", 6, 6),
         ("0 state 0 0", 0, 6),
+        ("0 track 0 1 0", 0, 6),
+        ("0 track 0 1 0 0 0", 0, 6),
+        ("0 hold 0 1 0 0 0", 0, 6),
         ("0 state 00000000000000", 0, 7),
         ("0 state --0", 0, 7),
         ("6 stop z", 6, 7),
         ("6 hold 0 z 0 0", 6, 7),
+        ("6 track 0 z 0 0", 6, 7),
+        ("6 track 0 1 - 0", 6, 7),
+        ("6 track 0 1 16000 2046x", 6, 7),
         ("6 hold 4 z 0 0", 6, 8),
+        ("6 track 4 z 0 0", 6, 8),
         ("0 hold 0 1 -16001 x", 0, 8),
         ("0 hold 0 33 0 0", 0, 8),
         ("0 hold 0 0 0 0", 0, 8),
+        ("0 hold 0 1 0 2046", 0, 8),
+        ("0 track 0 1 16001 x", 0, 8),
+        ("0 track 0 1 -16001 x", 0, 8),
+        ("0 track 0 33 0 0", 0, 8),
+        ("0 track 0 0 0 0", 0, 8),
+        ("0 track 0 1 0 2046", 0, 8),
         ("0 counts 0 1000001", 0, 8),
     ];
     for (line, time, number) in rows {
@@ -116,6 +139,9 @@ fn a_line_asks_for_its_command(rt: HostRuntime) {
             hold(1, 32, -16_000, 2_045),
         ),
         ("8 hold 2 1 16000 0\n", 8, hold(2, 1, 16_000, 0)),
+        ("0 track 0 32 -16000 2045", 0, track(0, 32, -16_000, 2_045)),
+        (" 8  track 3 01 16000 -0", 8, track(3, 1, 16_000, 0)),
+        ("0 track 0 7 1000 100", 0, track(0, 7, 1_000, 100)),
         ("9 counts 0 1000000", 9, counts(0, 1_000_000)),
     ];
     for (line, time, command) in rows {
@@ -144,6 +170,14 @@ fn times_go_on_from_line_to_line(rt: HostRuntime) {
         answers(b"5 hold 0 1 0 0\n4 stop 0\n5 stop 0"),
         [asked(5, hold(0, 1, 0, 0)), refused(5, 4), asked(5, stop(0))]
     );
+    assert_eq!(rt;
+        answers(b"5 track 0 1 0 0\n4 track 0 1 0 0\n5 track 1 1 0 0"),
+        [
+            asked(5, track(0, 1, 0, 0)),
+            refused(5, 4),
+            asked(5, track(1, 1, 0, 0)),
+        ]
+    );
     // So does one refused by 3.
     assert_eq!(rt;
         answers(b"7 state 1\nx\n7 state 2\n"),
@@ -158,49 +192,4 @@ fn times_go_on_from_line_to_line(rt: HostRuntime) {
         answers(b"6 fly 0\n5 stop 0"),
         [refused(6, 5), refused(6, 4), None]
     );
-}
-
-/// A register of 16 bits, whose low bytes take on every value.
-fn shifted(register: u16) -> u16 {
-    let low = register >> 1;
-    if register & 1 == 1 { low ^ 0xb400 } else { low }
-}
-
-/// Ten thousand runs of 0 to 96 bytes, each with a line feed behind it.
-fn any_bytes(alloc: Global) -> Result<Vec<u8>, AllocError> {
-    let mut register = 0xace1;
-    let mut text = Vec::new(alloc);
-    for run in 0..10_000 {
-        for _ in 0..run % 97 {
-            register = shifted(register);
-            text.push((register & 0xff) as u8)?;
-        }
-        text.push(b'\n')?;
-    }
-    Ok(text)
-}
-
-#[test]
-fn any_bytes_end(rt: HostRuntime) -> Result<(), Fail> {
-    let text = any_bytes(rt.alloc())?;
-    let mut script = Script::new(&text);
-    let mut refused = [0u32; 256];
-    let mut time = 0;
-    while let Some(timed) = script.next() {
-        assert!(rt; time <= timed.time);
-        time = timed.time;
-        if let Err(refusal) = timed.what {
-            let number = refusal.number() as usize;
-            refused[number] = refused[number].wrapping_add(1);
-        }
-    }
-    // The numbers were counted by a few lines of Python, written from the rules alone. The last
-    // line that has a time reads `9`.
-    assert_eq!(rt;
-        &refused[..9],
-        [0, 1_222, 10_436, 43, 3, 2, 0, 0, 0].as_slice()
-    );
-    assert_eq!(rt; time, 9);
-    assert!(rt; script.next().is_none());
-    Ok(())
 }

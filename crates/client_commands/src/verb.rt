@@ -9,6 +9,7 @@ ghost use Rattle.client_commands.specs.Reading.{verb_in};
 ghost use Rattle.client_commands.specs.declared.words.TheConstants.{MOST_WORDS};
 
 use crate::refusal::Refusal;
+use crate::start::Start;
 use crate::words::Words;
 use channel_slots::Command;
 
@@ -17,6 +18,8 @@ use channel_slots::Command;
 pub(crate) enum Verb {
     /// Follow a satellite at a fixed Doppler shift.
     Hold,
+    /// Track a satellite from a Doppler shift on.
+    Track,
     /// Print the next dumps.
     Counts,
     /// Show the slot.
@@ -32,6 +35,7 @@ impl Verb {
     {
         match name {
             b"hold" => Some(Verb::Hold),
+            b"track" => Some(Verb::Track),
             b"counts" => Some(Verb::Counts),
             b"state" => Some(Verb::State),
             b"stop" => Some(Verb::Stop),
@@ -45,7 +49,7 @@ impl Verb {
         ensures few { result ≤ MOST_WORDS }
     {
         match self {
-            Verb::Hold => 4,
+            Verb::Hold | Verb::Track => 4,
             Verb::Counts => 2,
             Verb::State | Verb::Stop => 1,
         }
@@ -57,12 +61,8 @@ impl Verb {
     {
         let mut words = Words::split(line, self.word_count())?;
         match self {
-            Verb::Hold => Ok(Command::Hold {
-                slot: words.slot()?,
-                prn: words.prn()?,
-                doppler: words.doppler()?,
-                half: words.half_chip()?,
-            }),
+            Verb::Hold => Ok(Start::read(&mut words)?.hold()),
+            Verb::Track => Ok(Start::read(&mut words)?.track()),
             Verb::Counts => Ok(Command::Counts {
                 slot: words.slot()?,
                 n: words.dumps()?,

@@ -11,7 +11,7 @@ use channel_slots::SlotNo;
 use oscillators::{Doppler, HalfChip};
 use std::marker::Model;
 
-/// The most words behind a verb: those of `hold`.
+/// The most words behind a verb: those of `hold` and `track`.
 pub(crate) const MOST_WORDS: usize = 4;
 
 /// The most dumps that a client can ask for at once.

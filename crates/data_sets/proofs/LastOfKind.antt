@@ -20,7 +20,7 @@ slice_get-last {A = A} xs x =
     ap (slice_get (xs ++ x ∷ [])) place ∙ slice_get-get_or (xs ++ x ∷ []) (length xs) x within
     ∙ ap (λ (y : A). Some y) (get_or-append_seam xs x [] x)
 
-last_page-more : (test : Page → Bool) (pages : List Page) (page : Page)
+pub last_page-more : (test : Page → Bool) (pages : List Page) (page : Page)
     → last_page test (pages ++ page ∷ []) ≡ (if test page then Some page else last_page test pages)
 last_page-more test pages page = by_test (test page) refl
   where

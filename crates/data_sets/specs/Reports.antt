@@ -11,6 +11,8 @@ use Rattle.subframes.specs.Entries.{kind_with, name_of}
 use Rattle.subframes.specs.PageViews.{named_fields_of}
 use Rattle.subframes.specs.Values as pages
 use Rattle.subframes.specs.Values.{numbers_of}
+use Rattle.data_sets.specs.declared.almanac_set.AlmanacSet.{AlmanacSet}
+use Rattle.data_sets.specs.declared.reports.Reports.{Reports}
 use Rattle.data_sets.specs.declared.report.Report.{Report}
 use Rattle.data_sets.specs.declared.report.Report.TheVariants.{Eph, Alm, Utc, Hlt, Msg}
 
@@ -21,6 +23,15 @@ report_in (Utc values) = single (record { kind = utc; values = values })
 report_in (Hlt values) = single (record { kind = health; values = values })
 report_in (Msg characters) =
     single (record { kind = message; values = map (λ c. pos c) characters })
+
+abbrev pub almanacs_in : AlmanacSet → sets.AlmanacSet
+almanacs_in set = record { toa = set.toa; health = set.health }
+
+abbrev pub reports_in : Reports → sets.Reports
+reports_in r = record {
+  page = option_map report_in r.page;
+  set = option_map almanacs_in r.set;
+}
 
 -- the fields of a clock and ephemeris
 abbrev pub ephemeris_fields : List fields.Field

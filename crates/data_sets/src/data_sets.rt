@@ -4,10 +4,12 @@ ghost use Rattle.std.specs.Prelude.{◌≡◌, List, [], ◌∷◌, ◌++◌, op
 ghost use Rattle.definitions.specs.Pages.{Page as DefinedPage};
 ghost use Rattle.definitions.specs.DataSets.{reports_of};
 ghost use Rattle.subframes.specs.PageViews.{page_in};
-ghost use Rattle.data_sets.specs.Reports.{report_in};
+ghost use Rattle.data_sets.specs.Reports.{report_in, reports_in};
 
+use crate::almanacs::Almanacs;
 use crate::ephemerides::Ephemerides;
 use crate::report::Report;
+use crate::reports::Reports;
 use subframes::Page;
 
 /// What is kept of a channel's pages to tell what the next one makes reported.
@@ -17,13 +19,19 @@ use subframes::Page;
 /// section 20.3.3.4.1). When their set is reported is this project's own. With each page of the
 /// three kinds the last of each are looked at. They are reported where they belong together and
 /// differ in any number from the set that was reported last, or none was. A report uses no page up.
+///
+/// The almanacs of satellites 1 to 32 belong together where they have one time of applicability
+/// (section 20.3.3.5.1.2). When they are reported is this project's own too. With each almanac the
+/// last of each satellite are looked at. They are reported where all are there, belong together and
+/// differ in any number from the set that was reported last, or none was.
 #[derive(Debug, Drop)]
 pub struct DataSets {
     ephemerides: Ephemerides,
+    almanacs: Almanacs,
 }
 
 impl DataSets {
-    ghost use Rattle.data_sets.specs.Standing.{StandsFor};
+    ghost use Rattle.data_sets.specs.Standing.{Follows, StandsFor};
 
     /// Stands for no pages.
     pub fn new() -> Self
@@ -31,18 +39,33 @@ impl DataSets {
     {
         DataSets {
             ephemerides: Ephemerides::new(),
+            almanacs: Almanacs::new(),
         }
     }
 
-    /// Takes the next page and gives what it makes reported: with a clock or ephemeris page the
-    /// set, if there is a new one, and with any other page that page. There may be any number of
-    /// pages.
-    #[tactic(auto, unfolding(crate::specs::Standing::StandsFor))]
-    pub fn take(&mut self, page: &Page) -> Option<Report>
+    /// Takes the next page and gives what it makes reported. With a clock or ephemeris page that is
+    /// the set, if there is a new one, and with any other page that page. Behind an almanac it is
+    /// the almanacs of all satellites too, if they are a new set. There may be any number of pages.
+    pub fn take(&mut self, page: &Page) -> Reports
         ensures stands { (pages : List DefinedPage) → StandsFor pages self.old
             → StandsFor (pages ++ page_in page.now ∷ []) self.new }
-        ensures page { (pages : List DefinedPage) → StandsFor pages self.old
+        ensures reports { (pages : List DefinedPage) → StandsFor pages self.old
+            → reports_in result ≡ reports_of (pages ++ page_in page.now ∷ []) }
+    {
+        Reports {
+            page: self.page_report(page),
+            set: self.almanacs.take(page),
+        }
+    }
+
+    /// Takes the next page and gives the report of the page itself, or of the set of clock and
+    /// ephemeris that it completes.
+    fn page_report(&mut self, page: &Page) -> Option<Report>
+        ensures follows { (pages : List DefinedPage) → Follows pages self.old.ephemerides
+            → Follows (pages ++ page_in page.now ∷ []) self.new.ephemerides }
+        ensures page { (pages : List DefinedPage) → Follows pages self.old.ephemerides
             → option_map report_in result ≡ (reports_of (pages ++ page_in page.now ∷ [])).page }
+        ensures almanacs { self.new.almanacs ≡ self.old.almanacs }
     {
         let set = self.ephemerides.take(page);
         match page {

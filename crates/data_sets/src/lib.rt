@@ -1,32 +1,44 @@
 //! What the pages of a satellite's message make reported (IS-GPS-200, section 20.3.3).
 //!
 //! [`DataSets`] takes the pages of a channel one by one. The clock and the two ephemeris pages are
-//! reported as one set where they are of one issue of data, and once as long as it stays the same;
-//! a page of any other kind is reported each time. The crate promises that the [`Report`] of each
-//! page is what the definition makes of all the pages so far, however many there are. A report
-//! tells its numbers in the order of its fields, or one by the name of its field.
+//! reported as one set where they are of one issue of data, and once as long as it stays the same.
+//! A page of any other kind is reported each time. Behind an almanac the almanacs of all satellites
+//! are reported as an [`AlmanacSet`], where they are all for one time and not those reported last.
+//! The crate promises that the [`Reports`] of each page are what the definition makes of all the
+//! pages so far, however many there are. A [`Report`] tells its numbers in the order of its fields,
+//! or one by the name of its field.
 //!
 //!     use data_sets::DataSets;
 //!     use subframes::{ClockField, Field, Page};
 //!
 //!     let mut sets = DataSets::new();
 //!     if let Some(page) = Page::read(&subframe) {
+//!         let reports = sets.take(&page);
 //!         // The clock and ephemeris come with the last of their three pages.
-//!         if let Some(report) = sets.take(&page) {
+//!         if let Some(report) = reports.page {
 //!             let issue = report.value(Field::Clock(ClockField::Iodc));
 //!             let all = report.fields().iter().zip(report.values());
+//!         }
+//!         // The almanacs of all satellites come with the last of the 32.
+//!         if let Some(set) = reports.set {
+//!             let health_of_first = set.health[0];
 //!         }
 //!     }
 #![tactic(auto)]
 
+mod almanac_set;
+mod almanacs;
 mod data_sets;
 mod ephemerides;
 mod issue;
 mod last_pages;
 mod report;
+mod reports;
 
+pub use almanac_set::AlmanacSet;
 pub use data_sets::DataSets;
 pub use report::Report;
+pub use reports::Reports;
 
 #[cfg(test)]
 mod tests;

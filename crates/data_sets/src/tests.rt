@@ -1,6 +1,8 @@
 //! Reports of pages whose numbers are known. What is expected was worked out by hand from the
 //! rules.
 
+mod almanac_sets;
+
 use crate::{DataSets, Report};
 use frame_sync::Subframe;
 use std::process::Abort;
@@ -19,20 +21,20 @@ const IODE3: usize = 11 + 11 + 7;
 #[test]
 fn matching_issues(rt: HostRuntime) {
     let mut sets = DataSets::new();
-    assert_eq!(rt; sets.take(&clock(7)), None);
-    assert_eq!(rt; sets.take(&eph2(7)), None);
-    assert_eq!(rt; sets.take(&eph3(8)), None);
-    assert_eq!(rt; sets.take(&eph2(8)), None);
-    assert_eq!(rt; sets.take(&clock(8)), Some(set(8, 8)));
-    assert_eq!(rt; sets.take(&clock(8)), None);
+    assert_eq!(rt; sets.take(&clock(7)).page, None);
+    assert_eq!(rt; sets.take(&eph2(7)).page, None);
+    assert_eq!(rt; sets.take(&eph3(8)).page, None);
+    assert_eq!(rt; sets.take(&eph2(8)).page, None);
+    assert_eq!(rt; sets.take(&clock(8)).page, Some(set(8, 8)));
+    assert_eq!(rt; sets.take(&clock(8)).page, None);
 }
 
 // The subframe 3 whose word 5 is missing makes no page, so that there is nothing to take.
 #[test]
 fn incomplete_page(rt: HostRuntime) {
     let mut sets = DataSets::new();
-    assert_eq!(rt; sets.take(&clock(7)), None);
-    assert_eq!(rt; sets.take(&eph2(7)), None);
+    assert_eq!(rt; sets.take(&clock(7)).page, None);
+    assert_eq!(rt; sets.take(&eph2(7)).page, None);
     let zero = Some(0);
     let incomplete = subframe(&rt, 0x8c, [zero, zero, None, zero, zero, zero, zero, zero]);
     assert_eq!(rt; Page::read(&incomplete), None);
@@ -40,8 +42,8 @@ fn incomplete_page(rt: HostRuntime) {
     let last = Some(0x07_0000);
     let complete = subframe(&rt, 0x8c, [zero, zero, zero, zero, zero, zero, zero, last]);
     let page = Page::read(&complete).expect(&rt, "a page");
-    assert_eq!(rt; sets.take(&page), Some(set(7, 7)));
-    assert_eq!(rt; sets.take(&page), None);
+    assert_eq!(rt; sets.take(&page).page, Some(set(7, 7)));
+    assert_eq!(rt; sets.take(&page).page, None);
 }
 
 // Three subframes of zeros are of one issue, 0: the set has 31 zeros.
@@ -51,7 +53,7 @@ fn zero_subframes(rt: HostRuntime) {
     let expected = [None, None, Some(Report::Eph([0; 31]))];
     for (handover, report) in [0x84, 0x88, 0x8c].iter().zip(expected) {
         let page = Page::read(&subframe(&rt, *handover, [Some(0); 8])).expect(&rt, "a page");
-        assert_eq!(rt; sets.take(&page), report, "at {handover}");
+        assert_eq!(rt; sets.take(&page).page, report, "at {handover}");
     }
 }
 
@@ -61,10 +63,10 @@ fn zero_subframes(rt: HostRuntime) {
 fn returning_issue(rt: HostRuntime) {
     let mut sets = DataSets::new();
     for issue in [7, 8, 7] {
-        assert_eq!(rt; sets.take(&clock(issue)), None);
-        assert_eq!(rt; sets.take(&eph2(issue)), None);
-        assert_eq!(rt; sets.take(&eph3(issue)), Some(set(issue, issue)));
-        assert_eq!(rt; sets.take(&eph2(issue)), None);
+        assert_eq!(rt; sets.take(&clock(issue)).page, None);
+        assert_eq!(rt; sets.take(&eph2(issue)).page, None);
+        assert_eq!(rt; sets.take(&eph3(issue)).page, Some(set(issue, issue)));
+        assert_eq!(rt; sets.take(&eph2(issue)).page, None);
     }
 }
 
@@ -75,13 +77,13 @@ fn changed_values(rt: HostRuntime) {
     let mut sets = DataSets::new();
     let _ = sets.take(&clock(7));
     let _ = sets.take(&eph2(7));
-    assert_eq!(rt; sets.take(&eph3(7)), Some(set(7, 7)));
+    assert_eq!(rt; sets.take(&eph3(7)).page, Some(set(7, 7)));
     for crs in [1, -1, 0] {
         let changed = Page::Eph2([7, crs, 0, 0, 0, 0, 0, 0, 0, 0, 0]);
         let mut numbers = set_numbers(7, 7);
         numbers[IODE + 1] = crs;
-        assert_eq!(rt; sets.take(&changed), Some(Report::Eph(numbers)));
-        assert_eq!(rt; sets.take(&changed), None);
+        assert_eq!(rt; sets.take(&changed).page, Some(Report::Eph(numbers)));
+        assert_eq!(rt; sets.take(&changed).page, None);
     }
 }
 
@@ -92,11 +94,11 @@ fn low_bits_of_the_issue(rt: HostRuntime) {
     let mut sets = DataSets::new();
     let _ = sets.take(&eph3(7));
     let _ = sets.take(&eph2(7));
-    assert_eq!(rt; sets.take(&clock(263)), Some(set(263, 7)));
-    assert_eq!(rt; sets.take(&clock(7)), Some(set(7, 7)));
-    assert_eq!(rt; sets.take(&clock(775)), Some(set(775, 7)));
-    assert_eq!(rt; sets.take(&clock(776)), None);
-    assert_eq!(rt; sets.take(&clock(775)), None);
+    assert_eq!(rt; sets.take(&clock(263)).page, Some(set(263, 7)));
+    assert_eq!(rt; sets.take(&clock(7)).page, Some(set(7, 7)));
+    assert_eq!(rt; sets.take(&clock(775)).page, Some(set(775, 7)));
+    assert_eq!(rt; sets.take(&clock(776)).page, None);
+    assert_eq!(rt; sets.take(&clock(775)).page, None);
 }
 
 // No subframe holds an issue below zero, but a page made by hand may. -249 is 7 less 256, so its
@@ -111,9 +113,9 @@ fn issues_below_zero(rt: HostRuntime) {
     ] {
         let [first, second, third] = issues;
         let mut sets = DataSets::new();
-        assert_eq!(rt; sets.take(&clock(first)), None);
-        assert_eq!(rt; sets.take(&eph2(second)), None);
-        assert_eq!(rt; sets.take(&eph3(third)).is_some(), is_set, "{first}");
+        assert_eq!(rt; sets.take(&clock(first)).page, None);
+        assert_eq!(rt; sets.take(&eph2(second)).page, None);
+        assert_eq!(rt; sets.take(&eph3(third)).page.is_some(), is_set, "{first}");
     }
 }
 
@@ -128,9 +130,9 @@ fn two_of_three(rt: HostRuntime) {
     ] {
         let [first, second, third] = issues;
         let mut sets = DataSets::new();
-        assert_eq!(rt; sets.take(&eph3(third)), None);
-        assert_eq!(rt; sets.take(&clock(first)), None);
-        assert_eq!(rt; sets.take(&eph2(second)).is_some(), is_set);
+        assert_eq!(rt; sets.take(&eph3(third)).page, None);
+        assert_eq!(rt; sets.take(&clock(first)).page, None);
+        assert_eq!(rt; sets.take(&eph2(second)).page.is_some(), is_set);
     }
 }
 
@@ -141,7 +143,9 @@ fn numbers_in_table_order(rt: HostRuntime) {
     let mut sets = DataSets::new();
     let _ = sets.take(&Page::Eph2([12, 13, 14, 15, 16, 17, 18, 19, 20, 21, 22]));
     let _ = sets.take(&Page::Eph3([23, 24, 25, 26, 27, 28, 29, 12, 31]));
-    let report = sets.take(&Page::Clock([1, 2, 3, 4, 268, 6, 7, 8, 9, 10, 11]));
+    let report = sets
+        .take(&Page::Clock([1, 2, 3, 4, 268, 6, 7, 8, 9, 10, 11]))
+        .page;
     let expected = [
         1, 2, 3, 4, 268, 6, 7, 8, 9, 10, 11, 12, 13, 14, 15, 16, 17, 18, 19, 20, 21, 22, 23, 24,
         25, 26, 27, 28, 29, 12, 31,
@@ -164,19 +168,25 @@ fn other_pages_each_time(rt: HostRuntime) {
     let _ = sets.take(&eph2(7));
     for _ in 0..2 {
         assert_eq!(rt;
-            sets.take(&Page::Almanac(almanac)),
+            sets.take(&Page::Almanac(almanac)).page,
             Some(Report::Alm(almanac))
         );
-        assert_eq!(rt; sets.take(&Page::Utc(utc)), Some(Report::Utc(utc)));
-        assert_eq!(rt; sets.take(&Page::Health(health)), Some(Report::Hlt(health)));
-        assert_eq!(rt; sets.take(&Page::Message(text)), Some(Report::Msg(text)));
+        assert_eq!(rt; sets.take(&Page::Utc(utc)).page, Some(Report::Utc(utc)));
+        assert_eq!(rt;
+            sets.take(&Page::Health(health)).page,
+            Some(Report::Hlt(health))
+        );
+        assert_eq!(rt;
+            sets.take(&Page::Message(text)).page,
+            Some(Report::Msg(text))
+        );
     }
-    assert_eq!(rt; sets.take(&eph3(7)), Some(set(7, 7)));
+    assert_eq!(rt; sets.take(&eph3(7)).page, Some(set(7, 7)));
     assert_eq!(rt;
-        sets.take(&Page::Almanac(almanac)),
+        sets.take(&Page::Almanac(almanac)).page,
         Some(Report::Alm(almanac))
     );
-    assert_eq!(rt; sets.take(&eph3(7)), None);
+    assert_eq!(rt; sets.take(&eph3(7)).page, None);
 }
 
 // By its name each of the 31 numbers of a set is that of its page: 268 is 256 + 12.
@@ -185,7 +195,9 @@ fn values_by_name(rt: HostRuntime) {
     let mut sets = DataSets::new();
     let _ = sets.take(&Page::Clock([1, 2, 3, 4, 268, 6, 7, 8, 9, 10, 11]));
     let _ = sets.take(&Page::Eph2([12, 13, 14, 15, 16, 17, 18, 19, 20, 21, 22]));
-    let report = sets.take(&Page::Eph3([23, 24, 25, 26, 27, 28, 29, 12, 31]));
+    let report = sets
+        .take(&Page::Eph3([23, 24, 25, 26, 27, 28, 29, 12, 31]))
+        .page;
     let set = report.expect(&rt, "a set");
     for (field, expected) in [
         (Field::Clock(ClockField::Wn), Some(1)),
@@ -213,7 +225,10 @@ fn values_by_name(rt: HostRuntime) {
 fn values_of_single_pages(rt: HostRuntime) {
     let mut sets = DataSets::new();
     let almanac = [1, 5, 0, 7, -1, 0, 63, 0, 0, 0, -8_388_608, 0, 1];
-    let report = sets.take(&Page::Almanac(almanac)).expect(&rt, "a report");
+    let report = sets
+        .take(&Page::Almanac(almanac))
+        .page
+        .expect(&rt, "a report");
     for (field, expected) in [
         (Field::Almanac(AlmanacField::Sv), Some(5)),
         (Field::Almanac(AlmanacField::Health), Some(63)),

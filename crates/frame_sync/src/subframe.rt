@@ -1,7 +1,7 @@
 //! The ten words of a subframe, as far as they passed.
 
 ghost use Rattle.std.specs.Prelude.{◌≡◌, ◌-◌, ◌^◌, ◌<◌, ◌≤◌, ◌↔◌, IsTrue, IfSome, SomeIff, Some};
-ghost use Rattle.std.specs.Prelude.{slice_set};
+ghost use Rattle.std.specs.Prelude.{slice_set, length};
 ghost use Rattle.definitions.specs.Frames.{word_of, id_of, tow_of, id_in, is_complete};
 ghost use Rattle.frame_sync.specs.Words.{IsWord, IsSubframe, has_header};
 
@@ -53,6 +53,7 @@ impl Subframe {
         requires from_one { 1 ≤ i }
         requires to_ten { i ≤ 10 }
         ensures word { result ≡ word_of self.now i }
+        ensures ten { length self.now.words ≡ 10 }
         ensures in_range { IfSome result (λ found. found < 2 ^ 24) }
     {
         self.words[i - 1]

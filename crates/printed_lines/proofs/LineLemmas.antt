@@ -1,12 +1,47 @@
 -- Lines put together from their words, each behind a space.
-use Rattle.std.proofs.Common.{◌≡◌, ℕ, List, ◌++◌, ◌∷◌, ◌∙◌, refl, append_assoc}
-use Rattle.std.specs.Prelude.{codes}
+use Rattle.std.proofs.Common.{◌≡◌, ℕ, pos, ◌+◌, ◌<◌, List, [], ◌∷◌, ◌++◌, ◌∙◌, refl, ap}
+use Rattle.std.proofs.Common.{append_assoc, append-nil, length, map, take, get_or}
+use Rattle.std.specs.Prelude.{Bool, codes, if◌then◌else◌}
 use Rattle.std.specs.Fmt.{decimal, signed_decimal}
+use Rattle.std.proofs.lemmas.List.{take_more, flat_map_more}
+use Rattle.definitions.specs.Sums.{natural}
 use Rattle.definitions.specs.Correlation.{Counts}
-use Rattle.definitions.specs.Events.{count}
-use Rattle.definitions.specs.Answers.{idle, holding, accepted, refused, shown}
-use Rattle.definitions.specs.Texts.{event_text, answer_text, refusal_text}
+use Rattle.definitions.specs.Frames.{Subframe, id_of, tow_of}
+use Rattle.definitions.specs.Segments.{Shift}
+use Rattle.definitions.specs.DataSets.{AlmanacSet, single}
+use Rattle.definitions.specs.Pages.{message}
+use Rattle.definitions.specs.Events.{count, locked, unlocked, signal_lost, edge, gap}
+use Rattle.definitions.specs.Events.{subframe, reported, almanacs}
+use Rattle.definitions.specs.Answers.{idle, holding, tracking, accepted, refused, shown}
+use Rattle.definitions.specs.Texts.{words_text, word_text, hex_of_bytes, event_text, page_text}
+use Rattle.definitions.specs.Texts.{answer_text, refusal_text}
+use Rattle.printed_lines.specs.Spaced.{spaced}
 
+-- ---- words behind a word
+pub spaced-words : {A : Type 0} (f : A → List ℕ) (word : List ℕ) (xs : List A)
+    → word ++ spaced f xs ≡ words_text (word ∷ map f xs)
+spaced-words f word [] = append-nil word
+spaced-words f word (x ∷ xs) = ap (λ r. word ++ 32 ∷ r) (spaced-words f (f x) xs)
+
+-- one more word
+pub more-spaced : {A : Type 0} (f : A → List ℕ) (line now : List ℕ) (xs : List A) (i : ℕ) (d : A)
+    → i < length xs → now ≡ line ++ spaced f (take i xs)
+    → now ++ 32 ∷ f (get_or xs i d) ≡ line ++ spaced f (take (i + 1) xs)
+more-spaced f line now xs i d within is =
+    rw (is, take_more xs i d within)
+    (flat_map_more (λ x. 32 ∷ f x) line (take i xs) (get_or xs i d))
+
+-- words behind a kind and a slot
+pub kind-text : (line kind : List ℕ) (slot : ℕ) (rest : List ℕ) (words : List (List ℕ))
+    → decimal slot ++ rest ≡ words_text (decimal slot ∷ words)
+    → ((line ++ 32 ∷ kind) ++ 32 ∷ decimal slot) ++ rest
+    ≡ line ++ 32 ∷ words_text (kind ∷ decimal slot ∷ words)
+kind-text line kind slot rest words is =
+    append_assoc (line ++ 32 ∷ kind) (32 ∷ decimal slot) rest
+    ∙ append_assoc line (32 ∷ kind) (32 ∷ (decimal slot ++ rest))
+    ∙ ap (λ r. line ++ 32 ∷ (kind ++ 32 ∷ r)) is
+
+-- ---- events
 six_parts : (line a b c d e f : List ℕ)
     → (((((line ++ a) ++ b) ++ c) ++ d) ++ e) ++ f ≡ line ++ (((((a ++ b) ++ c) ++ d) ++ e) ++ f)
 six_parts line a b c d e f = simp append_assoc
@@ -34,6 +69,79 @@ count-text line slot c =
     (32 ∷ signed_decimal c.il) (32 ∷ signed_decimal c.ql)
     ∙ behind-sums line slot c
 
+pub lock-text : (line : List ℕ) (slot : ℕ)
+    → (line ++ codes " lock") ++ 32 ∷ decimal slot ≡ line ++ 32 ∷ event_text slot locked
+unfolding event_text
+lock-text line slot = append_assoc line (codes " lock") (32 ∷ decimal slot)
+
+pub unlock-text : (line : List ℕ) (slot : ℕ)
+    → (line ++ codes " unlock") ++ 32 ∷ decimal slot ≡ line ++ 32 ∷ event_text slot unlocked
+unfolding event_text
+unlock-text line slot = append_assoc line (codes " unlock") (32 ∷ decimal slot)
+
+pub lost-text : (line : List ℕ) (slot : ℕ)
+    → (line ++ codes " lost") ++ 32 ∷ decimal slot ≡ line ++ 32 ∷ event_text slot signal_lost
+unfolding event_text
+lost-text line slot = append_assoc line (codes " lost") (32 ∷ decimal slot)
+
+pub bits-text : (line : List ℕ) (slot : ℕ)
+    → (line ++ codes " bits") ++ 32 ∷ decimal slot ≡ line ++ 32 ∷ event_text slot edge
+unfolding event_text
+bits-text line slot = append_assoc line (codes " bits") (32 ∷ decimal slot)
+
+pub gap-text : (line : List ℕ) (slot bits : ℕ)
+    → ((line ++ codes " gap") ++ 32 ∷ decimal slot) ++ 32 ∷ decimal bits
+    ≡ line ++ 32 ∷ event_text slot (gap bits)
+unfolding event_text
+gap-text line slot bits = kind-text line (codes "gap") slot (32 ∷ decimal bits)
+    (decimal bits ∷ []) refl
+
+pub subframe-text : (line : List ℕ) (slot : ℕ) (s : Subframe)
+    → ((((line ++ codes " sub") ++ 32 ∷ decimal slot) ++ 32 ∷ decimal (id_of s))
+    ++ 32 ∷ decimal (tow_of s)) ++ spaced word_text s.words
+    ≡ line ++ 32 ∷ event_text slot (subframe s)
+unfolding event_text
+subframe-text line slot s =
+    append_assoc _ (32 ∷ decimal (tow_of s)) (spaced word_text s.words)
+    ∙ append_assoc _ (32 ∷ decimal (id_of s))
+    (32 ∷ (decimal (tow_of s) ++ spaced word_text s.words))
+    ∙ kind-text line (codes "sub") slot _
+    (decimal (id_of s) ∷ decimal (tow_of s) ∷ map word_text s.words)
+    (ap (λ r. decimal slot ++ 32 ∷ (decimal (id_of s) ++ 32 ∷ r))
+    (spaced-words word_text (decimal (tow_of s)) s.words))
+
+same-naturals : (xs : List ℕ) → xs ≡ map natural (map (λ x. pos x) xs)
+same-naturals [] = refl
+same-naturals (x ∷ xs) = ap (λ r. x ∷ r) (same-naturals xs)
+
+pub message-text : (line : List ℕ) (slot : ℕ) (characters : List ℕ)
+    → (((line ++ codes " msg") ++ 32 ∷ decimal slot) ++ codes " ") ++ hex_of_bytes characters
+    ≡ line ++ 32 ∷ event_text slot (reported (single
+    (record { kind = message; values = map (λ x. pos x) characters })))
+unfolding event_text page_text
+message-text line slot characters =
+    append_assoc _ (codes " ") (hex_of_bytes characters)
+    ∙ kind-text line (codes "msg") slot _
+    (hex_of_bytes (map natural (map (λ x. pos x) characters)) ∷ [])
+    (ap (λ cs. decimal slot ++ 32 ∷ hex_of_bytes cs) (same-naturals characters))
+
+pub almanacs-text : (line : List ℕ) (slot : ℕ) (set : AlmanacSet)
+    → (((((line ++ codes " als") ++ 32 ∷ decimal slot) ++ codes " toa=") ++ signed_decimal set.toa)
+    ++ codes ":12") ++ spaced signed_decimal set.health
+    ≡ line ++ 32 ∷ event_text slot (almanacs set)
+unfolding event_text
+almanacs-text line slot set =
+    four_parts _ (codes " toa=") (signed_decimal set.toa) (codes ":12") _
+    ∙ kind-text line (codes "als") slot _
+    ((codes "toa=" ++ signed_decimal set.toa ++ codes ":12") ∷ map signed_decimal set.health)
+    (ap (λ r. decimal slot ++ 32 ∷ r)
+    (spaced-words signed_decimal (codes "toa=" ++ signed_decimal set.toa ++ codes ":12")
+    set.health))
+  where
+    four_parts : (l a b c d : List ℕ) → (((l ++ a) ++ b) ++ c) ++ d ≡ l ++ (((a ++ b) ++ c) ++ d)
+    four_parts l a b c d = simp append_assoc
+
+-- ---- answers
 pub accepted-text : (line : List ℕ) (slot : ℕ)
     → line ++ codes " ok" ≡ line ++ 32 ∷ answer_text slot accepted
 unfolding answer_text
@@ -60,3 +168,18 @@ pub hold-text : (line : List ℕ) (slot prn dumps : ℕ)
     ++ 32 ∷ decimal dumps ≡ line ++ 32 ∷ answer_text slot (shown (holding prn dumps))
 unfolding answer_text
 hold-text line slot prn dumps = simp append_assoc
+
+pub track-text : (line : List ℕ) (slot prn dumps : ℕ) (shift : Shift) (is_locked has_edge : Bool)
+    → (((((((line ++ codes " state") ++ 32 ∷ decimal slot) ++ codes " track") ++ 32 ∷ decimal prn)
+    ++ 32 ∷ decimal dumps) ++ 32 ∷ signed_decimal shift.v) ++ 32 ∷ signed_decimal shift.w)
+    ++ 32 ∷ (if has_edge then codes "bits" else if is_locked then codes "lock" else codes "open")
+    ≡ line ++ 32 ∷ answer_text slot (shown (tracking prn dumps shift is_locked has_edge))
+unfolding answer_text
+track-text line slot prn dumps shift is_locked has_edge =
+    six_parts ((line ++ codes " state") ++ 32 ∷ decimal slot) (codes " track") (32 ∷ decimal prn)
+    (32 ∷ decimal dumps) (32 ∷ signed_decimal shift.v) (32 ∷ signed_decimal shift.w)
+    (32 ∷ (if has_edge then codes "bits" else if is_locked then codes "lock" else codes "open"))
+    ∙ kind-text line (codes "state") slot _
+    (codes "track" ∷ decimal prn ∷ decimal dumps ∷ signed_decimal shift.v ∷ signed_decimal
+    shift.w ∷ (if has_edge then codes "bits" else if is_locked then codes "lock" else codes
+    "open") ∷ []) (simp append_assoc)

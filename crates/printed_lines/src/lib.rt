@@ -10,7 +10,13 @@
 //!     output.extend_from_slice(&end_line(client, time))?;
 #![tactic(auto)]
 
+mod almanacs;
+mod answers;
+mod events;
+mod hex;
 mod lines;
+mod pages;
+mod subframe_words;
 #[cfg(test)]
 mod tests;
 mod words;

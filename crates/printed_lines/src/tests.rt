@@ -1,8 +1,11 @@
 //! A line of each kind, by the table of lines in docs/FORMATS.md.
 
+mod page_rows;
+mod subframe_rows;
+
 use super::*;
 use ca_codes::Prn;
-use channel_slots::{Answer, Event, Refusal, SlotEvent, SlotState};
+use channel_slots::{Answer, Event, Phase, Refusal, SlotEvent, SlotState};
 use lane_correlator::Counts;
 use std::test::Fail;
 
@@ -27,7 +30,7 @@ fn is_text(line: &Line, text: &[u8]) -> bool {
 
 #[test]
 fn each_kind_of_event(rt: HostRuntime) {
-    let rows: [(Event, &[u8]); 2] = [
+    let rows: [(Event, &[u8]); 8] = [
         (
             Event::Count(SUMS),
             b"8 1099511627776 count 3 0 -1 10 -2147483648 2147483647 -99\n",
@@ -35,6 +38,15 @@ fn each_kind_of_event(rt: HostRuntime) {
         (
             Event::Count(Counts::NONE),
             b"8 1099511627776 count 3 0 0 0 0 0 0\n",
+        ),
+        (Event::Lock, b"8 1099511627776 lock 3\n"),
+        (Event::Unlock, b"8 1099511627776 unlock 3\n"),
+        (Event::Lost, b"8 1099511627776 lost 3\n"),
+        (Event::Bits, b"8 1099511627776 bits 3\n"),
+        (Event::Gap(0), b"8 1099511627776 gap 3 0\n"),
+        (
+            Event::Gap(18_446_744_073_709_551_615),
+            b"8 1099511627776 gap 3 18446744073709551615\n",
         ),
     ];
     for (event, text) in rows {
@@ -67,6 +79,47 @@ fn each_kind_of_answer(rt: HostRuntime) -> Result<(), Fail> {
     ];
     for (answer, text) in rows {
         assert!(rt; is_text(&answer_line(8, TIME, 3, &answer), text));
+    }
+    Ok(())
+}
+
+#[test]
+fn each_state_of_tracking(rt: HostRuntime) -> Result<(), Fail> {
+    let prn = Prn::new(7).ok_or("a satellite")?;
+    let rows: [(u64, i64, i64, Phase, &[u8]); 4] = [
+        (
+            0,
+            65_536_000,
+            0,
+            Phase::Unlocked,
+            b"8 0 state 3 track 7 0 65536000 0 open\n",
+        ),
+        (
+            201,
+            -1,
+            2,
+            Phase::Locked,
+            b"8 0 state 3 track 7 201 -1 2 lock\n",
+        ),
+        (
+            18_446_744_073_709_551_615,
+            -9_223_372_036_854_775_808,
+            9_223_372_036_854_775_807,
+            Phase::Edged,
+            b"8 0 state 3 track 7 18446744073709551615 -9223372036854775808 9223372036854775807 \
+            bits\n",
+        ),
+        (1, 5, -6, Phase::Edged, b"8 0 state 3 track 7 1 5 -6 bits\n"),
+    ];
+    for (dumps, v, w, phase, text) in rows {
+        let shown = Answer::State(SlotState::Track {
+            prn,
+            dumps,
+            v,
+            w,
+            phase,
+        });
+        assert!(rt; is_text(&answer_line(8, 0, 3, &shown), text));
     }
     Ok(())
 }

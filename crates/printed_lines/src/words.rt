@@ -1,11 +1,11 @@
 //! A line in the making, word by word. Each word behind the first stands behind one space.
 
-ghost use Rattle.std.specs.Prelude.{◌≡◌, ◌≤◌, ◌<◌, ◌+◌, List, ℕ, ◌++◌, ◌∷◌, length};
+ghost use Rattle.std.specs.Prelude.{◌≡◌, ◌≤◌, ◌<◌, ◌+◌, List, ℕ, ◌++◌, ◌∷◌, [], length};
 ghost use Rattle.std.specs.Fmt.{decimal};
 ghost use Rattle.arrayvec.specs.ArrayVec.{array_vec_len};
 ghost use Rattle.printed_lines.specs.declared.words.TheConstants.{LINE_BYTES, NUMBER_BYTES};
-ghost use Rattle.printed_lines.specs.declared.words.TheConstants.{WORD_BYTES};
 
+use crate::hex::hex_digit;
 use arrayvec::ArrayVec;
 use std::marker::Model;
 use std::ops::DerefSlice;
@@ -13,11 +13,23 @@ use std::ops::DerefSlice;
 /// The most bytes that a line has, its end included.
 pub const LINE_BYTES: usize = 1024;
 
-/// The most digits of a number of 64 bits.
+/// The most bytes of a number of 64 bits: twenty digits, or a sign and nineteen.
 pub const NUMBER_BYTES: usize = 20;
 
-/// The most bytes that a word takes up: a space, a sign and the digits of a number.
-pub const WORD_BYTES: usize = NUMBER_BYTES + 2;
+/// The most bytes that a word takes up: a space and a number.
+pub const WORD_BYTES: usize = NUMBER_BYTES + 1;
+
+/// The most digits of a number of 8 bits.
+const BYTE_DIGITS: usize = 3;
+
+/// The most letters of a kind of line.
+pub const KIND_LETTERS: usize = 6;
+
+/// The most bytes that a line begins with: a client and a time.
+pub const HEAD_BYTES: usize = BYTE_DIGITS + WORD_BYTES;
+
+/// The most bytes that a kind and a slot take up, each behind a space.
+pub const KIND_BYTES: usize = KIND_LETTERS + BYTE_DIGITS + 2;
 
 /// A line in the making, or one with its end. Clauses see its bytes.
 #[derive(Drop)]
@@ -44,52 +56,97 @@ impl DerefSlice for Line {
 impl Line {
     ghost use Rattle.std.specs.Fmt.{signed_decimal};
     ghost use Rattle.definitions.specs.Lines.{ended_line};
+    ghost use Rattle.definitions.specs.Texts.{hex_of_bytes};
+    ghost use Rattle.printed_lines.specs.declared.words.TheConstants.{WORD_BYTES, HEAD_BYTES};
+    ghost use Rattle.printed_lines.specs.declared.words.TheConstants.{KIND_LETTERS, KIND_BYTES};
     ghost use Rattle.printed_lines.specs.Room.{HasRoom, TakesUp};
 
-    /// A line whose first word is a number.
-    pub(crate) fn new(first: u64) -> Self
-        ensures text { result ≡ decimal first }
-        ensures short { length result ≤ WORD_BYTES }
+    /// A line of a client at a time.
+    pub(crate) fn new(client: u8, time: u64) -> Self
+        ensures text { result ≡ decimal client ++ 32 ∷ decimal time }
+        ensures short { length result ≤ HEAD_BYTES }
     {
         let mut line = Line {
             bytes: ArrayVec::new(),
         };
-        push_decimal(&mut line.bytes, first);
+        push_decimal(&mut line.bytes, client.into());
+        line.number(time);
         line
+    }
+
+    /// Adds the kind of a line and the slot that it is of.
+    pub(crate) fn kind(&mut self, kind: &[u8], slot: u8)
+        requires short { length kind.now ≤ KIND_LETTERS }
+        requires room { HasRoom KIND_BYTES self.old }
+        ensures text { self.new ≡ (self.old ++ 32 ∷ kind.now) ++ 32 ∷ decimal slot }
+        ensures longer { TakesUp KIND_BYTES self.old self.new }
+    {
+        self.text(b" ");
+        self.text(kind);
+        self.text(b" ");
+        push_decimal(&mut self.bytes, slot.into());
     }
 
     /// Adds a word.
     pub(crate) fn word(&mut self, text: &[u8])
         requires short { length text.now ≤ NUMBER_BYTES }
-        requires room { HasRoom 1 self.old }
+        requires room { HasRoom WORD_BYTES self.old }
         ensures text { self.new ≡ self.old ++ 32 ∷ text.now }
-        ensures longer { TakesUp 1 self.old self.new }
+        ensures longer { TakesUp WORD_BYTES self.old self.new }
     {
-        self.bytes.push(b' ');
-        let _fits = self.bytes.try_extend_from_slice(text);
+        self.text(b" ");
+        self.text(text);
     }
 
-    /// Adds a number.
+    /// Adds a number as a word.
     pub(crate) fn number(&mut self, n: u64)
-        requires room { HasRoom 1 self.old }
+        requires room { HasRoom WORD_BYTES self.old }
         ensures text { self.new ≡ self.old ++ 32 ∷ decimal n }
-        ensures longer { TakesUp 1 self.old self.new }
+        ensures longer { TakesUp WORD_BYTES self.old self.new }
     {
-        self.bytes.push(b' ');
+        self.text(b" ");
         push_decimal(&mut self.bytes, n);
     }
 
-    /// Adds a number with its sign, where it is below zero.
-    pub(crate) fn signed(&mut self, z: i32)
-        requires room { HasRoom 1 self.old }
+    /// Adds a number with its sign, where it is below zero, as a word.
+    pub(crate) fn signed(&mut self, z: i64)
+        requires room { HasRoom WORD_BYTES self.old }
         ensures text { self.new ≡ self.old ++ 32 ∷ signed_decimal z }
-        ensures longer { TakesUp 1 self.old self.new }
+        ensures longer { TakesUp WORD_BYTES self.old self.new }
     {
-        self.bytes.push(b' ');
+        self.text(b" ");
+        self.integer(z);
+    }
+
+    /// Adds bytes to the last word.
+    pub(crate) fn text(&mut self, text: &[u8])
+        requires room { HasRoom (length text.now) self.old }
+        ensures text { self.new ≡ self.old ++ text.now }
+        ensures longer { length self.new ≡ length self.old + length text.now }
+    {
+        let _fits = self.bytes.try_extend_from_slice(text);
+    }
+
+    /// Adds a number, with its sign where it is below zero, to the last word.
+    pub(crate) fn integer(&mut self, z: i64)
+        requires room { HasRoom NUMBER_BYTES self.old }
+        ensures text { self.new ≡ self.old ++ signed_decimal z }
+        ensures longer { TakesUp NUMBER_BYTES self.old self.new }
+    {
         if z < 0 {
             self.bytes.push(b'-');
         }
-        push_decimal(&mut self.bytes, z.unsigned_abs().into());
+        push_decimal(&mut self.bytes, z.unsigned_abs());
+    }
+
+    /// Adds two lower case hexadecimal digits to the last word.
+    pub(crate) fn hex(&mut self, byte: u8)
+        requires room { HasRoom 2 self.old }
+        ensures text { self.new ≡ self.old ++ hex_of_bytes (byte ∷ []) }
+        ensures longer { length self.new ≡ length self.old + 2 }
+    {
+        self.bytes.push(hex_digit(byte / 16));
+        self.bytes.push(hex_digit(byte % 16));
     }
 
     /// Adds the line feed that ends the line.
@@ -103,10 +160,9 @@ impl Line {
 
 /// Adds the digits of a number.
 fn push_decimal(bytes: &mut ArrayVec<u8, LINE_BYTES>, n: u64)
-    requires room { array_vec_len bytes.old + NUMBER_BYTES < LINE_BYTES }
+    requires room { array_vec_len bytes.old + length (decimal n) < LINE_BYTES }
     ensures text { bytes.new.items ≡ bytes.old.items ++ decimal n }
     ensures longer { array_vec_len bytes.new ≡ array_vec_len bytes.old + length (decimal n) }
-    ensures short { length (decimal n) ≤ NUMBER_BYTES }
 {
     if 10 <= n {
         push_decimal(bytes, n / 10);

@@ -37,7 +37,8 @@ pub enum Field {
 impl Field {
     /// The field's name within its table, as `tgd`.
     pub fn name(self) -> &'static str
-        ensures { result.now ≡ name_of self }
+        ensures name { result.now ≡ name_of self }
+        ensures entry { result.now ≡ (entry_of self).name }
     {
         self.layout().name
     }

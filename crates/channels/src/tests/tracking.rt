@@ -56,19 +56,18 @@ fn tracked_dumps_are_those_of_the_reference(rt: HostRuntime) -> Result<(), Fail>
         let room = tracked.to_dump().min(1_000) as usize;
         let run = unpack(Format::Real2, &bytes, place, room);
         assert_eq!(rt; run.len(), room);
-        assert!(rt; tracked.loops().dumps() < 1_000);
+        assert!(rt; tracked.dumps() < 1_000);
         let dump = tracked.take(&run, 0, room, &mut book);
         place += room;
         let plain = plain_dump(&mut stream, &mut tracker, room)?;
         assert_eq!(rt; dump.is_some(), plain.is_some());
         if let (Some(dump), Some(plain)) = (dump, plain) {
             assert_eq!(rt; dump.counts, sums(plain.counts), "dump {}", plain.number);
-            assert_eq!(rt; dump.news, news_of(plain.news), "dump {}", plain.number);
-            let loops = tracked.loops();
-            let told = (loops.dumps(), loops.v(), loops.w());
+            assert_eq!(rt; dump.lock, news_of(plain.news), "dump {}", plain.number);
+            let told = (tracked.dumps(), tracked.v(), tracked.w());
             assert_eq!(rt; told, (plain.number, plain.v, plain.w));
         }
     }
-    assert!(rt; tracked.loops().locked());
+    assert!(rt; tracked.is_locked());
     Ok(())
 }

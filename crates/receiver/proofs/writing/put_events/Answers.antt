@@ -1,7 +1,8 @@
-use Rattle.std.proofs.Common.{◌∙◌, ◌+◌, drop, subst}
+use Rattle.std.proofs.Common.{ap, ◌∙◌, ◌+◌, drop, subst}
 use Rattle.std.specs.Prelude.{map}
 use Rattle.std.specs.Io.KnownBytes.{Appends}
-use Rattle.definitions.specs.Lines.{as_bytes}
+use Rattle.definitions.specs.Lines.{as_bytes, ended_line}
+use Rattle.channel_slots.specs.declared.event.SlotEvent.{SlotEvent}
 use Rattle.channel_slots.specs.Events.{line_of}
 use Rattle.receiver.specs.Texts.{AppendsPart}
 use Rattle.receiver.proofs.TextLemmas.{wrote-text, wrote-part, wrote-all, on_err}
@@ -15,7 +16,8 @@ loop-event-preserved g c =
     let s = g.W.Sink in
     let rs = c.args.events.now in
     let i = c.loop-event.event-index in
-    let e = c.deref.ensures.0 ∙ c.event_line.ensures in
+    let e = c.deref.ensures.0 ∙ c.event_line.ensures
+    ∙ ap (λ (event : SlotEvent). ended_line (line_of event)) c.event-item.is in
     record {
       failure = c.in_ok-put.ensures.failure ∙ c.loop-event.invariant.failure;
       grows =
@@ -26,7 +28,7 @@ loop-event-preserved g c =
           (promise (s.contents c.loop-event.writer) c.loop-event.text)
           (promise (s.contents c.put.new.writer) c.put.new.self) (as_bytes (map line_of rs))
           (as_bytes (map line_of (drop i rs))) _ (as_bytes (map line_of (drop (i + 1) rs)))
-          c.loop-event.invariant.wrote (events-next rs i (_) c.loop-event-test.true)
+          c.loop-event.invariant.wrote (events-next rs i c.event-item.result c.loop-event-test.true)
           (subst (Appends (promise (s.contents c.loop-event.writer) c.loop-event.text)
           (promise (s.contents c.put.new.writer) c.put.new.self)) e
           c.in_ok-put.ensures.ok);
@@ -37,13 +39,14 @@ returns-in_err-put-clause-err g c =
     let s = g.W.Sink in
     let rs = c.args.events.now in
     let i = c.loop-event.event-index in
-    let e = c.deref.ensures.0 ∙ c.event_line.ensures in
+    let e = c.deref.ensures.0 ∙ c.event_line.ensures
+    ∙ ap (λ (event : SlotEvent). ended_line (line_of event)) c.event-item.is in
     on_err c.from_residual.result
     _ (wrote-part (promise (s.contents c.args.writer.now) c.args.text.now)
     (promise (s.contents c.loop-event.writer) c.loop-event.text)
     (promise (s.contents c.put.new.writer) c.put.new.self) (as_bytes (map line_of rs))
     (as_bytes (map line_of (drop i rs))) _ (as_bytes (map line_of (drop (i + 1) rs)))
-    c.loop-event.invariant.wrote (events-next rs i (_) c.loop-event-test.true)
+    c.loop-event.invariant.wrote (events-next rs i c.event-item.result c.loop-event-test.true)
     (subst (AppendsPart (promise (s.contents c.loop-event.writer) c.loop-event.text)
     (promise (s.contents c.put.new.writer) c.put.new.self)) e
     (kept-part (promise (s.contents c.loop-event.writer) c.loop-event.text)

@@ -1,14 +1,9 @@
-use Rattle.std.proofs.Common.{refl}
-use Rattle.channel_slots.proofs.LifeLemmas.{all-to-print}
+use Rattle.std.proofs.Common.{refl, length}
+use Rattle.channel_slots.proofs.LifeLemmas.{all-to-print, follows-wanting}
 use Rattle.channel_slots.proofs.life.Life.print.Goals as goal
 
 pub returns-clause-stands : goal.returns-clause-stands
 returns-clause-stands c settings xs life s =
     all-to-print settings xs _ _
-    (record {
-      prn = s.stage.prn;
-      doppler = s.stage.doppler;
-      half_chip = s.stage.half_chip;
-      start = s.stage.start;
-      holds = s.stage.holds;
-    }) refl refl
+    (follows-wanting settings xs life c.args.self.now.stage (length xs) c.args.count s.stage) refl
+    refl

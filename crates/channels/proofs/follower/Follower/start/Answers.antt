@@ -1,7 +1,6 @@
-use Rattle.std.proofs.Common.{◌≡◌, ◌≤◌, ◌*◌, ℤ, refl, arith, pos, ◌*ℤ◌, ap, ◌∙◌, unsigned_abs, to_z}
-use Rattle.std.proofs.Common.{of_z, w64, w32, FitsSigned}
-use Rattle.std.proofs.lemmas.Int.{to_z-of_z, fits_signed_from_abs, unsigned_abs-mul}
-use Rattle.std.proofs.Math.Nat.{mul-le-mul_right}
+use Rattle.std.proofs.Common.{refl, arith, pos, ap, ◌∙◌}
+use Rattle.std.proofs.Common.{w32, FitsSigned}
+use Rattle.std.proofs.lemmas.Int.{to_z-of_z, fits_signed_from_abs}
 use Rattle.definitions.specs.Oscillators.{code_step, carrier_step}
 use Rattle.oscillators.specs.Views.{Oscillation}
 use Rattle.channels.proofs.FollowingLemmas.{started}

@@ -1,4 +1,4 @@
-use Rattle.std.proofs.Common.{refl, ap, ap₂, ◌∙◌, sym, w64, arith, ◌≤◌}
+use Rattle.std.proofs.Common.{refl, ap, ap₂, ◌∙◌, sym, w64, arith}
 use Rattle.std.proofs.lemmas.Int.{to_z-of_z, fits_signed_from_abs}
 use Rattle.definitions.specs.Oscillators.{code_step, carrier_step}
 use Rattle.definitions.specs.Segments.{Shift}
@@ -9,9 +9,9 @@ use Rattle.channels.proofs.follower.Follower.steer.Goals as goal
 pub returns-clause-follows : goal.returns-clause-follows
 returns-clause-follows c channel xs s shift =
     let settings = c.args.settings.now in
-    let v = 
+    let v =
     to_z-of_z w64 c.args.v (fits_signed_from_abs w64 c.args.v (omega (arith, c.requires.shift))) in
-    let w = 
+    let w =
     to_z-of_z w64 c.args.w
     (fits_signed_from_abs w64 c.args.w (omega (arith, c.requires.correction))) in
     steered settings channel xs c.args.self.now _ s.at s.opens refl

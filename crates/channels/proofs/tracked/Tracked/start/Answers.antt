@@ -1,4 +1,4 @@
-use Rattle.std.proofs.Common.{◌≤◌, ℤ, [], refl, sym, subst, arith, ◌∙◌, w32, FitsSigned}
+use Rattle.std.proofs.Common.{ℤ, [], refl, subst, arith, ◌∙◌, w32, FitsSigned}
 use Rattle.std.proofs.lemmas.Int.{to_z-of_z, fits_signed_from_abs}
 use Rattle.tracking_loops.specs.Standing.{StandsFor}
 use Rattle.channels.proofs.ShiftLemmas.{computed}
@@ -15,3 +15,4 @@ returns-clause-stands c xs =
     (rw (← c.get.ensures.same) c.get.ensures.range) in
     begins c.args.settings.now xs c.args.prn c.args.doppler c.args.half _ refl (c.start.ensures xs)
     (subst (λ (v : ℤ). StandsFor v [] c.start-2.result) shift c.start-2.ensures.stands)
+    c.new.ensures.stands

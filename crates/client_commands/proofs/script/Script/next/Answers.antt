@@ -15,14 +15,14 @@ returns-in-Some-entry-clause-some c =
 pub loop-line-preserved : goal.loop-line-preserved
 loop-line-preserved c =
     c.loop-line.invariant
-        ∙ line_passed known_verbs 4 c.loop-line.self-inside.before c.in-Some.line.now
+    ∙ line_passed known_verbs 4 c.loop-line.self-inside.before c.in-Some.line.now
     (lines_of c.loop-line.self-inside.text.now) (lines_of c.in-Some.rest.now) c.in-Some.ensures
     c.in_default-entry.ensures
 
 pub returns-clause-none : goal.returns-clause-none
 returns-clause-none c = λ _. sym c.self.view_is ∙ c.loop-line.invariant
     ∙ no_line known_verbs 4 c.loop-line.self-inside.before
-        (lines_of c.loop-line.self-inside.text.now)
+    (lines_of c.loop-line.self-inside.text.now)
     c.in_default.ensures
 
 pub returns-clause-ended : goal.returns-clause-ended

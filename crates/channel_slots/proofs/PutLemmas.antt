@@ -1,0 +1,44 @@
+-- Events of a place that are put in one behind the other.
+use Rattle.std.proofs.Common.{◌≡◌, ℕ, ◌+◌, List, [], ◌∷◌, ◌++◌, length, refl, sym, ap, ◌∙◌}
+use Rattle.std.specs.Prelude.{map, Option, Some, None, option_map, MatchOption, IsSomeAnd}
+use Rattle.std.proofs.lemmas.List.{length-map, map-append}
+use Rattle.channel_slots.specs.declared.event.Event.{Event}
+use Rattle.channel_slots.specs.declared.event.SlotEvent.{SlotEvent}
+use Rattle.channel_slots.specs.declared.place.Place.{Place}
+use Rattle.channel_slots.specs.Banks.{event_of, PutsIn}
+use Rattle.channel_slots.specs.Events.{time_in}
+use Rattle.channel_slots.specs.Orders.{put_in, put_all}
+use Rattle.channel_slots.proofs.OrderLemmas.{put_all-append, put_all-length}
+
+module _ (p : Place) (time : ℕ) where
+  pub puts-none : (before : List SlotEvent) → PutsIn p time [] before before
+  unfolding put_all
+  puts-none before = refl
+
+  pub puts-one : (event : Event) (before after : List SlotEvent)
+      → after ≡ put_in time_in (event_of p time event) before
+      → PutsIn p time (event ∷ []) before after
+  unfolding put_all
+  puts-one event before after e = e
+
+  pub puts-more : (es fs : List Event) (before mid after : List SlotEvent)
+      → PutsIn p time es before mid → PutsIn p time fs mid after
+      → PutsIn p time (es ++ fs) before after
+  puts-more es fs before mid after one two =
+      two ∙ ap (λ (l : List SlotEvent). put_all time_in l (map (event_of p time) fs)) one
+      ∙ sym (put_all-append time_in before (map (event_of p time) es)
+      (map (event_of p time) fs))
+      ∙ ap (put_all time_in before) (sym (map-append (event_of p time) es fs))
+
+  pub puts-length : (es : List Event) (before after : List SlotEvent)
+      → PutsIn p time es before after → length after ≡ length before + length es
+  puts-length es before after e =
+      ap length e ∙ put_all-length time_in before (map (event_of p time) es)
+      ∙ ap (λ n. length before + n) (length-map es (event_of p time))
+
+-- an option whose content is changed
+pub mapped : {A : Type 0} (f : A → Event) (o : Option A) (r : Option Event)
+    → MatchOption o (r ≡ None) (λ x. IsSomeAnd r (λ y. y ≡ f x)) → r ≡ option_map f o
+mapped f None r h = h
+mapped f (Some x) None h = absurd h
+mapped f (Some x) (Some y) h = ap (λ e. Some e) h

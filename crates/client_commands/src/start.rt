@@ -1,0 +1,75 @@
+//! The words with which a slot begins to follow a satellite.
+
+ghost use Rattle.std.specs.Prelude.{◌≡◌, ◌∷◌, [], length};
+ghost use Rattle.definitions.specs.Scripts.{up_to, around_zero, values_in};
+ghost use Rattle.client_commands.specs.Reading.{values_of_start};
+
+use crate::refusal::Refusal;
+use crate::words::Words;
+use ca_codes::Prn;
+use channel_slots::{Command, SlotNo};
+use oscillators::{Doppler, HalfChip};
+
+/// What the words behind `hold` and `track` write.
+pub(crate) struct Start {
+    /// The slot.
+    pub(crate) slot: SlotNo,
+    /// The satellite.
+    pub(crate) prn: Prn,
+    /// The Doppler shift to begin with.
+    pub(crate) doppler: Doppler,
+    /// The place in the code to begin at.
+    pub(crate) half: HalfChip,
+}
+
+impl Start {
+    /// The values of four words: slot, satellite, Doppler shift and half chip.
+    pub(crate) fn read(words: &mut Words<'_>) -> Result<Start, Refusal>
+        requires { length words.old ≡ 4 }
+        ensures { values_of_start result ≡ values_in
+            (up_to 0 3 ∷ up_to 1 32 ∷ around_zero 16000 ∷ up_to 0 2045 ∷ []) words.old }
+    {
+        Ok(Start {
+            slot: words.slot()?,
+            prn: words.prn()?,
+            doppler: words.doppler()?,
+            half: words.half_chip()?,
+        })
+    }
+
+    /// Follow it at a fixed Doppler shift.
+    pub(crate) fn hold(self) -> Command
+        ensures { result ≡ Command.Hold self.slot self.prn self.doppler self.half }
+    {
+        let Start {
+            slot,
+            prn,
+            doppler,
+            half,
+        } = self;
+        Command::Hold {
+            slot,
+            prn,
+            doppler,
+            half,
+        }
+    }
+
+    /// Track it.
+    pub(crate) fn track(self) -> Command
+        ensures { result ≡ Command.Track self.slot self.prn self.doppler self.half }
+    {
+        let Start {
+            slot,
+            prn,
+            doppler,
+            half,
+        } = self;
+        Command::Track {
+            slot,
+            prn,
+            doppler,
+            half,
+        }
+    }
+}

@@ -1,0 +1,45 @@
+//! The almanacs of all satellites together.
+
+ghost use Rattle.std.specs.Prelude.{◌≡◌, IfSome, option_map};
+ghost use Rattle.std.specs.List.{AllByRecursion};
+ghost use Rattle.definitions.specs.DataSets.{almanac_set};
+ghost use Rattle.data_sets.specs.Reports.{almanacs_in};
+ghost use Rattle.data_sets.specs.Standing.{IsWhole, almanac_values};
+
+use subframes::AlmanacField;
+
+/// Where the time of applicability stands among the numbers of an almanac.
+const TOA: usize = AlmanacField::Toa as usize;
+
+/// Where the health stands among them.
+const HEALTH: usize = AlmanacField::Health as usize;
+
+/// The almanacs of satellites 1 to 32, which are all for one time (IS-GPS-200, section
+/// 20.3.3.5.1.2).
+#[derive(Clone, Copy, Debug, PartialEq, Eq)]
+pub struct AlmanacSet {
+    /// The time of applicability, in units of 2^12 seconds.
+    pub toa: i64,
+    /// The health of each of the satellites, from number 1 on.
+    pub health: [i64; 32],
+}
+
+impl AlmanacSet {
+    /// The set of these almanacs of satellites 1 to 32, where all are there for one time.
+    pub(crate) fn of(last: &[Option<[i64; 13]>; 32]) -> Option<AlmanacSet>
+        ensures set { option_map almanacs_in result
+            ≡ option_map almanac_set (almanac_values last.now) }
+        ensures whole { IfSome result (λ set. AllByRecursion IsWhole last.now) }
+    {
+        let toa = last[0]?[TOA];
+        let mut health = [0; 32];
+        for k in 0..32 {
+            let almanac = &last[k]?;
+            if almanac[TOA] != toa {
+                return None;
+            }
+            health[k] = almanac[HEALTH];
+        }
+        Some(AlmanacSet { toa, health })
+    }
+}

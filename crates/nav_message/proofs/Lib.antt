@@ -1,0 +1,2 @@
+pub mod PagesWithBit
+pub mod PushNews

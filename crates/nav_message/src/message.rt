@@ -1,0 +1,90 @@
+//! The message that is read from the prompt sums.
+
+ghost use Rattle.std.specs.Prelude.{◌≡◌, ◌^◌, ◌≤◌, ◌<◌, ◌+◌, unsigned_abs, ℤ};
+ghost use Rattle.std.specs.Prelude.{Bool, List, [], ◌∷◌, ◌++◌};
+ghost use Rattle.definitions.specs.BitEdge.{has_edge};
+ghost use Rattle.definitions.specs.Frames.{found_by};
+ghost use Rattle.definitions.specs.Events.{bit_events, push_events};
+ghost use Rattle.nav_message.specs.declared.message.TheConstants.{MOST_BITS};
+ghost use Rattle.nav_message.specs.News.{events_in};
+
+use crate::news::MessageNews;
+use bit_sync::{BitNews, BitSync};
+use data_sets::{DataSets, Reports};
+use frame_sync::FrameSync;
+use subframes::Page;
+
+/// The most bits of a message: those of more than 600 years.
+pub const MOST_BITS: u64 = 1 << 40;
+
+/// What is known of a satellite's message: the edge of its bits, the subframe that is coming in and
+/// what is kept of its pages. It stands for the prompt sums that were pushed.
+#[derive(Debug, Drop)]
+pub struct Message {
+    bits: BitSync,
+    frames: FrameSync,
+    sets: DataSets,
+}
+
+impl Message {
+    ghost use Rattle.nav_message.specs.Standing.{HasRead, StandsFor, bit_count};
+
+    /// A message to which nothing was pushed.
+    pub fn new() -> Message
+        ensures stands { StandsFor [] result }
+        ensures none { bit_count result ≡ 0 }
+    {
+        Message {
+            bits: BitSync::new(),
+            frames: FrameSync::new(),
+            sets: DataSets::new(),
+        }
+    }
+
+    /// Takes the prompt sum in phase of the next dump, at most 2^18 in size. Gives what it tells:
+    /// nothing, the edge of the bits, or a subframe with the gap before it and what its page makes
+    /// reported. A bit is 20 dumps (IS-GPS-200, section 3.2.2), and a subframe 300 bits
+    /// (section 20.3.2). A message takes up to [`MOST_BITS`] bits. A push brings one at most.
+    pub fn push(&mut self, ip: i32) -> MessageNews
+        requires small { unsigned_abs ip ≤ 2 ^ 18 }
+        requires room { bit_count self.old < MOST_BITS }
+        ensures counted { bit_count self.new ≤ bit_count self.old + 1 }
+        ensures stands { (pushes : List ℤ) → StandsFor pushes self.old
+            → StandsFor (pushes ++ ip ∷ []) self.new }
+        ensures news { (pushes : List ℤ) → StandsFor pushes self.old
+            → events_in result ≡ push_events (pushes ++ ip ∷ []) }
+    {
+        match self.bits.push(ip) {
+            BitNews::Nothing => MessageNews::Nothing,
+            BitNews::Edge => MessageNews::Edge,
+            BitNews::Bit(bit) => self.take_bit(bit),
+        }
+    }
+
+    /// Takes the next bit, and gives what it makes told.
+    fn take_bit(&mut self, bit: bool) -> MessageNews
+        requires room { bit_count self.old < MOST_BITS }
+        ensures counted { bit_count self.new ≡ bit_count self.old + 1 }
+        ensures same_edge { self.new.bits ≡ self.old.bits }
+        ensures read { (bits : List Bool) → HasRead bits self.old
+            → HasRead (bits ++ bit ∷ []) self.new }
+        ensures news { (bits : List Bool) → HasRead bits self.old
+            → events_in result ≡ bit_events (bits ++ bit ∷ []) (found_by (bits ++ bit ∷ [])) }
+    {
+        let Some(found) = self.frames.push(bit) else {
+            return MessageNews::Nothing;
+        };
+        let reports = match Page::read(&found.subframe) {
+            Some(page) => self.sets.take(&page),
+            None => Reports::NONE,
+        };
+        MessageNews::Frame { found, reports }
+    }
+
+    /// Says whether the edge of the bits is found.
+    pub fn has_edge(&self) -> bool
+        ensures { (pushes : List ℤ) → StandsFor pushes self.now → result ≡ has_edge pushes }
+    {
+        self.bits.has_edge()
+    }
+}

@@ -1,0 +1,20 @@
+//! What a push makes a message tell.
+
+use data_sets::Reports;
+use frame_sync::Found;
+
+/// What a prompt sum makes a message tell.
+#[derive(Clone, Copy, Debug, PartialEq, Eq)]
+pub enum MessageNews {
+    /// Nothing that is told.
+    Nothing,
+    /// The edge of the data bits is found.
+    Edge,
+    /// A subframe is whole, and perhaps its page, or a set that the page completes, is reported.
+    Frame {
+        /// The subframe, and the gap before it.
+        found: Found,
+        /// What its page makes reported.
+        reports: Reports,
+    },
+}

@@ -1,0 +1,173 @@
+//! Messages that are pushed sum by sum. The words were worked out by the parity equations
+//! (IS-GPS-200, section 20.3.5), and what is expected by hand.
+
+use crate::MessageNews;
+use data_sets::{Report, Reports};
+use frame_sync::Found;
+
+mod fixture;
+
+use fixture::{Pushed, subframe};
+
+/// The telemetry word, behind two bits 0.
+const TELEMETRY: u32 = 0x22c0_0012;
+
+/// The handover words of subframes 1, 2, 3 and 5 behind it, at the time count 1.
+const HANDOVERS: [u32; 4] = [0x2104, 0x22bc, 0x23e4, 0x2528];
+
+/// The data of these words.
+const DATA: [u32; 5] = [0x8b_0000, 0x84, 0x8a, 0x8f, 0x94];
+
+// The edge is told once, with push 320, the sixteenth change. Bits are whole from push 339 on; they
+// tell nothing.
+#[test]
+fn edge_of_alternating_bits(rt: HostRuntime) {
+    let mut pushed = Pushed::new();
+    for k in 0..1000u32 {
+        assert_eq!(rt; pushed.has_edge(), k > 320, "push {k}");
+        let expected = if k == 320 {
+            MessageNews::Edge
+        } else {
+            MessageNews::Nothing
+        };
+        assert_eq!(rt; pushed.push(&rt, k / 20 % 2 == 1), expected, "push {k}");
+    }
+}
+
+// A subframe comes with the last of its 300 bits, and the five bits before the next are its gap.
+// Neither makes a report: subframe 1 waits for the two others of its set.
+#[test]
+fn gap_between_subframes(rt: HostRuntime) {
+    let mut pushed = Pushed::with_edge(&rt);
+    assert_eq!(rt; pushed.push_bit(&rt, false), MessageNews::Nothing);
+    let sent = zeros_behind(HANDOVERS[0]);
+    let subframe = subframe(&rt, zero_data(DATA[1]));
+    let first = told(
+        Found {
+            subframe,
+            gap: None,
+        },
+        None,
+    );
+    assert_eq!(rt; pushed.push_words(&rt, &sent), first);
+    for _ in 0..5 {
+        assert_eq!(rt; pushed.push_bit(&rt, false), MessageNews::Nothing);
+    }
+    let second = told(
+        Found {
+            subframe,
+            gap: Some(5),
+        },
+        None,
+    );
+    assert_eq!(rt; pushed.push_words(&rt, &sent), second);
+}
+
+// Subframes 1, 2 and 3 of zeros, one behind the other, are of one issue: the third makes their set
+// reported, and the three of them again don't.
+#[test]
+fn set_with_the_third_subframe(rt: HostRuntime) {
+    let mut pushed = Pushed::with_edge(&rt);
+    assert_eq!(rt; pushed.push_bit(&rt, false), MessageNews::Nothing);
+    let set = Some(Report::Eph([0; 31]));
+    for report in [set, None] {
+        for (k, expected) in [None, None, report].iter().enumerate() {
+            let subframe = subframe(&rt, zero_data(DATA[k + 1]));
+            let expected = told(
+                Found {
+                    subframe,
+                    gap: None,
+                },
+                *expected,
+            );
+            let sent = zeros_behind(HANDOVERS[k]);
+            assert_eq!(rt; pushed.push_words(&rt, &sent), expected, "{k}");
+        }
+    }
+}
+
+// A subframe 5 with the almanac of satellite 5 for time of applicability 7. With its parity, each
+// second word from word 5 on is sent inverted. Each time it comes it is reported.
+#[test]
+fn almanac_page(rt: HostRuntime) {
+    let mut pushed = Pushed::with_edge(&rt);
+    assert_eq!(rt; pushed.push_bit(&rt, false), MessageNews::Nothing);
+    let sent = [
+        TELEMETRY,
+        HANDOVERS[3],
+        0x1140_000e,
+        0x01c0_0009,
+        0x3fff_ffd6,
+        0x29,
+        0x3fff_ffd6,
+        0x29,
+        0x3fff_ffd6,
+        0x8c,
+    ];
+    let mut words = zero_data(DATA[4]);
+    words[2] = Some(0x45_0000);
+    words[3] = Some(0x07_0000);
+    words[9] = Some(2);
+    let report = Some(Report::Alm([1, 5, 0, 7, 0, 0, 0, 0, 0, 0, 0, 0, 0]));
+    let subframe = subframe(&rt, words);
+    for _ in 0..2 {
+        let expected = told(
+            Found {
+                subframe,
+                gap: None,
+            },
+            report,
+        );
+        assert_eq!(rt; pushed.push_words(&rt, &sent), expected);
+    }
+}
+
+// With a damaged bit in word 7 the subframe is told without that word, and has no page: the set of
+// three waits for the whole subframe 3.
+#[test]
+fn damaged_word(rt: HostRuntime) {
+    let mut pushed = Pushed::with_edge(&rt);
+    assert_eq!(rt; pushed.push_bit(&rt, false), MessageNews::Nothing);
+    let _ = pushed.push_words(&rt, &zeros_behind(HANDOVERS[0]));
+    let _ = pushed.push_words(&rt, &zeros_behind(HANDOVERS[1]));
+    let mut sent = zeros_behind(HANDOVERS[2]);
+    sent[6] = 1 << 20;
+    let mut words = zero_data(DATA[3]);
+    words[6] = None;
+    let subframe = subframe(&rt, words);
+    let damaged = told(
+        Found {
+            subframe,
+            gap: None,
+        },
+        None,
+    );
+    assert_eq!(rt; pushed.push_words(&rt, &sent), damaged);
+    let news = pushed.push_words(&rt, &zeros_behind(HANDOVERS[2]));
+    let MessageNews::Frame { reports, .. } = news else {
+        panic!(&rt; "no subframe");
+    };
+    assert_eq!(rt; reports.page, Some(Report::Eph([0; 31])));
+    assert_eq!(rt; reports.set, None);
+}
+
+/// The telemetry word, this handover word and eight words of zeros, as they are sent.
+fn zeros_behind(handover: u32) -> [u32; 10] {
+    [TELEMETRY, handover, 0, 0, 0, 0, 0, 0, 0, 0]
+}
+
+/// The data of such words.
+fn zero_data(handover: u32) -> [Option<u32>; 10] {
+    let mut words = [Some(0); 10];
+    words[0] = Some(DATA[0]);
+    words[1] = Some(handover);
+    words
+}
+
+/// What is told with a subframe whose page makes this reported, and no set of almanacs.
+fn told(found: Found, page: Option<Report>) -> MessageNews {
+    MessageNews::Frame {
+        found,
+        reports: Reports { page, set: None },
+    }
+}

@@ -1,0 +1,15 @@
+use Rattle.std.proofs.Common.{◌≤◌, length, arith, rules}
+use Rattle.std.specs.Fmt.{decimal}
+use Rattle.printed_lines.proofs.RoomLemmas.{byte-length}
+use Rattle.printed_lines.proofs.words.Line.kind.Goals as goal
+
+pub push_decimal-requires : goal.push_decimal-requires
+push_decimal-requires c =
+    let short = byte-length c.args.slot c.ranges.slot.fits in
+    record { room = rw c.into.ensures (search (rules, arith)) }
+
+pub returns-clause-longer : goal.returns-clause-longer
+returns-clause-longer c =
+    let short : length (decimal c.into.result) ≤ 3 =
+    rw c.into.ensures (byte-length c.args.slot c.ranges.slot.fits) in
+    search (rules, arith)

@@ -1,0 +1,6 @@
+-- Words behind others, each behind a space.
+use Rattle.std.specs.Prelude.{ℕ, List, ◌∷◌, flat_map}
+
+-- the words that these write, each behind a space
+abbrev pub spaced : {A : Type 0} → (A → List ℕ) → List A → List ℕ
+spaced text xs = flat_map (λ x. 32 ∷ text x) xs

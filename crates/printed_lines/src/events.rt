@@ -1,0 +1,67 @@
+//! The words of what slots tell.
+
+ghost use Rattle.std.specs.Prelude.{◌≡◌, ◌++◌, ◌∷◌, ◌+◌, ◌*◌};
+ghost use Rattle.definitions.specs.Texts.{event_text};
+ghost use Rattle.definitions.specs.Events.{count, gap};
+ghost use Rattle.lane_correlator.specs.Counting.{counts_in};
+ghost use Rattle.channel_slots.specs.Events.{event_in};
+ghost use Rattle.printed_lines.specs.Room.{HasRoom, TakesUp};
+ghost use Rattle.printed_lines.specs.declared.events.TheConstants.{COUNTS_BYTES, EVENT_BYTES};
+ghost use Rattle.printed_lines.specs.declared.words.TheConstants.{WORD_BYTES, KIND_BYTES};
+
+use crate::almanacs::put_almanacs;
+use crate::pages::{PAGE_BYTES, put_report};
+use crate::subframe_words::put_subframe;
+use crate::words::{KIND_BYTES, Line, WORD_BYTES};
+use channel_slots::Event;
+use lane_correlator::Counts;
+
+/// The most bytes that the words of an event take up: those of a page.
+pub const EVENT_BYTES: usize = PAGE_BYTES;
+
+/// The most bytes that the words of a dump take up.
+pub const COUNTS_BYTES: usize = KIND_BYTES + 6 * WORD_BYTES;
+
+/// Adds the words of what a slot tells.
+pub(crate) fn put_event(line: &mut Line, slot: u8, event: &Event)
+    requires room { HasRoom EVENT_BYTES line.old }
+    ensures text { line.new ≡ line.old ++ 32 ∷ event_text slot (event_in event.now) }
+    ensures longer { TakesUp EVENT_BYTES line.old line.new }
+{
+    match event {
+        Event::Count(counts) => put_counts(line, slot, *counts),
+        Event::Lock => line.kind(b"lock", slot),
+        Event::Unlock => line.kind(b"unlock", slot),
+        Event::Lost => line.kind(b"lost", slot),
+        Event::Bits => line.kind(b"bits", slot),
+        Event::Gap(bits) => put_gap(line, slot, *bits),
+        Event::Sub(subframe) => put_subframe(line, slot, subframe),
+        Event::Page(report) => put_report(line, slot, report),
+        Event::Almanacs(set) => put_almanacs(line, slot, set),
+    }
+}
+
+/// Adds the words of a dump.
+fn put_counts(line: &mut Line, slot: u8, counts: Counts)
+    requires room { HasRoom COUNTS_BYTES line.old }
+    ensures text { line.new ≡ line.old ++ 32 ∷ event_text slot (count (counts_in counts)) }
+    ensures longer { TakesUp COUNTS_BYTES line.old line.new }
+{
+    line.kind(b"count", slot);
+    line.signed(counts.ie.into());
+    line.signed(counts.qe.into());
+    line.signed(counts.ip.into());
+    line.signed(counts.qp.into());
+    line.signed(counts.il.into());
+    line.signed(counts.ql.into());
+}
+
+/// Adds the words of a gap of so many bits.
+fn put_gap(line: &mut Line, slot: u8, bits: u64)
+    requires room { HasRoom (KIND_BYTES + WORD_BYTES) line.old }
+    ensures text { line.new ≡ line.old ++ 32 ∷ event_text slot (gap bits) }
+    ensures longer { TakesUp (KIND_BYTES + WORD_BYTES) line.old line.new }
+{
+    line.kind(b"gap", slot);
+    line.number(bits);
+}

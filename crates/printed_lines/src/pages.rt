@@ -1,0 +1,108 @@
+//! The words of pages, and of a clock and ephemeris.
+
+ghost use Rattle.std.specs.Prelude.{◌≡◌, ◌≤◌, ◌++◌, ◌∷◌, ◌+◌, ◌*◌, length, map, zip};
+ghost use Rattle.std.specs.Fmt.{decimal};
+ghost use Rattle.definitions.specs.Events.{reported};
+ghost use Rattle.definitions.specs.Texts.{event_text, field_text, field_texts, hex_of_bytes};
+ghost use Rattle.definitions.specs.Texts.{words_text};
+ghost use Rattle.subframes.specs.Entries.{entry_of};
+ghost use Rattle.data_sets.specs.Reports.{fields_in, numbers_in, report_in};
+ghost use Rattle.printed_lines.specs.Room.{HasRoom, TakesUp};
+ghost use Rattle.printed_lines.specs.Spaced.{spaced};
+ghost use Rattle.printed_lines.specs.declared.pages.TheConstants.{FIELD_BYTES, PAGE_BYTES};
+ghost use Rattle.printed_lines.specs.declared.pages.TheConstants.{MESSAGE_BYTES};
+ghost use Rattle.printed_lines.specs.declared.words.TheConstants.{NUMBER_BYTES, KIND_LETTERS};
+
+use crate::words::{KIND_BYTES, Line, NUMBER_BYTES};
+use data_sets::Report;
+use subframes::Field;
+
+/// The most bytes that a field takes up: a space, a name, `=`, a number of 64 bits, `:` and an
+/// exponent. A name and its exponent have at most 8 bytes.
+pub const FIELD_BYTES: usize = NUMBER_BYTES + 11;
+
+/// The most bytes that the words of a page take up, and room for one number more: before its last
+/// exponent a line wants room for a number of any length.
+pub const PAGE_BYTES: usize = KIND_BYTES + 31 * FIELD_BYTES + NUMBER_BYTES;
+
+/// The bytes that the characters of a message take up: a space and 44 digits.
+pub const MESSAGE_BYTES: usize = 45;
+
+/// Adds the words of a page, or of a clock and ephemeris (IS-GPS-200, sections 20.3.3.3 to
+/// 20.3.3.5).
+pub(crate) fn put_report(line: &mut Line, slot: u8, report: &Report)
+    requires room { HasRoom PAGE_BYTES line.old }
+    ensures text { line.new ≡ line.old ++ 32 ∷ event_text slot (reported (report_in report.now)) }
+    ensures longer { TakesUp PAGE_BYTES line.old line.new }
+{
+    match report {
+        Report::Eph(_) => put_page(line, b"eph", slot, report),
+        Report::Alm(_) => put_page(line, b"alm", slot, report),
+        Report::Utc(_) => put_page(line, b"utc", slot, report),
+        Report::Hlt(_) => put_page(line, b"hlt", slot, report),
+        Report::Msg(characters) => put_message(line, slot, characters),
+    }
+}
+
+/// Adds the words of a page of a kind, whose numbers have names.
+fn put_page(line: &mut Line, kind: &[u8], slot: u8, report: &Report)
+    requires short { length kind.now ≤ KIND_LETTERS }
+    requires room { HasRoom PAGE_BYTES line.old }
+    ensures text { line.new ≡ line.old ++ 32 ∷ words_text (kind.now ∷ decimal slot
+        ∷ field_texts (fields_in (report_in report.now)) (numbers_in (report_in report.now))) }
+    ensures longer { TakesUp PAGE_BYTES line.old line.new }
+{
+    line.kind(kind, slot);
+    put_fields(line, report.fields(), report.values());
+}
+
+/// Adds fields with their numbers.
+fn put_fields(line: &mut Line, fields: &[Field], values: &[i64])
+    requires one_each { length fields.now ≡ length values.now }
+    requires room { HasRoom (length fields.now * FIELD_BYTES + NUMBER_BYTES) line.old }
+    ensures text { line.new ≡ line.old
+        ++ spaced (λ (field, value). field_text (entry_of field) value)
+        (zip fields.now values.now) }
+    ensures longer { TakesUp (length fields.now * FIELD_BYTES) line.old line.new }
+{
+    for i in 0..fields.len() {
+        put_field(line, fields[i], values[i]);
+    }
+}
+
+/// Adds a field: its name, its number and the power of two of its unit.
+fn put_field(line: &mut Line, field: Field, value: i64)
+    requires room { HasRoom (FIELD_BYTES + NUMBER_BYTES) line.old }
+    ensures text { line.new ≡ line.old ++ 32 ∷ field_text (entry_of field) value }
+    ensures longer { TakesUp FIELD_BYTES line.old line.new }
+{
+    line.text(b" ");
+    line.text(field.name().as_bytes());
+    line.text(b"=");
+    line.integer(value);
+    line.text(b":");
+    line.integer(field.exponent().into());
+}
+
+/// Adds the words of a message (IS-GPS-200, section 20.3.3.5.1.8).
+fn put_message(line: &mut Line, slot: u8, characters: &[u8; 22])
+    requires room { HasRoom (KIND_BYTES + MESSAGE_BYTES) line.old }
+    ensures text { line.new ≡ line.old ++ 32 ∷ event_text slot
+        (reported (report_in (Report.Msg characters.now))) }
+    ensures longer { TakesUp (KIND_BYTES + MESSAGE_BYTES) line.old line.new }
+{
+    line.kind(b"msg", slot);
+    line.text(b" ");
+    put_characters(line, characters);
+}
+
+/// Adds two digits for each character to the last word.
+fn put_characters(line: &mut Line, characters: &[u8; 22])
+    requires room { HasRoom 44 line.old }
+    ensures text { line.new ≡ line.old ++ hex_of_bytes characters.now }
+    ensures longer { TakesUp 44 line.old line.new }
+{
+    for character in characters {
+        line.hex(*character);
+    }
+}
