@@ -1,8 +1,9 @@
 //! One satellite followed over samples. A `Follower` has the open segment of a channel: its code
 //! and carrier at the next sample, and its sums so far. A `Held` is a channel at a fixed Doppler
-//! shift, with the number of its dumps. Each stands for the samples that it took, and its dumps are
-//! proved to be those of the definition, however the samples are cut into runs. Nothing here knows
-//! a command or a client.
+//! shift, with the number of its dumps. A `Tracked` one is steered by its loops, and its message is
+//! read while they are locked. Each stands for the samples that it took. Its dumps, and what these
+//! tell, are proved to be those of the definition, however the samples are cut into runs. Nothing
+//! here knows a command or a client.
 //!
 //!     use channels::Held;
 //!

@@ -26,19 +26,29 @@ A script is lines of `T VERB WORDS`. T is a time in samples, and never falls fro
 Each script is a client with the slots 0 to 3.
   T hold S PRN DOPPLER HALF  follow satellite PRN (1 to 32) in slot S, at a Doppler shift of DOPPLER
                              Hz (-16000 to 16000), its code beginning at half chip HALF (0 to 2045)
+  T track S PRN DOPPLER HALF follow it from there on with closed loops, and read its message
   T counts S N               print the next N dumps (0 to 1000000); 0 ends printing
   T state S                  show the slot
   T stop S                   make the slot idle
-A dump is the sums over one code period. The first dump after `hold` covers the rest of the code
-only, which is (2046 - HALF)/2 chips.
+A dump is the sums over one code period. The first dump after `hold` or `track` covers the rest of
+the code only, which is (2046 - HALF)/2 chips.
 
 A printed line is `CLIENT T TEXT`:
   ok                         a command other than `state` was accepted
   err N                      a line of the script was refused
   count S IE QE IP QP IL QL  a dump: sums in phase (I) and in quadrature (Q) with the early (E),
                              prompt (P) and late (L) code
+  lock S, unlock S, lost S   the loops locked, unlocked, or lost the signal (the slot is idle then)
+  bits S                     the edge of the data bits was found
+  gap S N                    the next subframe starts N bits late
+  sub S ID TOW W1 .. W10     a subframe: its words in hexadecimal, ------ where parity fails
+  eph S FIELDS               clock and ephemeris; FIELDS are name=integer:exponent
+  alm, utc, hlt, msg, als    a page of almanac, time, health or text; the almanacs of all
   state S idle               the slot is idle
   state S hold PRN DUMPS     it follows PRN, and has had DUMPS dumps
+  state S track PRN DUMPS V W open
+                             it tracks PRN: Doppler shift V in 1/65536 Hz, code correction W in
+                             1/65536 chip a second; then open, lock, or bits with their edge found
   end                        the samples came to their end
 
 `err N` says why:
