@@ -8,10 +8,12 @@ mod fakes;
 mod held_text;
 mod limits;
 mod recording;
+mod reference;
 mod runs;
 mod scripts;
 mod signals;
 mod std_devices;
+mod tracking;
 
 use crate::faults::RunFault;
 use crate::running::{run, run_to};

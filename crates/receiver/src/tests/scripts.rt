@@ -112,13 +112,13 @@ fn hostile_script(rt: HostRuntime) -> Result<(), Fail> {
     Ok(())
 }
 
-// The refused hold changes nothing: the dump is that of the hold before it.
+// The refused track changes nothing: the dump is that of the hold before it.
 #[test]
 fn refused_restart(rt: HostRuntime) -> Result<(), Fail> {
     let code = code_file();
     let mut reader = Giving::whole(&code);
     let mut writer = Holding::whole();
-    let script = b"0 hold 0 1 0 0\n0 counts 0 1\n1000 hold 0 1 0 0\n";
+    let script = b"0 hold 0 1 0 0\n0 counts 0 1\n1000 track 0 1 0 0\n";
     let answer = run_plain(rt.alloc(), &[script], &mut reader, &mut writer)?;
     assert_eq!(rt; answer, Ok(2048));
     let text = "1 0 ok\n\
@@ -129,7 +129,7 @@ fn refused_restart(rt: HostRuntime) -> Result<(), Fail> {
     assert_eq!(rt; writer.text()?, text);
     let mut reader = Giving::whole(&[]);
     let mut writer = Holding::whole();
-    let script = b"0 hold 0 1 0 0\n\
+    let script = b"0 track 0 1 0 0\n\
         0 state 0\n\
         0 stop 0\n\
         0 stop 0\n\
@@ -139,7 +139,7 @@ fn refused_restart(rt: HostRuntime) -> Result<(), Fail> {
     let answer = run_plain(rt.alloc(), &[script], &mut reader, &mut writer)?;
     assert_eq!(rt; answer, Ok(0));
     let text = "1 0 ok\n\
-        1 0 state 0 hold 1 0\n\
+        1 0 state 0 track 1 0 0 0 open\n\
         1 0 ok\n\
         1 0 err 10\n\
         1 0 err 8\n\
