@@ -7,6 +7,7 @@ mod devices;
 mod fakes;
 mod held_text;
 mod limits;
+mod messages;
 mod recording;
 mod reference;
 mod runs;
