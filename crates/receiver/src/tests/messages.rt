@@ -66,3 +66,25 @@ fn subframe_of_a_made_signal(rt: HostRuntime) -> Result<(), Fail> {
     assert_eq!(rt; writer.text()?, text);
     Ok(())
 }
+
+// 18,860 periods. The set is that of the three subframes' fields, which are all 0.
+#[test]
+fn set_of_a_made_signal(rt: HostRuntime) -> Result<(), Fail> {
+    let writer = written(rt.alloc(), &HANDOVERS, 47_150_000)?;
+    let text = "1 0 ok\n\
+        1 547378 lock 0\n\
+        1 1302377 bits 0\n\
+        1 17099867 sub 0 1 1 8b0000 000084 000000 000000 000000 000000 \
+        000000 000000 000000 000000\n\
+        1 32099858 sub 0 2 2 8b0000 00010a 000000 000000 000000 000000 \
+        000000 000000 000000 000000\n\
+        1 47099848 sub 0 3 3 8b0000 00018c 000000 000000 000000 000000 \
+        000000 000000 000000 000000\n\
+        1 47099848 eph 0 wn=0:0 l2=0:0 ura=0:0 health=0:0 iodc=0:0 l2p=0:0 tgd=0:-31 toc=0:4 \
+        af2=0:-55 af1=0:-43 af0=0:-31 iode=0:0 crs=0:-5 dn=0:-43 m0=0:-31 cuc=0:-29 e=0:-33 \
+        cus=0:-29 sqrta=0:-19 toe=0:4 fit=0:0 aodo=0:0 cic=0:-29 om0=0:-31 cis=0:-29 i0=0:-31 \
+        crc=0:-5 w=0:-31 omdot=0:-43 iode3=0:0 idot=0:-43\n\
+        1 47150000 end\n";
+    assert_eq!(rt; writer.text()?, text);
+    Ok(())
+}
