@@ -43,7 +43,7 @@ received asked files settings texts old new (Ok n) allowed is all ran =
       texts = all;
       is_run =
           subst (λ (s : DefinedSettings). IsRun (task_of s (one_or_more texts) (2 ^ 40)) old new
-              (Ok n))
+          (Ok n))
           is ran;
     }
 received asked files settings texts old new (Err (Run fault)) allowed is all ran =

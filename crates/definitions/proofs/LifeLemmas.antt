@@ -138,7 +138,7 @@ life_events-hold settings xs life prn doppler half_chip e =
 dump_events-hold : (life : Life) (prn : ℕ) (doppler : ℤ) (half_chip : ℕ) (dumps : List Dump)
     (d : Dump) → life.start ≡ hold prn doppler half_chip
     → dump_events life dumps d
-        ≡ when (nat_lt 0 (unprinted_count life (front_of dumps))) (count d.counts)
+    ≡ when (nat_lt 0 (unprinted_count life (front_of dumps))) (count d.counts)
 dump_events-hold life prn doppler half_chip dumps d e = by_start life.start e
   where
     by_start : (start : Start) → start ≡ hold prn doppler half_chip
@@ -171,7 +171,7 @@ pub hold-tells : (settings : Settings) (xs : List Sample) (life : Life) (prn : �
     → (progress settings (held_channel life.begun prn doppler half_chip) xs).dumps ≡ dumps ++ d ∷ []
     → d.time ≡ length xs
     → life_events settings xs (Some life)
-        ≡ when (nat_lt 0 (unprinted_count life dumps)) (count d.counts)
+    ≡ when (nat_lt 0 (unprinted_count life dumps)) (count d.counts)
 hold-tells settings xs life prn doppler half_chip is dumps d ends time =
     life_events-hold settings xs life prn doppler half_chip is
     ∙ rw (held_dumps settings xs life prn doppler half_chip is, ends, last_of-push dumps d)

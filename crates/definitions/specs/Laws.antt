@@ -98,7 +98,7 @@ RealSamplesInQuadrature = (x : ℕ → ℤ) (cos sin chip : ℕ → ℤ) (from t
 abbrev pub RangesAddUp : Type 0
 RangesAddUp = (x : ℕ → Sample) (replica : Replica) (from mid to : ℕ) → from ≤ mid → mid ≤ to
     → six_sums x replica from to
-        ≡ sum_of_counts (six_sums x replica from mid) (six_sums x replica mid to)
+    ≡ sum_of_counts (six_sums x replica from mid) (six_sums x replica mid to)
 
 -- ---- bits and words
 

@@ -133,7 +133,7 @@ pub record HasSigns (r : Replica) (from to : ℕ) : Type 0 where
 
 pub six_by_parts : (x : ℕ → Sample) (r : Replica) (from to : ℕ) → HasSigns r from to
     → six_sums x r from to
-        ≡ sum_of_counts (part_sums (λ j. (x j).in_phase) r.cos (λ j. pos 0 -ℤ r.sin j) r
+    ≡ sum_of_counts (part_sums (λ j. (x j).in_phase) r.cos (λ j. pos 0 -ℤ r.sin j) r
     from to) (part_sums (λ j. (x j).quadrature) r.sin r.cos r from to)
 unfolding six_sums
 six_by_parts x r from to s = rw (

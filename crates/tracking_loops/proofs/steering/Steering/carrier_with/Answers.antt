@@ -37,7 +37,7 @@ returns-clause-u c =
     (omega (arith, c.clamp_shift-u-2.ensures.small)))
     ∙ c.clamp_shift-u-2.ensures.is
     ∙ ap clamp_shift
-        (slow_is c.args.self.now.u c.phase_error-error.result c.args.self.now.u_in_range
+    (slow_is c.args.self.now.u c.phase_error-error.result c.args.self.now.u_in_range
     c.phase_error-error.ensures.small ∙ ap (λ e. c.args.self.now.u +ℤ pos 6 *ℤ e)
     c.phase_error-error.ensures.is)
     ∙ sym (held-u (steering_in c.args.self.now) (counts_in c.args.counts.now)
