@@ -129,8 +129,10 @@ fn told(slot: &mut Slot, most: usize, len: usize) -> Option<Counts>
     if samples.len() != slot.room(most) {
         return None;
     }
-    let news = slot.step(&samples, 0, samples.len(), &mut CodeBook::new())?;
-    news.count
+    match slot.step(&samples, 0, samples.len(), &mut CodeBook::new()) {
+        Some(news) => news.count,
+        None => None,
+    }
 }
 
 // At two samples a chip the code begins half a chip before its end, so one sample ends the segment.
