@@ -90,7 +90,8 @@ fn options_not_understood(rt: HostRuntime) -> Result<(), Fail> {
     assert!(rt; output.contains("receiver [OPTIONS] [SCRIPT]...") && error.is_empty());
     for text in [
         "count S IE QE IP QP IL QL",
-        "covers the rest of the code\nonly, which is (2046 - HALF)/2 chips.",
+        "T track S PRN DOPPLER HALF",
+        "covers the rest of\nthe code only, which is (2046 - HALF)/2 chips.",
         "half the rate; see --minus",
         "0  the samples came to their end",
     ] {
