@@ -2,7 +2,7 @@
 use Rattle.std.proofs.Common.{◌≡◌, ℕ, ◌+◌, ◌-◌, ◌*◌, ◌%◌, ◌^◌, ◌<◌, ◌≤◌, List, [], ◌∷◌, ◌++◌}
 use Rattle.std.proofs.Common.{length, take, sym, ap, ◌∙◌, arith, length-append}
 use Rattle.std.proofs.lemmas.List.{length-take}
-use Rattle.std.specs.Prelude.{ℤ, pos, false, true}
+use Rattle.std.specs.Prelude.{false, true}
 use Rattle.std.proofs.Math.Nat.{mul-le-mul_right}
 use Rattle.definitions.specs.Samples.{Sample, sample_at}
 use Rattle.definitions.specs.Oscillators.{Settings, carrier_phase_after, code_step, carrier_step}
@@ -14,7 +14,6 @@ use Rattle.definitions.specs.Segments.{closed_at, first_progress}
 use Rattle.definitions.proofs.BlockLemmas.{progress-begun, progress-quiet, progress-closes}
 use Rattle.definitions.proofs.BlockLemmas.{quiet-through, last-through, phase-split}
 use Rattle.definitions.proofs.SplitLemmas.{counts_over-more, counts_over-none, carrier_on}
-use Rattle.definitions.specs.Lives.{held_channel, doppler_shift}
 use Rattle.channels.specs.declared.follower.Follower.{Follower}
 use Rattle.lane_correlator.specs.Counting.{counts_in}
 use Rattle.channels.specs.Following.{IsAt, Follows, Stays, Closes, QuietInside}
@@ -216,28 +215,26 @@ module _ (settings : Settings) (channel : Channel) (xs ys : List Sample) (f : Fo
         }
 
 -- a follower that starts at the next sample
-pub started : (settings : Settings) (xs : List Sample) (prn : ℕ) (doppler : ℤ) (half_chip : ℕ)
-    (f : Follower) → f.prn ≡ prn → f.code.phase ≡ half_chip * 2 ^ 31 → f.carrier.phase ≡ 0
-    → f.code.step ≡ code_step settings (doppler_shift doppler) (pos 0)
-    → f.carrier.step ≡ carrier_step settings (doppler_shift doppler) → counts_in f.sums ≡ no_counts
-    → Follows settings (held_channel (length xs) prn doppler half_chip) xs f
-started settings xs prn doppler half_chip f p code carrier a b sums =
-    let none : progress settings (held_channel (length xs) prn doppler half_chip) xs
-    ≡ first_progress (held_channel (length xs) prn doppler half_chip) =
-    progress-begun settings (held_channel (length xs) prn doppler half_chip) xs
-    (omega arith) in
-    let zero : length xs - length xs ≡ 0 = omega arith in
+pub started : (settings : Settings) (channel : Channel) (xs : List Sample) (f : Follower)
+    → channel.start ≡ length xs → f.prn ≡ channel.prn → f.code.phase ≡ channel.code
+    → f.carrier.phase ≡ 0 → f.code.step ≡ code_step settings (channel.steering []).v
+    (channel.steering []).w → f.carrier.step ≡ carrier_step settings (channel.steering []).v
+    → counts_in f.sums ≡ no_counts → Follows settings channel xs f
+started settings channel xs f now p code carrier a b sums =
+    let none : progress settings channel xs ≡ first_progress channel =
+    progress-begun settings channel xs (omega (arith, now)) in
+    let zero : length xs - channel.start ≡ 0 = omega (arith, now) in
     record {
       at = rw none (record {
-        begun = omega arith;
-        opened = omega arith;
+        begun = omega (arith, now);
+        opened = omega (arith, now);
         prn = p;
         code = rw (code, zero) (omega arith);
         carrier = rw (carrier, zero) (omega arith);
-        sums = sums ∙ sym (counts_over-none prn _ xs (length xs));
+        sums = sums ∙ rw now (sym (counts_over-none channel.prn _ xs (length xs)));
       });
-      code_step = a;
-      carrier_step = b;
+      code_step = rw none a;
+      carrier_step = rw none b;
     }
 
 -- where a segment has just begun, the follower may be given the steps that the dumps so far ask for

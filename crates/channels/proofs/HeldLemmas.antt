@@ -1,5 +1,5 @@
 -- A held satellite, when it begins and when it takes samples.
-use Rattle.std.proofs.Common.{◌≡◌, ℕ, ◌+◌, ◌≤◌, List, ◌++◌, length, refl, ap, ◌∙◌, arith}
+use Rattle.std.proofs.Common.{◌≡◌, ℕ, ◌+◌, List, ◌++◌, length, refl, ap, ◌∙◌, arith}
 use Rattle.std.proofs.Common.{length-append}
 use Rattle.std.specs.Prelude.{ℤ, Some, None}
 use Rattle.definitions.specs.Samples.{Sample}
@@ -11,8 +11,7 @@ use Rattle.lane_correlator.specs.declared.counts.Counts.{Counts}
 use Rattle.lane_correlator.specs.Counting.{counts_in}
 use Rattle.channels.specs.declared.held.Held.{Held}
 use Rattle.channels.specs.Following.{Follows, Stays, Closes}
-use Rattle.channels.specs.HeldChannels.{Holds, Takes, chance}
-use Rattle.channels.proofs.ChanceLemmas.{one-chance}
+use Rattle.channels.specs.HeldChannels.{Holds, Takes}
 
 pub begins : (settings : Settings) (xs : List Sample) (prn : ℕ) (doppler : ℤ) (half_chip : ℕ)
     (h : Held) → Follows settings (held_channel (length xs) prn doppler half_chip) xs h.follower

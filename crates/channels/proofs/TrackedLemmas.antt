@@ -11,7 +11,7 @@ use Rattle.definitions.specs.Segments.{progress, first_progress}
 use Rattle.definitions.specs.Loops.{loops_after, shift_after}
 use Rattle.definitions.specs.Lock.{news_of, is_locked}
 use Rattle.definitions.specs.Events.{pushes_of, push_events, steered_events}
-use Rattle.definitions.specs.Lives.{held_channel, tracked_channel, doppler_shift}
+use Rattle.definitions.specs.Lives.{held_channel, tracked_channel}
 use Rattle.definitions.proofs.BlockLemmas.{progress-begun}
 use Rattle.lane_correlator.specs.Counting.{counts_in}
 use Rattle.tracking_loops.specs.NewsIn.{news_in}
@@ -20,7 +20,7 @@ use Rattle.channels.specs.declared.follower.Follower.{Follower}
 use Rattle.channels.specs.declared.tracked.Tracked.{Tracked}
 use Rattle.channels.specs.declared.dump.Dump.{Dump}
 use Rattle.channels.specs.Following.{Follows, Opens, Stays, Closes}
-use Rattle.channels.specs.TrackedChannels.{Tracks, Takes, counts_so_far}
+use Rattle.channels.specs.TrackedChannels.{Tracks, Takes, IsSteeredFrom, counts_so_far}
 use Rattle.channels.specs.LockedMessages as messages
 use Rattle.nav_message.specs.News.{events_in}
 
@@ -34,11 +34,11 @@ module _ (settings : Settings) (xs : List Sample) (prn : ℕ) (doppler : ℤ) (h
   held-none : progress settings held xs ≡ first_progress held
   held-none = progress-begun settings held xs (omega arith)
 
-  tracked-none : progress settings tracked xs ≡ first_progress tracked
+  pub tracked-none : progress settings tracked xs ≡ first_progress tracked
   tracked-none = progress-begun settings tracked xs (omega arith)
 
   -- before its first dump it goes on as one that is held
-  as-held : (f : Follower) → Follows settings held xs f → Follows settings tracked xs f
+  pub as-held : (f : Follower) → Follows settings held xs f → Follows settings tracked xs f
   unfolding loops_after
   as-held f s =
       let at = rw held-none at s.at in
@@ -55,17 +55,20 @@ module _ (settings : Settings) (xs : List Sample) (prn : ℕ) (doppler : ℤ) (h
         carrier_step = rw tracked-none s.carrier_step;
       }
 
-  pub begins : (t : Tracked) → t.settings ≡ settings → Follows settings held xs t.follower
-      → StandsFor (doppler_shift doppler) [] t.loops → messages.StandsFor [] t.message
-      → Tracks settings tracked xs t
-  begins t recorded follows loops message = record {
-    shift = doppler_shift doppler;
-    steered = λ dumps. refl;
-    recorded = recorded;
-    follows = as-held t.follower follows;
-    loops = rw tracked-none loops;
-    message = rw tracked-none message;
-  }
+-- loops that begin with a channel's shift steer it
+pub begins : (settings : Settings) (channel : Channel) (xs : List Sample) (shift : ℤ) (t : Tracked)
+    → t.settings ≡ settings → Follows settings channel xs t.follower
+    → progress settings channel xs ≡ first_progress channel → IsSteeredFrom shift channel
+    → StandsFor shift [] t.loops → messages.StandsFor [] t.message
+    → Tracks settings channel xs t
+begins settings channel xs shift t recorded follows none steered loops message = record {
+  shift = shift;
+  steered = steered;
+  recorded = recorded;
+  follows = follows;
+  loops = rw none loops;
+  message = rw none message;
+}
 
 module _ (settings : Settings) (channel : Channel) (xs ys : List Sample) (old new : Tracked)
     (s : Tracks settings channel xs old) where

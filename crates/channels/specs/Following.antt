@@ -1,8 +1,10 @@
 -- What a follower stands for: the open segment of a channel over the samples so far.
 use Rattle.std.specs.Prelude.{◌≡◌, ◌≤◌, ◌<◌, ℕ, List, [], ◌∷◌, ◌++◌, length, take, ◌+◌, ◌-◌, ◌*◌}
-use Rattle.std.specs.Prelude.{Option, Some, None, nat_le, if◌then◌else◌}
+use Rattle.std.specs.Prelude.{Option, Some, None, nat_le, if◌then◌else◌, ℤ, pos, ◌^◌}
 use Rattle.definitions.specs.Samples.{Sample}
 use Rattle.definitions.specs.Oscillators.{Settings, carrier_phase_after, code_cycle}
+use Rattle.definitions.specs.Oscillators.{code_phase_after, code_step}
+use Rattle.definitions.specs.Lives.{doppler_shift}
 use Rattle.definitions.specs.Correlation.{Counts, counts_over}
 use Rattle.definitions.specs.Segments.{Channel, Progress, progress, open_phases}
 use Rattle.channels.specs.declared.follower.Follower.{Follower}
@@ -57,6 +59,17 @@ pub record Follows (settings : Settings) (channel : Channel) (xs : List Sample)
       ≡ (open_phases settings channel (progress settings channel xs)).code_step
   pub carrier_step : f.carrier.step
       ≡ (open_phases settings channel (progress settings channel xs)).carrier_step
+
+-- a channel begins behind n samples with this shift: its code was at the half chip so many samples
+-- ago, and has gone on since
+pub record BeginsAfter (settings : Settings) (prn : ℕ) (doppler : ℤ) (half_chip ago n : ℕ)
+    (channel : Channel) : Type 0 where
+  pub prn_is : channel.prn ≡ prn
+  pub start : channel.start ≡ n
+  pub code : channel.code
+      ≡ code_phase_after (half_chip * 2 ^ 31) (code_step settings (doppler_shift doppler) (pos 0))
+      ago
+  pub shift : channel.steering [] ≡ record { v = doppler_shift doppler; w = pos 0 }
 
 -- the code is so far from the end of its cycle that it doesn't come there within 1,024 samples,
 -- whatever their step is

@@ -1,7 +1,9 @@
+pub mod Cells
 pub mod Dumps
 pub mod Following
 pub mod HeldChannels
 pub mod LockedMessages
 pub mod Parts
+pub mod Searching
 pub mod Sizes
 pub mod TrackedChannels

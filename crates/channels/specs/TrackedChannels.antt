@@ -6,11 +6,10 @@ use Rattle.definitions.specs.Correlation.{Counts}
 use Rattle.definitions.specs.Segments.{Channel, progress, counts_of}
 use Rattle.definitions.specs.Loops.{shift_after}
 use Rattle.definitions.specs.Lock.{news_of}
-use Rattle.definitions.specs.Events.{Event, news_events, steered_events}
+use Rattle.definitions.specs.Events.{steered_events}
 use Rattle.lane_correlator.specs.Counting.{counts_in}
 use Rattle.tracking_loops.specs.NewsIn.{news_in}
 use Rattle.tracking_loops.specs.Standing.{StandsFor, dump_count}
-use Rattle.nav_message.specs.News.{events_in}
 use Rattle.channels.specs.LockedMessages as messages
 use Rattle.channels.specs.declared.tracked.Tracked.{Tracked}
 use Rattle.channels.specs.declared.dump.Dump.{Dump}
@@ -38,11 +37,16 @@ chance t left = segments.chance t.follower left
 abbrev pub counts_so_far : Settings → Channel → List Sample → List Counts
 counts_so_far settings channel xs = counts_of (progress settings channel xs).dumps
 
--- the channel is steered by loops that begin with a shift, and these have taken its dumps
+-- a channel is steered by loops that begin with a shift
+abbrev pub IsSteeredFrom : ℤ → Channel → Type 0
+IsSteeredFrom shift channel =
+    (dumps : List Counts) → channel.steering dumps ≡ shift_after shift dumps
+
+-- it is so, and these loops have taken its dumps
 pub record Tracks (settings : Settings) (channel : Channel) (xs : List Sample) (t : Tracked)
     : Type 0 where
   pub shift : ℤ
-  pub steered : (dumps : List Counts) → channel.steering dumps ≡ shift_after shift dumps
+  pub steered : IsSteeredFrom shift channel
   pub recorded : t.settings ≡ settings
   pub follows : Follows settings channel xs t.follower
   pub loops : StandsFor shift (counts_so_far settings channel xs) t.loops

@@ -8,6 +8,7 @@ ghost use Rattle.tracking_loops.specs.declared.limits.TheConstants.{MOST_SUM};
 ghost use Rattle.definitions.specs.Oscillators.{code_cycle};
 ghost use Rattle.channels.specs.Sizes.{GrowWith};
 
+use crate::shift::shift_of;
 use ca_codes::{CodeBook, Prn};
 use lane_correlator::{Counts, replica_sums};
 use oscillators::{CarrierOsc, CodeOsc, Doppler, HalfChip, Settings};
@@ -41,7 +42,7 @@ impl Follower {
     ghost use Rattle.definitions.specs.Lives.{held_channel};
     ghost use Rattle.lane_correlator.specs.Counting.{counts_in, AreWithin};
     ghost use Rattle.channels.specs.Following.{Follows, Opens, Stays, Closes, MayTake, Ends};
-    ghost use Rattle.channels.specs.Following.{IsFar, prn_of};
+    ghost use Rattle.channels.specs.Following.{IsFar, BeginsAfter, prn_of};
     ghost use Rattle.channels.specs.Following.{chance, how_many};
     ghost use Rattle.channels.specs.Parts.{part};
 
@@ -51,10 +52,34 @@ impl Follower {
         ensures { (xs : List Sample)
             → Follows settings.now (held_channel (length xs) prn doppler half) xs result }
     {
-        let v = i64::from(doppler.get()) * 65_536;
+        let v = shift_of(doppler);
         Follower {
             prn,
             code: CodeOsc::new(half, settings.code_step(v, 0)),
+            carrier: CarrierOsc::new(settings.carrier_step(v)),
+            sums: Counts::NONE,
+        }
+    }
+
+    /// The same, but the code was at the half chip `ago` samples before the next one, and has gone
+    /// on since at this shift.
+    pub fn start_after(
+        settings: &Settings,
+        prn: Prn,
+        doppler: Doppler,
+        half: HalfChip,
+        ago: u64,
+    ) -> Follower
+        ensures { (channel : Channel) (xs : List Sample)
+            → BeginsAfter settings.now prn doppler half ago (length xs) channel
+            → Follows settings.now channel xs result }
+    {
+        let v = shift_of(doppler);
+        let mut code = CodeOsc::new(half, settings.code_step(v, 0));
+        code.jump(ago);
+        Follower {
+            prn,
+            code,
             carrier: CarrierOsc::new(settings.carrier_step(v)),
             sums: Counts::NONE,
         }

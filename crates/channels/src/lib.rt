@@ -20,6 +20,8 @@ mod dump;
 mod follower;
 mod held;
 mod locked_message;
+mod shift;
+mod sought;
 #[cfg(test)]
 mod tests;
 mod tracked;
@@ -27,4 +29,5 @@ mod tracked;
 pub use dump::Dump;
 pub use follower::Follower;
 pub use held::{Held, MOST_DUMPS};
+pub use sought::Sought;
 pub use tracked::Tracked;

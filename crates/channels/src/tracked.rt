@@ -10,6 +10,7 @@ ghost use Rattle.tracking_loops.specs.declared.limits.TheConstants.{MOST_CORRECT
 use crate::dump::Dump;
 use crate::follower::Follower;
 use crate::locked_message::LockedMessage;
+use crate::shift::shift_of;
 use ca_codes::{CodeBook, Prn};
 use oscillators::{Doppler, HalfChip, Settings};
 use sample_planes::Planes;
@@ -31,10 +32,10 @@ impl Tracked {
     ghost use Rattle.std.specs.Prelude.{ℕ, List, length};
     ghost use Rattle.definitions.specs.Samples.{Sample};
     ghost use Rattle.definitions.specs.Oscillators.{Settings as DefinedSettings};
-    ghost use Rattle.definitions.specs.Segments.{Channel};
-    ghost use Rattle.definitions.specs.Lives.{tracked_channel};
-    ghost use Rattle.channels.specs.Following.{how_many};
-    ghost use Rattle.channels.specs.TrackedChannels.{Tracks, Takes, MayTake, Ends};
+    ghost use Rattle.definitions.specs.Segments.{Channel, progress, first_progress};
+    ghost use Rattle.definitions.specs.Lives.{tracked_channel, doppler_shift};
+    ghost use Rattle.channels.specs.Following.{how_many, BeginsAfter, Follows};
+    ghost use Rattle.channels.specs.TrackedChannels.{Tracks, Takes, MayTake, Ends, IsSteeredFrom};
     ghost use Rattle.channels.specs.TrackedChannels.{dumps_of, chance, counts_so_far};
     ghost use Rattle.definitions.specs.BitEdge.{has_edge};
     ghost use Rattle.definitions.specs.Events.{pushes_of};
@@ -48,10 +49,48 @@ impl Tracked {
             → Tracks settings.now (tracked_channel (length xs) prn doppler half) xs result }
         ensures dumps { dumps_of result ≡ 0 }
     {
+        Tracked::with(
+            settings,
+            doppler,
+            Follower::start(settings, prn, doppler, half),
+        )
+    }
+
+    /// The same, but the code was at the half chip `ago` samples before the next one, and has gone
+    /// on since at this shift.
+    pub fn start_after(
+        settings: &Settings,
+        prn: Prn,
+        doppler: Doppler,
+        half: HalfChip,
+        ago: u64,
+    ) -> Tracked
+        ensures stands { (channel : Channel) (xs : List Sample)
+            → BeginsAfter settings.now prn doppler half ago (length xs) channel
+            → IsSteeredFrom (doppler_shift doppler) channel
+            → Tracks settings.now channel xs result }
+        ensures dumps { dumps_of result ≡ 0 }
+    {
+        Tracked::with(
+            settings,
+            doppler,
+            Follower::start_after(settings, prn, doppler, half, ago),
+        )
+    }
+
+    /// Loops that begin at this Doppler shift steer a follower that begins with it.
+    fn with(settings: &Settings, doppler: Doppler, follower: Follower) -> Tracked
+        ensures stands { (channel : Channel) (xs : List Sample)
+            → Follows settings.now channel xs follower
+            → progress settings.now channel xs ≡ first_progress channel
+            → IsSteeredFrom (doppler_shift doppler) channel
+            → Tracks settings.now channel xs result }
+        ensures dumps { dumps_of result ≡ 0 }
+    {
         Tracked {
             settings: *settings,
-            follower: Follower::start(settings, prn, doppler, half),
-            loops: Loops::start(i64::from(doppler.get()) * 65_536),
+            follower,
+            loops: Loops::start(shift_of(doppler)),
             message: LockedMessage::new(),
         }
     }

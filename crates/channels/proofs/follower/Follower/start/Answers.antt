@@ -1,21 +1,19 @@
-use Rattle.std.proofs.Common.{refl, arith, pos, ap, ◌∙◌}
-use Rattle.std.proofs.Common.{w32, FitsSigned}
+use Rattle.std.proofs.Common.{length, refl, arith, pos, ap, ◌∙◌, w64}
 use Rattle.std.proofs.lemmas.Int.{to_z-of_z, fits_signed_from_abs}
 use Rattle.definitions.specs.Oscillators.{code_step, carrier_step}
+use Rattle.definitions.specs.Lives.{held_channel}
 use Rattle.oscillators.specs.Views.{Oscillation}
 use Rattle.channels.proofs.FollowingLemmas.{started}
-use Rattle.channels.proofs.ShiftLemmas.{computed}
 use Rattle.channels.proofs.follower.Follower.start.Goals as goal
 
 pub returns : goal.returns
 returns c xs =
-    let small : FitsSigned w32 c.get.result =
-    fits_signed_from_abs w32 c.get.result (omega (arith, c.get.ensures.range)) in
     let shift =
-    computed c.from-v.result c.args.doppler
-    (c.from-v.ensures ∙ to_z-of_z w32 c.get.result small ∙ c.get.ensures.same)
-    (rw (← c.get.ensures.same) c.get.ensures.range) in
-    started c.args.settings.now xs c.args.prn c.args.doppler c.args.half _ refl
+    to_z-of_z w64 c.shift_of-v.result
+    (fits_signed_from_abs w64 c.shift_of-v.result (omega (arith, c.shift_of-v.ensures.small)))
+    ∙ c.shift_of-v.ensures.value in
+    started c.args.settings.now
+    (held_channel (length xs) c.args.prn c.args.doppler c.args.half) xs _ refl refl
     (ap (λ (o : Oscillation). o.phase) c.new.ensures)
     (ap (λ (o : Oscillation). o.phase) c.new-2.ensures)
     (ap (λ (o : Oscillation). o.step) c.new.ensures ∙ c.code_step.ensures.value

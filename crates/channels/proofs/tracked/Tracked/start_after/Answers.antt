@@ -1,0 +1,8 @@
+use Rattle.std.proofs.Common.{arith}
+use Rattle.definitions.proofs.BlockLemmas.{progress-begun}
+use Rattle.channels.proofs.tracked.Tracked.start_after.Goals as goal
+
+pub returns-clause-stands : goal.returns-clause-stands
+returns-clause-stands c channel xs begins steered =
+    c.with.ensures.stands channel xs (c.start_after.ensures channel xs begins)
+    (progress-begun c.args.settings.now channel xs (omega (arith, begins.start))) steered

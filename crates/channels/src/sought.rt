@@ -1,0 +1,147 @@
+//! A satellite that is searched for.
+
+ghost use Rattle.std.specs.Prelude.{◌≡◌, ◌≤◌, ◌<◌, ◌+◌, ◌-◌};
+ghost use Rattle.acquisition.specs.declared.dwell.TheConstants.{MOST_START};
+ghost use Rattle.acquisition.specs.Searches as searches;
+ghost use Rattle.channels.specs.Cells.{done_before};
+
+use crate::tracked::Tracked;
+use acquisition::{Cell, Plan, Search};
+use ca_codes::{CodeBook, Prn};
+use oscillators::Settings;
+use sample_planes::SampleSource;
+
+/// A satellite that is searched for from a sample on. One more cell of its plan is done with every
+/// four samples behind the dwell, so that its answer is due at a sample that depends on the plan
+/// alone. It stands for its acquisition and the samples so far.
+#[derive(Debug, Drop)]
+pub struct Sought {
+    settings: Settings,
+    search: Search,
+    /// How many samples there are to the time at which its answer is due.
+    to_due: u64,
+    ghost in_time: { searches.done_of search ≡ done_before (searches.plan_of search) to_due },
+}
+
+impl Sought {
+    ghost use Rattle.std.specs.Prelude.{ℕ, List, ◌++◌, length, IfSome, IsSome, ◌↔◌, true};
+    ghost use Rattle.std.specs.Prelude.{unsigned_abs};
+    ghost use Rattle.definitions.specs.Samples.{Sample};
+    ghost use Rattle.definitions.specs.Oscillators.{Settings as DefinedSettings};
+    ghost use Rattle.definitions.specs.Acquisition.{Plan as DefinedPlan, due_time, cell_count};
+    ghost use Rattle.definitions.specs.Lives.{found_channel};
+    ghost use Rattle.acquisition.specs.Cells.{cell_in};
+    ghost use Rattle.sample_planes.specs.Sources.{AreSamplesOf};
+    ghost use Rattle.channels.specs.Searching.{Searches, Answers, plan_of, start_of, due_of};
+    ghost use Rattle.channels.specs.Searching.{to_due_of, done_of};
+    ghost use Rattle.channels.specs.TrackedChannels.{Tracks};
+    ghost use Rattle.channels.specs.TrackedChannels as tracked;
+
+    /// A search that begins with sample `start`, the next one; `start` is at most `MOST_START`.
+    pub fn start(settings: &Settings, plan: Plan, start: u64) -> Sought
+        requires { start ≤ MOST_START }
+        ensures stands { (xs : List Sample) → length xs ≡ start
+            → Searches settings.now plan start xs result }
+        ensures plan { plan_of result ≡ plan }
+        ensures start { start_of result ≡ start }
+        ensures due { due_of result ≡ due_time settings.now plan start }
+        ensures left { start + to_due_of result ≡ due_of result }
+        ensures waits { 0 < to_due_of result }
+    {
+        let search = Search::new(plan, settings, start);
+        let to_due = search.due() - start;
+        Sought {
+            settings: *settings,
+            search,
+            to_due,
+        }
+    }
+
+    /// The satellite that is searched for.
+    pub fn prn(&self) -> Prn
+        ensures { result ≡ (plan_of self.now).prn }
+    {
+        self.search.plan().prn()
+    }
+
+    /// How many cells it has done.
+    pub fn done(&self) -> u64
+        ensures { result ≡ done_of self.now }
+    {
+        self.search.done()
+    }
+
+    /// How many cells there are.
+    pub fn cells(&self) -> u64
+        ensures { result ≡ cell_count (plan_of self.now) }
+    {
+        self.search.plan().cells()
+    }
+
+    /// How many samples there are to the time at which its answer is due.
+    pub fn to_due(&self) -> u64
+        ensures { result ≡ to_due_of self.now }
+    {
+        self.to_due
+    }
+
+    /// Goes on by `count` samples, at most `to_due()`, over a source that holds the samples from
+    /// its first on to the last of these. It answers the cell that the acquisition names, if that
+    /// is due with the last of them. The book is any book of codes.
+    pub fn take<S: SampleSource>(
+        &mut self,
+        count: u64,
+        source: &S,
+        book: &mut CodeBook,
+    ) -> Option<Cell>
+        requires before { count ≤ to_due_of self.old }
+        requires from { S.from source.now ≤ start_of self.old }
+        requires to { due_of self.old + count ≤ S.to source.now + to_due_of self.old }
+        ensures stands { (settings : DefinedSettings) (plan : DefinedPlan) (begun : ℕ)
+            (xs ys : List Sample) → length ys ≡ count
+            → AreSamplesOf (xs ++ ys) begun (length (xs ++ ys)) (S.held source.now)
+            → Searches settings plan begun xs self.old
+            → Searches settings plan begun (xs ++ ys) self.new }
+        ensures answers { (settings : DefinedSettings) (plan : DefinedPlan) (begun : ℕ)
+            (xs ys : List Sample) → length ys ≡ count
+            → AreSamplesOf (xs ++ ys) begun (length (xs ++ ys)) (S.held source.now)
+            → Searches settings plan begun xs self.old
+            → Answers settings plan begun (xs ++ ys) result }
+        ensures due { IsSome result ↔ (to_due_of self.new ≡ 0) }
+        ensures of_plan { IfSome result (λ cell.
+            unsigned_abs cell.bin ≤ (plan_of self.new).bins) }
+        ensures left { to_due_of self.new + count ≡ to_due_of self.old }
+        ensures plan { plan_of self.new ≡ plan_of self.old }
+        ensures start { start_of self.new ≡ start_of self.old }
+        ensures time { due_of self.new ≡ due_of self.old }
+    {
+        let to_due = self.to_due - count;
+        let due = self.cells().saturating_sub(to_due.div_ceil(4));
+        let more = due - self.search.done();
+        if more > 0 {
+            self.search.advance(more, source, book);
+        }
+        self.to_due = to_due;
+        self.search.result()
+    }
+
+    /// The signal of a cell that was found, tracked from the time on at which the answer was due;
+    /// `None` where the cell isn't one that was found.
+    pub fn follow(&self, cell: &Cell) -> Option<Tracked>
+        requires { unsigned_abs cell.now.bin ≤ (plan_of self.now).bins }
+        ensures found { IsSome result ↔ (cell.now.found ≡ true) }
+        ensures tracks { IfSome result (λ t. (settings : DefinedSettings) (plan : DefinedPlan)
+            (begun : ℕ) (xs : List Sample)
+            → Searches settings plan begun xs self.now → to_due_of self.now ≡ 0
+            → Tracks settings (found_channel settings plan begun (cell_in cell.now)) xs t) }
+        ensures dumps { IfSome result (λ t. tracked.dumps_of t ≡ 0) }
+    {
+        if !cell.found {
+            return None;
+        }
+        let plan = self.search.plan();
+        let ago = u64::from(plan.dwell()) * u64::from(self.settings.per_ms()) + 4 * plan.cells();
+        let doppler = plan.doppler(cell)?;
+        Some(Tracked::start_after(&self.settings, plan.prn(), doppler, cell.half, ago))
+    }
+}

@@ -1,0 +1,78 @@
+//! A satellite that is searched for, sample by sample, and tracked from the due time on.
+
+ghost use Rattle.channels.specs.Searching.{start_of, due_of, to_due_of};
+
+use crate::Sought;
+use acquisition::{Cell, Plan};
+use ca_codes::{CodeBook, Prn};
+use made_signals::code_file;
+use oscillators::{HalfChip, Settings};
+use sample_planes::{Format, NumberedSamples, PackedSamples};
+use std::test::Fail;
+
+/// The file of a code, and zeros as far as the due time.
+fn padded() -> [u8; 1_280] {
+    let mut bytes = [0; 1_280];
+    let file = code_file();
+    bytes[..file.len()].copy_from_slice(&file);
+    bytes
+}
+
+// The dwell is samples 2 to 2,047, and there are 2,046 cells: the answer is due at 2,048 + 8,184.
+// The code is then 10,230 samples, or five codes of 2,046, from half chip 2, where it was: so 2,044
+// samples are left of it.
+#[test]
+fn one_cell_with_four_samples(rt: HostRuntime) -> Result<(), Fail> {
+    let bytes = padded();
+    let settings = Settings::new(2_046_000, 0, Format::Real1)?;
+    let plan = Plan::new(Prn::new(1).ok_or("a satellite")?, 0, 0, 1, 10)?;
+    let source = NumberedSamples::new(PackedSamples::new(Format::Real1, &bytes), 0);
+    let named = Cell {
+        bin: 0,
+        half: HalfChip::new(2).ok_or("a half chip")?,
+        power: 20_930_580,
+        found: true,
+    };
+    for piece in [1, 3, 1_024] {
+        let mut sought = Sought::start(&settings, plan, 2);
+        let mut book = CodeBook::new();
+        let mut time = 2;
+        assert_eq!(rt; (sought.prn().get(), sought.cells()), (1, 2_046));
+        for _ in 0..10_230 {
+            if sought.to_due() == 0 {
+                break;
+            }
+            let count = piece.min(sought.to_due());
+            let answer = sought.take(count, &source, &mut book);
+            time += count;
+            assert_eq!(rt; sought.done(), time.saturating_sub(2_048) / 4, "at {time}");
+            assert_eq!(rt; answer, if time == 10_232 { Some(named) } else { None });
+        }
+        let tracked = sought.follow(&named).ok_or("a signal that was found")?;
+        assert_eq!(rt;
+            (tracked.prn().get(), tracked.dumps(), tracked.v()),
+            (1, 0, 0)
+        );
+        assert_eq!(rt; tracked.to_dump(), 2_044);
+    }
+    Ok(())
+}
+
+// No cell has more power than another where the samples are all alike, so that the mean is what
+// each has, and a threshold above it isn't met.
+#[test]
+fn nothing_found_is_not_followed(rt: HostRuntime) -> Result<(), Fail> {
+    let bytes = [0; 1_280];
+    let settings = Settings::new(2_046_000, 0, Format::Real1)?;
+    let plan = Plan::new(Prn::new(1).ok_or("a satellite")?, 0, 0, 1, 11)?;
+    let source = NumberedSamples::new(PackedSamples::new(Format::Real1, &bytes), 0);
+    let mut sought = Sought::start(&settings, plan, 0);
+    assert_eq!(rt; sought.to_due(), 10_230);
+    let cell = sought
+        .take(10_230, &source, &mut CodeBook::new())
+        .ok_or("an answer")?;
+    assert!(rt; !cell.found);
+    assert_eq!(rt; cell.power, 20);
+    assert!(rt; sought.follow(&cell).is_none());
+    Ok(())
+}
