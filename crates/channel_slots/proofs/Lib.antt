@@ -9,5 +9,6 @@ pub mod PutLemmas
 pub mod QuietLemmas
 pub mod SlotLemmas
 pub mod StageLemmas
+pub mod SteeredLemmas
 pub mod TellingLemmas
 pub mod TrackLemmas

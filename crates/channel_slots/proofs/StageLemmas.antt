@@ -14,7 +14,7 @@ use Rattle.definitions.specs.BitEdge.{has_edge}
 use Rattle.definitions.specs.Commands.{hold, track, state}
 use Rattle.definitions.specs.Answers.{shown, holding, tracking, answer_with, view_of}
 use Rattle.definitions.specs.Answers.{life_view, channel_view}
-use Rattle.definitions.specs.Lives.{Life, held_channel, tracked_channel, channel_of}
+use Rattle.definitions.specs.Lives.{Life, held_channel, tracked_channel, channel_of, is_steered}
 use Rattle.definitions.specs.Lives.{dumps_of_life, is_over, lost_after, doppler_shift}
 use Rattle.definitions.specs.Events.{unprinted_count, count, life_events, when, pushes_of}
 use Rattle.std.specs.Option.{is_some}
@@ -36,7 +36,7 @@ use Rattle.channel_slots.specs.declared.stage.Stage.{Stage}
 use Rattle.channel_slots.specs.declared.stage.Stage.TheVariants.{Holding, Tracking}
 use Rattle.channel_slots.specs.Stages as stages
 use Rattle.channel_slots.specs.Stages.{IsHeld, IsTracked, Follows, Takes, Brings}
-use Rattle.channel_slots.proofs.TrackLemmas.{own, tracked-dumps, tracked-by-now, tracked-on}
+use Rattle.channel_slots.proofs.TrackLemmas.{own, more, tracked-dumps, tracked-by-now, tracked-on}
 use Rattle.channel_slots.proofs.TrackLemmas.{quiet-dumps, quiet-on, quiet-events, goes-on}
 use Rattle.channel_slots.proofs.TrackLemmas.{ends-here, tracked-brings}
 
@@ -113,12 +113,11 @@ pub starts-tracked : (settings : Settings) (xs : List Sample) (life : Life) (t :
     → tracked.Tracks settings (tracked_channel (length xs) prn doppler half_chip) xs t
     → IsTracked settings xs life t
 starts-tracked settings xs life t prn doppler half_chip begun start tracks = record {
-  prn = prn;
-  doppler = doppler;
-  half_chip = half_chip;
-  start = start;
-  tracks = rw begun tracks;
-  not_lost = rw begun (none-yet settings xs prn doppler half_chip);
+  channel = tracked_channel (length xs) prn doppler half_chip;
+  steered = rw start refl;
+  given = rw (start, begun) refl;
+  tracks = tracks;
+  not_lost = none-yet settings xs prn doppler half_chip;
 }
 
 -- held dumps tell their sums alone
@@ -181,19 +180,16 @@ module _ (settings : Settings) (xs ys : List Sample) (life : Life) (h : Held)
       never None e = cc
       never (Some c) e = cc
 
-tracked-view : (settings : Settings) (xs : List Sample) (life : Life) (prn : ℕ) (doppler : ℤ)
-    (half_chip : ℕ) → life.start ≡ track prn doppler half_chip → (dumps : List DefinedDump)
+tracked-view : (settings : Settings) (xs : List Sample) (life : Life) (channel : Channel)
+    → is_steered life.start ≡ true
+    → channel_of settings xs life.begun life.start ≡ Some channel → (dumps : List DefinedDump)
     → dumps_of_life settings xs life ≡ dumps → answer_with settings xs (Some life) state
-    ≡ shown (tracking prn (length (counts_of dumps))
-    (shift_after (doppler_shift doppler) (counts_of dumps)) (is_locked (counts_of dumps))
+    ≡ shown (tracking channel.prn (length (counts_of dumps))
+    (channel.steering (counts_of dumps)) (is_locked (counts_of dumps))
     (has_edge (pushes_of (counts_of dumps))))
 unfolding view_of
-tracked-view settings xs life prn doppler half_chip is dumps all =
-    ap (λ o. shown (life_view settings xs life o)) (ap (channel_of settings xs life.begun) is)
-    ∙ ap (λ start. shown (channel_view start (dumps_of_life settings xs life)
-    (tracked_channel life.begun prn doppler half_chip))) is
-    ∙ ap (λ ds. shown (channel_view (track prn doppler half_chip) ds
-    (tracked_channel life.begun prn doppler half_chip))) all
+tracked-view settings xs life channel steered given dumps all =
+    ap (λ o. shown (life_view settings xs life o)) given ∙ rw (steered, all) refl
 
 -- a tracked life, what is shown of it, and what ys behind xs bring to it
 module _ (settings : Settings) (xs : List Sample) (life : Life) (t : Tracked)
@@ -223,7 +219,7 @@ module _ (settings : Settings) (xs : List Sample) (life : Life) (t : Tracked)
           (counts_so_far settings (own settings xs life t s) xs))
           (is_locked (counts_so_far settings (own settings xs life t s) xs))
           (has_edge (pushes_of (counts_so_far settings (own settings xs life t s) xs))))
-      view = tracked-view settings xs life s.prn s.doppler s.half_chip s.start
+      view = tracked-view settings xs life s.channel s.steered s.given
           (progress settings (own settings xs life t s) xs).dumps
           (tracked-dumps settings xs life t s)
 
@@ -237,10 +233,9 @@ module _ (settings : Settings) (xs : List Sample) (life : Life) (t : Tracked)
     on = λ j b. quiet-on settings xs life t s ys some (take j ys) (r.inside j b);
     brings = by_dump d r;
     stands = λ on. record {
-      prn = s.prn;
-      doppler = s.doppler;
-      half_chip = s.half_chip;
-      start = s.start;
+      channel = s.channel;
+      steered = s.steered;
+      given = (more settings xs life t s ys).given;
       tracks = r.stands;
       not_lost = still d r on;
     };

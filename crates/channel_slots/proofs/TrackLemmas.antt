@@ -1,7 +1,7 @@
--- What a life that began with a track tells.
+-- What a life that loops steer tells.
 use Rattle.std.proofs.Common.{◌≡◌, ℕ, ◌+◌, ◌<◌, ◌≤◌, List, [], ◌∷◌, ◌++◌, length, take}
-use Rattle.std.proofs.Common.{refl, sym, ap, ◌∙◌, arith, length-append, true, false}
-use Rattle.std.specs.Prelude.{ℤ, Bool, Option, Some, None, nat_lt}
+use Rattle.std.proofs.Common.{refl, sym, ap, ◌∙◌, arith, length-append, append-nil, true, false}
+use Rattle.std.specs.Prelude.{Bool, Option, Some, None, nat_lt}
 use Rattle.std.specs.Option.{is_some}
 use Rattle.std.specs.List.{AllByRecursion}
 use Rattle.std.proofs.Math.Seq.{take-length}
@@ -11,11 +11,11 @@ use Rattle.definitions.specs.Oscillators.{Settings}
 use Rattle.definitions.specs.Correlation.{Counts}
 use Rattle.definitions.specs.Segments.{Channel, Dump as DefinedDump, counts_of, progress}
 use Rattle.definitions.specs.Lock.{News as DefinedNews, news_of, nothing, lock, unlock, lost}
-use Rattle.definitions.specs.Commands.{track}
-use Rattle.definitions.specs.Lives.{Life, tracked_channel, dumps_of_life, is_over, lost_after}
+use Rattle.definitions.specs.Lives.{Life, channel_of, is_steered, found_nothing, dumps_of_life}
+use Rattle.definitions.specs.Lives.{is_over, lost_after}
 use Rattle.definitions.specs.Lives.{until_lost, is_lost_with}
 use Rattle.definitions.specs.Events.{unprinted_count, count, life_events, when, last_of}
-use Rattle.definitions.specs.Events.{last_dump_events, dump_events, steered_events}
+use Rattle.definitions.specs.Events.{last_dump_events, dump_events, due_events, steered_events}
 use Rattle.definitions.proofs.LifeLemmas.{dumps-within}
 use Rattle.definitions.proofs.LostLemmas.{lost-more, lost-now}
 use Rattle.lane_correlator.specs.Counting.{counts_in}
@@ -28,6 +28,7 @@ use Rattle.channels.specs.Dumps.{is_loss}
 use Rattle.channels.specs.TrackedChannels as tracked
 use Rattle.channels.specs.TrackedChannels.{counts_so_far}
 use Rattle.channel_slots.specs.Stages.{IsTracked, Brings}
+use Rattle.channel_slots.proofs.SteeredLemmas.{GoesOn, steered-on}
 use Rattle.channel_slots.proofs.QuietLemmas.{no-dump-now, dump-now, front-pushed}
 
 -- dumps up to the loss of the signal, where it isn't lost before the last of them
@@ -51,53 +52,56 @@ loss-is locks.Lock = refl
 loss-is locks.Unlock = refl
 loss-is locks.Lost = refl
 
-module _ (settings : Settings) (life : Life) (prn : ℕ) (doppler : ℤ) (half_chip : ℕ)
-    (is : life.start ≡ track prn doppler half_chip) where
-  abbrev channel : Channel
-  channel = tracked_channel life.begun prn doppler half_chip
-
-  dumps-are : (xs : List Sample)
-      → dumps_of_life settings xs life ≡ until_lost (progress settings channel xs).dumps
-  unfolding dumps_of_life
-  dumps-are xs = rw is
-
-  over-is : (xs : List Sample) → is_over settings xs life
-      ≡ is_some (lost_after (counts_of (dumps_of_life settings xs life)))
-  unfolding is_over
-  over-is xs = rw is
-
-  events-are : (xs : List Sample) → life_events settings xs (Some life)
-      ≡ last_dump_events life (length xs) (dumps_of_life settings xs life)
-      (last_of (dumps_of_life settings xs life))
-  unfolding life_events
-  events-are xs = rw is
-
+module _ (settings : Settings) (life : Life) (channel : Channel)
+    (steered : is_steered life.start ≡ true) (xs : List Sample) where
   dump-tells : (dumps : List DefinedDump) (d : DefinedDump)
       → dump_events life (dumps ++ d ∷ []) d
       ≡ when (nat_lt 0 (unprinted_count life dumps)) (count d.counts)
       ++ steered_events (counts_of (dumps ++ d ∷ []))
-  dump-tells dumps d = rw (is, front-pushed dumps d)
+  dump-tells dumps d = rw (steered, front-pushed dumps d)
 
-  -- while the signal isn't lost the dumps are those of the channel, and the life is on
-  all-on : (xs : List Sample) → lost_after (counts_so_far settings channel xs) ≡ None
-      → dumps_of_life settings xs life ≡ (progress settings channel xs).dumps
-  all-on xs on = dumps-are xs ∙ whole-on (progress settings channel xs).dumps on
+  over-is : found_nothing settings xs life.begun life.start ≡ false
+      → is_over settings xs life
+      ≡ is_some (lost_after (counts_of (dumps_of_life settings xs life)))
+  unfolding is_over
+  over-is finds = rw (finds, steered)
 
-  pub on-while : (xs : List Sample) → lost_after (counts_so_far settings channel xs) ≡ None
-      → is_over settings xs life ≡ false
-  on-while xs on =
-      over-is xs
-      ∙ ap (λ (ds : List DefinedDump). is_some (lost_after (counts_of ds))) (all-on xs on)
-      ∙ ap is_some on
+  events-are : due_events settings xs life.begun life.start ≡ []
+      → life_events settings xs (Some life)
+      ≡ last_dump_events life (length xs) (dumps_of_life settings xs life)
+      (last_of (dumps_of_life settings xs life))
+  unfolding life_events
+  events-are told = rw told
+
+  module _ (given : channel_of settings xs life.begun life.start ≡ Some channel) where
+    dumps-are : dumps_of_life settings xs life ≡ until_lost (progress settings channel xs).dumps
+    unfolding dumps_of_life
+    dumps-are = rw (given, steered)
+
+    -- while the signal isn't lost the dumps are those of the channel, and the life is on
+    all-on : lost_after (counts_so_far settings channel xs) ≡ None
+        → dumps_of_life settings xs life ≡ (progress settings channel xs).dumps
+    all-on on = dumps-are ∙ whole-on (progress settings channel xs).dumps on
+
+    on-while : found_nothing settings xs life.begun life.start ≡ false
+        → lost_after (counts_so_far settings channel xs) ≡ None
+        → is_over settings xs life ≡ false
+    on-while finds on =
+        over-is finds
+        ∙ ap (λ (ds : List DefinedDump). is_some (lost_after (counts_of ds))) (all-on on)
+        ∙ ap is_some on
 
 module _ (settings : Settings) (xs : List Sample) (life : Life) (t : Tracked)
     (s : IsTracked settings xs life t) where
   abbrev pub own : Channel
-  own = tracked_channel life.begun s.prn s.doppler s.half_chip
+  own = s.channel
+
+  -- behind more samples it is the same life of the same channel
+  pub more : (zs : List Sample) → GoesOn settings xs zs life.begun life.start own
+  more zs = steered-on settings xs zs life.begun life.start own s.steered s.given
 
   pub tracked-dumps : dumps_of_life settings xs life ≡ (progress settings own xs).dumps
-  tracked-dumps =
-      all-on settings life s.prn s.doppler s.half_chip s.start xs s.not_lost
+  tracked-dumps = all-on settings life own s.steered xs s.given s.not_lost
 
   pub tracked-by-now : AllByRecursion (λ (d : DefinedDump). d.time ≤ length xs)
       (dumps_of_life settings xs life)
@@ -105,7 +109,9 @@ module _ (settings : Settings) (xs : List Sample) (life : Life) (t : Tracked)
       rw tracked-dumps (dumps-within settings own xs s.tracks.follows.at.begun)
 
   pub tracked-on : is_over settings xs life ≡ false
-  tracked-on = on-while settings life s.prn s.doppler s.half_chip s.start xs s.not_lost
+  tracked-on =
+      on-while settings life own s.steered xs s.given (rw (append-nil xs) at (more []).finds)
+      s.not_lost
 
   module _ (ys : List Sample) (some : 0 < length ys) where
     both : length (xs ++ ys) ≡ length xs + length ys
@@ -120,17 +126,17 @@ module _ (settings : Settings) (xs : List Sample) (life : Life) (t : Tracked)
       pub quiet-dumps : dumps_of_life settings (xs ++ zs) life
           ≡ dumps_of_life settings xs life
       quiet-dumps =
-          all-on settings life s.prn s.doppler s.half_chip s.start (xs ++ zs) still
+          all-on settings life own s.steered (xs ++ zs) (more zs).given still
           ∙ ap (λ p. p.dumps) same ∙ sym tracked-dumps
 
       pub quiet-on : is_over settings (xs ++ zs) life ≡ false
       quiet-on =
-          on-while settings life s.prn s.doppler s.half_chip s.start (xs ++ zs) still
+          on-while settings life own s.steered (xs ++ zs) (more zs).given (more zs).finds still
 
       pub quiet-events : 0 < length zs → life_events settings (xs ++ zs) (Some life) ≡ []
-      quiet-events more =
-          let longer : length xs < length (xs ++ zs) = simp length-append (omega (arith, more)) in
-          events-are settings life s.prn s.doppler s.half_chip s.start (xs ++ zs)
+      quiet-events some =
+          let longer : length xs < length (xs ++ zs) = simp length-append (omega (arith, some)) in
+          events-are settings life own s.steered (xs ++ zs) ((more zs).told some)
           ∙ rw quiet-dumps
           (no-dump-now life (length xs) (length (xs ++ zs)) (dumps_of_life settings xs life)
           tracked-by-now longer)
@@ -179,7 +185,7 @@ module _ (settings : Settings) (xs : List Sample) (life : Life) (t : Tracked)
       all-dumps : dumps_of_life settings (xs ++ ys) life
           ≡ (progress settings own (xs ++ ys)).dumps
       all-dumps =
-          dumps-are settings life s.prn s.doppler s.half_chip s.start (xs ++ ys)
+          dumps-are settings life own s.steered (xs ++ ys) (more ys).given
           ∙ by_loss (is_loss d.lock) refl
         where
           by_loss : (b : Bool) → is_loss d.lock ≡ b
@@ -190,7 +196,7 @@ module _ (settings : Settings) (xs : List Sample) (life : Life) (t : Tracked)
 
       pub ends-here : is_loss d.lock ≡ true → is_over settings (xs ++ ys) life ≡ true
       ends-here now =
-          over-is settings life s.prn s.doppler s.half_chip s.start (xs ++ ys)
+          over-is settings life own s.steered (xs ++ ys) (more ys).finds
           ∙ ap (λ (ds : List DefinedDump). is_some (lost_after (counts_of ds))) all-dumps
           ∙ ap is_some (lost-here now)
 
@@ -200,10 +206,10 @@ module _ (settings : Settings) (xs : List Sample) (life : Life) (t : Tracked)
           ≡ dumps_of_life settings xs life ++ now ∷ [] =
           all-dumps ∙ took.brings.0 ∙ ap (λ ds. ds ++ now ∷ []) (sym tracked-dumps) in (
             all,
-            events-are settings life s.prn s.doppler s.half_chip s.start (xs ++ ys)
+            events-are settings life own s.steered (xs ++ ys) ((more ys).told some)
                 ∙ rw all (dump-now life (length (xs ++ ys)) (dumps_of_life settings xs life) now
                 refl)
-                ∙ dump-tells settings life s.prn s.doppler s.half_chip s.start
+                ∙ dump-tells settings life own s.steered (xs ++ ys)
                 (dumps_of_life settings xs life) now
                 ∙ ap (λ es. when (nat_lt 0 (unprinted_count life (dumps_of_life settings xs life)))
                 (count (counts_in d.counts)) ++ es)

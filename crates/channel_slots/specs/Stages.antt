@@ -3,9 +3,10 @@ use Rattle.std.specs.Prelude.{◌≡◌, ◌<◌, ℤ, ℕ, Bool, true, false, L
 use Rattle.std.specs.Prelude.{nat_lt, Option, Some, None}
 use Rattle.definitions.specs.Samples.{Sample}
 use Rattle.definitions.specs.Oscillators.{Settings}
-use Rattle.definitions.specs.Commands.{hold, track}
-use Rattle.definitions.specs.Lives.{Life, held_channel, tracked_channel, dumps_of_life, is_over}
-use Rattle.definitions.specs.Lives.{lost_after}
+use Rattle.definitions.specs.Segments.{Channel}
+use Rattle.definitions.specs.Commands.{hold}
+use Rattle.definitions.specs.Lives.{Life, held_channel, channel_of, is_steered, dumps_of_life}
+use Rattle.definitions.specs.Lives.{is_over, lost_after}
 use Rattle.definitions.specs.Events.{unprinted_count, count, life_events, when}
 use Rattle.lane_correlator.specs.Counting.{counts_in}
 use Rattle.channels.specs.declared.dump.Dump.{Dump}
@@ -47,16 +48,14 @@ pub record IsHeld (settings : Settings) (xs : List Sample) (life : Life) (h : He
   pub start : life.start ≡ hold prn doppler half_chip
   pub holds : held.Holds settings (held_channel life.begun prn doppler half_chip) xs h
 
--- one that began with a track follows its channel, and the signal isn't lost
+-- one that loops steer follows the channel that its start has given it, and the signal isn't lost
 pub record IsTracked (settings : Settings) (xs : List Sample) (life : Life) (t : Tracked)
     : Type 0 where
-  pub prn : ℕ
-  pub doppler : ℤ
-  pub half_chip : ℕ
-  pub start : life.start ≡ track prn doppler half_chip
-  pub tracks : tracked.Tracks settings (tracked_channel life.begun prn doppler half_chip) xs t
-  pub not_lost : lost_after
-      (counts_so_far settings (tracked_channel life.begun prn doppler half_chip) xs) ≡ None
+  pub channel : Channel
+  pub steered : is_steered life.start ≡ true
+  pub given : channel_of settings xs life.begun life.start ≡ Some channel
+  pub tracks : tracked.Tracks settings channel xs t
+  pub not_lost : lost_after (counts_so_far settings channel xs) ≡ None
 
 abbrev pub Follows : Settings → List Sample → Life → Stage → Type 0
 Follows settings xs life (Holding h) = IsHeld settings xs life h
