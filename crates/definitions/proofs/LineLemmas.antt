@@ -305,7 +305,7 @@ told-lines : (profile : Profile) (settings : Settings) (client : Client) (xs : L
     → OneLines (event_texts profile settings client xs)
 unfolding event_texts OneLines
 told-lines profile settings client xs =
-    all-flat_map OneLine (slot_event_texts profile settings xs (entries_of profile client))
+    all-flat_map OneLine (slot_event_texts settings xs (entries_of profile client))
     (range_with_len 0 client.slots)
     (λ slot. all-map OneLine (event_text slot) _ (event-line slot))
 

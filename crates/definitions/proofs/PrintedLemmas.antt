@@ -48,17 +48,10 @@ module _ {A : Type 0} (P : A → Type 0) where
       (λ k y there. let s : b + suc k ≡ b + 1 + k = omega arith in
       rw s at (h (suc k) y there)))
 
-  all-filtered : (test : A → Bool) (xs : List A)
-      → ((i : ℕ) (x : A) → slice_get xs i ≡ Some x → test x ≡ true → P x)
-      → AllByRecursion P (filter test xs)
-  all-filtered test [] h = tt
-  all-filtered test (x ∷ xs) h =
-      by_test (test x) refl (all-filtered test xs (λ i y there passes. h (suc i) y there passes))
-    where
-      by_test : (b : Bool) → test x ≡ b → AllByRecursion P (filter test xs)
-          → AllByRecursion P (cond b (x ∷ filter test xs) (filter test xs))
-      by_test true e rest = (h 0 x refl e, rest)
-      by_test false e rest = rest
+  all-found : (xs : List A) → ((i : ℕ) (x : A) → slice_get xs i ≡ Some x → P x)
+      → AllByRecursion P xs
+  all-found [] h = tt
+  all-found (x ∷ xs) h = (h 0 x refl, all-found xs (λ i y there. h (suc i) y there))
 
 below-end : {A : Type 0} (xs : List A) (k : ℕ) (x : A) → slice_get xs k ≡ Some x → k < length xs
 below-end [] k x e = cc
@@ -77,14 +70,13 @@ module _ (profile : Profile) (settings : Settings) (clients : List Client) (xs :
   event-line : (zs : List Sample) (k slot i : ℕ) (client : Client) (event : Event) → Now zs
       → slice_get clients k ≡ Some client → slot < client.slots
       → slice_get (events_at_end settings zs (commands_before profile client slot zs)) i
-      ≡ Some event → profile.prints event ≡ true
+      ≡ Some event
       → One (for_client (1 + k) (at_time (length zs) (event_text slot event)))
   unfolding One Now
-  event-line zs k slot i client event now is_client is_slot there prints =
+  event-line zs k slot i client event now is_client is_slot there =
       let tells : Tells profile settings clients zs k slot client event = record {
         is_client = is_client;
         is_slot = is_slot;
-        is_printed = prints;
         is_told = (i, there);
         is_right = events-right settings zs (commands_before profile client slot zs) i event there;
       } in
@@ -111,13 +103,12 @@ module _ (profile : Profile) (settings : Settings) (clients : List Client) (xs :
       (all-map (λ l. One (for_client (1 + k) l)) (at_time (length zs))
       (event_texts profile settings client zs)
       (all-range (λ l. One (for_client (1 + k) (at_time (length zs) l)))
-      (slot_event_texts profile settings zs (entries_of profile client)) 0 client.slots
+      (slot_event_texts settings zs (entries_of profile client)) 0 client.slots
       (λ slot below. all-map (λ l. One (for_client (1 + k) (at_time (length zs) l)))
       (event_text slot) _
-      (all-filtered (λ e. One (for_client (1 + k) (at_time (length zs) (event_text slot e))))
-      profile.prints (events_at_end settings zs (commands_before profile client slot zs))
-      (λ i e there prints. event-line zs k slot i client e now is_client (omega (arith, below))
-      there prints)))))
+      (all-found (λ e. One (for_client (1 + k) (at_time (length zs) (event_text slot e))))
+      (events_at_end settings zs (commands_before profile client slot zs))
+      (λ i e there. event-line zs k slot i client e now is_client (omega (arith, below)) there)))))
 
   answer-line : (zs : List Sample) (k i : ℕ) (client : Client) (entry : Entry) → Now zs
       → slice_get clients k ≡ Some client → slice_get (entries_of profile client) i ≡ Some entry

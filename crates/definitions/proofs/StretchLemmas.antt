@@ -106,7 +106,7 @@ unfolding event_texts events_at_end life_of life_now life_events commands_to
 told-first profile settings client =
     ap (λ (es : List Entry). flat_map
     (λ slot. map (event_text slot)
-    (filter profile.prints (events_at_end settings [] (commands_to slot es))))
+    (events_at_end settings [] (commands_to slot es)))
     (range_with_len 0 client.slots)) (none_before (entries_of profile client))
     ∙ nothing 0 client.slots
   where
@@ -116,7 +116,7 @@ told-first profile settings client =
 
     nothing : (a n : ℕ)
         → flat_map (λ (slot : ℕ). map (event_text slot)
-        (filter profile.prints (events_at_end settings [] []))) (range_with_len a n) ≡ []
+        (events_at_end settings [] [])) (range_with_len a n) ≡ []
     nothing a zero = refl
     nothing a (suc n) = nothing (a + 1) n
 

@@ -16,17 +16,12 @@ use Rattle.definitions.specs.Receiver.{event_texts, slot_event_texts, event_line
 use Rattle.definitions.specs.Receiver.{timed_texts, for_each_client}
 use Rattle.definitions.specs.Banks.{SlotEvent, line_of, slot_events, bank_events_at_end, layout}
 
--- the lines of those that are printed
-abbrev pub printed : Profile → List SlotEvent → List (List ℕ)
-printed profile ts = map line_of (filter (λ (t : SlotEvent). profile.prints t.event) ts)
+-- their lines
+abbrev pub lines_of : List SlotEvent → List (List ℕ)
+lines_of ts = map line_of ts
 
-pub printed-append : (profile : Profile) (ts us : List SlotEvent)
-    → printed profile (ts ++ us) ≡ printed profile ts ++ printed profile us
-printed-append profile ts us =
-    ap (λ (l : List SlotEvent). map line_of l)
-    (filter-append (λ (t : SlotEvent). profile.prints t.event) ts us)
-    ∙ map-append line_of (filter (λ (t : SlotEvent). profile.prints t.event) ts)
-    (filter (λ (t : SlotEvent). profile.prints t.event) us)
+lines-append : (ts us : List SlotEvent) → lines_of (ts ++ us) ≡ lines_of ts ++ lines_of us
+lines-append ts us = map-append line_of ts us
 
 -- the clients' shares of the slots
 abbrev pub shares_of : List Client → List ℕ
@@ -45,22 +40,12 @@ slots_of client slots = map (λ s. (client, s)) slots
 module _ (profile : Profile) (settings : Settings) (xs : List Sample)
     (asked : ℕ → ℕ → List TimedRequest) where
   one_slot : (client slot : ℕ) (events : List Event)
-      → printed profile (slot_events client slot (length xs) events)
-      ≡ map (for_client client)
-      (timed_texts xs (map (event_text slot) (filter profile.prints events)))
+      → lines_of (slot_events client slot (length xs) events)
+      ≡ map (for_client client) (timed_texts xs (map (event_text slot) events))
   one_slot client slot [] = refl
-  one_slot client slot (e ∷ events) = by_print (profile.prints e) refl (one_slot client slot events)
-    where
-      by_print : (b : Bool) → profile.prints e ≡ b
-          → printed profile (slot_events client slot (length xs) events)
-          ≡ map (for_client client)
-          (timed_texts xs (map (event_text slot) (filter profile.prints events)))
-          → printed profile (slot_events client slot (length xs) (e ∷ events))
-          ≡ map (for_client client)
-          (timed_texts xs (map (event_text slot) (filter profile.prints (e ∷ events))))
-      by_print true is rest =
-          rw is (ap (λ r. for_client client (at_time (length xs) (event_text slot e)) ∷ r) rest)
-      by_print false is rest = rw is rest
+  one_slot client slot (e ∷ events) =
+      ap (λ r. for_client client (at_time (length xs) (event_text slot e)) ∷ r)
+      (one_slot client slot events)
 
   tell : ℕ × ℕ → List SlotEvent
   tell k = slot_events k.0 k.1 (length xs) (events_at_end settings xs (asked k.0 k.1))
@@ -68,23 +53,23 @@ module _ (profile : Profile) (settings : Settings) (xs : List Sample)
   one_client : (number : ℕ) (client : Client) (slots : List ℕ)
       → ((s : ℕ) → asked number s
       ≡ commands_to s (entries_before (length xs) (entries_of profile client)))
-      → printed profile (flat_map tell (slots_of number slots))
+      → lines_of (flat_map tell (slots_of number slots))
       ≡ map (for_client number)
       (timed_texts xs (flat_map
-      (slot_event_texts profile settings xs (entries_of profile client)) slots))
+      (slot_event_texts settings xs (entries_of profile client)) slots))
   unfolding tell
   one_client number client [] own = refl
   one_client number client (s ∷ slots) own =
       let here : List (List ℕ) =
-      slot_event_texts profile settings xs (entries_of profile client) s in
+      slot_event_texts settings xs (entries_of profile client) s in
       let behind : List (List ℕ) =
-      flat_map (slot_event_texts profile settings xs (entries_of profile client)) slots in
-      printed-append profile (tell (number, s)) (flat_map tell (slots_of number slots))
-      ∙ ap (λ r. r ++ printed profile (flat_map tell (slots_of number slots)))
+      flat_map (slot_event_texts settings xs (entries_of profile client)) slots in
+      lines-append (tell (number, s)) (flat_map tell (slots_of number slots))
+      ∙ ap (λ r. r ++ lines_of (flat_map tell (slots_of number slots)))
       (one_slot number s (events_at_end settings xs (asked number s))
       ∙ ap (λ (cs : List TimedRequest). map (for_client number)
       (timed_texts xs (map (event_text s)
-      (filter profile.prints (events_at_end settings xs cs))))) (own s))
+      (events_at_end settings xs cs)))) (own s))
       ∙ ap (λ r. map (for_client number) (timed_texts xs here) ++ r)
       (one_client number client slots own)
       ∙ sym (ap (λ ls. map (for_client number) ls) (map-append (at_time (length xs)) here behind)
@@ -94,7 +79,7 @@ module _ (profile : Profile) (settings : Settings) (xs : List Sample)
       → ((k : ℕ) (client : Client) → slice_get clients k ≡ Some client → (s : ℕ)
       → asked (b + k) s
       ≡ commands_to s (entries_before (length xs) (entries_of profile client)))
-      → printed profile
+      → lines_of
       (flat_map tell (flat_map (λ (p : ℕ × ℕ). slots_of p.0 (range_with_len 0 p.1))
       (enumerate_from b (shares_of clients))))
       ≡ flat_map (λ (p : ℕ × Client). map (for_client p.0)
@@ -107,9 +92,9 @@ module _ (profile : Profile) (settings : Settings) (xs : List Sample)
       let others : List (ℕ × ℕ) =
       flat_map (λ (p : ℕ × ℕ). slots_of p.0 (range_with_len 0 p.1))
       (enumerate_from (b + 1) (shares_of clients)) in
-      ap (printed profile) (flat_map-append tell first others)
-      ∙ printed-append profile (flat_map tell first) (flat_map tell others)
-      ∙ ap (λ r. r ++ printed profile (flat_map tell others))
+      ap lines_of (flat_map-append tell first others)
+      ∙ lines-append (flat_map tell first) (flat_map tell others)
+      ∙ ap (λ r. r ++ lines_of (flat_map tell others))
       (one_client b client (range_with_len 0 client.slots)
       (λ s. rw none at (own 0 client refl s)))
       ∙ ap (λ r. map (for_client b) (timed_texts xs (event_texts profile settings client xs)) ++ r)
@@ -117,14 +102,13 @@ module _ (profile : Profile) (settings : Settings) (xs : List Sample)
       (λ k c found s. let e : b + 1 + k ≡ b + suc k = omega arith in
       rw e (own (suc k) c found s)))
 
--- what the last sample makes the slots tell, those of it that are printed, are the receiver's
--- lines, where asked gives each slot the
--- commands that its client's script has for it before the last sample
+-- what the last sample makes the slots tell are the receiver's lines, where asked gives each slot
+-- the commands that its client's script has for it before the last sample
 pub told-lines : (profile : Profile) (settings : Settings) (xs : List Sample)
     (asked : ℕ → ℕ → List TimedRequest) (clients : List Client)
     → ((k : ℕ) (client : Client) → slice_get clients k ≡ Some client → (s : ℕ)
     → asked (1 + k) s ≡ commands_to s (entries_before (length xs) (entries_of profile client)))
-    → printed profile (bank_events_at_end settings (layout (shares_of clients)) asked xs)
+    → lines_of (bank_events_at_end settings (layout (shares_of clients)) asked xs)
     ≡ event_lines profile settings clients xs
 unfolding bank_events_at_end event_lines for_each_client tell
 told-lines profile settings xs asked clients own =
@@ -140,7 +124,7 @@ AreAsked profile clients asked xs =
 pub at_each_sample-lines : (profile : Profile) (settings : Settings)
     (asked : ℕ → ℕ → List TimedRequest) (clients : List Client) (xs ys : List Sample)
     → ((j : ℕ) → 0 < j → j ≤ length ys → AreAsked profile clients asked (xs ++ take j ys))
-    → printed profile
+    → lines_of
     (at_each_sample (bank_events_at_end settings (layout (shares_of clients)) asked) xs ys)
     ≡ at_each_sample (event_lines profile settings clients) xs ys
 unfolding at_each_sample
@@ -148,8 +132,8 @@ at_each_sample-lines profile settings asked clients xs [] own = refl
 at_each_sample-lines profile settings asked clients xs (y ∷ ys) own =
     let tells : List Sample → List SlotEvent =
     bank_events_at_end settings (layout (shares_of clients)) asked in
-    printed-append profile (tells (xs ++ y ∷ [])) (at_each_sample tells (xs ++ y ∷ []) ys)
-    ∙ ap (λ r. r ++ printed profile (at_each_sample tells (xs ++ y ∷ []) ys))
+    lines-append (tells (xs ++ y ∷ [])) (at_each_sample tells (xs ++ y ∷ []) ys)
+    ∙ ap (λ r. r ++ lines_of (at_each_sample tells (xs ++ y ∷ []) ys))
     (told-lines profile settings (xs ++ y ∷ []) asked clients
     (own 1 (omega arith) (omega arith)))
     ∙ ap (λ r. event_lines profile settings clients (xs ++ y ∷ []) ++ r)

@@ -29,13 +29,11 @@ commands_before profile client slot xs =
 abbrev pub IsAmong : {A : Type 0} → List A → A → Type 0
 IsAmong xs x = (i : ℕ) × (slice_get xs i ≡ Some x)
 
--- The last of the samples makes a slot of client number 1 + k tell the event, the event is one that
--- is printed, and it is right.
+-- The last of the samples makes a slot of client number 1 + k tell the event, and it is right.
 pub record Tells (profile : Profile) (settings : Settings) (clients : List Client)
     (xs : List Sample) (k slot : ℕ) (client : Client) (event : Event) : Type 0 where
   pub is_client : slice_get clients k ≡ Some client
   pub is_slot : slot < client.slots
-  pub is_printed : profile.prints event ≡ true
   pub is_told : IsAmong (events_at_end settings xs (commands_before profile client slot xs)) event
   pub is_right : IsRight settings xs (commands_before profile client slot xs) event
 

@@ -22,14 +22,13 @@ pub record Client : Type 0 where
   pub slots : ℕ
   pub script : List ℕ
 
--- what a receiver offers: the verbs that it knows, and the events that it prints
+-- what a receiver offers: the verbs that it knows
 pub record Profile : Type 0 where
   pub verbs : List Verb
-  pub prints : Event → Bool
 
 -- all of them
 abbrev pub full_profile : Profile
-full_profile = record { verbs = verbs; prints = λ event. true }
+full_profile = record { verbs = verbs }
 
 unfoldable pub entries_of : Profile → Client → List Entry
 entries_of profile client = script profile.verbs client.slots client.script
@@ -48,17 +47,15 @@ abbrev pub entries_before : ℕ → List Entry → List Entry
 entries_before time entries = filter (λ (e : Entry). nat_lt e.time time) entries
 
 -- what the last sample makes one slot tell
-abbrev pub slot_event_texts : Profile → Settings → List Sample → List Entry → ℕ → List (List ℕ)
-slot_event_texts profile settings xs entries slot =
+abbrev pub slot_event_texts : Settings → List Sample → List Entry → ℕ → List (List ℕ)
+slot_event_texts settings xs entries slot =
     map (event_text slot)
-    (filter profile.prints
-    (events_at_end settings xs (commands_to slot (entries_before (length xs) entries))))
+    (events_at_end settings xs (commands_to slot (entries_before (length xs) entries)))
 
 -- the texts of what the last sample makes a client's slots tell, slot by slot
 unfoldable pub event_texts : Profile → Settings → Client → List Sample → List (List ℕ)
 event_texts profile settings client xs =
-    flat_map (slot_event_texts profile settings xs (entries_of profile client))
-    (range_with_len 0 client.slots)
+    flat_map (slot_event_texts settings xs (entries_of profile client)) (range_with_len 0 client.slots)
 
 -- the answer to an entry, behind those before it
 abbrev pub reply_text : Settings → List Sample → List Entry → Result Command ℕ → List ℕ

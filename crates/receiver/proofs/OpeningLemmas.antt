@@ -34,15 +34,15 @@ unfolding life_now life_of commands_to life_events events_at_end
 silent settings slot = refl
 
 slot-silent : (settings : Settings) (entries : List Entry) (slot : ℕ)
-    → slot_event_texts offer settings [] entries slot ≡ []
+    → slot_event_texts settings [] entries slot ≡ []
 slot-silent settings entries slot =
     ap (λ (es : List Entry). map (event_text slot)
-    (filter offer.prints (events_at_end settings [] (commands_to slot es))))
+    (events_at_end settings [] (commands_to slot es)))
     (nothing-before entries)
-    ∙ ap (λ es. map (event_text slot) (filter offer.prints es)) (silent settings slot)
+    ∙ ap (λ es. map (event_text slot) es) (silent settings slot)
 
 slots-silent : (settings : Settings) (entries : List Entry) (slots : List ℕ)
-    → flat_map (slot_event_texts offer settings [] entries) slots ≡ []
+    → flat_map (slot_event_texts settings [] entries) slots ≡ []
 slots-silent settings entries [] = refl
 slots-silent settings entries (slot ∷ slots) =
     rw (slot-silent settings entries slot) (slots-silent settings entries slots)

@@ -12,7 +12,7 @@ use Rattle.definitions.specs.Banks.{layout}
 use Rattle.definitions.specs.Receiver.{Client, body_lines, lines_at, event_lines, answer_lines}
 use Rattle.definitions.specs.Receiver.{at_each_sample}
 use Rattle.definitions.proofs.BodyLemmas.{body_lines-more}
-use Rattle.definitions.proofs.TellLemmas.{printed, shares_of, at_each_sample-lines}
+use Rattle.definitions.proofs.TellLemmas.{shares_of, at_each_sample-lines}
 use Rattle.channel_slots.specs.declared.event.SlotEvent.{SlotEvent}
 use Rattle.channel_slots.specs.Events.{AreTold, line_of, told_in}
 use Rattle.receiver.specs.Offered.{offer}
@@ -28,11 +28,6 @@ lines-told events told e = from_map events ∙ ap (map defined_line_of) e
     from_map : (es : List SlotEvent) → map line_of es ≡ map defined_line_of (map told_in es)
     from_map [] = refl
     from_map (e ∷ es) = ap (λ (l : List (List ℕ)). line_of e ∷ l) (from_map es)
-
--- all that is told is printed
-all-printed : (events : List DefinedSlotEvent) → printed offer events ≡ map defined_line_of events
-all-printed [] = refl
-all-printed (t ∷ events) = ap (λ (l : List (List ℕ)). defined_line_of t ∷ l) (all-printed events)
 
 -- the lines of a stretch of samples before the last of which nothing is answered
 stretch : (settings : Settings) (cs : List Client) (xs ys : List Sample) → 0 < length ys
@@ -88,7 +83,7 @@ told-stretch settings cs qs done xs ys events_told some all free told =
     at_each_sample (bank_events_at_end settings (layout (shares_of cs)) (asked_of done)) xs
     ys in
     let lines : map line_of events_told ≡ at_each_sample (event_lines offer settings cs) xs ys =
-    lines-told events_told events told ∙ sym (all-printed events)
+    lines-told events_told events told
     ∙ at_each_sample-lines offer settings (asked_of done) cs xs ys
     (λ j more within k client found s. asked-each settings xs ys done some (take j ys)
     (omega (arith, length-take j ys)) (omega (arith, length-take j ys)) 1 cs qs all free k

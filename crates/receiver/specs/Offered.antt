@@ -1,12 +1,11 @@
--- What this receiver offers: the verbs that it knows, and the events that it prints.
-use Rattle.std.specs.Prelude.{ℕ, true, List, [], ◌∷◌}
+-- What this receiver offers: the verbs that it knows.
+use Rattle.std.specs.Prelude.{ℕ, List, [], ◌∷◌}
 use Rattle.definitions.specs.Scripts.{hold_verb, track_verb, counts_verb, state_verb, stop_verb}
 use Rattle.definitions.specs.Receiver.{Profile, Client}
 
 abbrev pub offer : Profile
 offer = record {
   verbs = hold_verb ∷ track_verb ∷ counts_verb ∷ state_verb ∷ stop_verb ∷ [];
-  prints = λ event. true;
 }
 
 -- a client with the text of its script; each has four slots
