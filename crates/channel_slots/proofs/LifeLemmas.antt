@@ -48,10 +48,9 @@ follows-wanting settings xs life (Holding h) time n s = record {
   holds = s.holds;
 }
 follows-wanting settings xs life (Tracking t) time n s = record {
-  prn = s.prn;
-  doppler = s.doppler;
-  half_chip = s.half_chip;
-  start = s.start;
+  channel = s.channel;
+  steered = s.steered;
+  given = s.given;
   tracks = s.tracks;
   not_lost = s.not_lost;
 }
