@@ -32,28 +32,28 @@ done-at settings plan begun left time h =
     done-by (cell_count plan) (dwell_end settings plan begun) left time h
 
 -- one that has just begun
-module _ (settings : Settings) (plan : Plan) (start due : ℕ) (search : Search)
-    (is : due ≡ due_time settings plan start) (same : plan_of search ≡ plan)
+module _ (settings : Settings) (plan : Plan) (start left : ℕ) (search : Search)
+    (is : start + left ≡ due_time settings plan start) (same : plan_of search ≡ plan)
     (end : end_of search ≡ dwell_end settings plan start) (none : done_of search ≡ 0) where
-  pub left-first : start + (due - start) ≡ end_of search + 4 * cell_count (plan_of search)
+  pub left-first : start + left ≡ end_of search + 4 * cell_count (plan_of search)
   left-first =
       let cells : 4 * cell_count (plan_of search) ≡ 4 * cell_count plan =
       ap (λ (p : Plan). 4 * cell_count p) same in
       omega (arith, is, end, cells)
 
-  pub none-first : done_of search ≡ done_before (plan_of search) (due - start)
+  pub none-first : done_of search ≡ done_before (plan_of search) left
   none-first =
-      let zero-left : done_before plan (due - start) ≡ 0 = omega (arith, is) in
-      none ∙ sym (ap (λ (p : Plan). done_before p (due - start)) same ∙ zero-left)
+      let zero-left : done_before plan left ≡ 0 = omega (arith, is) in
+      none ∙ sym (ap (λ (p : Plan). done_before p left) same ∙ zero-left)
 
   pub begins : (xs : List Sample) (s : Sought) → length xs ≡ start → s.settings ≡ settings
-      → s.search ≡ search → s.to_due ≡ due - start → StandsFor settings plan start xs search
+      → s.search ≡ search → s.to_due ≡ left → StandsFor settings plan start xs search
       → Searches settings plan start xs s
-  begins xs s now recorded searched left stands = record {
+  begins xs s now recorded searched waits stands = record {
     recorded = recorded;
     search = rw searched stands;
     begins = omega (arith, now);
-    due = omega (arith, now, left, is);
+    due = omega (arith, now, waits, is);
     done = rw searched (omega (arith, none, now));
   }
 

@@ -1,8 +1,11 @@
 //! A satellite that is searched for.
 
-ghost use Rattle.std.specs.Prelude.{◌≡◌, ◌≤◌, ◌<◌, ◌+◌, ◌-◌};
+ghost use Rattle.std.specs.Prelude.{◌≡◌, ◌≤◌, ◌<◌, ◌+◌, ◌-◌, ◌*◌, ℕ};
 ghost use Rattle.acquisition.specs.declared.dwell.TheConstants.{MOST_START};
+ghost use Rattle.acquisition.specs.declared.plan.TheConstants.{MOST_DWELL, MOST_CELLS};
 ghost use Rattle.acquisition.specs.Searches as searches;
+ghost use Rattle.definitions.specs.Oscillators.{samples_per_ms};
+ghost use Rattle.definitions.specs.Acquisition.{due_time};
 ghost use Rattle.channels.specs.Cells.{done_before};
 
 use crate::tracked::Tracked;
@@ -24,11 +27,11 @@ pub struct Sought {
 }
 
 impl Sought {
-    ghost use Rattle.std.specs.Prelude.{ℕ, List, ◌++◌, length, IfSome, IsSome, ◌↔◌, true};
+    ghost use Rattle.std.specs.Prelude.{List, ◌++◌, length, IfSome, IsSome, ◌↔◌, true};
     ghost use Rattle.std.specs.Prelude.{unsigned_abs};
     ghost use Rattle.definitions.specs.Samples.{Sample};
     ghost use Rattle.definitions.specs.Oscillators.{Settings as DefinedSettings};
-    ghost use Rattle.definitions.specs.Acquisition.{Plan as DefinedPlan, due_time, cell_count};
+    ghost use Rattle.definitions.specs.Acquisition.{Plan as DefinedPlan, cell_count};
     ghost use Rattle.definitions.specs.Lives.{found_channel};
     ghost use Rattle.acquisition.specs.Cells.{cell_in};
     ghost use Rattle.sample_planes.specs.Sources.{AreSamplesOf};
@@ -47,9 +50,11 @@ impl Sought {
         ensures due { due_of result ≡ due_time settings.now plan start }
         ensures left { start + to_due_of result ≡ due_of result }
         ensures waits { 0 < to_due_of result }
+        ensures near { to_due_of result
+            ≤ MOST_DWELL * samples_per_ms settings.now + 4 * MOST_CELLS }
     {
         let search = Search::new(plan, settings, start);
-        let to_due = search.due() - start;
+        let to_due = wait(settings, &plan);
         Sought {
             settings: *settings,
             search,
@@ -140,8 +145,18 @@ impl Sought {
             return None;
         }
         let plan = self.search.plan();
-        let ago = u64::from(plan.dwell()) * u64::from(self.settings.per_ms()) + 4 * plan.cells();
+        let ago = wait(&self.settings, &plan);
         let doppler = plan.doppler(cell)?;
         Some(Tracked::start_after(&self.settings, plan.prn(), doppler, cell.half, ago))
     }
+}
+
+/// How many samples there are from an acquisition's start to the time at which its answer is due.
+fn wait(settings: &Settings, plan: &Plan) -> u64
+    ensures value { (start : ℕ)
+        → start + result ≡ due_time settings.now plan.now start }
+    ensures some { 0 < result }
+    ensures most { result ≤ MOST_DWELL * samples_per_ms settings.now + 4 * MOST_CELLS }
+{
+    u64::from(plan.dwell()) * u64::from(settings.per_ms()) + 4 * plan.cells()
 }

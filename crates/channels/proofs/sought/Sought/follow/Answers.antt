@@ -1,6 +1,5 @@
 use Rattle.std.proofs.Common.{◌≡◌, sym, ap, ◌∙◌, arith}
-use Rattle.definitions.specs.Oscillators.{Settings, samples_per_ms}
-use Rattle.definitions.specs.Acquisition.{Plan, cell_count}
+use Rattle.definitions.specs.Acquisition.{Plan}
 use Rattle.definitions.specs.Loops.{shift_after}
 use Rattle.definitions.specs.Lives.{found_channel}
 use Rattle.acquisition.specs.Cells.{cell_in}
@@ -11,14 +10,11 @@ pub returns-clause-tracks : goal.returns-clause-tracks
 returns-clause-tracks c settings plan begun xs s now =
     let searched : c.plan-plan.result ≡ plan = c.plan-plan.ensures ∙ s.search.plan_is in
     let shift = rw searched at c.in_ok-doppler.ensures.shift in
-    let periods = c.dwell.ensures.value ∙ ap (λ (p : Plan). p.dwell) searched in
-    let cells = c.cells.ensures.value ∙ ap (λ (p : Plan). cell_count p) searched in
-    let period =
-    c.per_ms.ensures.value ∙ ap (λ (q : Settings). samples_per_ms q) s.recorded in
+    let ago = rw (s.recorded, searched) at (c.wait-ago.ensures.value begun) in
     let prn = c.prn.ensures ∙ ap (λ (p : Plan). p.prn) searched in
     rw s.recorded at c.start_after.ensures.stands
     (found_channel settings plan begun (cell_in c.args.cell.now)) xs
     (found-begins settings plan begun _ (cell_in c.args.cell.now) _ _ _ (sym prn)
     (omega (arith, s.due, now))
-    (rw (c.from.ensures, periods, c.from-2.ensures, period, cells) (omega arith)) shift)
+    (omega (arith, ago)) shift)
     (λ dumps. ap (λ v. shift_after v dumps) (sym shift))

@@ -1,27 +1,22 @@
-use Rattle.std.proofs.Common.{refl, [], arith}
+use Rattle.std.proofs.Common.{refl}
 use Rattle.channels.proofs.SoughtLemmas.{left-first, none-first, begins}
 use Rattle.channels.proofs.sought.Sought.start.Goals as goal
 
-pub overflow_sub-to_due : goal.overflow_sub-to_due
-overflow_sub-to_due c =
-    omega (arith, c.due.ensures.value _ _ _ [] (c.new-search.ensures.stands []))
-
-pub returns-clause-left : goal.returns-clause-left
-returns-clause-left c =
-    left-first c.args.settings.now c.args.plan c.args.start c.due.result c.new-search.result
-    (c.due.ensures.value _ _ _ [] (c.new-search.ensures.stands [])) c.new-search.ensures.plan
-    c.new-search.ensures.end c.new-search.ensures.done
-
 pub invariant_of-result : goal.invariant_of-result
 invariant_of-result c = record {
-  in_time = none-first c.args.settings.now c.args.plan c.args.start c.due.result c.new-search.result
-      (c.due.ensures.value _ _ _ [] (c.new-search.ensures.stands [])) c.new-search.ensures.plan
+  in_time = none-first c.args.settings.now c.args.plan c.args.start c.wait-to_due.result
+      c.new-search.result (c.wait-to_due.ensures.value c.args.start) c.new-search.ensures.plan
       c.new-search.ensures.end c.new-search.ensures.done;
 }
 
 pub returns-clause-stands : goal.returns-clause-stands
 returns-clause-stands c xs same =
-    begins c.args.settings.now c.args.plan c.args.start c.due.result c.new-search.result
-    (c.due.ensures.value _ _ _ [] (c.new-search.ensures.stands [])) c.new-search.ensures.plan
-    c.new-search.ensures.end c.new-search.ensures.done xs _ same refl refl refl
-    (c.new-search.ensures.stands xs)
+    begins c.args.settings.now c.args.plan c.args.start c.wait-to_due.result c.new-search.result
+    (c.wait-to_due.ensures.value c.args.start) c.new-search.ensures.plan
+    c.new-search.ensures.end c.new-search.ensures.done xs _ same refl refl refl (c.new-search.ensures.stands xs)
+
+pub returns-clause-left : goal.returns-clause-left
+returns-clause-left c =
+    left-first c.args.settings.now c.args.plan c.args.start c.wait-to_due.result
+    c.new-search.result (c.wait-to_due.ensures.value c.args.start) c.new-search.ensures.plan
+    c.new-search.ensures.end c.new-search.ensures.done
