@@ -88,7 +88,8 @@ impl Place {
     /// Puts in an event of its slot, if there is one.
     fn put(&self, event: Option<Event>, time: u64, events: &mut ArrayVec<SlotEvent, RUN_EVENTS>)
         requires { array_vec_len events.old < RUN_EVENTS }
-        ensures { PutsIn self.now time (if_any event) events.old.items events.new.items }
+        ensures puts { PutsIn self.now time (if_any event) events.old.items events.new.items }
+        ensures one { array_vec_len events.new ≤ array_vec_len events.old + 1 }
     {
         let Some(event) = event else {
             return;
