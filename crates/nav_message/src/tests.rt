@@ -5,6 +5,8 @@ use crate::MessageNews;
 use data_sets::{Report, Reports};
 use frame_sync::Found;
 
+mod almanacs;
+mod damage;
 mod fixture;
 
 use fixture::{Pushed, subframe};

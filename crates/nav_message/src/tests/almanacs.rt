@@ -1,0 +1,102 @@
+//! Almanacs of all satellites, each in a subframe of its own.
+
+use super::fixture::Pushed;
+use super::{HANDOVERS, TELEMETRY};
+use crate::MessageNews;
+use data_sets::{AlmanacSet, Report, Reports};
+use nav_parity::encode;
+use std::process::Abort;
+
+/// The almanac of a satellite, whose other values are 0.
+#[derive(Clone, Copy)]
+struct Almanac {
+    satellite: u8,
+    toa: u8,
+    health: u8,
+}
+
+impl Almanac {
+    /// Its values, in the order of the standard's table.
+    fn report(&self) -> Report {
+        let (sv, toa, health) = (self.satellite.into(), self.toa.into(), self.health.into());
+        Report::Alm([1, sv, 0, toa, 0, 0, health, 0, 0, 0, 0, 0, 0])
+    }
+
+    /// The words of its subframe 5, as they are sent. The satellite stands in word 3 behind the
+    /// data ID 1, the time of applicability begins word 4, and the health ends word 5. The last two
+    /// data bits are such that the subframe ends in two bits 0.
+    fn words(&self) -> [u32; 10] {
+        let mut words = [0; 10];
+        words[0] = TELEMETRY;
+        words[1] = HANDOVERS[3];
+        words[2] = behind(0x40_0000 | u32::from(self.satellite) << 16, words[1]);
+        words[3] = behind(u32::from(self.toa) << 16, words[2]);
+        words[4] = behind(u32::from(self.health), words[3]);
+        for k in 5..9usize {
+            words[k] = behind(0, words[k - 1]);
+        }
+        for end in 0..4 {
+            let word = behind(end, words[8]);
+            if word % 4 == 0 {
+                words[9] = word;
+            }
+        }
+        words
+    }
+}
+
+/// The word with these data behind another one.
+fn behind(source: u32, before: u32) -> u32 {
+    encode(source & 0xff_ffff, (before % 4) as u8)
+}
+
+/// What an almanac's subframe makes reported.
+fn reports(rt: &impl Abort, pushed: &mut Pushed, almanac: Almanac) -> Reports {
+    match pushed.push_words(rt, &almanac.words()) {
+        MessageNews::Frame { reports, .. } => reports,
+        _ => panic!(rt; "no subframe"),
+    }
+}
+
+// The set comes with the last of the 32, where all are for one time, and again where a value of it
+// has changed. Each almanac is reported, too.
+#[test]
+fn almanac_set(rt: HostRuntime) {
+    let mut pushed = Pushed::with_edge(&rt);
+    assert_eq!(rt; pushed.push_bit(&rt, false), MessageNews::Nothing);
+    let first = AlmanacSet {
+        toa: 5,
+        health: [0; 32],
+    };
+    for satellite in 1..=32 {
+        let almanac = Almanac {
+            satellite,
+            toa: 5,
+            health: 0,
+        };
+        let expected = Reports {
+            page: Some(almanac.report()),
+            set: if satellite == 32 { Some(first) } else { None },
+        };
+        let told = reports(&rt, &mut pushed, almanac);
+        assert_eq!(rt; told, expected, "satellite {satellite}");
+    }
+    let mut second = first;
+    second.health[2] = 1;
+    for (toa, health, set) in [(6, 0, None), (5, 0, None), (5, 1, Some(second))] {
+        let almanac = Almanac {
+            satellite: 3,
+            toa,
+            health,
+        };
+        let expected = Reports {
+            page: Some(almanac.report()),
+            set,
+        };
+        assert_eq!(rt;
+            reports(&rt, &mut pushed, almanac),
+            expected,
+            "{toa} {health}"
+        );
+    }
+}
