@@ -1,17 +1,19 @@
 //! The message of a satellite that is tracked. Its words were worked out by the parity equations
 //! (IS-GPS-200, section 20.3.5), and the times of the lines are those that the specification's two
-//! references give.
+//! references give, or a program in another language, apart from this project.
 
-use crate::running::run;
 use crate::tests::fakes::Holding;
-use crate::tests::signals::{Streaming, settings_of};
+use crate::tests::signals::written;
 use arrayvec::ArrayVec;
 use made_signals::{MadeSignal, SampleStream};
 use std::alloc::Global;
 use std::test::Fail;
 
-/// Two bits, and three subframes of 300.
-const MOST_BITS: usize = 902;
+/// Tracks the satellite from the first sample on.
+const TRACK: &[u8] = b"0 track 0 7 1000 100\n";
+
+/// The most bits of a list.
+const MOST_BITS: usize = 2_000;
 
 /// The telemetry word, behind two bits 0.
 const TELEMETRY: u32 = 0x22c0_0012;
@@ -23,13 +25,24 @@ const HANDOVERS: [u32; 3] = [0x2104, 0x4294, 0x631c];
 /// Two bits 0, and then subframes with these handover words and eight words of zeros each.
 fn bits_of_subframes(handovers: &[u32]) -> Result<ArrayVec<bool, MOST_BITS>, Fail> {
     let mut bits = ArrayVec::new();
+    add_subframes(&mut bits, handovers)?;
+    Ok(bits)
+}
+
+/// Adds them to bits that are there.
+fn add_subframes(bits: &mut ArrayVec<bool, MOST_BITS>, handovers: &[u32]) -> Result<(), Fail> {
     bits.try_extend_from_slice(&[false; 2])?;
     for handover in handovers {
-        add_word(&mut bits, TELEMETRY)?;
-        add_word(&mut bits, *handover)?;
+        add_header(bits, *handover)?;
         bits.try_extend_from_slice(&[false; 240])?;
     }
-    Ok(bits)
+    Ok(())
+}
+
+/// Adds the first two words of a subframe.
+fn add_header(bits: &mut ArrayVec<bool, MOST_BITS>, handover: u32) -> Result<(), Fail> {
+    add_word(bits, TELEMETRY)?;
+    add_word(bits, handover)
 }
 
 /// Adds a word of 30 bits, the highest first.
@@ -41,22 +54,17 @@ fn add_word(bits: &mut ArrayVec<bool, MOST_BITS>, word: u32) -> Result<(), Fail>
 }
 
 /// The text of a run that tracks the satellite over so many samples of its signal. Its data bits
-/// are those of the subframes with these handover words, behind 40 that alternate and two bits 0.
-fn written(alloc: Global, handovers: &[u32], samples: u64) -> Result<Holding, Fail> {
-    let bits = bits_of_subframes(handovers)?;
-    let signal = MadeSignal::with_tail(bits.as_slice());
-    let mut reader = Streaming::pieces(SampleStream::new(signal, samples), usize::MAX);
-    let mut writer = Holding::whole();
-    let script = b"0 track 0 7 1000 100\n";
-    let settings = settings_of(&signal)?;
-    let _samples = run(alloc, settings, &[script], &mut reader, &mut writer)?;
-    Ok(writer)
+/// are these, behind 40 that alternate.
+fn tracked(alloc: Global, bits: &[bool], samples: u64) -> Result<Holding, Fail> {
+    let signal = MadeSignal::with_tail(bits);
+    written(alloc, &signal, SampleStream::new(signal, samples), TRACK)
 }
 
 // 6,860 periods of the code.
 #[test]
 fn subframe_of_a_made_signal(rt: HostRuntime) -> Result<(), Fail> {
-    let writer = written(rt.alloc(), &HANDOVERS[..1], 17_150_000)?;
+    let bits = bits_of_subframes(&HANDOVERS[..1])?;
+    let writer = tracked(rt.alloc(), bits.as_slice(), 17_150_000)?;
     let text = "1 0 ok\n\
         1 547378 lock 0\n\
         1 1302377 bits 0\n\
@@ -70,7 +78,8 @@ fn subframe_of_a_made_signal(rt: HostRuntime) -> Result<(), Fail> {
 // 18,860 periods. The set is that of the three subframes' fields, which are all 0.
 #[test]
 fn set_of_a_made_signal(rt: HostRuntime) -> Result<(), Fail> {
-    let writer = written(rt.alloc(), &HANDOVERS, 47_150_000)?;
+    let bits = bits_of_subframes(&HANDOVERS)?;
+    let writer = tracked(rt.alloc(), bits.as_slice(), 47_150_000)?;
     let text = "1 0 ok\n\
         1 547378 lock 0\n\
         1 1302377 bits 0\n\
@@ -85,6 +94,93 @@ fn set_of_a_made_signal(rt: HostRuntime) -> Result<(), Fail> {
         cus=0:-29 sqrta=0:-19 toe=0:4 fit=0:0 aodo=0:0 cic=0:-29 om0=0:-31 cis=0:-29 i0=0:-31 \
         crc=0:-5 w=0:-31 omdot=0:-43 iode3=0:0 idot=0:-43\n\
         1 47150000 end\n";
+    assert_eq!(rt; writer.text()?, text);
+    Ok(())
+}
+
+// From word 6 on all bits are inverted. Word 6 has two bits 0 before it and doesn't pass. Those
+// behind it have two bits 1 before them, and pass with the data that were sent.
+#[test]
+fn inverted_tail_of_a_made_signal(rt: HostRuntime) -> Result<(), Fail> {
+    let mut bits = ArrayVec::new();
+    bits.try_extend_from_slice(&[false; 2])?;
+    add_header(&mut bits, HANDOVERS[0])?;
+    bits.try_extend_from_slice(&[false; 90])?;
+    bits.try_extend_from_slice(&[true; 150])?;
+    let writer = tracked(rt.alloc(), bits.as_slice(), 17_150_000)?;
+    let text = "1 0 ok\n\
+        1 547378 lock 0\n\
+        1 1302377 bits 0\n\
+        1 17099867 sub 0 1 1 8b0000 000084 000000 000000 000000 ------ \
+        000000 000000 000000 000000\n\
+        1 17150000 end\n";
+    assert_eq!(rt; writer.text()?, text);
+    Ok(())
+}
+
+/// Three subframes and 70 bits of a fourth, 32 bits that alternate, and three subframes.
+fn bits_around_a_cut() -> Result<ArrayVec<bool, MOST_BITS>, Fail> {
+    let [first, second, third] = HANDOVERS;
+    let mut bits = bits_of_subframes(&HANDOVERS)?;
+    add_header(&mut bits, first)?;
+    bits.try_extend_from_slice(&[false; 10])?;
+    for _ in 0..16 {
+        bits.try_extend_from_slice(&[false, true])?;
+    }
+    add_subframes(&mut bits, &[third, first, second])?;
+    Ok(bits)
+}
+
+// Noise hides the signal for 260 milliseconds, behind the first 70 bits of a subframe. Nothing that
+// was read before is used again. The edge is found anew. No subframe comes with the 300th bit from
+// the old start on, and the next one has no gap before it. Subframe 3 makes no set with 1 and 2 of
+// before, and a set like the one that was reported is reported again.
+#[test]
+fn nothing_is_kept_over_an_unlock(rt: HostRuntime) -> Result<(), Fail> {
+    let bits = bits_around_a_cut()?;
+    let signal = MadeSignal {
+        rate: 2_046_000,
+        offset: 511_500,
+        alternations: 28,
+        ..MadeSignal::with_tail(bits.as_slice())
+    };
+    let noisy = [(40_920_000, 41_450_000)];
+    let stream = SampleStream::with_noise(signal, 79_150_000, &noisy);
+    let script = b"0 track 0 7 1000 100\n\
+        41000000 state 0\n\
+        41600000 state 0\n\
+        42200000 state 0\n";
+    let writer = written(rt.alloc(), &signal, stream, script)?;
+    let text = "1 0 ok\n\
+        1 447974 lock 0\n\
+        1 1065866 bits 0\n\
+        1 13503492 sub 0 1 1 8b0000 000084 000000 000000 000000 000000 \
+        000000 000000 000000 000000\n\
+        1 25779484 sub 0 2 2 8b0000 00010a 000000 000000 000000 000000 \
+        000000 000000 000000 000000\n\
+        1 38055476 sub 0 3 3 8b0000 00018c 000000 000000 000000 000000 \
+        000000 000000 000000 000000\n\
+        1 38055476 eph 0 wn=0:0 l2=0:0 ura=0:0 health=0:0 iodc=0:0 l2p=0:0 tgd=0:-31 toc=0:4 \
+        af2=0:-55 af1=0:-43 af0=0:-31 iode=0:0 crs=0:-5 dn=0:-43 m0=0:-31 cuc=0:-29 e=0:-33 \
+        cus=0:-29 sqrta=0:-19 toe=0:4 fit=0:0 aodo=0:0 cic=0:-29 om0=0:-31 cis=0:-29 i0=0:-31 \
+        crc=0:-5 w=0:-31 omdot=0:-43 iode3=0:0 idot=0:-43\n\
+        1 41000000 state 0 track 7 20039 65807238 -27184 bits\n\
+        1 41367948 unlock 0\n\
+        1 41531628 lock 0\n\
+        1 41600000 state 0 track 7 20332 65525952 6144 lock\n\
+        1 42149520 bits 0\n\
+        1 42200000 state 0 track 7 20625 65536030 5168 bits\n\
+        1 54587146 sub 0 3 3 8b0000 00018c 000000 000000 000000 000000 \
+        000000 000000 000000 000000\n\
+        1 66863138 sub 0 1 1 8b0000 000084 000000 000000 000000 000000 \
+        000000 000000 000000 000000\n\
+        1 79139130 sub 0 2 2 8b0000 00010a 000000 000000 000000 000000 \
+        000000 000000 000000 000000\n\
+        1 79139130 eph 0 wn=0:0 l2=0:0 ura=0:0 health=0:0 iodc=0:0 l2p=0:0 tgd=0:-31 toc=0:4 \
+        af2=0:-55 af1=0:-43 af0=0:-31 iode=0:0 crs=0:-5 dn=0:-43 m0=0:-31 cuc=0:-29 e=0:-33 \
+        cus=0:-29 sqrta=0:-19 toe=0:4 fit=0:0 aodo=0:0 cic=0:-29 om0=0:-31 cis=0:-29 i0=0:-31 \
+        crc=0:-5 w=0:-31 omdot=0:-43 iode3=0:0 idot=0:-43\n\
+        1 79150000 end\n";
     assert_eq!(rt; writer.text()?, text);
     Ok(())
 }

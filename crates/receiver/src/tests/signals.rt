@@ -8,6 +8,7 @@ use crate::tests::fakes::Holding;
 use made_signals::{MadeSignal, SampleStream};
 use oscillators::Settings;
 use sample_planes::Format;
+use std::alloc::Global;
 use std::test::Fail;
 
 /// Gives the bytes of a stream, at most so many a read.
@@ -34,6 +35,20 @@ impl Source for Streaming<'_> {
         let room = buffer.len().min(self.at_once.max(1));
         Ok(self.stream.fill(&mut buffer[..room]))
     }
+}
+
+/// The text of a run of one client over a stream, in reads of 1,000 bytes.
+pub fn written(
+    alloc: Global,
+    signal: &MadeSignal,
+    stream: SampleStream,
+    script: &[u8],
+) -> Result<Holding, Fail> {
+    let mut reader = Streaming::pieces(stream, 1_000);
+    let mut writer = Holding::whole();
+    let settings = settings_of(signal)?;
+    let _samples = run(alloc, settings, &[script], &mut reader, &mut writer)?;
+    Ok(writer)
 }
 
 /// The settings of a signal.

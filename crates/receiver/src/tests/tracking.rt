@@ -1,26 +1,9 @@
 //! A satellite that is tracked, beside the plain reference of tracking.
 
-use crate::running::run;
-use crate::tests::fakes::Holding;
 use crate::tests::reference::Reference;
-use crate::tests::signals::{Streaming, settings_of};
+use crate::tests::signals::written;
 use made_signals::{MadeSignal, PlainNews, SampleStream};
-use std::alloc::Global;
 use std::test::Fail;
-
-/// The text of a run of one client over a stream, in reads of 1,000 bytes.
-fn written(
-    alloc: Global,
-    signal: &MadeSignal,
-    stream: SampleStream,
-    script: &[u8],
-) -> Result<Holding, Fail> {
-    let mut reader = Streaming::pieces(stream, 1_000);
-    let mut writer = Holding::whole();
-    let settings = settings_of(signal)?;
-    let _samples = run(alloc, settings, &[script], &mut reader, &mut writer)?;
-    Ok(writer)
-}
 
 // The lock comes at the time that the specification's two references give.
 #[test]
