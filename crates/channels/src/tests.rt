@@ -4,6 +4,7 @@
 ghost use Rattle.std.specs.Prelude.{◌≡◌, ◌+◌, ◌<◌, ◌≤◌, IfOk};
 ghost use Rattle.channels.specs.HeldChannels.{dumps_of};
 
+mod locks;
 mod searching;
 mod tracking;
 
