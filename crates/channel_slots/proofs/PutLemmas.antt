@@ -1,14 +1,14 @@
 -- Events of a place that are put in one behind the other.
-use Rattle.std.proofs.Common.{◌≡◌, ℕ, ◌+◌, List, [], ◌∷◌, ◌++◌, length, refl, sym, ap, ◌∙◌}
+use Rattle.std.proofs.Common.{◌≡◌, ℕ, List, [], ◌∷◌, ◌++◌, refl, sym, ap, ◌∙◌}
 use Rattle.std.specs.Prelude.{map, Option, Some, None, option_map, MatchOption, IsSomeAnd}
-use Rattle.std.proofs.lemmas.List.{length-map, map-append}
+use Rattle.std.proofs.lemmas.List.{map-append}
 use Rattle.channel_slots.specs.declared.event.Event.{Event}
 use Rattle.channel_slots.specs.declared.event.SlotEvent.{SlotEvent}
 use Rattle.channel_slots.specs.declared.place.Place.{Place}
 use Rattle.channel_slots.specs.Banks.{event_of, PutsIn}
 use Rattle.channel_slots.specs.Events.{time_in}
 use Rattle.channel_slots.specs.Orders.{put_in, put_all}
-use Rattle.channel_slots.proofs.OrderLemmas.{put_all-append, put_all-length}
+use Rattle.channel_slots.proofs.OrderLemmas.{put_all-append}
 
 module _ (p : Place) (time : ℕ) where
   pub puts-none : (before : List SlotEvent) → PutsIn p time [] before before
@@ -29,12 +29,6 @@ module _ (p : Place) (time : ℕ) where
       ∙ sym (put_all-append time_in before (map (event_of p time) es)
       (map (event_of p time) fs))
       ∙ ap (put_all time_in before) (sym (map-append (event_of p time) es fs))
-
-  pub puts-length : (es : List Event) (before after : List SlotEvent)
-      → PutsIn p time es before after → length after ≡ length before + length es
-  puts-length es before after e =
-      ap length e ∙ put_all-length time_in before (map (event_of p time) es)
-      ∙ ap (λ n. length before + n) (length-map es (event_of p time))
 
 -- an option whose content is changed
 pub mapped : {A : Type 0} (f : A → Event) (o : Option A) (r : Option Event)

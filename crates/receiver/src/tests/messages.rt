@@ -131,6 +131,38 @@ fn bits_around_a_cut() -> Result<ArrayVec<bool, MOST_BITS>, Fail> {
     Ok(bits)
 }
 
+/// The lines of the run below.
+const LINES_AROUND_A_CUT: &str = "1 0 ok\n\
+    1 447974 lock 0\n\
+    1 1065866 bits 0\n\
+    1 13503492 sub 0 1 1 8b0000 000084 000000 000000 000000 000000 \
+    000000 000000 000000 000000\n\
+    1 25779484 sub 0 2 2 8b0000 00010a 000000 000000 000000 000000 \
+    000000 000000 000000 000000\n\
+    1 38055476 sub 0 3 3 8b0000 00018c 000000 000000 000000 000000 \
+    000000 000000 000000 000000\n\
+    1 38055476 eph 0 wn=0:0 l2=0:0 ura=0:0 health=0:0 iodc=0:0 l2p=0:0 tgd=0:-31 toc=0:4 \
+    af2=0:-55 af1=0:-43 af0=0:-31 iode=0:0 crs=0:-5 dn=0:-43 m0=0:-31 cuc=0:-29 e=0:-33 \
+    cus=0:-29 sqrta=0:-19 toe=0:4 fit=0:0 aodo=0:0 cic=0:-29 om0=0:-31 cis=0:-29 i0=0:-31 \
+    crc=0:-5 w=0:-31 omdot=0:-43 iode3=0:0 idot=0:-43\n\
+    1 41000000 state 0 track 7 20039 65807238 -27184 bits\n\
+    1 41367948 unlock 0\n\
+    1 41531628 lock 0\n\
+    1 41600000 state 0 track 7 20332 65525952 6144 lock\n\
+    1 42149520 bits 0\n\
+    1 42200000 state 0 track 7 20625 65536030 5168 bits\n\
+    1 54587146 sub 0 3 3 8b0000 00018c 000000 000000 000000 000000 \
+    000000 000000 000000 000000\n\
+    1 66863138 sub 0 1 1 8b0000 000084 000000 000000 000000 000000 \
+    000000 000000 000000 000000\n\
+    1 79139130 sub 0 2 2 8b0000 00010a 000000 000000 000000 000000 \
+    000000 000000 000000 000000\n\
+    1 79139130 eph 0 wn=0:0 l2=0:0 ura=0:0 health=0:0 iodc=0:0 l2p=0:0 tgd=0:-31 toc=0:4 \
+    af2=0:-55 af1=0:-43 af0=0:-31 iode=0:0 crs=0:-5 dn=0:-43 m0=0:-31 cuc=0:-29 e=0:-33 \
+    cus=0:-29 sqrta=0:-19 toe=0:4 fit=0:0 aodo=0:0 cic=0:-29 om0=0:-31 cis=0:-29 i0=0:-31 \
+    crc=0:-5 w=0:-31 omdot=0:-43 iode3=0:0 idot=0:-43\n\
+    1 79150000 end\n";
+
 // Noise hides the signal for 260 milliseconds, behind the first 70 bits of a subframe. Nothing that
 // was read before is used again. The edge is found anew. No subframe comes with the 300th bit from
 // the old start on, and the next one has no gap before it. Subframe 3 makes no set with 1 and 2 of
@@ -151,36 +183,6 @@ fn nothing_is_kept_over_an_unlock(rt: HostRuntime) -> Result<(), Fail> {
         41600000 state 0\n\
         42200000 state 0\n";
     let writer = written(rt.alloc(), &signal, stream, script)?;
-    let text = "1 0 ok\n\
-        1 447974 lock 0\n\
-        1 1065866 bits 0\n\
-        1 13503492 sub 0 1 1 8b0000 000084 000000 000000 000000 000000 \
-        000000 000000 000000 000000\n\
-        1 25779484 sub 0 2 2 8b0000 00010a 000000 000000 000000 000000 \
-        000000 000000 000000 000000\n\
-        1 38055476 sub 0 3 3 8b0000 00018c 000000 000000 000000 000000 \
-        000000 000000 000000 000000\n\
-        1 38055476 eph 0 wn=0:0 l2=0:0 ura=0:0 health=0:0 iodc=0:0 l2p=0:0 tgd=0:-31 toc=0:4 \
-        af2=0:-55 af1=0:-43 af0=0:-31 iode=0:0 crs=0:-5 dn=0:-43 m0=0:-31 cuc=0:-29 e=0:-33 \
-        cus=0:-29 sqrta=0:-19 toe=0:4 fit=0:0 aodo=0:0 cic=0:-29 om0=0:-31 cis=0:-29 i0=0:-31 \
-        crc=0:-5 w=0:-31 omdot=0:-43 iode3=0:0 idot=0:-43\n\
-        1 41000000 state 0 track 7 20039 65807238 -27184 bits\n\
-        1 41367948 unlock 0\n\
-        1 41531628 lock 0\n\
-        1 41600000 state 0 track 7 20332 65525952 6144 lock\n\
-        1 42149520 bits 0\n\
-        1 42200000 state 0 track 7 20625 65536030 5168 bits\n\
-        1 54587146 sub 0 3 3 8b0000 00018c 000000 000000 000000 000000 \
-        000000 000000 000000 000000\n\
-        1 66863138 sub 0 1 1 8b0000 000084 000000 000000 000000 000000 \
-        000000 000000 000000 000000\n\
-        1 79139130 sub 0 2 2 8b0000 00010a 000000 000000 000000 000000 \
-        000000 000000 000000 000000\n\
-        1 79139130 eph 0 wn=0:0 l2=0:0 ura=0:0 health=0:0 iodc=0:0 l2p=0:0 tgd=0:-31 toc=0:4 \
-        af2=0:-55 af1=0:-43 af0=0:-31 iode=0:0 crs=0:-5 dn=0:-43 m0=0:-31 cuc=0:-29 e=0:-33 \
-        cus=0:-29 sqrta=0:-19 toe=0:4 fit=0:0 aodo=0:0 cic=0:-29 om0=0:-31 cis=0:-29 i0=0:-31 \
-        crc=0:-5 w=0:-31 omdot=0:-43 iode3=0:0 idot=0:-43\n\
-        1 79150000 end\n";
-    assert_eq!(rt; writer.text()?, text);
+    assert_eq!(rt; writer.text()?, LINES_AROUND_A_CUT);
     Ok(())
 }
