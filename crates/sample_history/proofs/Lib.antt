@@ -1,0 +1,4 @@
+pub mod ShiftLemmas
+pub mod RingLemmas
+pub mod PlaceLemmas
+pub mod HistoryLemmas

@@ -1,0 +1,162 @@
+-- The bits of bytes that are read from any bit on.
+use Rattle.std.proofs.Common.{inl, inr, ◌≡◌, ℕ, ◌+◌, ◌-◌, ◌*◌, ◌/◌, ◌%◌, ◌^◌, ◌<◌, ◌≤◌, List, ◌∷◌}
+use Rattle.std.proofs.Common.{[], ◌++◌, length, take, drop, refl, sym, ap, ◌∙◌, arith}
+use Rattle.std.specs.Prelude.{slice_index}
+use Rattle.std.specs.Int.{bit_at}
+use Rattle.std.proofs.lemmas.Bool.{cases_lt}
+use Rattle.std.proofs.lemmas.Nat.{shr-shr, shr_split}
+use Rattle.std.proofs.lemmas.Nat.Bits.{bit_at_cat_low, bit_at_cat_high}
+use Rattle.std.proofs.lemmas.List.{get_or-append-add}
+use Rattle.std.proofs.lemmas.List.FromFn.{get_or-map-range_with_len, length-map-range_with_len}
+use Rattle.std.proofs.lemmas.List.FromFn.{map-range_with_len_more, fill_by_all}
+use Rattle.std.proofs.lemmas.List.{get_or-take, get_or-drop, length-take-le, length-drop}
+use Rattle.definitions.specs.Samples.{bit_in}
+use Rattle.sample_history.specs.Shifts.{eight_bits, byte_from, shifted, headed}
+
+low_bit : (n i : ℕ) → i < 8 → bit_at (n % 2 ^ 8) i ≡ bit_at n i
+low_bit n i h =
+    sym (bit_at_cat_low (n / 2 ^ 8) 8 (n % 2 ^ 8) i h)
+    ∙ ap (λ (x : ℕ). bit_at x i) (shr_split n 8)
+
+-- a bit of eight that are read from a number
+read_bit : (v s j : ℕ) → j < 8 → bit_at (v / 2 ^ s % 2 ^ 8) (7 - j) ≡ bit_at v (s + (7 - j))
+read_bit v s j h =
+    low_bit (v / 2 ^ s) (7 - j) (omega arith) ∙ ap (λ (x : ℕ). x % 2) (shr-shr v s (7 - j))
+
+byte_from-bit : (bytes : List ℕ) (place j : ℕ) → j < 8
+    → bit_at (byte_from bytes place) (7 - j) ≡ bit_in bytes (place + j)
+unfolding byte_from eight_bits
+byte_from-bit bytes place j h =
+    let high : ℕ = slice_index bytes (place / 8) in
+    let low : ℕ = slice_index bytes (place / 8 + 1) in
+    let at : ℕ = 8 - place % 8 + (7 - j) in
+    let small : low % 2 ^ 8 < 2 ^ 8 = omega arith in
+    read_bit (high * 2 ^ 8 + low % 2 ^ 8) (8 - place % 8) j h
+    ∙ elim (cases_lt (place % 8 + j) 8) [
+      | inl inside ↦
+          let byte : (place + j) / 8 ≡ place / 8 = omega (arith, inside) in
+          let bit : 7 - (place + j) % 8 ≡ at - 8 = omega (arith, inside, h) in
+          rw (byte, bit) (bit_at_cat_high high 8 (low % 2 ^ 8) at small (omega (arith, inside, h)))
+      | inr behind ↦
+          let byte : (place + j) / 8 ≡ place / 8 + 1 = omega (arith, behind, h) in
+          let bit : 7 - (place + j) % 8 ≡ at = omega (arith, behind, h) in
+          rw (byte, bit) (bit_at_cat_low high 8 (low % 2 ^ 8) at (omega (arith, behind, h))
+          ∙ low_bit low at (omega (arith, behind, h)))
+    ]
+
+pub shifted-bit : (bytes : List ℕ) (place count q : ℕ) → q < 8 * count
+    → bit_in (shifted bytes place count) q ≡ bit_in bytes (place + q)
+unfolding shifted
+shifted-bit bytes place count q h =
+    let there : place + 8 * (q / 8) + q % 8 ≡ place + q = omega arith in
+    ap (λ (x : ℕ). bit_at x (7 - q % 8))
+    (get_or-map-range_with_len (λ k. byte_from bytes (place + 8 * k)) 0 count (q / 8) (q / 8) 0
+    (omega (arith, h)) (omega arith))
+    ∙ byte_from-bit bytes (place + 8 * (q / 8)) (q % 8) (omega arith) ∙ ap (bit_in bytes) there
+
+headed-front : (before behind count j : ℕ) → j < count → count < 8
+    → bit_at (headed before behind count) (7 - j) ≡ bit_at before (7 - j)
+unfolding headed
+headed-front before behind count j inside few =
+    let at : ℕ = count + (7 - j) in
+    let place : 8 - count + (at - 8) ≡ 7 - j = omega (arith, inside, few) in
+    let small : behind % 2 ^ 8 < 2 ^ 8 = omega arith in
+    read_bit (before / 2 ^ (8 - count) * 2 ^ 8 + behind % 2 ^ 8) count j (omega (arith, inside, few))
+    ∙ bit_at_cat_high (before / 2 ^ (8 - count)) 8 (behind % 2 ^ 8) at small
+    (omega (arith, inside, few))
+    ∙ ap (λ (x : ℕ). x % 2) (shr-shr before (8 - count) (at - 8)) ∙ ap (bit_at before) place
+
+headed-back : (before behind count j : ℕ) → count ≤ j → j < 8
+    → bit_at (headed before behind count) (7 - j) ≡ bit_at behind (7 - (j - count))
+unfolding headed
+headed-back before behind count j from inside =
+    let at : ℕ = count + (7 - j) in
+    let place : at ≡ 7 - (j - count) = omega (arith, inside, from) in
+    read_bit (before / 2 ^ (8 - count) * 2 ^ 8 + behind % 2 ^ 8) count j inside
+    ∙ bit_at_cat_low (before / 2 ^ (8 - count)) 8 (behind % 2 ^ 8) at (omega (arith, inside, from))
+    ∙ low_bit behind at (omega (arith, inside, from)) ∙ ap (bit_at behind) place
+
+-- the byte that was begun keeps its bits
+pub begun-bit : (before behind count q : ℕ) (rest : List ℕ) → q < count → count < 8
+    → bit_in (headed before behind count ∷ rest) q ≡ bit_in (before ∷ []) q
+begun-bit before behind count q rest inside few =
+    let byte : q / 8 ≡ 0 = omega (arith, inside, few) in
+    let bit : q % 8 ≡ q = omega (arith, inside, few) in
+    rw (byte, bit) (headed-front before behind count q inside few)
+
+-- and behind them come those of the run, in the bytes behind it too
+pub behind-bit : (before : ℕ) (bytes : List ℕ) (start count whole q : ℕ) → count < 8 → count ≤ q
+    → q < 8 * (1 + whole)
+    → bit_in (headed before (byte_from bytes start) count ∷ shifted bytes (start + 8 - count) whole)
+    q ≡ bit_in bytes (start + (q - count))
+behind-bit before bytes start count whole q few from short =
+    elim (cases_lt q 8) [
+      | inl inside ↦
+          let byte : q / 8 ≡ 0 = omega (arith, inside) in
+          let bit : q % 8 ≡ q = omega (arith, inside) in
+          rw (byte, bit) (headed-back before (byte_from bytes start) count q from inside
+          ∙ byte_from-bit bytes start (q - count) (omega (arith, inside, from)))
+      | inr above ↦
+          let byte : q / 8 ≡ 1 + (q - 8) / 8 = omega (arith, above) in
+          let bit : q % 8 ≡ (q - 8) % 8 = omega (arith, above) in
+          let there : start + 8 - count + (q - 8) ≡ start + (q - count) =
+          omega (arith, above, from, few) in
+          let rest : List ℕ = shifted bytes (start + 8 - count) whole in
+          rw (byte, bit) (ap (λ (x : ℕ). bit_at x (7 - (q - 8) % 8)) (get_or-append-add
+          (headed before (byte_from bytes start) count ∷ []) rest ((q - 8) / 8) 0)
+          ∙ shifted-bit bytes (start + 8 - count) whole (q - 8)
+          (omega (arith, above, short)) ∙ ap (bit_in bytes) there)
+    ]
+
+-- bytes that are read one by one
+pub read_on : (bytes : List ℕ) (place k : ℕ)
+    → eight_bits (slice_index bytes (place / 8 + k)) (slice_index bytes (place / 8 + k + 1))
+    (place % 8) ≡ byte_from bytes (place + 8 * k)
+unfolding byte_from
+read_on bytes place k =
+    let byte : (place + 8 * k) / 8 ≡ place / 8 + k = omega arith in
+    let bit : (place + 8 * k) % 8 ≡ place % 8 = omega arith in
+    rw (byte, bit) refl
+
+pub read_whole : (bytes : List ℕ) (place : ℕ) → place % 8 ≡ 0
+    → slice_index bytes (place / 8) < 256
+    → slice_index bytes (place / 8) ≡ byte_from bytes place
+unfolding byte_from eight_bits
+read_whole bytes place even small =
+    let high : ℕ = slice_index bytes (place / 8) in
+    let low : ℕ = slice_index bytes (place / 8 + 1) in
+    rw even (go high low small)
+  where
+    go : (high low : ℕ) → high < 256 → high ≡ (high * 256 + low % 256) / 256 % 256
+    go high low h = omega arith
+
+pub shifted-length : (bytes : List ℕ) (place n : ℕ) → length (shifted bytes place n) ≡ n
+unfolding shifted
+shifted-length bytes place n =
+    length-map-range_with_len (λ k. byte_from bytes (place + 8 * k)) 0 n
+
+pub shifted-more : (bytes : List ℕ) (place n : ℕ)
+    → shifted bytes place (n + 1) ≡ shifted bytes place n ++ byte_from bytes (place + 8 * n) ∷ []
+unfolding shifted
+shifted-more bytes place n =
+    map-range_with_len_more (λ k. byte_from bytes (place + 8 * k)) 0 n n (omega arith)
+
+pub shifted-none : (bytes : List ℕ) (place : ℕ) → shifted bytes place 0 ≡ []
+unfolding shifted
+shifted-none bytes place = refl
+
+-- bytes that are copied whole
+pub copied : (bytes : List ℕ) (place count : ℕ) → place % 8 ≡ 0
+    → place / 8 + count ≤ length bytes → ((i : ℕ) → slice_index bytes i < 256)
+    → take (place / 8 + count - place / 8) (drop (place / 8) bytes) ≡ shifted bytes place count
+unfolding shifted
+copied bytes place count even within small =
+    let many : place / 8 + count - place / 8 ≡ count = omega arith in
+    rw many (fill_by_all (λ (k : ℕ). byte_from bytes (place + 8 * k))
+    (take count (drop (place / 8) bytes)) count 0
+    (length-take-le count (drop (place / 8) bytes) (rw length-drop (omega (arith, within))))
+    (λ k h.
+    let at : (place + 8 * k) / 8 ≡ place / 8 + k = omega arith in
+    get_or-take count (drop (place / 8) bytes) k 0 h ∙ get_or-drop (place / 8) bytes k 0
+    ∙ ap (slice_index bytes) (sym at)
+    ∙ read_whole bytes (place + 8 * k) (omega (arith, even)) (small ((place + 8 * k) / 8))))

@@ -1,0 +1,138 @@
+//! The last samples of a stream.
+
+ghost use Rattle.std.specs.Prelude.{◌≡◌, ◌+◌, ◌-◌, ◌*◌, ◌/◌, ◌<◌, ◌≤◌, ℕ, length, min, slice_index};
+ghost use Rattle.definitions.specs.Samples.{sample_count, samples_per_byte};
+ghost use Rattle.sample_planes.specs.Packings.{packing_of};
+ghost use Rattle.sample_planes.specs.declared.planes.TheConstants.{MAX_SAMPLES};
+ghost use Rattle.sample_history.specs.declared.history.TheConstants.{MOST_TAKEN, NEAR_BYTES};
+
+use crate::ring_bytes::{copy_out, grow};
+use circular_buffer::HeapCircularBuffer;
+use sample_planes::{Format, Planes, SampleSource, unpack};
+use std::alloc::{AllocError, Global};
+
+/// The most samples that a history takes.
+pub const MOST_TAKEN: u64 = 1 << 40;
+
+/// The most bytes that `MAX_SAMPLES` samples of any packing lie in.
+const NEAR_BYTES: usize = 513;
+
+/// The last samples of a stream, packed. The earliest sample of a byte stands in its top bits.
+#[derive(Drop)]
+pub struct SampleHistory {
+    format: Format,
+    /// The last whole bytes of the stream.
+    whole: HeapCircularBuffer<u8>,
+    /// The samples behind those of the whole bytes, fewer than a byte holds.
+    partial: u8,
+    taken: u64,
+    ghost few: { taken ≤ MOST_TAKEN },
+    ghost kept: { length whole.items
+        ≡ min whole.capacity (taken / samples_per_byte (packing_of format)) },
+}
+
+impl SampleHistory {
+    ghost use Rattle.std.specs.Prelude.{List, [], ◌++◌, IfOk};
+    ghost use Rattle.definitions.specs.Samples.{Sample, samples_from};
+    ghost use Rattle.sample_history.specs.Histories.{StandsFor, packing_in, room_of, taken_of};
+    ghost use Rattle.sample_history.specs.Histories.{first_of, bytes_of};
+
+    /// The history of a stream that hasn't begun. It takes its memory at once, and will hold at
+    /// least the last `room` samples. An error is memory that it was refused.
+    pub fn open(alloc: Global, format: Format, room: usize) -> Result<SampleHistory, AllocError>
+        ensures stands { IfOk result (λ history. StandsFor [] history) }
+        ensures packing { IfOk result (λ history. packing_in history ≡ packing_of format) }
+        ensures room { IfOk result (λ history. room ≤ room_of history) }
+        ensures taken { IfOk result (λ history. taken_of history ≡ 0) }
+    {
+        let whole = HeapCircularBuffer::with_capacity(alloc, room.div_ceil(format.per_byte()) + 1)?;
+        Ok(SampleHistory {
+            format,
+            whole,
+            partial: 0,
+            taken: 0,
+        })
+    }
+
+    /// How the samples are packed.
+    pub fn format(&self) -> Format
+        ensures { packing_of result ≡ packing_in self.now }
+    {
+        self.format
+    }
+
+    /// Takes the next samples of the stream: the `len` samples of `bytes` from sample `first` of
+    /// the first byte on, in the history's packing. `len` is at most `MAX_SAMPLES`.
+    pub fn take(&mut self, bytes: &[u8], first: usize, len: usize)
+        requires first { first < samples_per_byte (packing_in self.old) }
+        requires within { first + len ≤ sample_count (packing_in self.old) bytes.now }
+        requires short { len ≤ MAX_SAMPLES }
+        requires few { taken_of self.old + len ≤ MOST_TAKEN }
+        ensures stands { (xs : List Sample) → StandsFor xs self.old
+            → StandsFor (xs ++ samples_from (packing_in self.old) bytes.now first len) self.new }
+        ensures packing { packing_in self.new ≡ packing_in self.old }
+        ensures room { room_of self.new ≡ room_of self.old }
+        ensures taken { taken_of self.new ≡ taken_of self.old + len }
+        ensures kept { first_of self.new ≤ taken_of self.new - room_of self.new }
+    {
+        let per_byte = self.format.per_byte();
+        let width = 8 / per_byte;
+        let filled = (self.taken % per_byte as u64) as usize;
+        self.partial = grow(
+            &mut self.whole,
+            self.partial,
+            width * filled,
+            bytes,
+            width * first,
+            (filled + len) / per_byte,
+        );
+        self.taken += len as u64;
+    }
+
+    /// `count` of its bytes from byte `from` of the ring on, and zeros behind them. The byte that
+    /// isn't full stands behind those of the ring.
+    fn near_bytes(&self, from: usize, count: usize) -> [u8; NEAR_BYTES]
+        requires from { from ≤ length self.now.whole.items }
+        requires within { from + count ≤ length self.now.whole.items + 1 }
+        requires short { count ≤ NEAR_BYTES }
+        ensures bytes { (k : ℕ) → k < count
+            → slice_index result k ≡ slice_index (bytes_of self.now) (from + k) }
+        ensures long { length result ≡ NEAR_BYTES }
+    {
+        let mut near = [0; NEAR_BYTES];
+        let inside = count.min(self.whole.len() - from);
+        copy_out(&self.whole, from, &mut near[..inside]);
+        if inside < count {
+            near[inside] = self.partial;
+        }
+        near
+    }
+}
+
+impl SampleSource for SampleHistory {
+    ghost use Rattle.sample_history.specs.Histories.{first_of, taken_of, held_in};
+
+    ghost from = { first_of };
+
+    ghost to = { taken_of };
+
+    ghost held = { held_in };
+
+    fn first(&self) -> u64 {
+        let per_byte = self.format.per_byte() as u64;
+        (self.taken / per_byte - self.whole.len() as u64) * per_byte
+    }
+
+    fn end(&self) -> u64 {
+        self.taken
+    }
+
+    fn planes(&self, n: u64, len: usize) -> Planes {
+        let per_byte = self.format.per_byte();
+        let width = 8 / per_byte;
+        let place = (n - self.first()) as usize;
+        let start = place % per_byte;
+        let near = self.near_bytes(place / per_byte, (width * (start + len) + 7) / 8);
+        unpack(self.format, &near, start, len)
+    }
+}

@@ -1,0 +1,22 @@
+//! The last samples of a stream, packed: what the searches of a receiver read again.
+//!
+//! A `SampleHistory` takes a stream's samples run by run, and keeps the last of them in one ring of
+//! bytes, whose memory it takes once, when it is opened. The bytes are aligned to the stream,
+//! wherever in a byte a run begins. It is a `SampleSource`: each sample that it holds is proved to
+//! be the sample of the stream with that number.
+//!
+//!     use sample_history::SampleHistory;
+//!     use sample_planes::{Format, SampleSource};
+//!
+//!     let mut history = SampleHistory::open(alloc, Format::Real2, 40_000)?;
+//!     history.take(bytes, 0, 1_000);
+//!     let planes = history.planes(history.end() - 10, 10);
+#![tactic(auto)]
+
+mod history;
+mod ring_bytes;
+mod shifted_bytes;
+#[cfg(test)]
+mod tests;
+
+pub use history::{MOST_TAKEN, SampleHistory};
