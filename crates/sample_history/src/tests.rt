@@ -2,12 +2,17 @@
 
 use crate::{MOST_TAKEN, SampleHistory};
 use sample_planes::{Format, SampleSource};
+use std::alloc::AllocError;
 
 const FORMATS: [Format; 4] = [Format::Real1, Format::Real2, Format::Iq1, Format::Iq2];
 
 /// A bit of the stream.
 fn stream_bit(place: u64) -> u64 {
-    (place.wrapping_mul(place).wrapping_mul(0x9e37_79b9_7f4a_7c15) >> 61) & 1
+    (place
+        .wrapping_mul(place)
+        .wrapping_mul(0x9e37_79b9_7f4a_7c15)
+        >> 61)
+        & 1
 }
 
 /// A part of one bit: a sign.
@@ -111,11 +116,8 @@ fn all_agree(history: &SampleHistory) -> bool {
 
 // Sample 5 of 00000101 is -1, then come +1 and -1; the next three are the first ones of 01100000.
 #[test]
-fn two_runs_share_a_byte(rt: HostRuntime) {
-    let opened = SampleHistory::open(rt.alloc(), Format::Real1, 16);
-    let Ok(mut history) = opened else {
-        return;
-    };
+fn two_runs_share_a_byte(rt: HostRuntime) -> Result<(), AllocError> {
+    let mut history = SampleHistory::open(rt.alloc(), Format::Real1, 16)?;
     history.take(&[0x05], 5, 3);
     history.take(&[0x60], 0, 3);
     assert_eq!(rt; (history.first(), history.end()), (0, 6));
@@ -125,17 +127,15 @@ fn two_runs_share_a_byte(rt: HostRuntime) {
         values[i] = planes.value(i);
     }
     assert_eq!(rt; values, [-1, 1, -1, 1, -1, -1]);
+    Ok(())
 }
 
 #[test]
-fn runs_of_any_length_at_any_place(rt: HostRuntime) {
+fn runs_of_any_length_at_any_place(rt: HostRuntime) -> Result<(), AllocError> {
     for format in FORMATS {
         for first in 0..format.per_byte() {
             for (len, runs) in [(1, 40), (3, 40), (1024, 4)] {
-                let opened = SampleHistory::open(rt.alloc(), format, 2_500);
-                let Ok(mut history) = opened else {
-                    return;
-                };
+                let mut history = SampleHistory::open(rt.alloc(), format, 2_500)?;
                 for _ in 0..runs {
                     assert!(rt; take_next(&mut history, first, len));
                 }
@@ -143,44 +143,38 @@ fn runs_of_any_length_at_any_place(rt: HostRuntime) {
             }
         }
     }
+    Ok(())
 }
 
 // The ring has 4 bytes of 4 samples. Behind 21 samples 5 bytes were full, so the first is gone.
 #[test]
-fn the_oldest_byte_goes_first(rt: HostRuntime) {
-    let opened = SampleHistory::open(rt.alloc(), Format::Real2, 10);
-    let Ok(mut history) = opened else {
-        return;
-    };
+fn the_oldest_byte_goes_first(rt: HostRuntime) -> Result<(), AllocError> {
+    let mut history = SampleHistory::open(rt.alloc(), Format::Real2, 10)?;
     for len in [13, 0, 6, 2] {
         assert!(rt; take_next(&mut history, 1, len));
     }
     assert_eq!(rt; (history.first(), history.end()), (4, 21));
     assert!(rt; all_agree(&history));
+    Ok(())
 }
 
 #[test]
-fn a_small_ring_goes_round_many_times(rt: HostRuntime) {
+fn a_small_ring_goes_round_many_times(rt: HostRuntime) -> Result<(), AllocError> {
     for format in FORMATS {
-        let opened = SampleHistory::open(rt.alloc(), format, 10);
-        let Ok(mut history) = opened else {
-            return;
-        };
+        let mut history = SampleHistory::open(rt.alloc(), format, 10)?;
         for turn in 0..300usize {
             assert!(rt; take_next(&mut history, turn % format.per_byte(), 1 + turn % 23));
             assert!(rt; all_agree(&history));
             assert!(rt; history.first() <= history.end().saturating_sub(10));
         }
     }
+    Ok(())
 }
 
 #[test]
-fn reads_of_every_length_at_every_place(rt: HostRuntime) {
+fn reads_of_every_length_at_every_place(rt: HostRuntime) -> Result<(), AllocError> {
     for format in FORMATS {
-        let opened = SampleHistory::open(rt.alloc(), format, 30);
-        let Ok(mut history) = opened else {
-            return;
-        };
+        let mut history = SampleHistory::open(rt.alloc(), format, 30)?;
         for _ in 0..9 {
             assert!(rt; take_next(&mut history, 1, 11));
         }
@@ -190,14 +184,12 @@ fn reads_of_every_length_at_every_place(rt: HostRuntime) {
             }
         }
     }
+    Ok(())
 }
 
 #[test]
-fn a_history_of_no_room_holds_the_last_samples(rt: HostRuntime) {
-    let opened = SampleHistory::open(rt.alloc(), Format::Iq2, 0);
-    let Ok(mut history) = opened else {
-        return;
-    };
+fn a_history_of_no_room_holds_the_last_samples(rt: HostRuntime) -> Result<(), AllocError> {
+    let mut history = SampleHistory::open(rt.alloc(), Format::Iq2, 0)?;
     for _ in 0..3 {
         assert!(rt; take_next(&mut history, 1, 1024));
     }
@@ -205,4 +197,5 @@ fn a_history_of_no_room_holds_the_last_samples(rt: HostRuntime) {
     // One byte of two samples, and the one that was begun.
     assert_eq!(rt; (history.first(), history.end()), (3070, 3073));
     assert!(rt; all_agree(&history));
+    Ok(())
 }
