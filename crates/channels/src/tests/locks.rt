@@ -117,8 +117,8 @@ fn behind(source: u32, before: u32) -> u32 {
     encode(source & 0xff_ffff, (before % 4) as u8)
 }
 
-// The header and 90 bits of a subframe were read before the unlock. The 300th bit from the edge on
-// would end it, if the start were kept.
+// The header and 90 bits of a subframe come before the unlock, and 300 bits behind it. The subframe
+// would end among these, if its start were kept.
 #[test]
 fn start_ends_with_the_lock(rt: HostRuntime) {
     let mut reading = Reading::new();
