@@ -82,7 +82,8 @@ module _ (settings : Settings) (plan : Plan) (begun : ℕ) (xs ys : List Sample)
         → dwell_end settings plan begun ≤ length (xs ++ ys)
     whole cells same some = omega (arith, same, some, left-now)
 
-  pub searches-on : (new : Sought) → new.settings ≡ old.settings → new.to_due + length ys ≡ old.to_due
+  pub searches-on : (new : Sought) → new.settings ≡ old.settings
+      → new.to_due + length ys ≡ old.to_due
       → StandsFor settings plan begun (xs ++ ys) new.search
       → Searches settings plan begun (xs ++ ys) new
   searches-on new same left stands = record {

@@ -55,7 +55,8 @@ slot_event_texts settings xs entries slot =
 -- the texts of what the last sample makes a client's slots tell, slot by slot
 unfoldable pub event_texts : Profile → Settings → Client → List Sample → List (List ℕ)
 event_texts profile settings client xs =
-    flat_map (slot_event_texts settings xs (entries_of profile client)) (range_with_len 0 client.slots)
+    flat_map (slot_event_texts settings xs (entries_of profile client))
+    (range_with_len 0 client.slots)
 
 -- the answer to an entry, behind those before it
 abbrev pub reply_text : Settings → List Sample → List Entry → Result Command ℕ → List ℕ

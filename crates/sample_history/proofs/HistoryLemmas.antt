@@ -1,19 +1,22 @@
 -- What a history holds behind one more run.
-use Rattle.std.proofs.Common.{inl, inr, ◌≡◌, ℕ, ◌+◌, ◌-◌, ◌*◌, ◌/◌, ◌%◌, ◌<◌, ◌≤◌, List, [], ◌∷◌, ◌++◌}
+use Rattle.std.proofs.Common.{inl, inr, ◌≡◌, ℕ, ◌+◌, ◌-◌, ◌*◌, ◌/◌, ◌%◌, ◌<◌, ◌≤◌, List, []}
+use Rattle.std.proofs.Common.{◌∷◌, ◌++◌}
 use Rattle.std.proofs.Common.{length, drop, sym, ap, ◌∙◌, arith}
 use Rattle.std.specs.Int.{bit_at}
 use Rattle.std.specs.Prelude.{pos}
 use Rattle.std.proofs.lemmas.Bool.{cases_lt}
 use Rattle.std.proofs.lemmas.List.{get_or_append_left, get_or-append-add, get_or-drop}
 use Rattle.std.proofs.lemmas.List.FromFn.{get_or-map-range_with_len}
-use Rattle.definitions.specs.Samples.{Sample, Packing, real, sample, sample_at, samples_from, bit_in}
+use Rattle.definitions.specs.Samples.{Sample, Packing, real, sample, sample_at, samples_from}
+use Rattle.definitions.specs.Samples.{bit_in}
 use Rattle.definitions.specs.Samples.{samples_per_byte}
 use Rattle.sample_planes.specs.Packings.{width_of}
 use Rattle.sample_planes.specs.Sources.{AreSamplesOf}
 use Rattle.sample_planes.proofs.BitLemmas.{same_sample}
 use Rattle.sample_history.specs.Shifts.{byte_from, shifted, headed, grown}
 use Rattle.sample_history.proofs.ShiftLemmas.{begun-bit, behind-bit}
-use Rattle.sample_history.proofs.PlaceLemmas.{first_in, used_bits, old_place, new_place, few_used, some_bits}
+use Rattle.sample_history.proofs.PlaceLemmas.{first_in, used_bits, old_place, new_place}
+use Rattle.sample_history.proofs.PlaceLemmas.{few_used, some_bits}
 
 -- ---- bits of bytes behind one another
 

@@ -61,7 +61,8 @@ headed-front before behind count j inside few =
     let at : ℕ = count + (7 - j) in
     let place : 8 - count + (at - 8) ≡ 7 - j = omega (arith, inside, few) in
     let small : behind % 2 ^ 8 < 2 ^ 8 = omega arith in
-    read_bit (before / 2 ^ (8 - count) * 2 ^ 8 + behind % 2 ^ 8) count j (omega (arith, inside, few))
+    read_bit (before / 2 ^ (8 - count) * 2 ^ 8 + behind % 2 ^ 8) count j
+    (omega (arith, inside, few))
     ∙ bit_at_cat_high (before / 2 ^ (8 - count)) 8 (behind % 2 ^ 8) at small
     (omega (arith, inside, few))
     ∙ ap (λ (x : ℕ). x % 2) (shr-shr before (8 - count) (at - 8)) ∙ ap (bit_at before) place

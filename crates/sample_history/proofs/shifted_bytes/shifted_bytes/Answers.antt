@@ -11,7 +11,8 @@ returns c =
     let bytes = c.args.bytes.now in
     fill_by_all (λ (k : ℕ). byte_from bytes (c.args.place + 8 * k)) (take c.args.count c.loop-k.out)
     c.args.count 0
-    (length-take-le c.args.count c.loop-k.out (omega (arith, c.loop-k.invariant.long, c.requires.few)))
+    (length-take-le c.args.count c.loop-k.out
+    (omega (arith, c.loop-k.invariant.long, c.requires.few)))
     (λ k h. get_or-take c.args.count c.loop-k.out k 0 h
     ∙ c.loop-k.invariant.bytes k (omega (arith, h, c.loop-k.auto.k-end, c.loop-k-test.false))
     ∙ read_on bytes c.args.place k)

@@ -13,7 +13,8 @@ pub returns-clause-stands : goal.returns-clause-stands
 returns-clause-stands c xs same =
     begins c.args.settings.now c.args.plan c.args.start c.wait-to_due.result c.new-search.result
     (c.wait-to_due.ensures.value c.args.start) c.new-search.ensures.plan
-    c.new-search.ensures.end c.new-search.ensures.done xs _ same refl refl refl (c.new-search.ensures.stands xs)
+    c.new-search.ensures.end c.new-search.ensures.done xs _ same refl refl refl
+    (c.new-search.ensures.stands xs)
 
 pub returns-clause-left : goal.returns-clause-left
 returns-clause-left c =

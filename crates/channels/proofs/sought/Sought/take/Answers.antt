@@ -30,7 +30,12 @@ module _ (g : Over) (c : goal.After-result g) (settings : Settings) (plan : Plan
           | then-more-gt0 w ↦
               let inside =
               whole settings plan begun xs ys c.args.self.now s still fewer c.cells.result same
-              (omega (arith, w.if-more-gt0.true, c.saturating_sub-due.ensures, c.div_ceil.ensures)) in
+              (omega (
+                arith,
+                w.if-more-gt0.true,
+                c.saturating_sub-due.ensures,
+                c.div_ceil.ensures,
+              )) in
               rw w.self-is (w.advance.ensures.stands settings plan begun (xs ++ ys)
               (λ n low high. holds n low (omega (arith, high, inside)))
               (stays settings plan begun xs ys c.args.self.now s))
