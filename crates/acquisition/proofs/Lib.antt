@@ -1,5 +1,11 @@
 pub mod PlanLemmas
-pub mod ReplicaLemmas
+pub mod RegroupedLemmas
+pub mod PlaceLemmas
+pub mod SignLemmas
+pub mod TableLemmas
+pub mod FoldLemmas
+pub mod WipedLemmas
+pub mod PowerLemmas
 pub mod TallyLemmas
 pub mod SearchLemmas
 pub mod StandingLemmas

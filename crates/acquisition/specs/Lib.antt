@@ -4,3 +4,6 @@ pub mod Steps
 pub mod Tallies
 pub mod Cells
 pub mod Searches
+pub mod Folds
+pub mod FoldStates
+pub mod Powers

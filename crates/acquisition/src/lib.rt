@@ -23,11 +23,15 @@
 //!     }
 #![tactic(auto)]
 
+mod bin_powers;
 mod bin_steps;
 mod cell;
+mod chip_signs;
+mod chip_table;
 mod dwell;
+mod fold;
+mod period_fold;
 mod plan;
-mod replica;
 mod search;
 mod sums;
 mod tally;

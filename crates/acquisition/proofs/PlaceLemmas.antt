@@ -1,0 +1,89 @@
+-- The places of samples, and phases that go on.
+use Rattle.std.proofs.Common.{◌≡◌, ℕ, ◌+◌, ◌*◌, ◌/◌, ◌%◌, ◌^◌, ◌<◌, ◌≤◌, refl, ap, ◌∙◌, arith}
+use Rattle.std.specs.Prelude.{zero, suc, pos, get_or, unsigned_abs}
+use Rattle.std.proofs.Math.Nat.{mod-add-mod}
+use Rattle.definitions.specs.Codes.{chip, chip_sign}
+use Rattle.definitions.specs.Oscillators.{prompt_sign, code_phase_after, carrier_phase_after}
+use Rattle.definitions.specs.Oscillators.{cosine, sine, cosines, sines}
+use Rattle.acquisition.specs.Folds.{place_at}
+
+-- the chip of a sample is that of its place, half / 2 chips on
+chip_place : (half way : ℕ) → (half * 2 ^ 31 + way) % (1023 * 2 ^ 32) / 2 ^ 32 % 1023
+    ≡ (half / 2 + (half % 2 * 2 ^ 31 + way) / 2 ^ 32 % 1023) % 1023
+chip_place half way = omega arith
+
+pub chip_of_place : (prn half step j : ℕ)
+    → prompt_sign prn (code_phase_after (half * 2 ^ 31) step j)
+    ≡ chip_sign prn (half / 2 + place_at (half % 2) step j)
+unfolding chip
+chip_of_place prn half step j = rw (chip_place half (j * step)) refl
+
+pub place_below : (parity step j : ℕ) → place_at parity step j < 1024
+place_below parity step j = omega arith
+
+-- the place of a phase, and of one half a chip on
+place_of_phase : (m : ℕ) → m % (1023 * 2 ^ 32) / 2 ^ 32 ≡ (0 * 2 ^ 31 + m) / 2 ^ 32 % 1023
+place_of_phase m = omega arith
+
+place_half_on : (m : ℕ) → (m % (1023 * 2 ^ 32) + 2 ^ 31) % (1023 * 2 ^ 32) / 2 ^ 32
+    ≡ (1 * 2 ^ 31 + m) / 2 ^ 32 % 1023
+place_half_on m = omega arith
+
+-- the code i samples on from one that is k samples on from phase 0
+way_on : (code phase step k i : ℕ) → code ≡ code_phase_after 0 step k
+    → phase ≡ code_phase_after code step i → phase ≡ (k + i) * step % (1023 * 2 ^ 32)
+way_on code phase step k i first is =
+    let e : 0 + k * step + i * step ≡ (k + i) * step = omega arith in
+    is ∙ rw first (mod-add-mod (0 + k * step) (1023 * 2 ^ 32) (i * step))
+    ∙ ap (λ (m : ℕ). m % (1023 * 2 ^ 32)) e
+
+pub even-place : (code phase step k i : ℕ) → code ≡ code_phase_after 0 step k
+    → phase ≡ code_phase_after code step i → phase / 2 ^ 32 ≡ place_at 0 step (k + i)
+even-place code phase step k i first is =
+    rw (way_on code phase step k i first is) (place_of_phase ((k + i) * step))
+
+pub odd-place : (code phase next step k i : ℕ) → code ≡ code_phase_after 0 step k
+    → phase ≡ code_phase_after code step i → next ≡ (phase + 2 ^ 31) % (1023 * 2 ^ 32)
+    → next / 2 ^ 32 ≡ place_at 1 step (k + i)
+odd-place code phase next step k i first is half =
+    rw (half, way_on code phase step k i first is) (place_half_on ((k + i) * step))
+
+pub phase-next : (code phase next step i : ℕ) → phase ≡ code_phase_after code step i
+    → next ≡ (phase + step) % (1023 * 2 ^ 32) → next ≡ code_phase_after code step (i + 1)
+phase-next code phase next step i is more =
+    let e : code + i * step + step ≡ code + (i + 1) * step = omega arith in
+    more ∙ rw is (mod-add-mod (code + i * step) (1023 * 2 ^ 32) step)
+    ∙ ap (λ (m : ℕ). m % (1023 * 2 ^ 32)) e
+
+-- the code and the carrier n samples on
+pub code-goes_on : (first phase step own k n : ℕ) → own ≡ step
+    → phase ≡ code_phase_after first step k
+    → code_phase_after phase own n ≡ code_phase_after first step (k + n)
+code-goes_on first phase step own k n same is =
+    let e : first + k * step + n * step ≡ first + (k + n) * step = omega arith in
+    rw (same, is) (mod-add-mod (first + k * step) (1023 * 2 ^ 32) (n * step)
+    ∙ ap (λ (m : ℕ). m % (1023 * 2 ^ 32)) e)
+
+pub carrier-goes_on : (first phase step own k n : ℕ) → own ≡ step
+    → phase ≡ carrier_phase_after first step k
+    → carrier_phase_after phase own n ≡ carrier_phase_after first step (k + n)
+carrier-goes_on first phase step own k n same is =
+    let e : first + k * step + n * step ≡ first + (k + n) * step = omega arith in
+    rw (same, is) (mod-add-mod (first + k * step) (2 ^ 32) (n * step)
+    ∙ ap (λ (m : ℕ). m % 2 ^ 32) e)
+
+-- one of the cosine and the sine is 1 in size, the other 2
+pub carrier_sizes : (phase : ℕ) → unsigned_abs (cosine phase) + unsigned_abs (sine phase) ≤ 3
+carrier_sizes phase = by_eighth (phase / 2 ^ 29)
+  where
+    by_eighth : (n : ℕ)
+        → unsigned_abs (get_or cosines n (pos 0)) + unsigned_abs (get_or sines n (pos 0)) ≤ 3
+    by_eighth zero = omega arith
+    by_eighth (suc zero) = omega arith
+    by_eighth (suc (suc zero)) = omega arith
+    by_eighth (suc (suc (suc zero))) = omega arith
+    by_eighth (suc (suc (suc (suc zero)))) = omega arith
+    by_eighth (suc (suc (suc (suc (suc zero))))) = omega arith
+    by_eighth (suc (suc (suc (suc (suc (suc zero)))))) = omega arith
+    by_eighth (suc (suc (suc (suc (suc (suc (suc zero))))))) = omega arith
+    by_eighth (suc (suc (suc (suc (suc (suc (suc (suc n)))))))) = omega arith

@@ -1,0 +1,79 @@
+-- Samples that are held, and the powers of periods, which add up.
+use Rattle.std.proofs.Common.{◌≡◌, ℕ, ◌+◌, ◌*◌, ◌<◌, ◌≤◌, List, map, length, refl, sym, ◌∙◌}
+use Rattle.std.proofs.Common.{arith}
+use Rattle.std.specs.Prelude.{ℤ, pos, get_or, ◌⊎◌}
+use Rattle.std.specs.List.{range_with_len}
+use Rattle.std.proofs.Math.Nat.{mul-le-mul_right}
+use Rattle.std.proofs.Math.ListN.{replicate, set}
+use Rattle.std.proofs.lemmas.List.{get_or-replicate, get_or-set_same}
+use Rattle.std.proofs.lemmas.List.FromFn.{get_or-map-range_with_len, length-map-range_with_len}
+use Rattle.definitions.specs.Samples.{Sample, sample_at, real}
+use Rattle.definitions.specs.Correlation.{Replica}
+use Rattle.definitions.specs.Acquisition.{power_over}
+use Rattle.acquisition.specs.Replicas.{power_of_periods}
+use Rattle.acquisition.proofs.TallyLemmas.{sum_more}
+
+-- values at offsets k, k + 1, .. are those of another beginning, at 0, 1, ..
+abbrev pub AreFrom : {A : Type 0} → ℕ → ℕ → (ℕ → A) → (ℕ → A) → Type 0
+AreFrom k n f g = (j : ℕ) → j < n → f j ≡ g (k + j)
+
+-- a list of values by their places
+pub view : (f : ℕ → ℤ) (views : List ℤ) (n : ℕ) → views ≡ map f (range_with_len 0 n) → (j : ℕ) → j < n
+    → get_or views j (pos 0) ≡ f j
+view f views n is j h = rw is (get_or-map-range_with_len f 0 n j j (pos 0) h (omega arith))
+
+-- n samples of those that are held, from number first on
+pub held_run : (held : ℕ → Sample) (first n : ℕ) (ys : List Sample) → ys
+    ≡ map held (range_with_len first n) → (j : ℕ) → j < n → sample_at ys j ≡ held (first + j)
+held_run held first n ys is j h = rw is (get_or-map-range_with_len held first n j (first + j)
+    (real (pos 0)) h refl)
+
+pub run_length : (held : ℕ → Sample) (first n : ℕ) (ys : List Sample) → ys
+    ≡ map held (range_with_len first n) → length ys ≡ n
+run_length held first n ys is = rw is (length-map-range_with_len held first n)
+
+-- the power over no period, and over one more
+pub power-none : (x : ℕ → Sample) (r : Replica) (long : ℕ) → 0 ≡ power_of_periods x r long 0
+unfolding power_of_periods
+power-none x r long = refl
+
+pub power-more : (x : ℕ → Sample) (r : Replica) (long n power more : ℕ)
+    → power ≡ power_of_periods x r long n
+    → more ≡ power_over x r (n * long) (n * long + long)
+    → power + more ≡ power_of_periods x r long (n + 1)
+unfolding power_of_periods
+power-more x r long n power more before is =
+    let e : n * long + long ≡ (n + 1) * long = omega arith in
+    let last : more ≡ power_over x r (n * long) ((n + 1) * long) = is ∙ rw e refl in
+    rw (before, last) (sym (sum_more (λ k. power_over x r (k * long) ((k + 1) * long)) n))
+
+-- a period within the dwell
+pub period-held : (held x : ℕ → Sample) (start first long n periods : ℕ) → first ≡ start + n * long
+    → n < periods → ((j : ℕ) → j < periods * long → held (start + j) ≡ x j)
+    → AreFrom (n * long) long (λ j. held (first + j)) x
+period-held held x start first long n periods is inside same j h =
+    let whole : (n + 1) * long ≤ periods * long = mul-le-mul_right long
+    (period_next n periods inside) in
+    let f : first + j ≡ start + (n * long + j) = omega (arith, is) in
+    rw f (same (n * long + j) (omega (arith, h, whole)))
+  where
+    period_next : (n periods : ℕ) → n < periods → n + 1 ≤ periods
+    period_next n periods inside = omega (arith, inside)
+
+-- powers of which none was added yet
+pub none_yet : (n i : ℕ) → i < n → get_or {A = ℕ} (replicate n 0) i 0 ≡ 0
+none_yet n i h = get_or-replicate {A = ℕ} n i 0 0 h
+
+pub last_or_before : (j k : ℕ) → j < k + 1 → (j ≡ k) ⊎ (j < k)
+last_or_before j k h = grind arith
+
+pub apart_before : (j k : ℕ) → j < k → j ≡ k → ⊥
+apart_before j k h e = absurd (omega (arith, h, e))
+
+pub apart_behind : (j k : ℕ) → k + 1 ≤ j → j ≡ k → ⊥
+apart_behind j k h e = absurd (omega (arith, h, e))
+
+-- what stands where a power was set
+pub set_there : (powers : List ℕ) (i j power : ℕ) → j ≡ i → i < length powers
+    → get_or (set powers i power) j 0 ≡ power
+set_there powers i j power same inside = rw same (get_or-set_same powers i power 0 inside)

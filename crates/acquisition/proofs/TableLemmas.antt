@@ -1,0 +1,197 @@
+-- Tables of values that are added up by place.
+use Rattle.std.proofs.Common.{inl, inr, ◌≡◌, ℕ, zero, suc, ◌+◌, ◌*◌, ◌<◌, ◌≤◌, refl, sym, ◌∙◌}
+use Rattle.std.proofs.Common.{arith, to_z, of_z, w32, FitsSigned}
+use Rattle.std.specs.Prelude.{ℤ, pos, negsuc, ◌+ℤ◌, ◌*ℤ◌, ◌==◌, false, cond, ◌⊎◌}
+use Rattle.std.specs.Prelude.{List, get_or, unsigned_abs, length}
+use Rattle.std.proofs.Math.ListN.{replicate, set}
+use Rattle.std.proofs.lemmas.Int.{ints, to_z-of_z, fits_signed_from_abs}
+use Rattle.std.proofs.lemmas.Bool.{eq-eqb, cases_lt}
+use Rattle.std.proofs.lemmas.List.{get_or-replicate, get_or-set_same, get_or-set_other}
+use Rattle.definitions.specs.Sums.{total}
+use Rattle.definitions.specs.Codes.{chip_sign}
+use Rattle.acquisition.specs.Folds.{folded, place_at, IsTable, total_to, sizes_to, correlated_to}
+use Rattle.acquisition.proofs.SizeLemmas.{abs_add}
+use Rattle.acquisition.proofs.SignLemmas.{sign_cases}
+
+-- a table whose entries are all the same
+pub all_same : (n k : ℕ) (z : ℤ) → k < n → get_or (replicate n z) k (pos 0) ≡ z
+all_same n k z h = get_or-replicate {A = ℤ} n k z (pos 0) h
+
+-- a table of no values, and of one more
+pub table-none : (y : ℕ → ℤ) (parity step from : ℕ) (table : List ℤ)
+    → ((k : ℕ) → k < 1024 → get_or table k (pos 0) ≡ pos 0) → IsTable y parity step from 0 table
+unfolding folded total
+table-none y parity step from table none k h = none k h
+
+folded-more : (y : ℕ → ℤ) (key : ℕ → ℕ) (n k : ℕ) → folded y key (n + 1) k
+    ≡ folded y key n k +ℤ cond (key n == k) (y n) (pos 0)
+unfolding folded total
+folded-more y key n k = let e : n + 1 ≡ suc n = omega arith in rw e refl
+
+pub table-more : (y : ℕ → ℤ) (parity step from n place : ℕ) (value : ℤ) (old new : List ℤ)
+    → IsTable y parity step from n old → place ≡ place_at parity step (from + n)
+    → value ≡ y (from + n)
+    → ((k : ℕ) → k < 1024 → get_or new k (pos 0)
+    ≡ get_or old k (pos 0) +ℤ cond (place == k) value (pos 0))
+    → IsTable y parity step from (n + 1) new
+table-more y parity step from n place value old new is at same more k h =
+    more k h ∙ rw (is k h, at, same)
+    (sym (folded-more (λ i. y (from + i)) (λ i. place_at parity step (from + i)) n k))
+
+-- the sizes of a table's entries
+pub sizes-none : (table : List ℤ) (n : ℕ)
+    → ((k : ℕ) → k < n → get_or table k (pos 0) ≡ pos 0) → sizes_to table n ≡ 0
+unfolding sizes_to
+sizes-none table zero none = refl
+sizes-none table (suc n) none =
+    rw (sizes-none table n (λ k h. none k (omega arith)), none n (omega arith)) refl
+
+pub size_of_one : (table : List ℤ) (k n : ℕ) → k < n
+    → unsigned_abs (get_or table k (pos 0)) ≤ sizes_to table n
+unfolding sizes_to
+size_of_one table k zero h = absurd (omega (arith, h))
+size_of_one table k (suc n) h = elim (cases_lt k n) [
+  | inl before ↦ omega (arith, size_of_one table k n before)
+  | inr last ↦ let e : k ≡ n = omega (arith, h, last) in rw e (omega arith)
+]
+
+-- one entry changed by a value
+sizes-same : (old new : List ℤ) (place n : ℕ) (value : ℤ) → n ≤ place
+    → ((k : ℕ) → k < n → get_or new k (pos 0)
+    ≡ get_or old k (pos 0) +ℤ cond (place == k) value (pos 0))
+    → sizes_to new n ≡ sizes_to old n
+unfolding sizes_to
+sizes-same old new place zero value before more = refl
+sizes-same old new place (suc n) value before more =
+    let other : (place == n) ≡ false = apart place n (omega (arith, before)) in
+    let e : get_or new n (pos 0) ≡ get_or old n (pos 0) = more n (omega arith)
+    ∙ rw other (unchanged (get_or old n (pos 0))) in
+    rw (sizes-same old new place n value (omega (arith, before)) (λ k h. more k (omega (arith, h))), e)
+    refl
+  where
+    apart : (a b : ℕ) → b < a → (a == b) ≡ false
+    apart a b h = grind arith
+
+    unchanged : (z : ℤ) → z +ℤ pos 0 ≡ z
+    unchanged z = omega (arith, ints)
+
+pub sizes-more : (old new : List ℤ) (place n : ℕ) (value : ℤ)
+    → ((k : ℕ) → k < n → get_or new k (pos 0)
+    ≡ get_or old k (pos 0) +ℤ cond (place == k) value (pos 0))
+    → sizes_to new n ≤ sizes_to old n + unsigned_abs value
+unfolding sizes_to
+sizes-more old new place zero value more = omega arith
+sizes-more old new place (suc n) value more = elim (three place n) [
+  | inl same ↦ let here : get_or new n (pos 0) ≡ get_or old n (pos 0) +ℤ value =
+      more n (omega arith) ∙ rw (same, eq-eqb n n refl) refl in
+      let below : sizes_to new n ≡ sizes_to old n =
+      sizes-same old new place n value (omega (arith, same)) (λ k h. more k (omega (arith, h))) in
+      rw (below, here) (omega (arith, abs_add (get_or old n (pos 0)) value))
+  | inr other ↦ let here : get_or new n (pos 0) ≡ get_or old n (pos 0) =
+      more n (omega arith) ∙ rw other (unchanged (get_or old n (pos 0))) in
+      rw here (omega (arith, sizes-more old new place n value (λ k h. more k (omega (arith, h)))))
+]
+  where
+    three : (a b : ℕ) → (a ≡ b) ⊎ ((a == b) ≡ false)
+    three a b = grind arith
+
+    unchanged : (z : ℤ) → z +ℤ pos 0 ≡ z
+    unchanged z = omega (arith, ints)
+
+-- the sum of the first entries
+pub total_to-none : (table : List ℤ) → total_to table 0 ≡ pos 0
+unfolding total_to total
+total_to-none table = refl
+
+pub total_to-more : (table : List ℤ) (k : ℕ)
+    → total_to table (k + 1) ≡ total_to table k +ℤ get_or table k (pos 0)
+unfolding total_to total
+total_to-more table k = let e : k + 1 ≡ suc k = omega arith in rw e refl
+
+pub correlated-none : (prn first : ℕ) (table : List ℤ) → correlated_to prn first table 0 ≡ pos 0
+unfolding correlated_to total
+correlated-none prn first table = refl
+
+pub correlated-more : (prn first k : ℕ) (table : List ℤ)
+    → correlated_to prn first table (k + 1)
+    ≡ correlated_to prn first table k +ℤ get_or table k (pos 0) *ℤ chip_sign prn (first + k)
+unfolding correlated_to total
+correlated-more prn first k table = let e : k + 1 ≡ suc k = omega arith in rw e refl
+
+-- a product with a sign has the size of the other factor
+signed_size : (y s : ℤ) → (s ≡ pos 1) ⊎ (s ≡ negsuc 0) → unsigned_abs (y *ℤ s) ≤ unsigned_abs y
+signed_size y s cases = elim cases [
+  | inl one ↦ rw one (by_one y)
+  | inr less ↦ rw less (by_one_less y)
+]
+  where
+    by_one : (y : ℤ) → unsigned_abs (y *ℤ pos 1) ≤ unsigned_abs y
+    by_one y = omega (arith, ints)
+
+    by_one_less : (y : ℤ) → unsigned_abs (y *ℤ negsuc 0) ≤ unsigned_abs y
+    by_one_less y = omega (arith, ints)
+
+pub correlated_size : (prn first n : ℕ) (table : List ℤ)
+    → unsigned_abs (correlated_to prn first table n) ≤ sizes_to table n
+unfolding correlated_to total sizes_to
+correlated_size prn first zero table = omega arith
+correlated_size prn first (suc n) table =
+    let term : ℤ = get_or table n (pos 0) *ℤ chip_sign prn (first + n) in
+    omega (
+      arith,
+      abs_add (correlated_to prn first table n) term,
+      correlated_size prn first n table,
+      signed_size (get_or table n (pos 0)) (chip_sign prn (first + n))
+          (sign_cases prn (first + n)),
+    )
+
+pub total_size : (n : ℕ) (table : List ℤ) → unsigned_abs (total_to table n) ≤ sizes_to table n
+unfolding total_to total sizes_to
+total_size zero table = omega arith
+total_size (suc n) table = omega (
+  arith,
+  abs_add (total_to table n) (get_or table n (pos 0)),
+  total_size n table,
+)
+
+-- an entry in 32 bits, and its sum with a value
+pub entry_fits : (z : ℤ) (size taken : ℕ) → unsigned_abs z ≤ size → size ≤ 9 * taken
+    → taken ≤ 20000 → FitsSigned w32 z
+entry_fits z size taken within small few =
+    fits_signed_from_abs w32 z (omega (arith, within, small, few))
+
+pub sum_fits : (z value : ℤ) (size taken : ℕ) → unsigned_abs z ≤ size → size ≤ 9 * taken
+    → taken ≤ 20000 → unsigned_abs value ≤ 9 → FitsSigned w32 (z +ℤ value)
+sum_fits z value size taken within small few one =
+    fits_signed_from_abs w32 (z +ℤ value) (omega (arith, abs_add z value, within, small, few, one))
+
+pub value-kept : (value : ℤ) → unsigned_abs value ≤ 9 → to_z w32 (of_z w32 value) ≡ value
+value-kept value one = to_z-of_z w32 value (fits_signed_from_abs w32 value (omega (arith, one)))
+
+pub entry-kept : (table : List ℤ) (k taken : ℕ) → k < 1024 → sizes_to table 1024 ≤ 9 * taken
+    → taken ≤ 20000
+    → to_z w32 (of_z w32 (get_or table k (pos 0))) ≡ get_or table k (pos 0)
+entry-kept table k taken h small few = to_z-of_z w32 (get_or table k (pos 0))
+    (entry_fits (get_or table k (pos 0)) (sizes_to table 1024) taken (size_of_one table k 1024 h)
+    small few)
+
+-- a table with a value added to an entry
+pub entry_set : (table : List ℤ) (place k : ℕ) (entry value : ℤ) → place < 1024
+    → length table ≡ 1024 → entry ≡ get_or table place (pos 0) +ℤ value
+    → get_or (set table place entry) k (pos 0)
+    ≡ get_or table k (pos 0) +ℤ cond (place == k) value (pos 0)
+entry_set table place k entry value h long is = elim (three place k) [
+  | inl same ↦ rw (same, eq-eqb k k refl) (get_or-set_same table k entry (pos 0)
+      (rw long (rw same at h)) ∙ rw same at is)
+  | inr other ↦ get_or-set_other table place k entry (pos 0) (apart place k other)
+      ∙ rw other (unchanged (get_or table k (pos 0)))
+]
+  where
+    three : (a b : ℕ) → (a ≡ b) ⊎ ((a == b) ≡ false)
+    three a b = grind arith
+
+    apart : (a b : ℕ) → (a == b) ≡ false → b ≡ a → ⊥
+    apart a b other same = grind arith
+
+    unchanged : (z : ℤ) → z ≡ z +ℤ pos 0
+    unchanged z = omega (arith, ints)

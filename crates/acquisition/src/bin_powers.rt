@@ -1,0 +1,80 @@
+//! The powers of cells of one bin.
+
+ghost use Rattle.std.specs.Prelude.{◌≡◌, ◌+◌, ◌*◌, ◌<◌, ◌≤◌, ℕ, get_or, length};
+ghost use Rattle.acquisition.specs.declared.bin_powers.TheConstants.{BIN_CELLS};
+ghost use Rattle.acquisition.specs.declared.plan.TheConstants.{MOST_DWELL};
+ghost use Rattle.acquisition.specs.declared.sums.TheConstants.{MOST_PERIOD_POWER};
+ghost use Rattle.acquisition.specs.declared.tally.TheConstants.{MOST_POWER};
+
+use crate::chip_signs::ChipSigns;
+use crate::period_fold::PeriodFold;
+
+/// The cells of a bin: one for each half chip of the code, which has 1,023 chips (IS-GPS-200,
+/// section 3.3.2.3).
+pub(crate) const BIN_CELLS: usize = 2046;
+
+/// Cells of a bin that follow one another: so many, from a half chip on, with the steps of the code
+/// and the carrier in the bin.
+#[derive(Drop)]
+pub(crate) struct BinCells {
+    pub(crate) first: usize,
+    pub(crate) count: usize,
+    pub(crate) code_step: u32,
+    pub(crate) carrier_step: u32,
+    ghost within: { first + count ≤ BIN_CELLS },
+}
+
+/// The powers of cells of one bin over the periods so far: that of the first of the cells, and so
+/// on.
+#[derive(Drop)]
+pub(crate) struct BinPowers {
+    powers: [u64; BIN_CELLS],
+    periods: u32,
+    ghost few: { periods ≤ MOST_DWELL },
+    ghost long: { length powers ≡ BIN_CELLS },
+    ghost most: { (i : ℕ) → i < BIN_CELLS → get_or powers i 0 ≤ MOST_PERIOD_POWER * periods },
+}
+
+impl BinPowers {
+    ghost use Rattle.definitions.specs.Samples.{Sample};
+    ghost use Rattle.acquisition.specs.FoldStates.{ArePeriodFolds};
+    ghost use Rattle.acquisition.specs.Powers.{ArePowers};
+
+    /// Over no period.
+    pub(crate) fn new() -> BinPowers
+        ensures powers { (x : ℕ → Sample) (prn long : ℕ) (cells : BinCells)
+            → ArePowers x prn long 0 cells result }
+        ensures periods { result.periods ≡ 0 }
+    {
+        BinPowers {
+            powers: [0; BIN_CELLS],
+            periods: 0,
+        }
+    }
+
+    /// Adds the powers over one more period.
+    pub(crate) fn take(&mut self, folds: &PeriodFold, cells: &BinCells, signs: &ChipSigns)
+        requires few { self.old.periods < MOST_DWELL }
+        ensures powers { (x : ℕ → Sample) (long r : ℕ)
+            → ArePeriodFolds x cells.now.code_step cells.now.carrier_step (r * long) long folds.now
+            → ArePowers x signs.now.prn long r cells.now self.old
+            → ArePowers x signs.now.prn long (r + 1) cells.now self.new }
+        ensures periods { self.new.periods ≡ self.old.periods + 1 }
+    {
+        let even = folds.even.whole();
+        let odd = folds.odd.whole();
+        self.periods += 1;
+        for i in 0..cells.count {
+            self.powers[i] += folds.power(even, odd, signs, cells.first + i);
+        }
+    }
+
+    /// The power of cell `i`, counted from the first.
+    pub(crate) fn power(&self, i: usize) -> u64
+        requires { i < BIN_CELLS }
+        ensures value { result ≡ get_or self.now.powers i 0 }
+        ensures most { result ≤ MOST_POWER }
+    {
+        self.powers[i]
+    }
+}
