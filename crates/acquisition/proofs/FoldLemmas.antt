@@ -102,7 +102,11 @@ sum-kept sum term k before small h =
     (omega (arith, more, h)) in
     let term_kept : to_z w32 (of_z w32 term) ≡ term = entry_in_32 term small in
     let kept : to_z w32 (of_z w32 (sum +ℤ term)) ≡ sum +ℤ term = to_z-of_z w32 (sum +ℤ term) fits in
-    record { fits = rw term_kept fits; value = rw term_kept kept; small = rw (term_kept, kept) more }
+    record {
+      fits = rw term_kept fits;
+      value = rw term_kept kept;
+      small = rw (term_kept, kept) more;
+    }
 
 -- a sum with signs is the sum of all less twice those at chips of 1
 picked-more : (sum whole entry picked : ℤ)

@@ -18,7 +18,8 @@ abbrev pub AreFrom : {A : Type 0} → ℕ → ℕ → (ℕ → A) → (ℕ → A
 AreFrom k n f g = (j : ℕ) → j < n → f j ≡ g (k + j)
 
 -- a list of values by their places
-pub view : (f : ℕ → ℤ) (views : List ℤ) (n : ℕ) → views ≡ map f (range_with_len 0 n) → (j : ℕ) → j < n
+pub view : (f : ℕ → ℤ) (views : List ℤ) (n : ℕ) → views ≡ map f (range_with_len 0 n)
+    → (j : ℕ) → j < n
     → get_or views j (pos 0) ≡ f j
 view f views n is j h = rw is (get_or-map-range_with_len f 0 n j j (pos 0) h (omega arith))
 

@@ -15,7 +15,8 @@ chip_bit prn n = omega arith
 pub sign_cases : (prn n : ℕ) → (chip_sign prn n ≡ pos 1) ⊎ (chip_sign prn n ≡ negsuc 0)
 sign_cases prn n = signs (chip prn n) (chip_bit prn n)
   where
-    signs : (bit : ℕ) → bit < 2 → (pos 1 -ℤ pos (2 * bit) ≡ pos 1) ⊎ (pos 1 -ℤ pos (2 * bit) ≡ negsuc 0)
+    signs : (bit : ℕ) → bit < 2
+        → (pos 1 -ℤ pos (2 * bit) ≡ pos 1) ⊎ (pos 1 -ℤ pos (2 * bit) ≡ negsuc 0)
     signs zero h = inl refl
     signs (suc zero) h = inr refl
     signs (suc (suc n)) h = absurd (omega arith)
@@ -31,8 +32,9 @@ sign_of_zero prn n e = signs (chip prn n) (chip_bit prn n) e
     signs (suc zero) h e = cc
     signs (suc (suc n)) h e = absurd (omega arith)
 
--- a sign and an entry in 32 bits
-pub sign-kept : (prn n : ℕ) (sign : ℤ) → sign ≡ chip_sign prn n → to_z w32 (of_z w32 sign) ≡ chip_sign prn n
+-- a sign in 32 bits
+pub sign-kept : (prn n : ℕ) (sign : ℤ) → sign ≡ chip_sign prn n
+    → to_z w32 (of_z w32 sign) ≡ chip_sign prn n
 sign-kept prn n sign is = rw is (kept (chip_sign prn n) (sign_cases prn n))
   where
     kept : (z : ℤ) → (z ≡ pos 1) ⊎ (z ≡ negsuc 0) → to_z w32 (of_z w32 z) ≡ z
@@ -47,20 +49,27 @@ pub record AreFirst (prn k : ℕ) (values : List ℤ) : Type 0 where
 last_or_before : (j k : ℕ) → j < k + 1 → (j ≡ k) ⊎ (j < k)
 last_or_before j k h = grind arith
 
-pub sign_left : (prn k : ℕ) (values new : List ℤ) → AreFirst prn k values → k < 2048 → chip_sign prn k ≡ pos 1 → new ≡ values → AreFirst prn (k + 1) new
+pub sign_left : (prn k : ℕ) (values new : List ℤ) → AreFirst prn k values → k < 2048
+    → chip_sign prn k ≡ pos 1 → new ≡ values → AreFirst prn (k + 1) new
 sign_left prn k values new first h sign is = rw is (record {
-  done = λ j before. elim (last_or_before j k before) [ inl same ↦ rw (same, sign) (first.rest k (omega arith) h) | inr earlier ↦ first.done j earlier ];
+  done = λ j before. elim (last_or_before j k before) [
+    | inl same ↦ rw (same, sign) (first.rest k (omega arith) h)
+    | inr earlier ↦ first.done j earlier
+  ];
   rest = λ j low high. first.rest j (omega arith) high;
   long = first.long;
 })
 
-pub sign_set : (prn k : ℕ) (values new : List ℤ) → AreFirst prn k values → k < 2048 → chip_sign prn k ≡ negsuc 0 → new ≡ set values k (negsuc 0) → AreFirst prn (k + 1) new
+pub sign_set : (prn k : ℕ) (values new : List ℤ) → AreFirst prn k values → k < 2048
+    → chip_sign prn k ≡ negsuc 0 → new ≡ set values k (negsuc 0) → AreFirst prn (k + 1) new
 sign_set prn k values new first h sign is = rw is (record {
   done = λ j before. elim (last_or_before j k before) [
     | inl same ↦ rw (same, sign) (get_or-set_same values k (negsuc 0) (pos 0) (rw first.long h))
-    | inr earlier ↦ get_or-set_other values k j (negsuc 0) (pos 0) (apart j k (omega arith)) ∙ first.done j earlier
+    | inr earlier ↦ get_or-set_other values k j (negsuc 0) (pos 0) (apart j k (omega arith))
+        ∙ first.done j earlier
   ];
-  rest = λ j low high. get_or-set_other values k j (negsuc 0) (pos 0) (apart_above j k (omega arith)) ∙ first.rest j (omega arith) high;
+  rest = λ j low high. get_or-set_other values k j (negsuc 0) (pos 0)
+      (apart_above j k (omega arith)) ∙ first.rest j (omega arith) high;
   long = length-set values k (negsuc 0) ∙ first.long;
 })
   where

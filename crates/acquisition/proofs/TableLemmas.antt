@@ -66,8 +66,10 @@ sizes-same old new place (suc n) value before more =
     let other : (place == n) ≡ false = apart place n (omega (arith, before)) in
     let e : get_or new n (pos 0) ≡ get_or old n (pos 0) = more n (omega arith)
     ∙ rw other (unchanged (get_or old n (pos 0))) in
-    rw (sizes-same old new place n value (omega (arith, before)) (λ k h. more k (omega (arith, h))), e)
-    refl
+    rw (
+      sizes-same old new place n value (omega (arith, before)) (λ k h. more k (omega (arith, h))),
+      e,
+    ) refl
   where
     apart : (a b : ℕ) → b < a → (a == b) ≡ false
     apart a b h = grind arith
