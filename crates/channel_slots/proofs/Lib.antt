@@ -7,8 +7,6 @@ pub mod OrderLemmas
 pub mod PlaceLemmas
 pub mod PutLemmas
 pub mod QuietLemmas
-pub mod ReadyLemmas
-pub mod SearchLemmas
 pub mod SlotLemmas
 pub mod StageLemmas
 pub mod SteeredLemmas
