@@ -159,6 +159,18 @@ few-set [] i n q few h = tt
 few-set (p ∷ ps) zero n q few h = (h, few.1)
 few-set (p ∷ ps) (suc i) n q few h = (few.0, few-set ps i n q few.1 h)
 
+each-set : (P : Place → Type 0) (ps : List Place) (i : ℕ) (q : Place) → AllByRecursion P ps
+    → P q → AllByRecursion P (slice_set ps i q)
+each-set P [] i q all h = tt
+each-set P (p ∷ ps) zero q all h = (h, all.1)
+each-set P (p ∷ ps) (suc i) q all h = (all.0, each-set P ps i q all.1 h)
+
+-- one of the places has taken a command that keeps what is known of it
+pub set-keeps : (P : Place → Type 0) (ps : List Place) (i : ℕ) (p q : Place) → i < length ps
+    → p ≡ get_or ps i p → (P p → P q) → AllByRecursion P ps → AllByRecursion P (slice_set ps i q)
+set-keeps P ps i p q b is keeps all =
+    each-set P ps i q all (keeps (rw (sym is) at (each-at P ps i p b all)))
+
 -- what the bank keeps of itself
 pub record Keeps (ps qs : List Place) (n : ℕ) : Type 0 where
   pub few : most_dumps qs ≤ n

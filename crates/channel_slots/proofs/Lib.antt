@@ -7,6 +7,8 @@ pub mod OrderLemmas
 pub mod PlaceLemmas
 pub mod PutLemmas
 pub mod QuietLemmas
+pub mod ReadyLemmas
+pub mod SearchLemmas
 pub mod SlotLemmas
 pub mod StageLemmas
 pub mod SteeredLemmas

@@ -12,11 +12,14 @@ use Rattle.definitions.specs.Events.{count, unprinted_count, when}
 use Rattle.definitions.proofs.LifeLemmas.{unprinted-more, unprinted-all}
 use Rattle.lane_correlator.specs.declared.counts.Counts.{Counts}
 use Rattle.lane_correlator.specs.Counting.{counts_in}
+use Rattle.acquisition.specs.declared.cell.Cell.{Cell}
 use Rattle.channels.specs.declared.dump.Dump.{Dump}
 use Rattle.channel_slots.specs.declared.life.Life.{Life}
-use Rattle.channel_slots.specs.declared.slot_news.SlotNews.{SlotNews}
+use Rattle.channel_slots.specs.declared.slot_news.DumpNews.{DumpNews}
+use Rattle.channel_slots.specs.declared.slot_news.SlotNews.TheVariants as slot_news
 use Rattle.channel_slots.specs.declared.stage.Stage.{Stage}
-use Rattle.channel_slots.specs.declared.stage.Stage.TheVariants.{Holding, Tracking}
+use Rattle.channel_slots.specs.declared.stage.Stage.TheVariants.{Searching, Holding, Tracking}
+use Rattle.channel_slots.specs.declared.stage_news.StageNews.TheVariants as stage_news
 use Rattle.channel_slots.specs.Stages.{Follows, Takes}
 use Rattle.channel_slots.specs.Lives.{StandsFor, Steps}
 use Rattle.channel_slots.specs.NewsEvents.{count_in}
@@ -40,6 +43,12 @@ all-to-print settings xs life l stage from left = record {
 pub follows-wanting : (settings : Settings) (xs : List Sample) (life : DefinedLife)
     (stage : Stage) (time n : ℕ) → Follows settings xs life stage
     → Follows settings xs (life_wanting life time n) stage
+follows-wanting settings xs life (Searching a) time n s = record {
+  plan = s.plan;
+  start = s.start;
+  searches = s.searches;
+  waits = s.waits;
+}
 follows-wanting settings xs life (Holding h) time n s = record {
   prn = s.prn;
   doppler = s.doppler;
@@ -74,11 +83,28 @@ module _ (settings : Settings) (xs ys : List Sample) (life : DefinedLife) (old :
     ends = t.ends;
   }
 
-  pub dump : (d : Dump) (new : Life) → Takes settings xs ys life new.stage (Some d)
-      → new.unprinted ≡ old.unprinted - 1 → (news : SlotNews)
+  pub acquires : (prn : ℕ) (cell : Cell) (new : Life)
+      → Takes settings xs ys life new.stage (Some (stage_news.Acquired prn cell))
+      → new.unprinted ≡ old.unprinted
+      → Steps settings xs ys life new (Some (slot_news.Acquired prn cell))
+  acquires prn cell new t left = record {
+    inside = t.inside;
+    on = t.on;
+    told = sym t.brings.1;
+    stands = λ on. record {
+      stage = t.stands on;
+      left = left ∙ s.left ∙ ap (unprinted_count life) (sym t.brings.0);
+      asked = omega (arith, s.asked, both);
+    };
+    ends = t.ends;
+  }
+
+  pub dump : (d : Dump) (new : Life)
+      → Takes settings xs ys life new.stage (Some (stage_news.Dump d))
+      → new.unprinted ≡ old.unprinted - 1 → (news : DumpNews)
       → count_in news.count ≡ when (nat_lt 0 old.unprinted) (count (counts_in d.counts))
       → news.lock ≡ d.lock → news.message ≡ d.message
-      → Steps settings xs ys life new (Some news)
+      → Steps settings xs ys life new (Some (slot_news.Dump news))
   dump d new t left news counted lock message =
       let now : DefinedDump =
       record { time = length (xs ++ ys); counts = counts_in d.counts } in

@@ -18,10 +18,12 @@ use Rattle.nav_message.specs.declared.news.MessageNews.{MessageNews}
 use Rattle.nav_message.specs.declared.news.MessageNews.TheVariants as messages
 use Rattle.channel_slots.specs.declared.event.Event.{Event}
 use Rattle.channel_slots.specs.declared.event.Event.TheVariants as events
+use Rattle.channel_slots.specs.declared.slot_news.DumpNews.{DumpNews}
 use Rattle.channel_slots.specs.declared.slot_news.SlotNews.{SlotNews}
+use Rattle.channel_slots.specs.declared.slot_news.SlotNews.TheVariants as slot_news
 use Rattle.channel_slots.specs.Events.{event_in}
 use Rattle.channel_slots.specs.NewsEvents.{if_any, count_in, lock_events, message_events}
-use Rattle.channel_slots.specs.NewsEvents.{events_with}
+use Rattle.channel_slots.specs.NewsEvents.{dump_events, events_with}
 
 counts-are : (o : Option Counts)
     → map event_in (if_any (option_map events.Count o)) ≡ count_in o
@@ -56,7 +58,7 @@ messages-are (messages.Frame found reports) =
     frames-are found.gap found.subframe reports.page reports.set
 
 -- all that comes with a dump
-pub all-are : (news : SlotNews) → map event_in (events_with news)
+pub all-are : (news : DumpNews) → map event_in (dump_events news)
     ≡ count_in news.count ++ (news_events (news_in news.lock) ++ events_in news.message)
 all-are news =
     map-append event_in (if_any (option_map events.Count news.count))
@@ -98,9 +100,9 @@ few-messages (messages.Frame found reports) =
     (option_map events.Almanacs reports.set) found.subframe
 
 -- six at most
-pub few-events : (news : SlotNews) → length (events_with news) ≤ 6
-few-events news =
-    let parts : length (events_with news)
+pub few-dump : (news : DumpNews) → length (dump_events news) ≤ 6
+few-dump news =
+    let parts : length (dump_events news)
     ≡ length (if_any (option_map events.Count news.count)) + (length (lock_events news.lock)
     + length (message_events news.message)) =
     length-append (if_any (option_map events.Count news.count)) _
@@ -113,3 +115,7 @@ few-events news =
       few-locks news.lock,
       few-messages news.message,
     )
+
+pub few-events : (news : SlotNews) → length (events_with news) ≤ 6
+few-events (slot_news.Acquired prn cell) = omega arith
+few-events (slot_news.Dump dump) = few-dump dump

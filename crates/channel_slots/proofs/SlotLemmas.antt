@@ -20,7 +20,7 @@ use Rattle.channel_slots.specs.declared.life.Life.{Life as Kept}
 use Rattle.channel_slots.specs.Events.{event_in}
 use Rattle.channel_slots.specs.Lives as lives
 use Rattle.channel_slots.specs.Lives.{Steps}
-use Rattle.channel_slots.specs.NewsEvents.{events_of, has_lost}
+use Rattle.channel_slots.specs.NewsEvents.{events_of, ends_with}
 use Rattle.channel_slots.proofs.QuietLemmas.{on-now, over-now}
 use Rattle.channel_slots.proofs.StageLemmas.{is-on}
 use Rattle.channel_slots.specs.Slots.{StandsFor, Tells, IsOn}
@@ -221,7 +221,7 @@ module _ (settings : Settings) (xs : List Sample) (commands : List TimedRequest)
       early = by-later (length xs) (length (xs ++ ys)) commands (omega (arith, both)) s.early
 
       -- it goes on
-      pub life-tells : has_lost news ≡ false
+      pub life-tells : ends_with news ≡ false
           → Tells settings xs ys commands (On new) (events_of news)
       unfolding HaveCome
       life-tells on = record {
@@ -238,7 +238,7 @@ module _ (settings : Settings) (xs : List Sample) (commands : List TimedRequest)
       }
 
       -- or the slot is idle from then on
-      pub lost-tells : has_lost news ≡ true
+      pub lost-tells : ends_with news ≡ true
           → Tells settings xs ys commands Idle (events_of news)
       unfolding HaveCome
       lost-tells lost = record {

@@ -1,25 +1,20 @@
 -- What a life follows: what is shown of it, and what it brings to the life.
 use Rattle.std.proofs.Common.{◌≡◌, ℕ, ◌<◌, ◌≤◌, List, [], ◌∷◌, ◌++◌, length, take, refl, sym, ap}
 use Rattle.std.proofs.Common.{◌∙◌, arith, append-nil, true, false}
-use Rattle.std.specs.Prelude.{ℤ, Bool, Option, Some, None, nat_lt, option_map}
-use Rattle.std.specs.Prelude.{MatchOption, IsSomeAnd}
+use Rattle.std.specs.Prelude.{ℤ, Bool, Option, Some, None, nat_lt}
 use Rattle.std.specs.List.{AllByRecursion}
 use Rattle.std.proofs.lemmas.List.{length-take}
 use Rattle.definitions.specs.Samples.{Sample}
 use Rattle.definitions.specs.Oscillators.{Settings}
 use Rattle.definitions.specs.Segments.{Channel, Dump as DefinedDump, progress, counts_of}
-use Rattle.definitions.specs.Loops.{shift_after}
 use Rattle.definitions.specs.Lock.{is_locked}
 use Rattle.definitions.specs.BitEdge.{has_edge}
 use Rattle.definitions.specs.Commands.{hold, track, state}
 use Rattle.definitions.specs.Answers.{shown, holding, tracking, answer_with, view_of}
-use Rattle.definitions.specs.Answers.{life_view, channel_view}
+use Rattle.definitions.specs.Answers.{life_view}
 use Rattle.definitions.specs.Lives.{Life, held_channel, tracked_channel, channel_of, is_steered}
-use Rattle.definitions.specs.Lives.{dumps_of_life, is_over, lost_after, doppler_shift}
+use Rattle.definitions.specs.Lives.{dumps_of_life, is_over, lost_after}
 use Rattle.definitions.specs.Events.{unprinted_count, count, life_events, when, pushes_of}
-use Rattle.std.specs.Option.{is_some}
-use Rattle.definitions.proofs.BlockLemmas.{progress-begun}
-use Rattle.definitions.proofs.EndLemmas.{no_counts-not_lost}
 use Rattle.definitions.proofs.LifeLemmas.{hold-quiet, hold-tells, dumps-within}
 use Rattle.lane_correlator.specs.declared.counts.Counts.{Counts}
 use Rattle.lane_correlator.specs.Counting.{counts_in}
@@ -33,9 +28,12 @@ use Rattle.channels.specs.TrackedChannels as tracked
 use Rattle.channels.specs.TrackedChannels.{counts_so_far}
 use Rattle.channels.proofs.LockedLemmas.{edge-locked}
 use Rattle.channel_slots.specs.declared.stage.Stage.{Stage}
-use Rattle.channel_slots.specs.declared.stage.Stage.TheVariants.{Holding, Tracking}
+use Rattle.channel_slots.specs.declared.stage.Stage.TheVariants.{Searching, Holding, Tracking}
+use Rattle.channel_slots.specs.declared.stage_news.StageNews.{StageNews}
+use Rattle.channel_slots.specs.declared.stage_news.StageNews.TheVariants as stage_news
 use Rattle.channel_slots.specs.Stages as stages
 use Rattle.channel_slots.specs.Stages.{IsHeld, IsTracked, Follows, Takes, Brings}
+use Rattle.channel_slots.proofs.SearchLemmas.{none-yet, sought-dumps, sought-is-on}
 use Rattle.channel_slots.proofs.TrackLemmas.{own, more, tracked-dumps, tracked-by-now, tracked-on}
 use Rattle.channel_slots.proofs.TrackLemmas.{quiet-dumps, quiet-on, quiet-events, goes-on}
 use Rattle.channel_slots.proofs.TrackLemmas.{ends-here, tracked-brings}
@@ -61,6 +59,7 @@ held-on settings xs ys life h s = rw s.start
 pub dumps-by-now : (settings : Settings) (xs : List Sample) (life : Life) (stage : Stage)
     → Follows settings xs life stage
     → AllByRecursion (λ (d : DefinedDump). d.time ≤ length xs) (dumps_of_life settings xs life)
+dumps-by-now settings xs life (Searching a) s = rw (sought-dumps settings xs life a s) tt
 dumps-by-now settings xs life (Holding h) s =
     rw (held-dumps settings xs xs life h s)
     (dumps-within settings (own_channel settings xs life h s) xs s.holds.follows.at.begun)
@@ -69,6 +68,7 @@ dumps-by-now settings xs life (Tracking t) s = tracked-by-now settings xs life t
 -- a life that is followed is on
 pub is-on : (settings : Settings) (xs : List Sample) (life : Life) (stage : Stage)
     → Follows settings xs life stage → is_over settings xs life ≡ false
+is-on settings xs life (Searching a) s = sought-is-on settings xs life a s
 is-on settings xs life (Holding h) s = held-on settings xs xs life h s
 is-on settings xs life (Tracking t) s = tracked-on settings xs life t s
 
@@ -79,19 +79,6 @@ pub shows-held : (settings : Settings) (xs : List Sample) (life : Life) (h : Hel
 unfolding dumps_of_life view_of
 shows-held settings xs life h n dumps s prn is =
     rw (s.start, prn, s.holds.follows.at.prn, is, s.holds.dumps)
-
--- before the first dump no signal is lost
-none-yet : (settings : Settings) (xs : List Sample) (prn : ℕ) (doppler : ℤ) (half_chip : ℕ)
-    → lost_after (counts_so_far settings (tracked_channel (length xs) prn doppler half_chip) xs)
-    ≡ None
-none-yet settings xs prn doppler half_chip =
-    ap (λ p. lost_after (counts_of p.dumps))
-    (progress-begun settings (tracked_channel (length xs) prn doppler half_chip) xs (omega arith))
-    ∙ by_lost (lost_after []) no_counts-not_lost
-  where
-    by_lost : (o : Option ℕ) → is_some o ≡ false → o ≡ None
-    by_lost None e = refl
-    by_lost (Some k) e = cc
 
 -- a life that begins now
 pub starts-held : (settings : Settings) (xs : List Sample) (life : Life) (h : Held) (prn : ℕ)
@@ -117,16 +104,18 @@ starts-tracked settings xs life t prn doppler half_chip begun start tracks = rec
   steered = rw start refl;
   given = rw (start, begun) refl;
   tracks = tracks;
-  not_lost = none-yet settings xs prn doppler half_chip;
+  not_lost = none-yet settings xs (tracked_channel (length xs) prn doppler half_chip)
+      (omega arith);
 }
 
--- held dumps tell their sums alone
-pub plain-map : (o : Option Counts) (r : Option Dump)
-    → MatchOption o (r ≡ None) (λ c. IsSomeAnd r (λ d. d ≡ plain_dump c))
-    → r ≡ option_map plain_dump o
-plain-map None r h = h
-plain-map (Some c) None h = absurd h
-plain-map (Some c) (Some d) h = ap (λ e. Some e) h
+-- what a held dump is for a stage
+abbrev pub held_news : Option Counts → Option StageNews
+held_news None = None
+held_news (Some c) = Some (stage_news.Dump (plain_dump c))
+
+abbrev pub dump_news : Option Dump → Option StageNews
+dump_news None = None
+dump_news (Some d) = Some (stage_news.Dump d)
 
 -- a held life and what ys behind xs bring to it
 module _ (settings : Settings) (xs ys : List Sample) (life : Life) (h : Held)
@@ -141,7 +130,7 @@ module _ (settings : Settings) (xs ys : List Sample) (life : Life) (h : Held)
       s.holds.follows.at.begun (omega (arith, length-take j ys)) (inside j b)
 
   held-brings : (r : Option Counts) (g : Held) → held.Takes settings channel xs ys g r
-      → Brings settings xs ys life (option_map plain_dump r)
+      → Brings settings xs ys life (held_news r)
   held-brings None g t = (
     held-dumps settings xs (xs ++ ys) life h s
         ∙ ap (λ p. p.dumps) t.brings ∙ sym (held-dumps settings xs xs life h s),
@@ -161,7 +150,7 @@ module _ (settings : Settings) (xs ys : List Sample) (life : Life) (h : Held)
       )
 
   pub held-takes : (r : Option Counts) (g : Held) → held.Takes settings channel xs ys g r
-      → Takes settings xs ys life (Holding g) (option_map plain_dump r)
+      → Takes settings xs ys life (Holding g) (held_news r)
   held-takes r g t = record {
     inside = quiet-inside t.inside;
     on = λ j b. held-on settings xs (xs ++ take j ys) life h s;
@@ -176,7 +165,7 @@ module _ (settings : Settings) (xs ys : List Sample) (life : Life) (h : Held)
     ends = λ over. absurd (never r over);
   }
     where
-      never : (r : Option Counts) → stages.is_lost_with (option_map plain_dump r) ≡ true → ⊥
+      never : (r : Option Counts) → stages.ends_with (held_news r) ≡ true → ⊥
       never None e = cc
       never (Some c) e = cc
 
@@ -225,7 +214,7 @@ module _ (settings : Settings) (xs : List Sample) (life : Life) (t : Tracked)
 
   pub tracked-takes : (ys : List Sample) → 0 < length ys → (d : Option Dump) (g : Tracked)
       → tracked.Takes settings (own settings xs life t s) xs ys g d
-      → Takes settings xs ys life (Tracking g) d
+      → Takes settings xs ys life (Tracking g) (dump_news d)
   tracked-takes ys some d g r = record {
     inside = λ j first b.
         quiet-events settings xs life t s ys some (take j ys) (r.inside j b)
@@ -243,7 +232,7 @@ module _ (settings : Settings) (xs : List Sample) (life : Life) (t : Tracked)
   }
     where
       by_dump : (d : Option Dump) → tracked.Takes settings (own settings xs life t s) xs ys g d
-          → Brings settings xs ys life d
+          → Brings settings xs ys life (dump_news d)
       by_dump None r = (
         quiet-dumps settings xs life t s ys some ys r.brings,
         quiet-events settings xs life t s ys some ys r.brings some,
@@ -251,12 +240,12 @@ module _ (settings : Settings) (xs : List Sample) (life : Life) (t : Tracked)
       by_dump (Some d) r = tracked-brings settings xs life t s ys some d g r
 
       still : (d : Option Dump) → tracked.Takes settings (own settings xs life t s) xs ys g d
-          → stages.is_lost_with d ≡ false
+          → stages.ends_with (dump_news d) ≡ false
           → lost_after (counts_so_far settings (own settings xs life t s) (xs ++ ys)) ≡ None
       still None r on = rw r.brings s.not_lost
       still (Some d) r on = goes-on settings xs life t s ys some d g r on
 
       over : (d : Option Dump) → tracked.Takes settings (own settings xs life t s) xs ys g d
-          → stages.is_lost_with d ≡ true → is_over settings (xs ++ ys) life ≡ true
+          → stages.ends_with (dump_news d) ≡ true → is_over settings (xs ++ ys) life ≡ true
       over None r now = cc
       over (Some d) r now = ends-here settings xs life t s ys some d g r now

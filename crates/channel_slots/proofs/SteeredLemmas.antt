@@ -1,7 +1,7 @@
 -- A life that loops steer goes on with its channel, whatever samples come.
-use Rattle.std.proofs.Common.{◌≡◌, ℕ, ◌<◌, ◌≤◌, ◌==◌, List, [], ◌++◌, length, refl, sym, ap, ◌∙◌}
+use Rattle.std.proofs.Common.{◌≡◌, ℕ, ◌<◌, ◌≤◌, List, [], ◌++◌, length, refl}
 use Rattle.std.proofs.Common.{arith, length-append, true, false}
-use Rattle.std.specs.Prelude.{Bool, ◌&&◌, not, nat_le, if◌then◌else◌, Option, Some, None}
+use Rattle.std.specs.Prelude.{Bool, ◌&&◌, nat_le, if◌then◌else◌, Option, Some, None}
 use Rattle.std.proofs.lemmas.Bool.{ne_eqb, leb-true, le-leb}
 use Rattle.definitions.specs.Samples.{Sample}
 use Rattle.definitions.specs.Oscillators.{Settings}
@@ -9,7 +9,7 @@ use Rattle.definitions.specs.Segments.{Channel}
 use Rattle.definitions.specs.Acquisition.{Plan, Cell, result_of, due_time}
 use Rattle.definitions.specs.Commands.{Start, hold, track, acquire}
 use Rattle.definitions.specs.Lives.{channel_of, found_channel, found_nothing, is_steered}
-use Rattle.definitions.specs.Events.{due_events, when}
+use Rattle.definitions.specs.Events.{due_events}
 use Rattle.definitions.proofs.AcquisitionLemmas.{result_of-append}
 
 -- what stays as it is behind the samples zs

@@ -3,15 +3,18 @@
 use Rattle.std.proofs.Common.{◌≡◌, ℕ, zero, suc, ◌+◌, ◌-◌, ◌<◌, ◌≤◌, List, [], ◌∷◌, ◌++◌, length}
 use Rattle.std.proofs.Common.{take, drop, refl, sym, ap, ◌∙◌, arith, length-append, append-nil}
 use Rattle.std.proofs.Common.{append_assoc}
-use Rattle.std.specs.Prelude.{Bool, true, false, map, nat_lt, if◌then◌else◌}
+use Rattle.std.specs.Prelude.{Bool, true, false, map, nat_lt, nat_le, if◌then◌else◌, pos}
 use Rattle.channels.proofs.ChanceLemmas.{one-chance as one-segment}
 use Rattle.channel_slots.specs.declared.stage.Stage.{Stage}
-use Rattle.channel_slots.specs.declared.stage.Stage.TheVariants.{Holding, Tracking}
+use Rattle.channel_slots.specs.declared.stage.Stage.TheVariants.{Searching, Holding, Tracking}
+use Rattle.channels.specs.Searching.{to_due_of}
 use Rattle.channel_slots.specs.Stages.{chance}
 use Rattle.channel_slots.specs.declared.slot.Slot.{Slot}
 use Rattle.channel_slots.specs.declared.slot.Slot.TheVariants.{Idle, On}
 use Rattle.std.proofs.lemmas.List.{map-append}
-use Rattle.definitions.specs.Samples.{Sample}
+use Rattle.std.proofs.Math.ListN.{get_or-append}
+use Rattle.definitions.specs.Samples.{Sample, real}
+use Rattle.sample_planes.specs.Sources.{AreSamplesOf}
 use Rattle.definitions.specs.Events.{Event}
 use Rattle.definitions.specs.Banks.{SlotEvent as DefinedSlotEvent, slot_events}
 use Rattle.definitions.specs.Receiver.{at_each_sample}
@@ -96,26 +99,38 @@ take_part (x ∷ xs) (suc n) m =
     let e : suc n + m ≡ suc (n + m) = omega arith in
     ap (λ (k : ℕ). take k (x ∷ xs)) e ∙ ap (λ (l : List Sample). x ∷ l) (take_part xs n m)
 
+-- samples that were held are held without the last ones
+pub earlier : (xs ys : List Sample) (first : ℕ) (held : ℕ → Sample)
+    → AreSamplesOf (xs ++ ys) first (length (xs ++ ys)) held
+    → AreSamplesOf xs first (length xs) held
+earlier xs ys first held all n low high =
+    all n low (simp length-append (omega (arith, high)))
+    ∙ get_or-append xs ys (real (pos 0)) n high
+
 -- ---- a place through a run
-pub goes-begin : (left time : ℕ) (p : Place) (before : List SlotEvent) → chances p.slot left ≤ 6
-    → PlaceGoes left [] time p p before before
+pub goes-begin : (left time : ℕ) (p : Place) (before : List SlotEvent) → chances p.slot left ≤ 7
+    → (first : ℕ) (held : ℕ → Sample)
+    → PlaceGoes left [] time first held p p before before
 unfolding at_each_sample put_all
-goes-begin left time p before few = record {
+goes-begin left time p before few first held = record {
   events = [];
   client = refl;
   number = refl;
   chances = omega (arith, few);
   dumps = omega arith;
   added = refl;
-  tells = λ settings xs commands now s. record { told = refl; stands = rw (append-nil xs) s };
+  ready = λ from ready. let none : time + 0 ≡ time = omega arith in rw none ready;
+  reach = λ reach within. within;
+  tells = λ settings xs commands now samples s. record { told = refl; stands = rw (append-nil xs) s };
 }
 
-pub goes-more : (left n : ℕ) (ys zs : List Sample) (time : ℕ) (p q r : Place)
-    (before mid after : List SlotEvent) → PlaceGoes left ys time p q before mid
-    → PlaceAdds zs (time + length ys + length zs) q r mid after
+pub goes-more : (left n : ℕ) (ys zs : List Sample) (time first : ℕ) (held : ℕ → Sample)
+    (p q r : Place) (before mid after : List SlotEvent)
+    → PlaceGoes left ys time first held p q before mid
+    → PlaceAdds zs (time + length ys + length zs) first held q r mid after
     → length zs ≡ n → 0 < n → n ≤ left → left ≤ 1024
-    → PlaceGoes (left - n) (ys ++ zs) time p r before after
-goes-more left n ys zs time p q r before mid after g a is some within short =
+    → PlaceGoes (left - n) (ys ++ zs) time first held p r before after
+goes-more left n ys zs time first held p q r before mid after g a is some within short =
     let s = a.steps in
     let many : length (g.events ++ a.events) ≡ length g.events + length a.events =
     simp length-append (omega arith) in
@@ -131,11 +146,19 @@ goes-more left n ys zs time p q r before mid after g a is some within short =
       added =
           a.added ∙ ap (λ (l : List SlotEvent). put_all time_in l a.events) g.added
           ∙ sym (put_all-append time_in before g.events a.events);
-      tells = λ settings xs commands now st.
-          let before_it = g.tells settings xs commands now st in
+      ready = λ from ready.
+          let start : time + length ys + length zs - length zs ≡ time + length ys = omega arith in
+          let end : time + length (ys ++ zs) ≡ time + length ys + length zs =
+          omega (arith, all) in
+          rw end (s.ready from (rw start (g.ready from ready)));
+      reach = λ reach within. s.reach reach (g.reach reach within);
+      tells = λ settings xs commands now samples st.
+          let whole = rw (sym (append_assoc xs ys zs)) at samples in
+          let before_it =
+          g.tells settings xs commands now (earlier (xs ++ ys) zs first held whole) st in
           let one : length ((xs ++ ys) ++ zs) ≡ time + length ys + length zs =
           simp length-append (omega (arith, now)) in
-          let step = s.tells settings (xs ++ ys) commands one before_it.stands in
+          let step = s.tells settings (xs ++ ys) commands one whole before_it.stands in
           let f : List Sample → List DefinedSlotEvent =
           slot_tells settings p.client p.number commands in
           let quiet : (j : ℕ) → 0 < j → j < length zs → f ((xs ++ ys) ++ take j zs) ≡ [] =
@@ -158,11 +181,16 @@ goes-more left n ys zs time p q r before mid after g a is some within short =
         → AreTold (es ++ fs) (ts ++ us)
     both_told es fs ts us a b = map-append told_in es fs ∙ (λ i. a i ++ b i)
 
--- in 1,024 samples there is one dump of a slot at most
-one-stage : (stage : Stage) (left : ℕ) → chance stage left ≤ 1
-one-stage (Holding h) left = one-segment h.follower left
-one-stage (Tracking t) left = one-segment t.follower left
+-- in 1,024 samples there is one dump of a slot at most, and the answer of an acquisition
+one-stage : (stage : Stage) (left : ℕ) → chance stage left ≤ 7
+one-stage (Searching a) left = by_due (nat_le (to_due_of a) left)
+  where
+    by_due : (b : Bool) → (if b then 7 else 0) ≤ 7
+    by_due true = omega arith
+    by_due false = omega arith
+one-stage (Holding h) left = omega (arith, one-segment h.follower left)
+one-stage (Tracking t) left = omega (arith, one-segment t.follower left)
 
-pub one-chance : (slot : Slot) (left : ℕ) → chances slot left ≤ 6
+pub one-chance : (slot : Slot) (left : ℕ) → chances slot left ≤ 7
 one-chance Idle left = omega arith
-one-chance (On life) left = omega (arith, one-stage life.stage left)
+one-chance (On life) left = one-stage life.stage left

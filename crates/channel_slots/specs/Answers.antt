@@ -1,6 +1,6 @@
 -- Answers to commands as the definitions have them.
 use Rattle.std.specs.Prelude.{ℕ, Bool, true, false}
-use Rattle.definitions.specs.Answers.{View, idle, holding, tracking, Answer as DefinedAnswer}
+use Rattle.definitions.specs.Answers.{View, idle, acquiring, holding, tracking, Answer as DefinedAnswer}
 use Rattle.definitions.specs.Answers.{accepted, refused, shown}
 use Rattle.channel_slots.specs.declared.answer.Phase.{Phase}
 use Rattle.channel_slots.specs.declared.answer.Phase.TheVariants.{Unlocked, Locked, Edged}
@@ -23,6 +23,7 @@ has_edge_in Edged = true
 
 abbrev pub view_in : SlotState → View
 view_in states.Idle = idle
+view_in (states.Acquire prn done cells) = acquiring prn done cells
 view_in (states.Hold prn dumps) = holding prn dumps
 view_in (states.Track prn dumps v w phase) =
     tracking prn dumps (record { v = v; w = w }) (is_locked_in phase) (has_edge_in phase)

@@ -7,6 +7,7 @@ use Rattle.definitions.specs.Oscillators.{Settings}
 use Rattle.definitions.specs.Commands.{TimedRequest}
 use Rattle.channel_slots.specs.declared.bank.Bank.{Bank}
 use Rattle.channel_slots.specs.declared.event.SlotEvent.{SlotEvent}
+use Rattle.sample_history.specs.Histories as histories
 use Rattle.channel_slots.specs.Banks.{BankStands}
 use Rattle.channel_slots.specs.Events.{AreTold}
 use Rattle.channel_slots.specs.declared.command.TheConstants.{CLIENT_SLOTS}
@@ -28,6 +29,7 @@ pub record StandsFor (settings : Settings) (xs : List Sample)
     (asked : ℕ → ℕ → List TimedRequest) (bank : Bank) : Type 0 where
   pub recorded : bank.settings ≡ settings
   pub now : bank.time ≡ length xs
+  pub history : histories.StandsFor xs bank.history
   pub slots : BankStands settings xs asked bank.time bank.places.items
 
 -- whatever a bank stood for: these events are what its slots tell over a run of samples

@@ -1,14 +1,15 @@
 -- Commands as the definitions have them.
 use Rattle.std.specs.Prelude.{ℕ}
 use Rattle.definitions.specs.Commands.{Request, Command as DefinedCommand, begin, hold, track}
-use Rattle.definitions.specs.Commands.{counts, state, stop}
+use Rattle.definitions.specs.Commands.{acquire, counts, state, stop}
 use Rattle.channel_slots.specs.declared.command.Command.{Command}
-use Rattle.channel_slots.specs.declared.command.Command.TheVariants.{Hold, Track, Counts}
+use Rattle.channel_slots.specs.declared.command.Command.TheVariants.{Hold, Track, Acquire, Counts}
 use Rattle.channel_slots.specs.declared.command.Command.TheVariants.{State, Stop}
 
 abbrev pub slot_of : Command → ℕ
 slot_of (Hold slot prn doppler half) = slot
 slot_of (Track slot prn doppler half) = slot
+slot_of (Acquire slot plan) = slot
 slot_of (Counts slot n) = slot
 slot_of (State slot) = slot
 slot_of (Stop slot) = slot
@@ -16,6 +17,7 @@ slot_of (Stop slot) = slot
 abbrev pub request_in : Command → Request
 request_in (Hold slot prn doppler half) = begin (hold prn doppler half)
 request_in (Track slot prn doppler half) = begin (track prn doppler half)
+request_in (Acquire slot plan) = begin (acquire plan)
 request_in (Counts slot n) = counts n
 request_in (State slot) = state
 request_in (Stop slot) = stop

@@ -1,16 +1,18 @@
 -- What slots tell as the definitions have it.
 use Rattle.std.specs.Prelude.{◌≡◌, ℕ, List, map}
-use Rattle.definitions.specs.Events.{Event as DefinedEvent, count, locked, unlocked, signal_lost}
+use Rattle.definitions.specs.Events.{Event as DefinedEvent, acquired, count, locked, unlocked, signal_lost}
 use Rattle.definitions.specs.Events.{edge, gap, subframe, reported, almanacs}
 use Rattle.definitions.specs.Banks.{SlotEvent as DefinedSlotEvent, line_of as defined_line_of}
+use Rattle.acquisition.specs.Cells.{cell_in}
 use Rattle.lane_correlator.specs.Counting.{counts_in}
 use Rattle.data_sets.specs.Reports.{report_in, almanacs_in}
 use Rattle.channel_slots.specs.declared.event.Event.{Event}
-use Rattle.channel_slots.specs.declared.event.Event.TheVariants.{Count, Lock, Unlock, Lost, Bits}
-use Rattle.channel_slots.specs.declared.event.Event.TheVariants.{Gap, Sub, Page, Almanacs}
+use Rattle.channel_slots.specs.declared.event.Event.TheVariants.{Acquired, Count, Lock, Unlock, Lost}
+use Rattle.channel_slots.specs.declared.event.Event.TheVariants.{Bits, Gap, Sub, Page, Almanacs}
 use Rattle.channel_slots.specs.declared.event.SlotEvent.{SlotEvent}
 
 abbrev pub event_in : Event → DefinedEvent
+event_in (Acquired prn cell) = acquired prn (cell_in cell)
 event_in (Count counts) = count (counts_in counts)
 event_in Lock = locked
 event_in Unlock = unlocked

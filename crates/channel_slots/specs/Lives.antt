@@ -9,7 +9,7 @@ use Rattle.definitions.specs.Events.{unprinted_count, life_events}
 use Rattle.channel_slots.specs.declared.life.Life.{Life}
 use Rattle.channel_slots.specs.declared.slot_news.SlotNews.{SlotNews}
 use Rattle.channel_slots.specs.Events.{event_in}
-use Rattle.channel_slots.specs.NewsEvents.{events_of, has_lost}
+use Rattle.channel_slots.specs.NewsEvents.{events_of, ends_with}
 use Rattle.channel_slots.specs.Stages.{Follows}
 
 -- a life that begins at a time, before any counts are asked for
@@ -24,12 +24,12 @@ pub record StandsFor (settings : Settings) (xs : List Sample) (life : DefinedLif
   pub asked : life.wanted_from ≤ length xs
 
 -- with ys behind xs the life tells nothing before the last of them, and then what was answered; it
--- goes on, or is over where the signal is lost
+-- goes on, or is over where nothing is found or the signal is lost
 pub record Steps (settings : Settings) (xs ys : List Sample) (life : DefinedLife) (l : Life)
     (news : Option SlotNews) : Type 0 where
   pub inside : (j : ℕ) → 0 < j → j < length ys
       → life_events settings (xs ++ take j ys) (Some life) ≡ []
   pub on : (j : ℕ) → j < length ys → is_over settings (xs ++ take j ys) life ≡ false
   pub told : map event_in (events_of news) ≡ life_events settings (xs ++ ys) (Some life)
-  pub stands : has_lost news ≡ false → StandsFor settings (xs ++ ys) life l
-  pub ends : has_lost news ≡ true → is_over settings (xs ++ ys) life ≡ true
+  pub stands : ends_with news ≡ false → StandsFor settings (xs ++ ys) life l
+  pub ends : ends_with news ≡ true → is_over settings (xs ++ ys) life ≡ true

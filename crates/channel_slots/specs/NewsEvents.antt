@@ -1,5 +1,5 @@
 -- The events that come with a dump of a slot, in their order.
-use Rattle.std.specs.Prelude.{Bool, false, List, [], ◌∷◌, ◌++◌, Option, Some, None, option_map}
+use Rattle.std.specs.Prelude.{Bool, false, not, List, [], ◌∷◌, ◌++◌, Option, Some, None, option_map}
 use Rattle.definitions.specs.Events.{Event as DefinedEvent, count}
 use Rattle.lane_correlator.specs.declared.counts.Counts.{Counts}
 use Rattle.lane_correlator.specs.Counting.{counts_in}
@@ -12,7 +12,9 @@ use Rattle.nav_message.specs.declared.news.MessageNews.TheVariants as messages
 use Rattle.channels.specs.Dumps.{is_loss}
 use Rattle.channel_slots.specs.declared.event.Event.{Event}
 use Rattle.channel_slots.specs.declared.event.Event.TheVariants as events
+use Rattle.channel_slots.specs.declared.slot_news.DumpNews.{DumpNews}
 use Rattle.channel_slots.specs.declared.slot_news.SlotNews.{SlotNews}
+use Rattle.channel_slots.specs.declared.slot_news.SlotNews.TheVariants as slot_news
 
 abbrev pub if_any : Option Event → List Event
 if_any None = []
@@ -41,17 +43,25 @@ message_events messages.Nothing = []
 message_events messages.Edge = events.Bits ∷ []
 message_events (messages.Frame found reports) = frame_events found reports
 
-abbrev pub events_with : SlotNews → List Event
-events_with news =
+abbrev pub dump_events : DumpNews → List Event
+dump_events news =
     if_any (option_map events.Count news.count)
     ++ (lock_events news.lock ++ message_events news.message)
+
+abbrev pub events_with : SlotNews → List Event
+events_with (slot_news.Acquired prn cell) = events.Acquired prn cell ∷ []
+events_with (slot_news.Dump dump) = dump_events dump
 
 -- all that is told, if anything is
 abbrev pub events_of : Option SlotNews → List Event
 events_of None = []
 events_of (Some news) = events_with news
 
--- the signal is lost with it
-abbrev pub has_lost : Option SlotNews → Bool
-has_lost None = false
-has_lost (Some news) = is_loss news.lock
+-- the slot is idle from then on: nothing is found, or the signal is lost
+abbrev pub is_end : SlotNews → Bool
+is_end (slot_news.Acquired prn cell) = not cell.found
+is_end (slot_news.Dump dump) = is_loss dump.lock
+
+abbrev pub ends_with : Option SlotNews → Bool
+ends_with None = false
+ends_with (Some news) = is_end news

@@ -1,5 +1,5 @@
 -- What a slot stands for: the samples so far and the commands that it was given.
-use Rattle.std.specs.Prelude.{◌≡◌, ◌≤◌, ◌<◌, ◌*◌, ℕ, List, [], ◌++◌, length, take, map, Some, None}
+use Rattle.std.specs.Prelude.{◌≡◌, ◌≤◌, ◌<◌, ℕ, Bool, true, List, [], ◌++◌, length, take, map, Some, None}
 use Rattle.std.specs.List.{AllByRecursion}
 use Rattle.definitions.specs.Samples.{Sample}
 use Rattle.definitions.specs.Oscillators.{Settings}
@@ -12,7 +12,6 @@ use Rattle.channel_slots.specs.declared.event.Event.{Event}
 use Rattle.channel_slots.specs.Events.{event_in}
 use Rattle.channel_slots.specs.Stages as stages
 use Rattle.channel_slots.specs.Lives as lives
-use Rattle.channel_slots.specs.declared.slot.TheConstants.{SLOT_EVENTS}
 
 -- a run of n samples doesn't go past the slot's next event
 abbrev pub MayStep : Slot → ℕ → Type 0
@@ -27,7 +26,33 @@ ComesToEvent (On life) n = stages.Ends life.stage n
 -- how many events the slot may tell within so many samples, of which there are at most 1,024
 abbrev pub chances : Slot → ℕ → ℕ
 chances Idle left = 0
-chances (On life) left = SLOT_EVENTS * stages.chance life.stage left
+chances (On life) left = stages.chance life.stage left
+
+-- one that searches isn't at its due time
+abbrev pub IsWaiting : Slot → Type 0
+IsWaiting Idle = Unit
+IsWaiting (On life) = stages.IsWaiting life.stage
+
+-- a source of the samples from .. to - 1 holds what a search looks at within so many samples
+abbrev pub Holds : Slot → ℕ → ℕ → ℕ → Type 0
+Holds Idle from to n = Unit
+Holds (On life) from to n = stages.Holds life.stage from to n
+
+-- one that searches is on its way to its due time, and a source holds the samples of its dwell from
+-- its first one on
+abbrev pub IsReady : ℕ → ℕ → Slot → Type 0
+IsReady first time Idle = Unit
+IsReady first time (On life) = stages.IsReady first time life.stage
+
+-- its due time isn't further from its start
+abbrev pub IsWithin : ℕ → Slot → Type 0
+IsWithin reach Idle = Unit
+IsWithin reach (On life) = stages.IsWithin reach life.stage
+
+-- both of these as a test
+abbrev pub is_on_way : ℕ → ℕ → Slot → Bool
+is_on_way time reach Idle = true
+is_on_way time reach (On life) = stages.is_on_way time reach life.stage
 
 abbrev pub dumps_of : Slot → ℕ
 dumps_of Idle = 0

@@ -37,6 +37,12 @@ impl Phase {
 pub enum SlotState {
     /// Nothing is asked of it.
     Idle,
+    /// It searches for a satellite, and has done so many of its cells.
+    Acquire {
+        prn: Prn,
+        done: u64,
+        cells: u64,
+    },
     /// It follows a satellite at a fixed Doppler shift, and has had so many dumps.
     Hold {
         prn: Prn,

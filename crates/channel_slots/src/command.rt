@@ -3,6 +3,7 @@
 ghost use Rattle.std.specs.Prelude.{◌≡◌, ◌<◌, ◌↔◌, ℕ, IsSome, IfSome};
 ghost use Rattle.channel_slots.specs.declared.command.TheConstants.{CLIENT_SLOTS};
 
+use acquisition::Plan;
 use ca_codes::Prn;
 use oscillators::{Doppler, HalfChip};
 use std::marker::Model;
@@ -63,6 +64,11 @@ pub enum Command {
         doppler: Doppler,
         half: HalfChip,
     },
+    /// Search for a satellite, and track it where it is found.
+    Acquire {
+        slot: SlotNo,
+        plan: Plan,
+    },
     /// Print the next `n` dumps; 0 ends printing.
     Counts {
         slot: SlotNo,
@@ -88,6 +94,7 @@ impl Command {
         match self {
             Command::Hold { slot, .. }
             | Command::Track { slot, .. }
+            | Command::Acquire { slot, .. }
             | Command::Counts { slot, .. }
             | Command::State { slot }
             | Command::Stop { slot } => *slot,

@@ -1,5 +1,7 @@
 //! What the samples make the slots tell.
 
+use acquisition::Cell;
+use ca_codes::Prn;
 use data_sets::{AlmanacSet, Report};
 use frame_sync::Subframe;
 use lane_correlator::Counts;
@@ -7,6 +9,8 @@ use lane_correlator::Counts;
 /// What the samples make a slot tell.
 #[derive(Clone, Copy, Debug, PartialEq, Eq)]
 pub enum Event {
+    /// What an acquisition names, for a satellite.
+    Acquired { prn: Prn, cell: Cell },
     /// A dump that was asked for: its six sums.
     Count(Counts),
     /// With this dump the loops are locked.

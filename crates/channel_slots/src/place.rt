@@ -6,13 +6,19 @@ ghost use Rattle.definitions.specs.Oscillators.{Settings as DefinedSettings};
 ghost use Rattle.definitions.specs.Banks.{layout};
 ghost use Rattle.channel_slots.specs.Slots.{StandsFor};
 ghost use Rattle.arrayvec.specs.ArrayVec.{array_vec_len};
-ghost use Rattle.channel_slots.specs.Banks.{keys_of, AllFew, RunsAll, IsCommanded};
+ghost use Rattle.channel_slots.specs.Banks.{keys_of, AllFew, AllReady, RunsAll, IsCommanded};
+ghost use Rattle.channel_slots.specs.Banks.{AllWithin};
+ghost use Rattle.channel_slots.specs.Slots.{IsReady, IsWithin, Holds};
+ghost use Rattle.channel_slots.specs.Stages.{most_wait};
+ghost use Rattle.acquisition.specs.declared.dwell.TheConstants.{MOST_START};
+ghost use Rattle.channel_slots.specs.declared.slot_news.TheConstants.{DUMP_EVENTS};
 ghost use Rattle.channel_slots.specs.Commands.{request_in};
 ghost use Rattle.channel_slots.specs.declared.bank.TheConstants.{MOST_TIME};
 ghost use Rattle.channel_slots.specs.declared.command.TheConstants.{CLIENT_SLOTS};
 ghost use Rattle.channel_slots.specs.declared.place.TheConstants.{MOST_CLIENTS, RUN_EVENTS};
 ghost use Rattle.channel_slots.specs.declared.place.TheConstants.{FRAME_EVENTS};
 ghost use Rattle.channel_slots.specs.NewsEvents.{if_any, lock_events, frame_events, events_with};
+ghost use Rattle.channel_slots.specs.NewsEvents.{dump_events};
 ghost use Rattle.channel_slots.specs.declared.slot.TheConstants.{SLOT_EVENTS};
 ghost use Rattle.tracking_loops.specs.declared.limits.TheConstants.{MOST_DUMPS};
 ghost use Rattle.sample_planes.specs.declared.planes.TheConstants.{MAX_SAMPLES};
@@ -21,7 +27,7 @@ use crate::answer::Answer;
 use crate::command::{CLIENT_SLOTS, Command};
 use crate::event::{Event, SlotEvent};
 use crate::slot::{SLOT_EVENTS, Slot};
-use crate::slot_news::SlotNews;
+use crate::slot_news::{DUMP_EVENTS, DumpNews, SlotNews};
 use crate::timeline::put_in_time;
 use arrayvec::ArrayVec;
 use ca_codes::CodeBook;
@@ -29,7 +35,7 @@ use data_sets::Reports;
 use frame_sync::Found;
 use nav_message::MessageNews;
 use oscillators::Settings;
-use sample_planes::Planes;
+use sample_planes::{Planes, SampleSource};
 use std::alloc::{AllocError, Global};
 use tracking_loops::News;
 
@@ -63,11 +69,12 @@ impl Place {
 
     /// Takes `count` samples of a run, from sample `from` on, that don't go past the slot's next
     /// event. It adds what they tell with the last of them, at that time.
-    fn step(
+    fn step<S: SampleSource>(
         &mut self,
         run: &Planes,
         from: usize,
         count: usize,
+        source: &S,
         book: &mut CodeBook,
         time: u64,
         events: &mut ArrayVec<SlotEvent, RUN_EVENTS>,
@@ -76,11 +83,13 @@ impl Place {
         requires within { from + count ≤ length run.now }
         requires may { MayStep self.old.slot count }
         requires few { dumps_of self.old.slot < MOST_DUMPS }
-        requires fits { array_vec_len events.old + SLOT_EVENTS ≤ RUN_EVENTS }
-        ensures { PlaceAdds (part run.now from count) time self.old self.new events.old.items
-            events.new.items }
+        requires holds { Holds self.old.slot (S.from source.now) (S.to source.now) count }
+        requires later { count ≤ time }
+        requires fits { array_vec_len events.old + DUMP_EVENTS ≤ RUN_EVENTS }
+        ensures { PlaceAdds (part run.now from count) time (S.from source.now) (S.held source.now)
+            self.old self.new events.old.items events.new.items }
     {
-        if let Some(news) = self.slot.step(run, from, count, book) {
+        if let Some(news) = self.slot.step(run, from, count, source, book) {
             self.put_news(&news, time, events);
         }
     }
@@ -103,10 +112,27 @@ impl Place {
         put_in_time(events, told);
     }
 
-    /// Puts in all that comes with a dump.
+    /// Puts in all that comes with a sample.
     fn put_news(&self, news: &SlotNews, time: u64, events: &mut ArrayVec<SlotEvent, RUN_EVENTS>)
-        requires { array_vec_len events.old + SLOT_EVENTS ≤ RUN_EVENTS }
+        requires { array_vec_len events.old + DUMP_EVENTS ≤ RUN_EVENTS }
         ensures { PutsIn self.now time (events_with news.now) events.old.items events.new.items }
+    {
+        match news {
+            SlotNews::Acquired { prn, cell } => {
+                let event = Event::Acquired {
+                    prn: *prn,
+                    cell: *cell,
+                };
+                self.put(Some(event), time, events);
+            }
+            SlotNews::Dump(dump) => self.put_dump(dump, time, events),
+        }
+    }
+
+    /// Puts in all that comes with a dump.
+    fn put_dump(&self, news: &DumpNews, time: u64, events: &mut ArrayVec<SlotEvent, RUN_EVENTS>)
+        requires { array_vec_len events.old + DUMP_EVENTS ≤ RUN_EVENTS }
+        ensures { PutsIn self.now time (dump_events news.now) events.old.items events.new.items }
     {
         self.put(news.count.map(Event::Count), time, events);
         self.put(lock_event(news.lock), time, events);
@@ -136,9 +162,10 @@ impl Place {
     }
 
     /// Takes a run of samples, and puts in by time what they tell.
-    fn run(
+    fn run<S: SampleSource>(
         &mut self,
         run: &Planes,
+        source: &S,
         book: &mut CodeBook,
         time: u64,
         events: &mut ArrayVec<SlotEvent, RUN_EVENTS>,
@@ -146,34 +173,42 @@ impl Place {
         requires short { length run.now ≤ MAX_SAMPLES }
         requires room { time + length run.now ≤ MOST_TIME }
         requires few { dumps_of self.old.slot ≤ time }
+        requires ready { IsReady (S.from source.now) time self.old.slot }
+        requires holds { time + length run.now ≤ S.to source.now }
         requires fits { array_vec_len events.old + 2 * SLOT_EVENTS ≤ RUN_EVENTS }
-        ensures { PlaceGoes 0 run.now time self.old self.new events.old.items events.new.items }
+        ensures { PlaceGoes 0 run.now time (S.from source.now) (S.held source.now) self.old self.new
+            events.old.items events.new.items }
     {
         let len = run.len();
         let mut done = 0;
         while done < len {
             let count = self.slot.room(len - done);
             let end = done + count;
-            self.step(run, done, count, book, time + end as u64, events);
+            self.step(run, done, count, source, book, time + end as u64, events);
             done = end;
         }
     }
 
     /// Does what its client asks of its slot, and answers it.
-    pub fn command(&mut self, settings: &Settings, command: Command) -> Answer
+    pub fn command(&mut self, settings: &Settings, time: u64, command: Command) -> Answer
+        requires { time ≤ MOST_START }
         ensures client { self.new.client ≡ self.old.client }
         ensures number { self.new.number ≡ self.old.number }
-        ensures answer { (xs : List Sample) (commands : List TimedRequest)
+        ensures answer { (xs : List Sample) (commands : List TimedRequest) → length xs ≡ time
             → StandsFor settings.now xs commands self.old.slot
             → answer_in result ≡ answer_at_end settings.now xs commands (request_in command) }
-        ensures stands { (xs : List Sample) (commands : List TimedRequest)
+        ensures stands { (xs : List Sample) (commands : List TimedRequest) → length xs ≡ time
             → StandsFor settings.now xs commands self.old.slot
             → StandsFor settings.now xs (commands
             ++ record { time = length xs; request = request_in command } ∷ []) self.new.slot }
         ensures refused { IsRefusal result → self.new ≡ self.old }
         ensures dumps { dumps_of self.new.slot ≤ dumps_of self.old.slot }
+        ensures ready { (first : ℕ) → first ≤ time → IsReady first time self.old.slot
+            → IsReady first time self.new.slot }
+        ensures reach { IsWithin (most_wait settings.now) self.old.slot
+            → IsWithin (most_wait settings.now) self.new.slot }
     {
-        self.slot.command(settings, command)
+        self.slot.command(settings, time, command)
     }
 }
 
@@ -197,6 +232,8 @@ pub fn idle_places(alloc: Global, clients: u8) -> Result<Vec<Place>, AllocError>
     ensures few { IfOk result (λ places. AllFew 0 places.items) }
     ensures stand { IfOk result (λ places. (settings : DefinedSettings)
         → AllByRecursion (λ p. StandsFor settings [] [] p.slot) places.items) }
+    ensures ready { IfOk result (λ places. AllReady 0 0 places.items) }
+    ensures within { IfOk result (λ places. (reach : ℕ) → AllWithin reach places.items) }
 {
     let mut places = Vec::with_capacity(alloc, (CLIENT_SLOTS * clients) as usize)?;
     for place in 0..CLIENT_SLOTS * clients {
@@ -210,9 +247,10 @@ pub fn idle_places(alloc: Global, clients: u8) -> Result<Vec<Place>, AllocError>
 }
 
 /// All slots take a run, one behind the other, and put in by time what they tell.
-pub fn run_all(
+pub fn run_all<S: SampleSource>(
     places: &mut [Place],
     run: &Planes,
+    source: &S,
     book: &mut CodeBook,
     time: u64,
     events: &mut ArrayVec<SlotEvent, RUN_EVENTS>,
@@ -220,19 +258,29 @@ pub fn run_all(
     requires short { length run.now ≤ MAX_SAMPLES }
     requires room { time + length run.now ≤ MOST_TIME }
     requires few { AllFew time places.old }
+    requires ready { AllReady (S.from source.now) time places.old }
+    requires holds { time + length run.now ≤ S.to source.now }
     requires fits { array_vec_len events.old + SLOT_EVENTS * (length places.old + 1)
         ≤ RUN_EVENTS }
-    ensures { RunsAll run.now time places.old places.new events.old.items events.new.items }
+    ensures { RunsAll run.now time (S.from source.now) (S.held source.now) places.old places.new
+        events.old.items events.new.items }
 {
     for place in places.iter_mut() {
-        place.run(run, book, time, events);
+        place.run(run, source, book, time, events);
     }
 }
 
 /// One of the slots does what its client asks, and answers it.
-pub fn command_at(places: &mut [Place], at: usize, settings: &Settings, command: Command) -> Answer
-    requires { at < length places.old }
-    ensures { IsCommanded settings.now (request_in command) places.old places.new at result }
+pub fn command_at(
+    places: &mut [Place],
+    at: usize,
+    settings: &Settings,
+    time: u64,
+    command: Command,
+) -> Answer
+    requires at { at < length places.old }
+    requires time { time ≤ MOST_START }
+    ensures { IsCommanded settings.now time (request_in command) places.old places.new at result }
 {
-    places[at].command(settings, command)
+    places[at].command(settings, time, command)
 }

@@ -11,11 +11,11 @@ use crate::slot_news::SlotNews;
 use crate::stage::Stage;
 use ca_codes::CodeBook;
 use oscillators::Settings;
-use sample_planes::Planes;
+use sample_planes::{Planes, SampleSource};
 
-/// The most events that a slot tells with a dump: the dump, a change of lock, and a gap, a
-/// subframe, a page and a set of almanacs.
-pub const SLOT_EVENTS: usize = 6;
+/// The most events that a slot tells of a run of samples: the answer of an acquisition, and those of
+/// a dump.
+pub const SLOT_EVENTS: usize = 7;
 
 /// A slot: idle, or with a life of its own.
 #[derive(Debug, Default, Drop)]
@@ -35,23 +35,28 @@ impl Slot {
     ghost use Rattle.channels.specs.Parts.{part};
     ghost use Rattle.channel_slots.specs.Answers.{answer_in, view_in, IsRefusal};
     ghost use Rattle.channel_slots.specs.Slots.{chances, StandsFor, Tells, MayStep, ComesToEvent};
-    ghost use Rattle.channel_slots.specs.Slots.{dumps_of};
+    ghost use Rattle.channel_slots.specs.Slots.{dumps_of, IsWaiting, IsReady, IsWithin, Holds};
+    ghost use Rattle.sample_planes.specs.Sources.{AreSamplesOf};
     ghost use Rattle.channel_slots.specs.Lives.{first_life};
     ghost use Rattle.channel_slots.specs.NewsEvents.{events_of};
-    ghost use Rattle.channel_slots.specs.Stages.{Follows};
+    ghost use Rattle.channel_slots.specs.Stages.{Follows, most_wait};
+    ghost use Rattle.acquisition.specs.declared.dwell.TheConstants.{MOST_START};
     ghost use Rattle.channel_slots.specs.Stages as stages;
 
     /// A slot that was never asked for anything.
     pub fn new() -> Slot
         ensures stands { (settings : DefinedSettings) → StandsFor settings [] [] result }
         ensures dumps { dumps_of result ≡ 0 }
+        ensures ready { (first time : ℕ) → IsReady first time result }
+        ensures within { (reach : ℕ) → IsWithin reach result }
     {
         Slot::Idle
     }
 
     /// How many samples there are to the next event, but `most` if that is fewer.
     pub fn room(&self, most: usize) -> usize
-        requires { 0 < most }
+        requires some { 0 < most }
+        requires waits { IsWaiting self.now }
         ensures some { 0 < result }
         ensures within { result ≤ most }
         ensures may { MayStep self.now result }
@@ -71,32 +76,41 @@ impl Slot {
     }
 
     /// Takes `count` samples of a run, from sample `from` on, that don't go past the slot's next
-    /// event. It answers what is told with the last of them. The book is any book of codes.
-    pub fn step(
+    /// event. It answers what is told with the last of them. The source holds the samples of the
+    /// recording so far, from the first one on that a search looks at. The book is any book of
+    /// codes.
+    pub fn step<S: SampleSource>(
         &mut self,
         run: &Planes,
         from: usize,
         count: usize,
+        source: &S,
         book: &mut CodeBook,
     ) -> Option<SlotNews>
         requires some { 0 < count }
         requires within { from + count ≤ length run.now }
         requires may { MayStep self.old count }
         requires few { dumps_of self.old < MOST_DUMPS }
+        requires holds { Holds self.old (S.from source.now) (S.to source.now) count }
         ensures tells { (settings : DefinedSettings) (xs : List Sample)
             (commands : List TimedRequest)
+            → AreSamplesOf (xs ++ part run.now from count) (S.from source.now)
+            (length (xs ++ part run.now from count)) (S.held source.now)
             → StandsFor settings xs commands self.old
             → Tells settings xs (part run.now from count) commands self.new (events_of result) }
         ensures dumps { dumps_of self.new ≤ dumps_of self.old + 1 }
         ensures chances { (left : ℕ) → count ≤ left → left ≤ MAX_SAMPLES
             → chances self.new (left - count) + length (events_of result)
             ≤ chances self.old left }
+        ensures ready { (first time : ℕ) → IsReady first time self.old
+            → IsReady first (time + count) self.new }
+        ensures reach { (reach : ℕ) → IsWithin reach self.old → IsWithin reach self.new }
     {
         let Slot::On(life) = self else {
             return None;
         };
-        let news = life.step(run, from, count, book)?;
-        if news.is_loss() {
+        let news = life.step(run, from, count, source, book)?;
+        if news.is_end() {
             *self = Slot::Idle;
         }
         Some(news)
@@ -128,6 +142,10 @@ impl Slot {
             ++ record { time = length xs; request = begin start } ∷ []) self.new }
         ensures refused { IsRefusal result → self.new ≡ self.old }
         ensures dumps { stages.dumps_of stage ≡ 0 → dumps_of self.new ≤ dumps_of self.old }
+        ensures ready { (first time : ℕ) → IsReady first time self.old
+            → stages.IsReady first time stage → IsReady first time self.new }
+        ensures reach { (reach : ℕ) → IsWithin reach self.old → stages.IsWithin reach stage
+            → IsWithin reach self.new }
     {
         match self {
             Slot::Idle => {
@@ -139,18 +157,25 @@ impl Slot {
     }
 
     /// Does what a client asks of this slot, and answers it: a refused command changes nothing.
-    pub fn command(&mut self, settings: &Settings, command: Command) -> Answer
-        ensures answer { (xs : List Sample) (commands : List TimedRequest)
+    /// The next sample is number `time`, at most `MOST_START`.
+    pub fn command(&mut self, settings: &Settings, time: u64, command: Command) -> Answer
+        requires { time ≤ MOST_START }
+        ensures answer { (xs : List Sample) (commands : List TimedRequest) → length xs ≡ time
             → StandsFor settings.now xs commands self.old
             → answer_in result ≡ answer_at_end settings.now xs commands (request_in command) }
-        ensures stands { (xs : List Sample) (commands : List TimedRequest)
+        ensures stands { (xs : List Sample) (commands : List TimedRequest) → length xs ≡ time
             → StandsFor settings.now xs commands self.old
             → StandsFor settings.now xs (commands
             ++ record { time = length xs; request = request_in command } ∷ []) self.new }
         ensures refused { IsRefusal result → self.new ≡ self.old }
         ensures dumps { dumps_of self.new ≤ dumps_of self.old }
+        ensures ready { (first : ℕ) → first ≤ time → IsReady first time self.old
+            → IsReady first time self.new }
+        ensures reach { IsWithin (most_wait settings.now) self.old
+            → IsWithin (most_wait settings.now) self.new }
     {
         match command {
+            Command::Acquire { slot: _, plan } => self.start(Stage::search(settings, plan, time)),
             Command::Hold {
                 slot: _,
                 prn,

@@ -1,15 +1,21 @@
-//! What comes with a dump of a slot.
+//! What comes with a sample of a slot.
 
 ghost use Rattle.std.specs.Prelude.{◌≡◌};
-ghost use Rattle.channels.specs.Dumps.{is_loss};
+ghost use Rattle.channel_slots.specs.NewsEvents.{is_end};
 
+use acquisition::Cell;
+use ca_codes::Prn;
 use lane_correlator::Counts;
 use nav_message::MessageNews;
 use tracking_loops::News;
 
+/// The most events that come with a dump: its sums, a change of lock, and a gap, a subframe, a page
+/// and a set of almanacs.
+pub const DUMP_EVENTS: usize = 6;
+
 /// What a slot tells with a dump, in this order.
 #[derive(Clone, Copy, Debug, PartialEq, Eq)]
-pub struct SlotNews {
+pub struct DumpNews {
     /// The six sums, where they are to be printed.
     pub count: Option<Counts>,
     /// What the loops tell of their lock. Where the signal is lost the slot is idle.
@@ -18,11 +24,23 @@ pub struct SlotNews {
     pub message: MessageNews,
 }
 
+/// What a slot tells with a sample.
+#[derive(Clone, Copy, Debug, PartialEq, Eq)]
+pub enum SlotNews {
+    /// What an acquisition names. Where nothing was found the slot is idle.
+    Acquired { prn: Prn, cell: Cell },
+    /// What comes with a dump.
+    Dump(DumpNews),
+}
+
 impl SlotNews {
-    /// Says whether the signal is lost with the dump.
-    pub fn is_loss(&self) -> bool
-        ensures { result ≡ is_loss self.now.lock }
+    /// Says whether the slot is idle from here on: nothing was found, or the signal is lost.
+    pub fn is_end(&self) -> bool
+        ensures { result ≡ is_end self.now }
     {
-        matches!(self.lock, News::Lost)
+        match self {
+            SlotNews::Acquired { cell, .. } => !cell.found,
+            SlotNews::Dump(dump) => matches!(dump.lock, News::Lost),
+        }
     }
 }

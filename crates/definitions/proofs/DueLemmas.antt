@@ -33,6 +33,14 @@ no_dump_events : (life : Life) (n : ℕ) → last_dump_events life n [] (last_of
 unfolding last_of
 no_dump_events life n = refl
 
+-- before the due time it has no dump
+pub acquire-no_dumps : (settings : Settings) (xs : List Sample) (life : Life) (plan : Plan)
+    → life.start ≡ acquire plan → length xs < due_time settings plan life.begun
+    → dumps_of_life settings xs life ≡ []
+unfolding dumps_of_life
+acquire-no_dumps settings xs life plan is h =
+    no_channel settings xs life.begun life.start plan is h
+
 -- before the due time it tells nothing
 pub acquire-quiet : (settings : Settings) (xs : List Sample) (life : Life) (plan : Plan)
     → life.start ≡ acquire plan → length xs < due_time settings plan life.begun
@@ -99,3 +107,11 @@ acquire-tells settings xs life plan is h =
     (no_dump_events life (length xs))
     ∙ append-nil (due_events settings xs life.begun life.start)
     ∙ due_told settings xs life.begun life.start plan is h
+
+-- nor has it one at the due time
+pub due-no_dumps : (settings : Settings) (xs : List Sample) (life : Life) (plan : Plan)
+    → life.start ≡ acquire plan → length xs ≡ due_time settings plan life.begun
+    → dumps_of_life settings xs life ≡ []
+unfolding dumps_of_life
+due-no_dumps settings xs life plan is h =
+    no_dumps_yet settings xs life.begun life.start plan is h

@@ -10,9 +10,10 @@ use Rattle.definitions.specs.Frames.{Subframe, id_of, tow_of}
 use Rattle.definitions.specs.Segments.{Shift}
 use Rattle.definitions.specs.DataSets.{AlmanacSet, single}
 use Rattle.definitions.specs.Pages.{message}
-use Rattle.definitions.specs.Events.{count, locked, unlocked, signal_lost, edge, gap}
+use Rattle.definitions.specs.Acquisition.{Cell}
+use Rattle.definitions.specs.Events.{acquired, count, locked, unlocked, signal_lost, edge, gap}
 use Rattle.definitions.specs.Events.{subframe, reported, almanacs}
-use Rattle.definitions.specs.Answers.{idle, holding, tracking, accepted, refused, shown}
+use Rattle.definitions.specs.Answers.{acquiring, idle, holding, tracking, accepted, refused, shown}
 use Rattle.definitions.specs.Texts.{words_text, word_text, hex_of_bytes, event_text, page_text}
 use Rattle.definitions.specs.Texts.{answer_text, refusal_text}
 use Rattle.printed_lines.specs.Spaced.{spaced}
@@ -45,6 +46,14 @@ kind-text line kind slot rest words is =
 six_parts : (line a b c d e f : List ℕ)
     → (((((line ++ a) ++ b) ++ c) ++ d) ++ e) ++ f ≡ line ++ (((((a ++ b) ++ c) ++ d) ++ e) ++ f)
 six_parts line a b c d e f = simp append_assoc
+
+five_parts : (line a b c d e : List ℕ)
+    → ((((line ++ a) ++ b) ++ c) ++ d) ++ e ≡ line ++ ((((a ++ b) ++ c) ++ d) ++ e)
+five_parts line a b c d e = simp append_assoc
+
+four_parts : (line a b c d : List ℕ)
+    → (((line ++ a) ++ b) ++ c) ++ d ≡ line ++ (((a ++ b) ++ c) ++ d)
+four_parts line a b c d = simp append_assoc
 
 -- the six sums, each behind a space
 abbrev sums_text : Counts → List ℕ
@@ -95,6 +104,20 @@ pub gap-text : (line : List ℕ) (slot bits : ℕ)
 unfolding event_text
 gap-text line slot bits = kind-text line (codes "gap") slot (32 ∷ decimal bits)
     (decimal bits ∷ []) refl
+
+pub acquired-text : (line : List ℕ) (slot prn : ℕ) (cell : Cell)
+    → ((((((line ++ codes " acq") ++ 32 ∷ decimal slot) ++ 32 ∷ decimal prn)
+    ++ 32 ∷ (if cell.found then codes "found" else codes "none"))
+    ++ 32 ∷ signed_decimal cell.bin) ++ 32 ∷ decimal cell.half_chip) ++ 32 ∷ decimal cell.power
+    ≡ line ++ 32 ∷ event_text slot (acquired prn cell)
+unfolding event_text
+acquired-text line slot prn cell =
+    five_parts ((line ++ codes " acq") ++ 32 ∷ decimal slot) (32 ∷ decimal prn)
+    (32 ∷ (if cell.found then codes "found" else codes "none")) (32 ∷ signed_decimal cell.bin)
+    (32 ∷ decimal cell.half_chip) (32 ∷ decimal cell.power)
+    ∙ kind-text line (codes "acq") slot _ (decimal prn ∷ (if cell.found then codes "found"
+    else codes "none") ∷ signed_decimal cell.bin ∷ decimal cell.half_chip ∷ decimal cell.power
+    ∷ []) (simp append_assoc)
 
 pub subframe-text : (line : List ℕ) (slot : ℕ) (s : Subframe)
     → ((((line ++ codes " sub") ++ 32 ∷ decimal slot) ++ 32 ∷ decimal (id_of s))
@@ -168,6 +191,17 @@ pub hold-text : (line : List ℕ) (slot prn dumps : ℕ)
     ++ 32 ∷ decimal dumps ≡ line ++ 32 ∷ answer_text slot (shown (holding prn dumps))
 unfolding answer_text
 hold-text line slot prn dumps = simp append_assoc
+
+pub acquire-text : (line : List ℕ) (slot prn done cells : ℕ)
+    → (((((line ++ codes " state") ++ 32 ∷ decimal slot) ++ codes " acquire") ++ 32 ∷ decimal prn)
+    ++ 32 ∷ decimal done) ++ 32 ∷ decimal cells
+    ≡ line ++ 32 ∷ answer_text slot (shown (acquiring prn done cells))
+unfolding answer_text
+acquire-text line slot prn done cells =
+    four_parts ((line ++ codes " state") ++ 32 ∷ decimal slot) (codes " acquire")
+    (32 ∷ decimal prn) (32 ∷ decimal done) (32 ∷ decimal cells)
+    ∙ kind-text line (codes "state") slot _
+    (codes "acquire" ∷ decimal prn ∷ decimal done ∷ decimal cells ∷ []) (simp append_assoc)
 
 pub track-text : (line : List ℕ) (slot prn dumps : ℕ) (shift : Shift) (is_locked has_edge : Bool)
     → (((((((line ++ codes " state") ++ 32 ∷ decimal slot) ++ codes " track") ++ 32 ∷ decimal prn)

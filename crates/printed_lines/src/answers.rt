@@ -49,6 +49,10 @@ fn put_state(line: &mut Line, slot: u8, state: SlotState)
     line.kind(b"state", slot);
     match state {
         SlotState::Idle => line.word(b"idle"),
+        SlotState::Acquire { prn, done, cells } => {
+            put_followed(line, b"acquire", prn.get(), done);
+            line.number(cells);
+        }
         SlotState::Hold { prn, dumps } => put_followed(line, b"hold", prn.get(), dumps),
         SlotState::Track {
             prn,

@@ -36,17 +36,18 @@ fn take_samples<W: Sink>(
     writer: &mut W,
 ) -> Result<(), DeviceFault>
     requires empty { events.old.items ≡ [] }
-    requires some { 0 < length run.now }
-    requires short { length run.now ≤ MAX_SAMPLES }
-    requires quiet { length run.now ≤ until_next session.old }
-    requires room { time_of session.old + length run.now ≤ MOST_TIME }
+    requires packing { run.now.packing ≡ packing_in session.old }
+    requires some { 0 < length run.now.samples }
+    requires short { length run.now.samples ≤ MAX_SAMPLES }
+    requires quiet { length run.now.samples ≤ until_next session.old }
+    requires room { time_of session.old + length run.now.samples ≤ MOST_TIME }
     ensures empty { OnOk result (events.new.items ≡ []) }
     ensures packing { packing_in session.new ≡ packing_in session.old }
-    ensures time { time_of session.new ≡ time_of session.old + length run.now }
+    ensures time { time_of session.new ≡ time_of session.old + length run.now.samples }
     ensures ready { OnOk result (0 < until_next session.new) }
-    ensures ok { OnOk result (TakesOn run.now session.old session.new
+    ensures ok { OnOk result (TakesOn run.now.samples session.old session.new
         (promise (W.contents writer.old) text.old) (promise (W.contents writer.new) text.new)) }
-    ensures err { OnErr result (TakesFront run.now session.old
+    ensures err { OnErr result (TakesFront run.now.samples session.old
         (promise (W.contents writer.old) text.old) (promise (W.contents writer.new) text.new)) }
     ensures grows { Grows (W.contents writer.old) (W.contents writer.new) }
     ensures failure { TellsFailure (W.has_failed writer.old) (W.has_failed writer.new) result }
@@ -66,15 +67,16 @@ fn take_piece<W: Sink>(
     writer: &mut W,
 ) -> Result<(), DeviceFault>
     requires empty { events.old.items ≡ [] }
-    requires room { time_of session.old + length piece.now ≤ MOST_TIME }
+    requires packing { piece.now.packing ≡ packing_in session.old }
+    requires room { time_of session.old + length piece.now.samples ≤ MOST_TIME }
     requires ready { 0 < until_next session.old }
     ensures empty { OnOk result (events.new.items ≡ []) }
     ensures packing { packing_in session.new ≡ packing_in session.old }
-    ensures time { OnOk result (time_of session.new ≡ time_of session.old + length piece.now) }
+    ensures time { OnOk result (time_of session.new ≡ time_of session.old + length piece.now.samples) }
     ensures ready { OnOk result (0 < until_next session.new) }
-    ensures ok { OnOk result (TakesOn piece.now session.old session.new
+    ensures ok { OnOk result (TakesOn piece.now.samples session.old session.new
         (promise (W.contents writer.old) text.old) (promise (W.contents writer.new) text.new)) }
-    ensures err { OnErr result (TakesFront piece.now session.old
+    ensures err { OnErr result (TakesFront piece.now.samples session.old
         (promise (W.contents writer.old) text.old) (promise (W.contents writer.new) text.new)) }
     ensures grows { Grows (W.contents writer.old) (W.contents writer.new) }
     ensures failure { TellsFailure (W.has_failed writer.old) (W.has_failed writer.new) result }

@@ -94,22 +94,23 @@ impl<'a> Session<'a> {
     /// Takes a run of samples, none of them past the next command's time, and puts what they make
     /// the slots tell into an empty list.
     pub fn feed(&mut self, run: &PackedSamples, events: &mut ArrayVec<SlotEvent, RUN_EVENTS>)
-        requires some { 0 < length run.now }
-        requires short { length run.now ≤ MAX_SAMPLES }
-        requires quiet { length run.now ≤ until_next self.old }
-        requires room { time_of self.old + length run.now ≤ MOST_TIME }
+        requires packing { run.now.packing ≡ packing_in self.old }
+        requires some { 0 < length run.now.samples }
+        requires short { length run.now.samples ≤ MAX_SAMPLES }
+        requires quiet { length run.now.samples ≤ until_next self.old }
+        requires room { time_of self.old + length run.now.samples ≤ MOST_TIME }
         requires empty { events.old.items ≡ [] }
         ensures packing { packing_in self.new ≡ packing_in self.old }
-        ensures time { time_of self.new ≡ time_of self.old + length run.now }
+        ensures time { time_of self.new ≡ time_of self.old + length run.now.samples }
         ensures stands { (settings : DefinedSettings) (clients : List Client) (xs : List Sample)
             → StandsFor settings clients self.old xs []
-            → StandsFor settings clients self.new (xs ++ run.now)
-            (answer_lines offer settings clients (xs ++ run.now)) }
+            → StandsFor settings clients self.new (xs ++ run.now.samples)
+            (answer_lines offer settings clients (xs ++ run.now.samples)) }
         ensures told { (settings : DefinedSettings) (clients : List Client) (xs : List Sample)
             → StandsFor settings clients self.old xs []
-            → body_lines offer settings (xs ++ run.now) clients
+            → body_lines offer settings (xs ++ run.now.samples) clients
             ≡ body_lines offer settings xs clients ++ map line_of events.new.items
-            ++ answer_lines offer settings clients (xs ++ run.now) }
+            ++ answer_lines offer settings clients (xs ++ run.now.samples) }
     {
         self.bank.feed_into(run, events);
     }

@@ -8,7 +8,7 @@ ghost use Rattle.sample_history.specs.declared.history.TheConstants.{MOST_TAKEN,
 
 use crate::ring_bytes::{copy_out, grow};
 use circular_buffer::HeapCircularBuffer;
-use sample_planes::{Format, Planes, SampleSource, unpack};
+use sample_planes::{Format, PackedSamples, Planes, SampleSource, unpack};
 use std::alloc::{AllocError, Global};
 
 /// The most samples that a history takes.
@@ -61,9 +61,24 @@ impl SampleHistory {
         self.format
     }
 
-    /// Takes the next samples of the stream: the `len` samples of `bytes` from sample `first` of
-    /// the first byte on, in the history's packing. `len` is at most `MAX_SAMPLES`.
-    pub fn take(&mut self, bytes: &[u8], first: usize, len: usize)
+    /// Takes the next samples of the stream, at most `MAX_SAMPLES`, in the history's packing.
+    pub fn take(&mut self, run: &PackedSamples)
+        requires packing { run.now.packing ≡ packing_in self.old }
+        requires short { length run.now.samples ≤ MAX_SAMPLES }
+        requires few { taken_of self.old + length run.now.samples ≤ MOST_TAKEN }
+        ensures stands { (xs : List Sample) → StandsFor xs self.old
+            → StandsFor (xs ++ run.now.samples) self.new }
+        ensures packing { packing_in self.new ≡ packing_in self.old }
+        ensures room { room_of self.new ≡ room_of self.old }
+        ensures taken { taken_of self.new ≡ taken_of self.old + length run.now.samples }
+        ensures kept { first_of self.new ≤ taken_of self.new - room_of self.new }
+    {
+        let place = run.place();
+        self.take_bytes(place.bytes, place.first, place.len);
+    }
+
+    /// The same for the `len` samples of `bytes` from sample `first` of the first byte on.
+    fn take_bytes(&mut self, bytes: &[u8], first: usize, len: usize)
         requires first { first < samples_per_byte (packing_in self.old) }
         requires within { first + len ≤ sample_count (packing_in self.old) bytes.now }
         requires short { len ≤ MAX_SAMPLES }

@@ -20,17 +20,17 @@ pub struct NumberedSamples<'a> {
 impl<'a> Model for NumberedSamples<'a> {
     ghost Value = { Numbered };
 
-    ghost view = { λ s. record { first = s.first; samples = s.samples } };
+    ghost view = { λ s. record { first = s.first; samples = s.samples.samples } };
 
-    ghost invariant = { λ s. s.first + length s.samples < 2 ^ 64 };
+    ghost invariant = { λ s. s.first + length s.samples.samples < 2 ^ 64 };
 }
 
 impl<'a> NumberedSamples<'a> {
     /// The samples of a run, the first of them being sample `first` of the recording. The number
     /// behind the last fits in a `u64`.
     pub fn new(samples: PackedSamples<'a>, first: u64) -> NumberedSamples<'a>
-        requires { first + length samples < 2 ^ 64 }
-        ensures { result ≡ record { first = first; samples = samples.entry } }
+        requires { first + length samples.samples < 2 ^ 64 }
+        ensures { result ≡ record { first = first; samples = samples.entry.samples } }
     {
         NumberedSamples { samples, first }
     }

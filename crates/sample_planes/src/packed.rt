@@ -4,14 +4,24 @@ ghost use Rattle.std.specs.Prelude.{◌≡◌, ◌+◌, ◌<◌, ◌≤◌, ◌^
 ghost use Rattle.definitions.specs.Samples.{Sample, samples, samples_from, sample_count};
 ghost use Rattle.definitions.specs.Samples.{samples_per_byte};
 ghost use Rattle.sample_planes.specs.Packings.{packing_of};
+ghost use Rattle.sample_planes.specs.PackedRuns.{PackedRun, front_of, back_of};
 ghost use Rattle.sample_planes.specs.declared.planes.TheConstants.{MAX_SAMPLES};
 
 use crate::format::Format;
 use crate::planes::{Planes, unpack};
 use std::marker::Model;
 
-/// A run of samples, packed into bytes. Clauses see it as the list of its samples, whatever their
-/// packing is and wherever in a byte they begin.
+/// Where a run of packed samples lies: the bytes, and any behind them, the place of the first sample
+/// in the first byte, and how many samples there are.
+#[derive(Clone, Copy, Debug)]
+pub struct RunPlace<'a> {
+    pub bytes: &'a [u8],
+    pub first: usize,
+    pub len: usize,
+}
+
+/// A run of samples, packed into bytes. Clauses see it as the list of its samples and their packing,
+/// wherever in a byte they begin.
 #[derive(Debug, Drop)]
 pub struct PackedSamples<'a> {
     format: Format,
@@ -23,9 +33,12 @@ pub struct PackedSamples<'a> {
 }
 
 impl<'a> Model for PackedSamples<'a> {
-    ghost Value = { List Sample };
+    ghost Value = { PackedRun };
 
-    ghost view = { λ s. samples_from (packing_of s.format) s.bytes.now s.first s.len };
+    ghost view = { λ s. record {
+      packing = packing_of s.format;
+      samples = samples_from (packing_of s.format) s.bytes.now s.first s.len;
+    } };
 
     ghost invariant = { λ s. (s.first < samples_per_byte (packing_of s.format))
         × (s.first + s.len ≤ sample_count (packing_of s.format) s.bytes.now)
@@ -36,8 +49,9 @@ impl<'a> PackedSamples<'a> {
     /// All samples of `bytes`. There are fewer than 2^64 of them.
     pub fn new(format: Format, bytes: &'a [u8]) -> PackedSamples<'a>
         requires { sample_count (packing_of format) bytes.now < 2 ^ 64 }
-        ensures samples { result ≡ samples (packing_of format) bytes.now }
-        ensures count { length result ≡ sample_count (packing_of format) bytes.now }
+        ensures packing { result.packing ≡ packing_of format }
+        ensures samples { result.samples ≡ samples (packing_of format) bytes.now }
+        ensures count { length result.samples ≡ sample_count (packing_of format) bytes.now }
     {
         PackedSamples::from_byte(format, bytes, 0, bytes.len() * format.per_byte())
     }
@@ -47,7 +61,10 @@ impl<'a> PackedSamples<'a> {
     fn from_byte(format: Format, bytes: &'a [u8], first: usize, len: usize) -> PackedSamples<'a>
         requires within { first + len ≤ sample_count (packing_of format) bytes.now }
         requires few { first + len < 2 ^ 64 }
-        ensures { result ≡ samples_from (packing_of format) bytes.now first len }
+        ensures { result ≡ record {
+          packing = packing_of format;
+          samples = samples_from (packing_of format) bytes.now first len;
+        } }
     {
         let per_byte = format.per_byte();
         PackedSamples {
@@ -60,16 +77,32 @@ impl<'a> PackedSamples<'a> {
 
     /// How many samples there are.
     pub fn len(&self) -> usize
-        ensures { result ≡ length self.now }
+        ensures { result ≡ length self.now.samples }
     {
         self.len
     }
 
+    /// Where the samples lie.
+    pub fn place(&self) -> RunPlace<'a>
+        ensures samples { samples_from self.now.packing result.bytes.now result.first result.len
+            ≡ self.now.samples }
+        ensures first { result.first < samples_per_byte self.now.packing }
+        ensures within { result.first + result.len
+            ≤ sample_count self.now.packing result.bytes.now }
+        ensures count { result.len ≡ length self.now.samples }
+    {
+        RunPlace {
+            bytes: self.bytes,
+            first: self.first,
+            len: self.len,
+        }
+    }
+
     /// The first `n` samples, and those behind them. There are at least `n`.
     pub fn split_at(&self, n: usize) -> (PackedSamples<'a>, PackedSamples<'a>)
-        requires { n ≤ length self.now }
-        ensures front { result.0 ≡ take n self.now }
-        ensures back { result.1 ≡ drop n self.now }
+        requires { n ≤ length self.now.samples }
+        ensures front { result.0 ≡ front_of n self.now }
+        ensures back { result.1 ≡ back_of n self.now }
     {
         let behind = self.first + n;
         let front = PackedSamples::from_byte(self.format, self.bytes, self.first, n);
@@ -80,16 +113,16 @@ impl<'a> PackedSamples<'a> {
     /// The `len` samples from sample `first` of them on, which is counted from 0. There are at
     /// least `first + len`.
     pub fn part(&self, first: usize, len: usize) -> PackedSamples<'a>
-        requires { first + len ≤ length self.now }
-        ensures { result ≡ take len (drop first self.now) }
+        requires { first + len ≤ length self.now.samples }
+        ensures { result ≡ front_of len (back_of first self.now) }
     {
         self.split_at(first).1.split_at(len).0
     }
 
     /// Unpacks them all, at most `MAX_SAMPLES`.
     pub fn unpack(&self) -> Planes
-        requires { length self.now ≤ MAX_SAMPLES }
-        ensures { result ≡ self.now }
+        requires { length self.now.samples ≤ MAX_SAMPLES }
+        ensures { result ≡ self.now.samples }
     {
         unpack(self.format, self.bytes, self.first, self.len)
     }

@@ -5,7 +5,7 @@ use Rattle.std.proofs.lemmas.List.{map-append}
 use Rattle.definitions.proofs.SampleLemmas.{range-split}
 use Rattle.channel_slots.specs.declared.place.Place.{Place}
 use Rattle.channel_slots.specs.Banks.{keys_of}
-use Rattle.channel_slots.specs.Slots.{StandsFor, dumps_of}
+use Rattle.channel_slots.specs.Slots.{StandsFor, dumps_of, IsReady, IsWithin}
 use Rattle.channel_slots.proofs.LayoutLemmas.{by_fours, layout-fours}
 use Rattle.channel_slots.proofs.PlaceLemmas.{all_push}
 use Rattle.channel_slots.proofs.place.idle_places.Goals as goal
@@ -41,6 +41,12 @@ loop-place-preserved c =
           λ settings. all_push (λ (p : Place). StandsFor settings [] [] p.slot)
           c.loop-place.places.items _ (c.loop-place.invariant.each settings)
           (c.new.ensures.stands settings);
+      ready =
+          all_push (λ (p : Place). IsReady 0 0 p.slot) c.loop-place.places.items _
+          c.loop-place.invariant.ready (c.new.ensures.ready 0 0);
+      within =
+          λ reach. all_push (λ (p : Place). IsWithin reach p.slot) c.loop-place.places.items _
+          (c.loop-place.invariant.within reach) (c.new.ensures.within reach);
     })
 
 pub returns-clause-keys : goal.returns-clause-keys

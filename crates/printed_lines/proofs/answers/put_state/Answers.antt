@@ -5,7 +5,7 @@ use Rattle.definitions.specs.Answers.{shown}
 use Rattle.definitions.specs.Texts.{answer_text}
 use Rattle.channel_slots.specs.Answers.{view_in, is_locked_in, has_edge_in}
 use Rattle.channel_slots.specs.declared.answer.SlotState.{SlotState}
-use Rattle.printed_lines.proofs.LineLemmas.{idle-text, hold-text, track-text}
+use Rattle.printed_lines.proofs.LineLemmas.{acquire-text, idle-text, hold-text, track-text}
 use Rattle.printed_lines.proofs.answers.put_state.Goals as goal
 
 -- the text of a state that is known
@@ -20,9 +20,16 @@ returns-in-Idle-clause-text c =
     rw c.kind.ensures.text at c.word.ensures.text ∙ idle-text c.args.line.now c.args.slot
     ∙ known c.args.line.now c.args.slot _ c.args.state c.in-Idle.is
 
+pub returns-in-Acquire-clause-text : goal.returns-in-Acquire-clause-text
+returns-in-Acquire-clause-text c =
+    rw (c.put_followed.ensures.text, c.get.ensures.same, c.kind.ensures.text)
+    at c.number.ensures.text
+    ∙ acquire-text c.args.line.now c.args.slot c.in-Acquire.prn c.in-Acquire.done
+    c.in-Acquire.cells ∙ known c.args.line.now c.args.slot _ c.args.state c.in-Acquire.is
+
 pub returns-in-Hold-clause-text : goal.returns-in-Hold-clause-text
 returns-in-Hold-clause-text c =
-    rw (c.get.ensures.same, c.kind.ensures.text) at c.put_followed.ensures.text
+    rw (c.get-in-Hold.ensures.same, c.kind.ensures.text) at c.put_followed-in-Hold.ensures.text
     ∙ hold-text c.args.line.now c.args.slot c.in-Hold.prn c.in-Hold.dumps
     ∙ known c.args.line.now c.args.slot _ c.args.state c.in-Hold.is
 

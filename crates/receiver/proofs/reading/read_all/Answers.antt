@@ -40,7 +40,7 @@ returns-in_err-take_piece-clause-broken g c =
     c.loop-reader.invariant.within
     (c.min-used.ensures
     ∙ ap (λ t. min n ((c.args.limit - t) / c.per_byte-per_byte.result)) c.time.ensures) in
-    let is : c.new-piece.result ≡ samples settings.packing (take used buffer) =
+    let is : c.new-piece.result.samples ≡ samples settings.packing (take used buffer) =
     c.new-piece.ensures.samples
     ∙ ap (λ (p : Packing). samples p (take used buffer)) (c.format-format.ensures ∙ same) in
     let Q : List Sample → Type 0 =
@@ -81,7 +81,7 @@ returns-then-used-count-clause-read g c =
     c.loop-reader.invariant.within
     (c.min-used.ensures
     ∙ ap (λ t. min n ((c.args.limit - t) / c.per_byte-per_byte.result)) c.time.ensures) in
-    let is : c.new-piece.result ≡ samples settings.packing (take used buffer) =
+    let is : c.new-piece.result.samples ≡ samples settings.packing (take used buffer) =
     c.new-piece.ensures.samples
     ∙ ap (λ (p : Packing). samples p (take used buffer)) (c.format-format.ensures ∙ same) in
     let Q : List Sample → Type 0 =
@@ -129,7 +129,7 @@ loop-reader-preserved g c =
     let len : length piece ≡ used =
     length-take-le used buffer
     (subst (λ k. k ≤ length buffer) (sym all) c.in-Ok.ensures.bound.0) in
-    let many : length c.new-piece.result ≡ sample_count packing piece =
+    let many : length c.new-piece.result.samples ≡ sample_count packing piece =
     c.new-piece.ensures.count
     ∙ ap (λ (p : Packing). sample_count p piece) c.format-format.ensures in
     let time : time_of c.take_piece.new.session
@@ -163,7 +163,7 @@ loop-reader-preserved g c =
             ∙ ap (λ k. sample_count packing (was.0 ++ take k buffer)) all,
         λ settings clients start at.
             let same = ap (λ (r : Settings). r.packing) at.stands.bank.recorded in
-            let is : c.new-piece.result ≡ samples settings.packing piece =
+            let is : c.new-piece.result.samples ≡ samples settings.packing piece =
             c.new-piece.ensures.samples
             ∙ ap (λ (p : Packing). samples p piece) (c.format-format.ensures ∙ same) in
             let Q : List Sample → Type 0 =

@@ -1,6 +1,7 @@
 use Rattle.std.proofs.Common.{◌≡◌, ◌∙◌, ℕ, ◌+◌, ◌≤◌, List, ◌++◌, length, take, drop, ap, sym}
 use Rattle.std.proofs.Common.{subst, append-nil, append_assoc, arith, refl}
 use Rattle.std.proofs.lemmas.List.{take-append-drop}
+use Rattle.sample_planes.specs.PackedRuns.{PackedRun}
 use Rattle.definitions.specs.Samples.{Sample}
 use Rattle.channel_slots.proofs.TellingLemmas.{take_part}
 use Rattle.channels.proofs.PartLemmas.{part-length}
@@ -28,14 +29,14 @@ all-of xs piece n =
 pub returns-in_err-take_samples-clause-err : goal.returns-in_err-take_samples-clause-err
 returns-in_err-take_samples-clause-err g c =
     let s = g.W.Sink in
-    let piece = c.args.piece.now in
+    let piece = c.args.piece.now.samples in
     let first = c.loop-first.first in
     let next : ℕ = first + c.min-len.result in
     on_err c.from_residual.result _ (λ settings clients start xs at.
     body-part-longer settings clients start
     (promise (s.contents c.take_samples.new.writer) c.take_samples.new.text)
-    ((xs ++ take first piece) ++ c.part.result) (drop next piece) (xs ++ piece)
-    (ap (λ (l : List Sample). ((xs ++ take first piece) ++ l) ++ drop next piece) c.part.ensures
+    ((xs ++ take first piece) ++ c.part.result.samples) (drop next piece) (xs ++ piece)
+    (ap (λ (l : List Sample). ((xs ++ take first piece) ++ l) ++ drop next piece) (ap (λ (r : PackedRun). r.samples) c.part.ensures)
     ∙ ap (λ (l : List Sample). l ++ drop next piece) (behind xs piece first c.min-len.result)
     ∙ all-of xs piece next)
     (c.in_err-take_samples.ensures.err settings clients start (xs ++ take first piece)
@@ -58,15 +59,15 @@ loop-first-preserved g c =
     let s = g.W.Sink in
     let i = c.loop-first.invariant in
     let e = c.in_ok-take_samples.ensures in
-    let piece = c.args.piece.now in
+    let piece = c.args.piece.now.samples in
     let first = c.loop-first.first in
     let len = c.min-len.result in
     let within : first + len ≤ length piece =
     omega (arith, c.len-count.ensures, c.min-most.ensures, c.min-len.ensures) in
-    let many : length c.part.result ≡ len =
-    ap length c.part.ensures ∙ part-length piece first len within in
+    let many : length c.part.result.samples ≡ len =
+    ap length (ap (λ (r : PackedRun). r.samples) c.part.ensures) ∙ part-length piece first len within in
     let more : time_of c.take_samples.new.session
-    ≡ time_of c.loop-first.session + length c.part.result = e.time in
+    ≡ time_of c.loop-first.session + length c.part.result.samples = e.time in
     record {
       empty = e.empty;
       within = omega (arith, within, c.len-count.ensures);
@@ -79,7 +80,7 @@ loop-first-preserved g c =
       written = λ settings clients start xs at.
           subst (IsWrittenTo settings clients start c.take_samples.new.session
           (promise (s.contents c.take_samples.new.writer) c.take_samples.new.text))
-          (ap (λ (l : List Sample). (xs ++ take first piece) ++ l) c.part.ensures
+          (ap (λ (l : List Sample). (xs ++ take first piece) ++ l) (ap (λ (r : PackedRun). r.samples) c.part.ensures)
           ∙ behind xs piece first len)
           (e.ok settings clients start (xs ++ take first piece)
           (i.written settings clients start xs at));

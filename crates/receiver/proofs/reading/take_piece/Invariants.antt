@@ -22,7 +22,7 @@ invariant-loop-first g l = let sink = g.W.Sink in record {
       (xs : List Sample) → IsWrittenTo settings clients start l.fn.session
       (promise (sink.contents l.fn.writer) l.fn.text) xs
       → IsWrittenTo settings clients start l.session (promise (sink.contents l.writer) l.text)
-      (xs ++ take l.first l.piece);
+      (xs ++ take l.first l.piece.samples);
 }
 
 -- proposed from the loop's first test

@@ -15,7 +15,7 @@ pub returns-in_err-put_events-clause-err : goal.returns-in_err-put_events-clause
 unfolding body
 returns-in_err-put_events-clause-err g c =
     let s = g.W.Sink in on_err c.from_residual.result _ (λ settings clients start xs at.
-    let more = xs ++ c.args.run.now in
+    let more = xs ++ c.args.run.now.samples in
     stretch-part-told start (promise (s.contents c.args.writer.now) c.args.text.now)
     (promise (s.contents c.put_events.new.writer) c.put_events.new.text)
     (body_lines offer settings xs clients) (map line_of c.deref.result.now)
@@ -31,7 +31,7 @@ unfolding body
 returns-clause-ok g c =
     let s = g.W.Sink in
     IfOk-weaker c.put_answers.result _ _ (λ _ answered. λ settings clients start xs at.
-    let more = xs ++ c.args.run.now in
+    let more = xs ++ c.args.run.now.samples in
     let said =
     answered settings clients more (answer_lines offer settings clients more)
     (c.feed.ensures.stands settings clients xs at.stands) in
@@ -55,7 +55,7 @@ unfolding body
 returns-clause-err g c =
     let s = g.W.Sink in
     IfErr-weaker c.put_answers.result _ _ (λ _ answered. λ settings clients start xs at.
-    let more = xs ++ c.args.run.now in
+    let more = xs ++ c.args.run.now.samples in
     stretch-part-answers start (promise (s.contents c.args.writer.now) c.args.text.now)
     (promise (s.contents c.put_events.new.writer) c.put_events.new.text)
     (promise (s.contents c.put_answers.new.writer) c.put_answers.new.text)

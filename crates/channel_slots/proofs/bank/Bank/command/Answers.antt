@@ -6,12 +6,14 @@ use Rattle.definitions.specs.Banks.{layout}
 use Rattle.channel_slots.specs.declared.place.Place.{Place}
 use Rattle.channel_slots.specs.declared.command.Command.{Command}
 use Rattle.channel_slots.specs.declared.answer.Answer.{Answer}
-use Rattle.channel_slots.specs.Slots.{StandsFor}
+use Rattle.channel_slots.specs.Slots.{StandsFor, IsReady, IsWithin}
 use Rattle.channel_slots.specs.Banks.{IsCommanded, keys_of}
 use Rattle.channel_slots.specs.Commands.{slot_of, request_in}
 use Rattle.channel_slots.proofs.BankLemmas.{refilled, slots-four}
 use Rattle.channel_slots.proofs.LayoutLemmas.{by_fours, layout-fours}
-use Rattle.channel_slots.proofs.CommandLemmas.{stands-at, commanded, keeps}
+use Rattle.channel_slots.proofs.CommandLemmas.{stands-at, commanded, keeps, set-keeps}
+use Rattle.channel_slots.proofs.ReadyLemmas.{all-ready, all-on-way}
+use Rattle.channel_slots.specs.Stages.{most_wait}
 use Rattle.channel_slots.proofs.bank.Bank.command.Goals as goal
 
 many : (client clients : ℕ) (ps : List Place) → client ≤ clients
@@ -28,16 +30,16 @@ within : (client number : ℕ) (ps : List Place) → 1 ≤ client → 4 * client
 within client number ps first last small = omega (arith, first, last, small)
 
 -- what the command does to the places
-done : (own settings : Settings) (command : Command) (taken ps qs : List Place) (at : ℕ)
-    (answer : Answer) → own ≡ settings → taken ≡ ps
-    → IsCommanded own (request_in command) taken qs at answer
-    → IsCommanded settings (request_in command) ps qs at answer
-done own settings command taken ps qs at answer known same e =
-    subst (λ (l : List Place). IsCommanded settings (request_in command) l qs at answer) same
-    (subst (λ (r : Settings). IsCommanded r (request_in command) taken qs at answer) known e)
+done : (own settings : Settings) (time : ℕ) (command : Command) (taken ps qs : List Place)
+    (at : ℕ) (answer : Answer) → own ≡ settings → taken ≡ ps
+    → IsCommanded own time (request_in command) taken qs at answer
+    → IsCommanded settings time (request_in command) ps qs at answer
+done own settings time command taken ps qs at answer known same e =
+    subst (λ (l : List Place). IsCommanded settings time (request_in command) l qs at answer) same
+    (subst (λ (r : Settings). IsCommanded r time (request_in command) taken qs at answer) known e)
 
-pub command_at-requires : goal.command_at-requires
-command_at-requires c =
+pub command_at-requires-clause-at : goal.command_at-requires-clause-at
+command_at-requires-clause-at c =
     let ps : List Place = c.args.self.now.places.items in
     rw c.deref_mut.ensures.value
     (within c.args.client c.get-slot.result ps c.requires.first
@@ -49,7 +51,7 @@ invariant_of-self c =
     let ps : List Place = c.args.self.now.places.items in
     let at : ℕ = (c.args.client - 1) * 4 + c.get-slot.result in
     let e =
-    done _ c.args.self.now.settings c.args.command _ ps
+    done _ c.args.self.now.settings _ c.args.command _ ps
     c.command_at.new.places at c.command_at.result refl c.deref_mut.ensures.value
     c.command_at.ensures in
     let last = many c.args.client c.args.self.now.clients ps c.requires.last c.args.self.now.keys in
@@ -61,8 +63,19 @@ invariant_of-self c =
     let whole =
     refilled c.args.self.now.places.len ps (slice_set ps at e.new)
     (k.size ∙ sym (ap length c.deref_mut.ensures.value) ∙ c.deref_mut.ensures.len) in
+    let reach : ℕ = most_wait c.args.self.now.settings in
+    let ready = all-ready c.args.self.now.time reach ps c.args.self.now.on_way in
     record {
       few = rw (e.set, whole) k.few;
+      early = c.args.self.now.early;
+      on_way = rw (e.set, whole) (all-on-way c.args.self.now.time reach (slice_set ps at e.new)
+          (set-keeps (λ (p : Place). IsReady 0 c.args.self.now.time p.slot) ps at e.old e.new b e.is
+          (e.ready 0 (omega arith)) ready.0)
+          (set-keeps (λ (p : Place). IsWithin reach p.slot) ps at e.old e.new b e.is e.reach
+          ready.1));
+      packed = c.args.self.now.packed;
+      room = c.args.self.now.room;
+      taken = c.args.self.now.taken;
       size = c.args.self.now.size;
       keys = rw (e.set, whole) (k.keys ∙ c.args.self.now.keys);
     }
@@ -72,11 +85,11 @@ returns-clause-answer c settings xs asked s =
     let ps : List Place = c.args.self.now.places.items in
     let at : ℕ = (c.args.client - 1) * 4 + c.get-slot.result in
     let e =
-    done _ settings c.args.command _ ps c.command_at.new.places at c.command_at.result
+    done _ settings _ c.args.command _ ps c.command_at.new.places at c.command_at.result
     s.recorded c.deref_mut.ensures.value c.command_at.ensures in
     let n : c.get-slot.result ≡ slot_of c.args.command = c.get-slot.ensures.same ∙ c.slot.ensures in
     let last = many c.args.client c.args.self.now.clients ps c.requires.last c.args.self.now.keys in
-    e.answers xs _ (subst (λ (m : ℕ). StandsFor settings xs (asked c.args.client m) e.old.slot) n
+    e.answers xs _ (sym s.now) (subst (λ (m : ℕ). StandsFor settings xs (asked c.args.client m) e.old.slot) n
     (stands-at settings xs asked ps c.args.client c.get-slot.result c.args.self.now.time e.old
     e.old c.requires.first last c.get-slot.ensures.range
     (own_keys c.args.self.now.clients ps c.args.self.now.keys) e.is s.slots))
@@ -86,7 +99,7 @@ returns-clause-stands c settings xs asked s =
     let ps : List Place = c.args.self.now.places.items in
     let at : ℕ = (c.args.client - 1) * 4 + c.get-slot.result in
     let e =
-    done _ settings c.args.command _ ps c.command_at.new.places at c.command_at.result
+    done _ settings _ c.args.command _ ps c.command_at.new.places at c.command_at.result
     s.recorded c.deref_mut.ensures.value c.command_at.ensures in
     let n : c.get-slot.result ≡ slot_of c.args.command = c.get-slot.ensures.same ∙ c.slot.ensures in
     let last = many c.args.client c.args.self.now.clients ps c.requires.last c.args.self.now.keys in
@@ -97,11 +110,12 @@ returns-clause-stands c settings xs asked s =
     record {
       recorded = s.recorded;
       now = s.now;
+      history = s.history;
       slots =
           rw (e.set, whole, ← n)
           (commanded settings xs asked ps c.args.client c.get-slot.result c.args.self.now.time
           e.old e.new c.requires.first last c.get-slot.ensures.range
           (own_keys c.args.self.now.clients ps c.args.self.now.keys) e.is
           (request_in c.args.command) s.slots e.client e.number
-          (λ commands t. e.stands xs commands t));
+          (λ commands t. e.stands xs commands (sym s.now) t));
     }

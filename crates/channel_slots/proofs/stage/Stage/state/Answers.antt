@@ -1,12 +1,18 @@
 use Rattle.std.proofs.Common.{arith, w64}
 use Rattle.std.proofs.lemmas.Int.{to_z-of_z, fits_signed_from_abs}
+use Rattle.channel_slots.proofs.SearchLemmas.{shows-sought}
 use Rattle.channel_slots.proofs.StageLemmas.{shows-held, shows-tracked}
 use Rattle.channel_slots.proofs.stage.Stage.state.Goals as goal
 
+pub returns-in-Searching : goal.returns-in-Searching
+returns-in-Searching c settings xs life s =
+    shows-sought settings xs life c.in-Searching.sought (rw c.in-Searching.is at s) _ _ _
+    c.prn.ensures c.done.ensures c.cells.ensures
+
 pub returns-in-Holding : goal.returns-in-Holding
 returns-in-Holding c settings xs life s =
-    shows-held settings xs life c.in-Holding.held c.prn.result c.dumps.result
-    (rw c.in-Holding.is at s) c.prn.ensures c.dumps.ensures
+    shows-held settings xs life c.in-Holding.held c.prn-in-Holding.result c.dumps.result
+    (rw c.in-Holding.is at s) c.prn-in-Holding.ensures c.dumps.ensures
 
 pub returns-in-Tracking : goal.returns-in-Tracking
 returns-in-Tracking c settings xs life s =

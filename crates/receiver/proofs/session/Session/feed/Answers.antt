@@ -20,7 +20,7 @@ before-next queues time n len h same = rw (← same) h
 pub returns-clause-stands : goal.returns-clause-stands
 unfolding until_next
 returns-clause-stands c settings clients xs s =
-    let ys : List Sample = c.args.run.now in
+    let ys : List Sample = c.args.run.now.samples in
     let queues : List Queue = c.args.self.now.queues.items in
     let free = before-next queues c.args.self.now.bank.time (length xs) (length ys) c.requires.quiet
     s.bank.now in
@@ -34,7 +34,7 @@ returns-clause-stands c settings clients xs s =
 pub returns-clause-told : goal.returns-clause-told
 unfolding until_next
 returns-clause-told c settings clients xs s =
-    let ys : List Sample = c.args.run.now in
+    let ys : List Sample = c.args.run.now.samples in
     let queues : List Queue = c.args.self.now.queues.items in
     let free = before-next queues c.args.self.now.bank.time (length xs) (length ys) c.requires.quiet
     s.bank.now in

@@ -1,4 +1,6 @@
-use Rattle.std.proofs.Common.{arith}
+use Rattle.std.proofs.Common.{List, ap, arith}
+use Rattle.definitions.specs.Samples.{Sample}
+use Rattle.sample_planes.specs.PackedRuns.{PackedRun}
 use Rattle.sample_planes.specs.Packings.{packing_of}
 use Rattle.sample_planes.proofs.RunLemmas.{run-counted_on, run-within}
 use Rattle.sample_planes.proofs.ByteLemmas.{place_of}
@@ -17,5 +19,7 @@ invariant_of-result c =
 
 pub returns : goal.returns
 returns c =
-    run-counted_on (packing_of c.args.format) c.args.bytes.now c.per_byte-per_byte.result
-    c.args.first c.args.len c.per_byte-per_byte.ensures c.requires.within
+    ap (λ (l : List Sample). let r : PackedRun =
+    record { packing = packing_of c.args.format; samples = l } in r)
+    (run-counted_on (packing_of c.args.format) c.args.bytes.now c.per_byte-per_byte.result
+    c.args.first c.args.len c.per_byte-per_byte.ensures c.requires.within)

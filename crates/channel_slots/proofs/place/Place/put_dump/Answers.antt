@@ -1,7 +1,7 @@
 use Rattle.std.proofs.Common.{[], ◌∷◌}
 use Rattle.channel_slots.specs.declared.event.Event.TheVariants as events
 use Rattle.channel_slots.proofs.PutLemmas.{puts-none, puts-more, mapped}
-use Rattle.channel_slots.proofs.place.Place.put_news.Goals as goal
+use Rattle.channel_slots.proofs.place.Place.put_dump.Goals as goal
 
 pub returns-in-Nothing : goal.returns-in-Nothing
 returns-in-Nothing c =

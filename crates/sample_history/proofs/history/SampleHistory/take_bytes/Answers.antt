@@ -6,7 +6,7 @@ use Rattle.sample_planes.specs.Packings.{width_of}
 use Rattle.sample_history.specs.Histories.{packing_in}
 use Rattle.sample_history.proofs.HistoryLemmas.{held_next}
 use Rattle.sample_history.proofs.PlaceLemmas.{width_from, used_bits, room_kept}
-use Rattle.sample_history.proofs.history.SampleHistory.take.Goals as goal
+use Rattle.sample_history.proofs.history.SampleHistory.take_bytes.Goals as goal
 
 pub returns-clause-stands : goal.returns-clause-stands
 returns-clause-stands c xs before =

@@ -1,0 +1,214 @@
+-- What a life tells that searches.
+use Rattle.std.proofs.Common.{◌≡◌, ℕ, ◌+◌, ◌<◌, ◌≤◌, List, [], ◌∷◌, ◌++◌, length, take, refl, sym}
+use Rattle.std.proofs.Common.{ap, ◌∙◌, subst, arith, length-append, true, false}
+use Rattle.std.specs.Prelude.{Bool, ◌&&◌, nat_le, Option, Some, None}
+use Rattle.std.specs.Option.{is_some, IsSome}
+use Rattle.std.proofs.lemmas.Bool.{lt-leb, le-leb, not-true, not-false}
+use Rattle.std.proofs.lemmas.List.{length-take}
+use Rattle.definitions.specs.Samples.{Sample}
+use Rattle.definitions.specs.Oscillators.{Settings}
+use Rattle.definitions.specs.Acquisition.{Plan, Cell as DefinedCell, result_of, due_time}
+use Rattle.definitions.specs.Acquisition.{cell_count}
+use Rattle.definitions.specs.Segments.{Channel, counts_of}
+use Rattle.definitions.specs.Commands.{Start, acquire, state}
+use Rattle.definitions.specs.Answers.{shown, acquiring, answer_with, view_of}
+use Rattle.definitions.specs.Lives.{Life, channel_of, found_channel, dumps_of_life, is_over}
+use Rattle.definitions.specs.Lives.{lost_after, is_steered, found_nothing}
+use Rattle.definitions.specs.Events.{acquired, life_events}
+use Rattle.definitions.proofs.BlockLemmas.{progress-begun}
+use Rattle.definitions.proofs.DueLemmas.{acquire-quiet, acquire-tells, acquire-no_dumps}
+use Rattle.definitions.proofs.DueLemmas.{due-no_dumps}
+use Rattle.definitions.proofs.EndLemmas.{no_counts-not_lost}
+use Rattle.acquisition.specs.declared.cell.Cell.{Cell}
+use Rattle.acquisition.specs.Cells.{cell_in}
+use Rattle.sample_planes.specs.Sources.{AreSamplesOf}
+use Rattle.channels.specs.declared.sought.Sought.{Sought}
+use Rattle.channels.specs.declared.tracked.Tracked.{Tracked}
+use Rattle.channels.specs.Searching as sought
+use Rattle.channels.specs.Searching.{Searches, Answers}
+use Rattle.channels.specs.TrackedChannels.{Tracks, counts_so_far}
+use Rattle.channel_slots.specs.declared.stage.Stage.{Stage}
+use Rattle.channel_slots.specs.declared.stage.Stage.TheVariants.{Searching}
+use Rattle.channel_slots.specs.declared.stage_news.StageNews.TheVariants as stage_news
+use Rattle.channel_slots.specs.Stages.{IsSought, IsTracked, Follows, Takes}
+
+pub not-some : {A : Type 0} (o : Option A) → o ≡ None → IsSome o → ⊥
+not-some o none some = clash (ap is_some none) some
+  where
+    clash : {b : Bool} → b ≡ false → b ≡ true → ⊥
+    clash f t = cc
+
+-- samples from a later one on
+pub from-later : (xs : List Sample) (first begun to : ℕ) (held : ℕ → Sample) → first ≤ begun
+    → AreSamplesOf xs first to held → AreSamplesOf xs begun to held
+from-later xs first begun to held later samples n low high =
+    samples n (omega (arith, later, low)) high
+
+-- before the first dump of a channel no signal is lost
+pub none-yet : (settings : Settings) (xs : List Sample) (channel : Channel)
+    → length xs ≤ channel.start → lost_after (counts_so_far settings channel xs) ≡ None
+none-yet settings xs channel early =
+    ap (λ p. lost_after (counts_of p.dumps)) (progress-begun settings channel xs early)
+    ∙ by_lost (lost_after []) no_counts-not_lost
+  where
+    by_lost : (o : Option ℕ) → is_some o ≡ false → o ≡ None
+    by_lost None e = refl
+    by_lost (Some k) e = cc
+
+-- an acquisition that isn't due is on
+sought-on : (settings : Settings) (xs : List Sample) (life : Life) (plan : Plan)
+    → life.start ≡ acquire plan → length xs < due_time settings plan life.begun
+    → is_over settings xs life ≡ false
+unfolding is_over
+sought-on settings xs life plan is early =
+    rw (
+      not_found life.start is,
+      acquire-no_dumps settings xs life plan is early,
+      no_counts-not_lost,
+    )
+    (no-end (is_steered life.start))
+  where
+    not_found : (start : Start) → start ≡ acquire plan
+        → found_nothing settings xs life.begun start ≡ false
+    not_found start e =
+        rw (e, lt-leb (due_time settings plan life.begun) (length xs) early) refl
+
+    no-end : (b : Bool) → (b && false) ≡ false
+    no-end true = refl
+    no-end false = refl
+
+module _ (settings : Settings) (xs : List Sample) (life : Life) (a : Sought)
+    (s : IsSought settings xs life a) where
+  early : length xs < due_time settings s.plan life.begun
+  early = omega (arith, s.searches.due, s.waits)
+
+  pub sought-dumps : dumps_of_life settings xs life ≡ []
+  sought-dumps = acquire-no_dumps settings xs life s.plan s.start early
+
+  pub sought-is-on : is_over settings xs life ≡ false
+  sought-is-on = sought-on settings xs life s.plan s.start early
+
+  pub shows-sought : (prn done cells : ℕ) → prn ≡ (sought.plan_of a).prn
+      → done ≡ sought.done_of a → cells ≡ cell_count (sought.plan_of a)
+      → shown (acquiring prn done cells) ≡ answer_with settings xs (Some life) state
+  unfolding view_of
+  shows-sought prn done cells prn-is done-is cells-is =
+      let same = s.searches.search.plan_is in
+      let own : prn ≡ s.plan.prn = prn-is ∙ ap (λ (p : Plan). p.prn) same in
+      let all : cells ≡ cell_count s.plan = cells-is ∙ ap (λ (p : Plan). cell_count p) same in
+      rw (
+        s.start,
+        own,
+        done-is ∙ s.searches.done,
+        all,
+        lt-leb (due_time settings s.plan life.begun) (length xs) early,
+      ) refl
+
+  module _ (ys : List Sample) where
+    both : length (xs ++ ys) ≡ length xs + length ys
+    both = simp length-append (omega arith)
+
+    before : (n : ℕ) → length (xs ++ ys) ≡ n → n ≤ due_time settings s.plan life.begun → (j : ℕ)
+        → j < length ys → length (xs ++ take j ys) < due_time settings s.plan life.begun
+    before n is within j b =
+        simp length-append (omega (arith, both, is, within, b, length-take j ys))
+
+    quiet : length (xs ++ ys) ≤ due_time settings s.plan life.begun → (j : ℕ) → j < length ys
+        → life_events settings (xs ++ take j ys) (Some life) ≡ []
+    quiet within j b =
+        acquire-quiet settings (xs ++ take j ys) life s.plan s.start
+        (before (length (xs ++ ys)) refl within j b)
+
+    stays-on : length (xs ++ ys) ≤ due_time settings s.plan life.begun → (j : ℕ) → j < length ys
+        → is_over settings (xs ++ take j ys) life ≡ false
+    stays-on within j b =
+        sought-on settings (xs ++ take j ys) life s.plan s.start
+        (before (length (xs ++ ys)) refl within j b)
+
+    -- where its answer isn't due yet
+    pub searches-on : (b : Sought) → Searches settings s.plan life.begun (xs ++ ys) b
+        → Answers settings s.plan life.begun (xs ++ ys) None
+        → Takes settings xs ys life (Searching b) None
+    searches-on b searches later = record {
+      inside = λ j first below. quiet (omega (arith, later)) j below;
+      on = stays-on (omega (arith, later));
+      brings = (
+        acquire-no_dumps settings (xs ++ ys) life s.plan s.start later ∙ sym sought-dumps,
+        acquire-quiet settings (xs ++ ys) life s.plan s.start later,
+      );
+      stands = λ on. record {
+        plan = s.plan;
+        start = s.start;
+        searches = searches;
+        waits = omega (arith, later, searches.due);
+      };
+      ends = λ e. cc;
+    }
+
+    -- where it is due with the last of them
+    module _ (prn : ℕ) (cell : Cell) (same : prn ≡ s.plan.prn)
+        (answer : Answers settings s.plan life.begun (xs ++ ys) (Some cell)) where
+      abbrev named : DefinedCell
+      named = result_of settings s.plan (xs ++ ys) life.begun
+
+      come : nat_le (due_time settings s.plan life.begun) (length (xs ++ ys)) ≡ true
+      come =
+          le-leb (due_time settings s.plan life.begun) (length (xs ++ ys))
+          (omega (arith, answer.0))
+
+      found-is : cell.found ≡ named.found
+      found-is = ap (λ (c : DefinedCell). c.found) answer.1
+
+      tells : life_events settings (xs ++ ys) (Some life) ≡ acquired prn (cell_in cell) ∷ []
+      tells =
+          acquire-tells settings (xs ++ ys) life s.plan s.start answer.0
+          ∙ ap (λ (c : DefinedCell). acquired s.plan.prn c ∷ []) (sym answer.1)
+          ∙ ap (λ n. acquired n (cell_in cell) ∷ []) (sym same)
+
+      over : cell.found ≡ false → is_over settings (xs ++ ys) life ≡ true
+      unfolding is_over
+      over none = rw (s.start, come, ← found-is, none) refl
+
+      given : cell.found ≡ true
+          → channel_of settings (xs ++ ys) life.begun life.start
+          ≡ Some (found_channel settings s.plan life.begun named)
+      given found = rw (s.start, come, ← found-is, found) refl
+
+      pub answers : (stage : Stage) → (cell.found ≡ true → Follows settings (xs ++ ys) life stage)
+          → Takes settings xs ys life stage (Some (stage_news.Acquired prn cell))
+      answers stage follows = record {
+        inside = λ j first below. quiet (omega (arith, answer.0)) j below;
+        on = stays-on (omega (arith, answer.0));
+        brings = (
+          due-no_dumps settings (xs ++ ys) life s.plan s.start answer.0 ∙ sym sought-dumps,
+          tells,
+        );
+        stands = λ e. follows (not-false cell.found e);
+        ends = λ e. over (not-true cell.found e);
+      }
+
+      -- what was found is tracked
+      pub found : (t : Tracked)
+          → Tracks settings (found_channel settings s.plan life.begun (cell_in cell)) (xs ++ ys) t
+          → cell.found ≡ true → IsTracked settings (xs ++ ys) life t
+      found t tracks here = record {
+        channel = found_channel settings s.plan life.begun named;
+        steered = rw s.start refl;
+        given = given here;
+        tracks = subst (λ (c : DefinedCell). Tracks settings
+            (found_channel settings s.plan life.begun c) (xs ++ ys) t) answer.1 tracks;
+        not_lost = none-yet settings (xs ++ ys)
+            (found_channel settings s.plan life.begun named) (omega (arith, answer.0));
+      }
+
+-- a life that begins now
+pub starts-sought : (settings : Settings) (xs : List Sample) (life : Life) (a : Sought)
+    (plan : Plan) → life.begun ≡ length xs → life.start ≡ acquire plan
+    → Searches settings plan (length xs) xs a → 0 < sought.to_due_of a
+    → IsSought settings xs life a
+starts-sought settings xs life a plan begun start searches waits = record {
+  plan = plan;
+  start = start;
+  searches = rw begun searches;
+  waits = waits;
+}
