@@ -19,7 +19,7 @@ use Rattle.definitions.specs.Answers.{answer_at_end, view_of}
 use Rattle.definitions.specs.Texts.{event_text, answer_text}
 use Rattle.definitions.specs.Banks.{layout}
 use Rattle.definitions.specs.Runs.{Task, Input, InputEnd, exhausted, failed, unfinished, taken_samples, due_text, are_shares, are_clients, IsAnswer, write_failed}
-use Rattle.definitions.specs.Receiver.{body, Client, full_profile, entries_of, commands_to, body_lines, end_lines, full_lines, at_each_time, lines_at, event_lines, answer_lines, for_each_client, event_texts, answer_texts, full}
+use Rattle.definitions.specs.Receiver.{body, Client, entries_of, commands_to, body_lines, end_lines, full_lines, at_each_time, lines_at, event_lines, answer_lines, for_each_client, event_texts, answer_texts, full}
 
 -- lines of text, each ended
 abbrev text : List (List ℕ) → List ℕ
@@ -31,7 +31,7 @@ client slots lines = record { slots = slots; script = text lines }
 
 -- what is written for bytes of samples
 abbrev run : Settings → List ℕ → List Client → List ℕ
-run settings bytes clients = full full_profile settings (samples settings.packing bytes) clients
+run settings bytes clients = full settings (samples settings.packing bytes) clients
 
 abbrev usual : Settings
 usual = record { rate = 2046000; offset = pos 0; packing = real1 }
@@ -113,7 +113,7 @@ counts_and_lives = refl
 -- ---- the end of a run
 
 abbrev task : ℕ → List (List ℕ) → Task
-task limit lines = record { profile = full_profile; settings = usual; shares = 4 ∷ []; scripts = text lines ∷ []; limit = limit }
+task limit lines = record { settings = usual; shares = 4 ∷ []; scripts = text lines ∷ []; limit = limit }
 
 abbrev input : List ℕ → InputEnd → Input
 input bytes end = record { bytes = bytes; end = end }

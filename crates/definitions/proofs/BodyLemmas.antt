@@ -14,7 +14,7 @@ use Rattle.definitions.specs.Oscillators.{Settings}
 use Rattle.definitions.specs.Commands.{TimedRequest}
 use Rattle.definitions.specs.Lines.{as_bytes, ended_line}
 use Rattle.definitions.specs.Lives.{Life, life_of, life_after}
-use Rattle.definitions.specs.Receiver.{alone, lines_alone_at, Client, Profile, body_lines, body}
+use Rattle.definitions.specs.Receiver.{alone, lines_alone_at, Client, body_lines, body}
 use Rattle.definitions.specs.Receiver.{lines_at, at_each_time}
 
 range_more : (a n : ℕ) → range_with_len a (suc n) ≡ range_with_len a n ++ (a + n) ∷ []
@@ -53,58 +53,58 @@ at_each_time-more lines xs x =
     ∙ ap (λ r. flat_map (λ t. lines (take t xs)) (range_with_len 0 (n + 1)) ++ r) last
 
 -- one more sample: the lines so far, and those of the new time
-pub body_lines-more : (profile : Profile) (settings : Settings) (xs : List Sample) (x : Sample)
+pub body_lines-more : (settings : Settings) (xs : List Sample) (x : Sample)
     (clients : List Client)
-    → body_lines profile settings (xs ++ x ∷ []) clients
-    ≡ body_lines profile settings xs clients ++ lines_at profile settings clients (xs ++ x ∷ [])
+    → body_lines settings (xs ++ x ∷ []) clients
+    ≡ body_lines settings xs clients ++ lines_at settings clients (xs ++ x ∷ [])
 unfolding body_lines
-body_lines-more profile settings xs x clients =
-    at_each_time-more (lines_at profile settings clients) xs x
+body_lines-more settings xs x clients =
+    at_each_time-more (lines_at settings clients) xs x
 
-pub alone-more : (profile : Profile) (settings : Settings) (xs : List Sample) (x : Sample)
+pub alone-more : (settings : Settings) (xs : List Sample) (x : Sample)
     (client : Client)
-    → alone profile settings (xs ++ x ∷ []) client
-    ≡ alone profile settings xs client ++ lines_alone_at profile settings client (xs ++ x ∷ [])
+    → alone settings (xs ++ x ∷ []) client
+    ≡ alone settings xs client ++ lines_alone_at settings client (xs ++ x ∷ [])
 unfolding alone
-alone-more profile settings xs x client =
-    at_each_time-more (lines_alone_at profile settings client) xs x
+alone-more settings xs x client =
+    at_each_time-more (lines_alone_at settings client) xs x
 
 pub as_bytes-append : (ls ms : List (List ℕ)) → as_bytes (ls ++ ms) ≡ as_bytes ls ++ as_bytes ms
 unfolding as_bytes
 as_bytes-append ls ms = flat_map-append ended_line ls ms
 
 -- the lines at the times of further samples
-pub body_lines-append : (profile : Profile) (settings : Settings) (clients : List Client)
+pub body_lines-append : (settings : Settings) (clients : List Client)
     (xs ys : List Sample)
     → (rest : List (List ℕ))
-    × (body_lines profile settings (xs ++ ys) clients
-    ≡ body_lines profile settings xs clients ++ rest)
-body_lines-append profile settings clients xs [] = (
+    × (body_lines settings (xs ++ ys) clients
+    ≡ body_lines settings xs clients ++ rest)
+body_lines-append settings clients xs [] = (
   [],
-  ap (λ zs. body_lines profile settings zs clients) (append-nil xs)
-      ∙ sym (append-nil (body_lines profile settings xs clients)),
+  ap (λ zs. body_lines settings zs clients) (append-nil xs)
+      ∙ sym (append-nil (body_lines settings xs clients)),
 )
-body_lines-append profile settings clients xs (y ∷ ys) =
-    let later = body_lines-append profile settings clients (xs ++ y ∷ []) ys in
+body_lines-append settings clients xs (y ∷ ys) =
+    let later = body_lines-append settings clients (xs ++ y ∷ []) ys in
     let e : xs ++ y ∷ ys ≡ (xs ++ y ∷ []) ++ ys = sym (append_assoc xs (y ∷ []) ys) in (
-      lines_at profile settings clients (xs ++ y ∷ []) ++ later.0,
-      ap (λ zs. body_lines profile settings zs clients) e ∙ later.1
-          ∙ ap (λ ls. ls ++ later.0) (body_lines-more profile settings xs y clients)
-          ∙ append_assoc (body_lines profile settings xs clients)
-          (lines_at profile settings clients (xs ++ y ∷ [])) later.0,
+      lines_at settings clients (xs ++ y ∷ []) ++ later.0,
+      ap (λ zs. body_lines settings zs clients) e ∙ later.1
+          ∙ ap (λ ls. ls ++ later.0) (body_lines-more settings xs y clients)
+          ∙ append_assoc (body_lines settings xs clients)
+          (lines_at settings clients (xs ++ y ∷ [])) later.0,
     )
 
 -- the text of more samples begins with that of fewer
-pub body-append : (profile : Profile) (settings : Settings) (clients : List Client)
+pub body-append : (settings : Settings) (clients : List Client)
     (xs ys : List Sample)
     → (rest : List ℕ)
-    × (body profile settings (xs ++ ys) clients ≡ body profile settings xs clients ++ rest)
+    × (body settings (xs ++ ys) clients ≡ body settings xs clients ++ rest)
 unfolding body
-body-append profile settings clients xs ys =
-    let lines = body_lines-append profile settings clients xs ys in (
+body-append settings clients xs ys =
+    let lines = body_lines-append settings clients xs ys in (
       as_bytes lines.0,
       ap as_bytes lines.1
-          ∙ as_bytes-append (body_lines profile settings xs clients) lines.0,
+          ∙ as_bytes-append (body_lines settings xs clients) lines.0,
     )
 
 -- commands that all came by now leave the same life, whatever samples follow

@@ -12,7 +12,7 @@ use Rattle.std.proofs.lemmas.Bool.{eqb-false}
 use Rattle.definitions.specs.Oscillators.{Settings}
 use Rattle.definitions.specs.Samples.{Sample}
 use Rattle.definitions.specs.Texts.{for_client}
-use Rattle.definitions.specs.Receiver.{Client, Profile, lines_of_client, is_of_client}
+use Rattle.definitions.specs.Receiver.{Client, lines_of_client, is_of_client}
 use Rattle.definitions.specs.Receiver.{for_each_client, lines_at, event_lines, answer_lines}
 use Rattle.definitions.specs.Receiver.{lines_alone_at, body_lines, end_lines, full_lines, end_line}
 use Rattle.definitions.specs.Receiver.{alone, alone_to_end, at_each_time, timed_texts, event_texts}
@@ -138,22 +138,22 @@ unfolding for_each_client numbered
 of_client-each lines k clients client found few =
     of_client-numbered lines 1 k clients client found (omega (arith, few))
 
-of_client-at : (profile : Profile) (settings : Settings) (k : ℕ) (clients : List Client)
+of_client-at : (settings : Settings) (k : ℕ) (clients : List Client)
     (client : Client) → slice_get clients k ≡ Some client → length clients < 2 ^ 64
     → (xs : List Sample)
-    → lines_of_client (1 + k) (lines_at profile settings clients xs)
-    ≡ lines_alone_at profile settings client xs
+    → lines_of_client (1 + k) (lines_at settings clients xs)
+    ≡ lines_alone_at settings client xs
 unfolding lines_at event_lines answer_lines lines_alone_at
-of_client-at profile settings k clients client found few xs =
+of_client-at settings k clients client found few xs =
     of_client-append (1 + k)
-    (for_each_client (λ c. timed_texts xs (event_texts profile settings c xs)) clients)
-    (for_each_client (λ c. timed_texts xs (answer_texts profile settings c xs)) clients)
+    (for_each_client (λ c. timed_texts xs (event_texts settings c xs)) clients)
+    (for_each_client (λ c. timed_texts xs (answer_texts settings c xs)) clients)
     ∙ ap (λ r. r ++ lines_of_client (1 + k)
-    (for_each_client (λ c. timed_texts xs (answer_texts profile settings c xs)) clients))
-    (of_client-each (λ c. timed_texts xs (event_texts profile settings c xs)) k clients client
+    (for_each_client (λ c. timed_texts xs (answer_texts settings c xs)) clients))
+    (of_client-each (λ c. timed_texts xs (event_texts settings c xs)) k clients client
     found few)
-    ∙ ap (λ r. timed_texts xs (event_texts profile settings client xs) ++ r)
-    (of_client-each (λ c. timed_texts xs (answer_texts profile settings c xs)) k clients client
+    ∙ ap (λ r. timed_texts xs (event_texts settings client xs) ++ r)
+    (of_client-each (λ c. timed_texts xs (answer_texts settings c xs)) k clients client
     found few)
 
 flat_map-same : {A B : Type 0} (f g : A → List B) (xs : List A) → ((x : A) → f x ≡ g x)
@@ -162,31 +162,31 @@ flat_map-same f g [] e = refl
 flat_map-same f g (x ∷ xs) e = rw (e x, flat_map-same f g xs e)
 
 -- among the lines of all clients, those of client k + 1 are what it gets alone
-pub lines_of_client-body : (profile : Profile) (settings : Settings) (xs : List Sample)
+pub lines_of_client-body : (settings : Settings) (xs : List Sample)
     (clients : List Client) (k : ℕ) (client : Client) → slice_get clients k ≡ Some client
     → length clients < 2 ^ 64
-    → lines_of_client (1 + k) (body_lines profile settings xs clients)
-    ≡ alone profile settings xs client
+    → lines_of_client (1 + k) (body_lines settings xs clients)
+    ≡ alone settings xs client
 unfolding body_lines alone at_each_time
-lines_of_client-body profile settings xs clients k client found few =
-    of_client-flat_map (1 + k) (λ t. lines_at profile settings clients (take t xs))
+lines_of_client-body settings xs clients k client found few =
+    of_client-flat_map (1 + k) (λ t. lines_at settings clients (take t xs))
     (range_with_len 0 (length xs + 1))
-    ∙ flat_map-same (λ t. lines_of_client (1 + k) (lines_at profile settings clients (take t xs)))
-    (λ t. lines_alone_at profile settings client (take t xs)) (range_with_len 0 (length xs + 1))
-    (λ t. of_client-at profile settings k clients client found few (take t xs))
+    ∙ flat_map-same (λ t. lines_of_client (1 + k) (lines_at settings clients (take t xs)))
+    (λ t. lines_alone_at settings client (take t xs)) (range_with_len 0 (length xs + 1))
+    (λ t. of_client-at settings k clients client found few (take t xs))
 
 -- the same with the ends
-pub lines_of_client-full : (profile : Profile) (settings : Settings) (xs : List Sample)
+pub lines_of_client-full : (settings : Settings) (xs : List Sample)
     (clients : List Client) (k : ℕ) (client : Client) → slice_get clients k ≡ Some client
     → length clients < 2 ^ 64
-    → lines_of_client (1 + k) (full_lines profile settings xs clients)
-    ≡ alone_to_end profile settings xs client
+    → lines_of_client (1 + k) (full_lines settings xs clients)
+    ≡ alone_to_end settings xs client
 unfolding full_lines end_lines alone_to_end
-lines_of_client-full profile settings xs clients k client found few =
-    of_client-append (1 + k) (body_lines profile settings xs clients) (end_lines xs clients)
+lines_of_client-full settings xs clients k client found few =
+    of_client-append (1 + k) (body_lines settings xs clients) (end_lines xs clients)
     ∙ ap (λ r. r ++ lines_of_client (1 + k) (end_lines xs clients))
-    (lines_of_client-body profile settings xs clients k client found few)
-    ∙ ap (λ r. alone profile settings xs client ++ r)
+    (lines_of_client-body settings xs clients k client found few)
+    ∙ ap (λ r. alone settings xs client ++ r)
     (of_client-each (λ c. end_line xs ∷ []) k clients client found few)
 
 -- one client's lines, where there is no other
@@ -201,34 +201,34 @@ map-flat_map g f [] = refl
 map-flat_map g f (t ∷ ts) =
     map-append g (f t) (flat_map f ts) ∙ ap (λ r. map g (f t) ++ r) (map-flat_map g f ts)
 
-single-at : (profile : Profile) (settings : Settings) (client : Client) (xs : List Sample)
-    → lines_at profile settings (client ∷ []) xs
-    ≡ map (for_client 1) (lines_alone_at profile settings client xs)
+single-at : (settings : Settings) (client : Client) (xs : List Sample)
+    → lines_at settings (client ∷ []) xs
+    ≡ map (for_client 1) (lines_alone_at settings client xs)
 unfolding lines_at event_lines answer_lines lines_alone_at
-single-at profile settings client xs =
-    ap (λ r. r ++ for_each_client (λ c. timed_texts xs (answer_texts profile settings c xs))
-    (client ∷ [])) (single (λ c. timed_texts xs (event_texts profile settings c xs)) client)
-    ∙ ap (λ r. map (for_client 1) (timed_texts xs (event_texts profile settings client xs)) ++ r)
-    (single (λ c. timed_texts xs (answer_texts profile settings c xs)) client)
-    ∙ sym (map-append (for_client 1) (timed_texts xs (event_texts profile settings client xs))
-    (timed_texts xs (answer_texts profile settings client xs)))
+single-at settings client xs =
+    ap (λ r. r ++ for_each_client (λ c. timed_texts xs (answer_texts settings c xs))
+    (client ∷ [])) (single (λ c. timed_texts xs (event_texts settings c xs)) client)
+    ∙ ap (λ r. map (for_client 1) (timed_texts xs (event_texts settings client xs)) ++ r)
+    (single (λ c. timed_texts xs (answer_texts settings c xs)) client)
+    ∙ sym (map-append (for_client 1) (timed_texts xs (event_texts settings client xs))
+    (timed_texts xs (answer_texts settings client xs)))
 
 -- a run with one client writes what that client gets alone
-pub full_lines-single : (profile : Profile) (settings : Settings) (xs : List Sample)
+pub full_lines-single : (settings : Settings) (xs : List Sample)
     (client : Client)
-    → full_lines profile settings xs (client ∷ [])
-    ≡ map (for_client 1) (alone_to_end profile settings xs client)
+    → full_lines settings xs (client ∷ [])
+    ≡ map (for_client 1) (alone_to_end settings xs client)
 unfolding full_lines body_lines end_lines alone_to_end alone at_each_time
-full_lines-single profile settings xs client =
+full_lines-single settings xs client =
     ap (λ r. r ++ for_each_client (λ c. end_line xs ∷ []) (client ∷ []))
-    (flat_map-same (λ t. lines_at profile settings (client ∷ []) (take t xs))
-    (λ t. map (for_client 1) (lines_alone_at profile settings client (take t xs)))
-    (range_with_len 0 (length xs + 1)) (λ t. single-at profile settings client (take t xs))
-    ∙ sym (map-flat_map (for_client 1) (λ t. lines_alone_at profile settings client (take t xs))
+    (flat_map-same (λ t. lines_at settings (client ∷ []) (take t xs))
+    (λ t. map (for_client 1) (lines_alone_at settings client (take t xs)))
+    (range_with_len 0 (length xs + 1)) (λ t. single-at settings client (take t xs))
+    ∙ sym (map-flat_map (for_client 1) (λ t. lines_alone_at settings client (take t xs))
     (range_with_len 0 (length xs + 1))))
     ∙ ap (λ r. map (for_client 1)
-    (flat_map (λ t. lines_alone_at profile settings client (take t xs))
+    (flat_map (λ t. lines_alone_at settings client (take t xs))
     (range_with_len 0 (length xs + 1))) ++ r) (single (λ c. end_line xs ∷ []) client)
     ∙ sym (map-append (for_client 1)
-    (flat_map (λ t. lines_alone_at profile settings client (take t xs))
+    (flat_map (λ t. lines_alone_at settings client (take t xs))
     (range_with_len 0 (length xs + 1))) (end_line xs ∷ []))

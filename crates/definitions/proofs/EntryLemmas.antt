@@ -10,10 +10,10 @@ use Rattle.definitions.specs.Samples.{Sample}
 use Rattle.definitions.specs.Oscillators.{Settings}
 use Rattle.definitions.specs.Commands.{Command}
 use Rattle.definitions.specs.Lines.{words_of, lines_of}
-use Rattle.definitions.specs.Scripts.{Verb, Entry, entry_at, entry_of, entry_of_words}
+use Rattle.definitions.specs.Scripts.{verbs, Verb, Entry, entry_at, entry_of, entry_of_words}
 use Rattle.definitions.specs.Scripts.{entries_after, last_time, script, time_in, is_printable}
 use Rattle.definitions.specs.Scripts.{command_in}
-use Rattle.definitions.specs.Receiver.{Client, Profile, entries_of, answer_texts}
+use Rattle.definitions.specs.Receiver.{Client, entries_of, answer_texts}
 use Rattle.definitions.specs.Receiver.{entry_answer_texts, reply_text}
 
 -- ---- by time
@@ -111,11 +111,11 @@ entries_after-later known slots before (line ∷ lines) =
     (entries_after-later known slots (last_time before here) lines)
 
 -- the entries of a script come by time
-pub entries_of-by_time : (profile : Profile) (client : Client)
-    → AreByTime (entries_of profile client)
+pub entries_of-by_time : (client : Client)
+    → AreByTime (entries_of client)
 unfolding entries_of script
-entries_of-by_time profile client =
-    (entries_after-later profile.verbs client.slots 0 (lines_of client.script)).by_time
+entries_of-by_time client =
+    (entries_after-later verbs client.slots 0 (lines_of client.script)).by_time
 
 -- ---- answered one by one
 
@@ -125,11 +125,11 @@ unfoldable pub answers_left : Settings → List Sample → List Entry → List E
 answers_left settings xs done left =
     flat_map (entry_answer_texts settings xs (done ++ left)) (enumerate_from (length done) left)
 
-pub answered-left : (profile : Profile) (settings : Settings) (client : Client) (xs : List Sample)
-    → answer_texts profile settings client xs
-    ≡ answers_left settings xs [] (entries_of profile client)
+pub answered-left : (settings : Settings) (client : Client) (xs : List Sample)
+    → answer_texts settings client xs
+    ≡ answers_left settings xs [] (entries_of client)
 unfolding answer_texts answers_left
-answered-left profile settings client xs = refl
+answered-left settings client xs = refl
 
 at_its_time : (settings : Settings) (xs : List Sample) (entries : List Entry) (k : ℕ) (e : Entry)
     (b : Bool) → nat_eq e.time (length xs) ≡ b

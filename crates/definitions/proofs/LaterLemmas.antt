@@ -6,7 +6,7 @@ use Rattle.std.specs.List.{AllByRecursion, enumerate_from}
 use Rattle.definitions.specs.Samples.{Sample}
 use Rattle.definitions.specs.Oscillators.{Settings}
 use Rattle.definitions.specs.Texts.{for_client}
-use Rattle.definitions.specs.Receiver.{Profile, Client, timed_texts, event_texts, answer_texts}
+use Rattle.definitions.specs.Receiver.{Client, timed_texts, event_texts, answer_texts}
 use Rattle.definitions.specs.Receiver.{event_lines, answer_lines, lines_at, for_each_client}
 use Rattle.definitions.specs.Receiver.{body_lines}
 use Rattle.definitions.specs.TextLaws.{IsLaterThan, MoreSamplesTellLater}
@@ -36,40 +36,40 @@ clients-later t xs h texts k (client ∷ clients) =
     (enumerate_from (k + 1) clients))
     (texts-later t k xs h (texts client)) (clients-later t xs h texts (k + 1) clients)
 
-lines_at-later : (profile : Profile) (settings : Settings) (clients : List Client) (t : ℕ)
+lines_at-later : (settings : Settings) (clients : List Client) (t : ℕ)
     (xs : List Sample) → t < length xs
-    → AllByRecursion (IsLaterThan t) (lines_at profile settings clients xs)
+    → AllByRecursion (IsLaterThan t) (lines_at settings clients xs)
 unfolding lines_at event_lines answer_lines for_each_client
-lines_at-later profile settings clients t xs h =
-    all-append (IsLaterThan t) (event_lines profile settings clients xs)
-    (answer_lines profile settings clients xs)
-    (clients-later t xs h (λ client. event_texts profile settings client xs) 1 clients)
-    (clients-later t xs h (λ client. answer_texts profile settings client xs) 1 clients)
+lines_at-later settings clients t xs h =
+    all-append (IsLaterThan t) (event_lines settings clients xs)
+    (answer_lines settings clients xs)
+    (clients-later t xs h (λ client. event_texts settings client xs) 1 clients)
+    (clients-later t xs h (λ client. answer_texts settings client xs) 1 clients)
 
 -- all of the lines that further samples add
-added-later : (profile : Profile) (settings : Settings) (clients : List Client) (t : ℕ)
+added-later : (settings : Settings) (clients : List Client) (t : ℕ)
     (xs ys : List Sample) → t < suc (length xs)
     → (rest : List (List ℕ))
-    × (body_lines profile settings (xs ++ ys) clients
-    ≡ body_lines profile settings xs clients ++ rest) × AllByRecursion (IsLaterThan t) rest
-added-later profile settings clients t xs [] h = (
+    × (body_lines settings (xs ++ ys) clients
+    ≡ body_lines settings xs clients ++ rest) × AllByRecursion (IsLaterThan t) rest
+added-later settings clients t xs [] h = (
   [],
-  ap (λ zs. body_lines profile settings zs clients) (append-nil xs)
-      ∙ sym (append-nil (body_lines profile settings xs clients)),
+  ap (λ zs. body_lines settings zs clients) (append-nil xs)
+      ∙ sym (append-nil (body_lines settings xs clients)),
   tt,
 )
-added-later profile settings clients t xs (y ∷ ys) h =
+added-later settings clients t xs (y ∷ ys) h =
     let long : length (xs ++ y ∷ []) ≡ suc (length xs) = length-append xs (y ∷ []) ∙ omega arith in
-    let later = added-later profile settings clients t (xs ++ y ∷ []) ys (omega arith) in
-    let now = lines_at profile settings clients (xs ++ y ∷ []) in (
+    let later = added-later settings clients t (xs ++ y ∷ []) ys (omega arith) in
+    let now = lines_at settings clients (xs ++ y ∷ []) in (
       now ++ later.0,
-      ap (λ zs. body_lines profile settings zs clients) (sym (append_assoc xs (y ∷ []) ys))
-          ∙ later.1 ∙ ap (λ ls. ls ++ later.0) (body_lines-more profile settings xs y clients)
-          ∙ append_assoc (body_lines profile settings xs clients) now later.0,
+      ap (λ zs. body_lines settings zs clients) (sym (append_assoc xs (y ∷ []) ys))
+          ∙ later.1 ∙ ap (λ ls. ls ++ later.0) (body_lines-more settings xs y clients)
+          ∙ append_assoc (body_lines settings xs clients) now later.0,
       all-append (IsLaterThan t) now later.0
-          (lines_at-later profile settings clients t (xs ++ y ∷ []) (omega arith)) later.2,
+          (lines_at-later settings clients t (xs ++ y ∷ []) (omega arith)) later.2,
     )
 
 pub more-later : MoreSamplesTellLater
-more-later profile settings clients xs ys =
-    added-later profile settings clients (length xs) xs ys (omega arith)
+more-later settings clients xs ys =
+    added-later settings clients (length xs) xs ys (omega arith)

@@ -10,7 +10,7 @@ use Rattle.std.proofs.lemmas.List.Elements.{filter-append}
 use Rattle.definitions.specs.Samples.{Sample}
 use Rattle.definitions.specs.Oscillators.{Settings}
 use Rattle.definitions.specs.Segments.{counts_of, Channel, Progress, Dump, progress, next_end}
-use Rattle.definitions.specs.Segments.{closed_at, first_progress}
+use Rattle.definitions.specs.Segments.{closed_at}
 use Rattle.definitions.specs.Commands.{Start, hold, TimedRequest, Request}
 use Rattle.definitions.specs.Events.{due_events, dump_events, steered_events, last_of, front_of}
 use Rattle.definitions.specs.Events.{unprinted_count, life_events, last_dump_events, when, count}

@@ -27,7 +27,7 @@ use Rattle.definitions.specs.Answers.{refused, shown, answer_at_end}
 use Rattle.definitions.specs.Texts.{words_text, hex_of_bytes, word_text, field_text, field_texts}
 use Rattle.definitions.specs.Texts.{counts_texts, page_text, report_text, almanacs_text, event_text}
 use Rattle.definitions.specs.Texts.{view_text, refusal_text, answer_text, at_time, for_client}
-use Rattle.definitions.specs.Receiver.{Client, Profile, entries_of, event_texts, slot_event_texts}
+use Rattle.definitions.specs.Receiver.{Client, entries_of, event_texts, slot_event_texts}
 use Rattle.definitions.specs.Receiver.{answer_texts, entry_answer_texts, reply_text, at_each_time}
 use Rattle.definitions.specs.Receiver.{timed_texts, for_each_client, lines_at, event_lines}
 use Rattle.definitions.specs.Receiver.{answer_lines, body_lines, end_lines, full_lines, end_line}
@@ -301,23 +301,23 @@ reply-line : (settings : Settings) (xs : List Sample) (before : List Entry)
 reply-line settings xs before (Ok c) = answer-line c.slot (answer_at_end settings xs _ c.request)
 reply-line settings xs before (Err refusal) = refusal-line refusal
 
-told-lines : (profile : Profile) (settings : Settings) (client : Client) (xs : List Sample)
-    → OneLines (event_texts profile settings client xs)
+told-lines : (settings : Settings) (client : Client) (xs : List Sample)
+    → OneLines (event_texts settings client xs)
 unfolding event_texts OneLines
-told-lines profile settings client xs =
-    all-flat_map OneLine (slot_event_texts settings xs (entries_of profile client))
+told-lines settings client xs =
+    all-flat_map OneLine (slot_event_texts settings xs (entries_of client))
     (range_with_len 0 client.slots)
     (λ slot. all-map OneLine (event_text slot) _ (event-line slot))
 
-answered-lines : (profile : Profile) (settings : Settings) (client : Client) (xs : List Sample)
-    → OneLines (answer_texts profile settings client xs)
+answered-lines : (settings : Settings) (client : Client) (xs : List Sample)
+    → OneLines (answer_texts settings client xs)
 unfolding answer_texts OneLines
-answered-lines profile settings client xs =
-    all-flat_map OneLine (entry_answer_texts settings xs (entries_of profile client))
-    (enumerate_from 0 (entries_of profile client))
+answered-lines settings client xs =
+    all-flat_map OneLine (entry_answer_texts settings xs (entries_of client))
+    (enumerate_from 0 (entries_of client))
     (λ (p : ℕ × Entry). by_if OneLines (nat_eq (p.1).time (length xs))
-    (reply_text settings xs (take p.0 (entries_of profile client)) (p.1).what ∷ []) []
-    (reply-line settings xs (take p.0 (entries_of profile client)) (p.1).what, tt) tt)
+    (reply_text settings xs (take p.0 (entries_of client)) (p.1).what ∷ []) []
+    (reply-line settings xs (take p.0 (entries_of client)) (p.1).what, tt) tt)
 
 timed-lines : (xs : List Sample) (texts : List (List ℕ)) → OneLines texts
     → OneLines (timed_texts xs texts)
@@ -331,33 +331,33 @@ each-lines lines clients h =
     (enumerate_from 1 clients)
     (λ (p : ℕ × Client). map-lines (for_client p.0) (lines p.1) (client-line p.0) (h p.1))
 
-pub body-lines : (profile : Profile) (settings : Settings) (xs : List Sample)
-    (clients : List Client) → OneLines (body_lines profile settings xs clients)
+pub body-lines : (settings : Settings) (xs : List Sample)
+    (clients : List Client) → OneLines (body_lines settings xs clients)
 unfolding body_lines at_each_time lines_at event_lines answer_lines OneLines
-body-lines profile settings xs clients =
-    all-flat_map OneLine (λ t. lines_at profile settings clients (take t xs))
+body-lines settings xs clients =
+    all-flat_map OneLine (λ t. lines_at settings clients (take t xs))
     (range_with_len 0 (length xs + 1))
     (λ t. all-append OneLine
     (for_each_client
-    (λ client. timed_texts (take t xs) (event_texts profile settings client (take t xs)))
+    (λ client. timed_texts (take t xs) (event_texts settings client (take t xs)))
     clients) (for_each_client
-    (λ client. timed_texts (take t xs) (answer_texts profile settings client (take t xs)))
+    (λ client. timed_texts (take t xs) (answer_texts settings client (take t xs)))
     clients)
     (each-lines (λ client. timed_texts (take t xs)
-    (event_texts profile settings client (take t xs))) clients
-    (λ client. timed-lines (take t xs) (event_texts profile settings client (take t xs))
-    (told-lines profile settings client (take t xs))))
+    (event_texts settings client (take t xs))) clients
+    (λ client. timed-lines (take t xs) (event_texts settings client (take t xs))
+    (told-lines settings client (take t xs))))
     (each-lines (λ client. timed_texts (take t xs)
-    (answer_texts profile settings client (take t xs))) clients
-    (λ client. timed-lines (take t xs) (answer_texts profile settings client (take t xs))
-    (answered-lines profile settings client (take t xs)))))
+    (answer_texts settings client (take t xs))) clients
+    (λ client. timed-lines (take t xs) (answer_texts settings client (take t xs))
+    (answered-lines settings client (take t xs)))))
 
-pub full-lines : (profile : Profile) (settings : Settings) (xs : List Sample)
-    (clients : List Client) → OneLines (full_lines profile settings xs clients)
+pub full-lines : (settings : Settings) (xs : List Sample)
+    (clients : List Client) → OneLines (full_lines settings xs clients)
 unfolding full_lines end_lines OneLines
-full-lines profile settings xs clients =
-    all-append OneLine (body_lines profile settings xs clients) (end_lines xs clients)
-    (body-lines profile settings xs clients)
+full-lines settings xs clients =
+    all-append OneLine (body_lines settings xs clients) (end_lines xs clients)
+    (body-lines settings xs clients)
     (each-lines (λ client. end_line xs ∷ []) clients
     (λ client. (timed-line (length xs) (codes "end") (written (codes "end") refl), tt)))
 

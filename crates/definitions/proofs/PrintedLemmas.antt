@@ -1,7 +1,7 @@
 -- Where each line of the whole text comes from.
 use Rattle.std.proofs.Common.{inl, inr, ◌≡◌, ℕ, zero, suc, ◌+◌, ◌<◌, ◌≤◌, List, [], ◌∷◌, ◌++◌}
 use Rattle.std.proofs.Common.{length, take, map, refl, sym, ap, ◌∙◌, arith}
-use Rattle.std.specs.Prelude.{Bool, true, false, nat_eq, filter, flat_map, slice_get, cond, Some}
+use Rattle.std.specs.Prelude.{Bool, true, false, nat_eq, flat_map, slice_get, cond, Some}
 use Rattle.std.specs.List.{AllByRecursion, range_with_len, enumerate_from}
 use Rattle.std.proofs.lemmas.Bool.{eqb-true}
 use Rattle.std.proofs.lemmas.List.{length-take-le}
@@ -10,7 +10,7 @@ use Rattle.definitions.specs.Oscillators.{Settings}
 use Rattle.definitions.specs.Scripts.{Entry}
 use Rattle.definitions.specs.Events.{Event, events_at_end}
 use Rattle.definitions.specs.Texts.{event_text, at_time, for_client}
-use Rattle.definitions.specs.Receiver.{Client, Profile, entries_of, event_texts, slot_event_texts}
+use Rattle.definitions.specs.Receiver.{Client, entries_of, event_texts, slot_event_texts}
 use Rattle.definitions.specs.Receiver.{answer_texts, entry_answer_texts, reply_text, at_each_time}
 use Rattle.definitions.specs.Receiver.{timed_texts, for_each_client, lines_at, event_lines}
 use Rattle.definitions.specs.Receiver.{answer_lines, body_lines, end_lines, end_line, full_lines}
@@ -59,9 +59,9 @@ below-end (y ∷ ys) zero x e = omega arith
 below-end (y ∷ ys) (suc k) x e = omega (arith, below-end ys k x e)
 
 -- ---- the lines at one time
-module _ (profile : Profile) (settings : Settings) (clients : List Client) (xs : List Sample) where
+module _ (settings : Settings) (clients : List Client) (xs : List Sample) where
   One : List ℕ → Type 0
-  One line = IsOneOf profile settings clients xs line
+  One line = IsOneOf settings clients xs line
 
   -- the lines that belong to a time
   Now : List Sample → Type 0
@@ -69,16 +69,16 @@ module _ (profile : Profile) (settings : Settings) (clients : List Client) (xs :
 
   event-line : (zs : List Sample) (k slot i : ℕ) (client : Client) (event : Event) → Now zs
       → slice_get clients k ≡ Some client → slot < client.slots
-      → slice_get (events_at_end settings zs (commands_before profile client slot zs)) i
+      → slice_get (events_at_end settings zs (commands_before client slot zs)) i
       ≡ Some event
       → One (for_client (1 + k) (at_time (length zs) (event_text slot event)))
   unfolding One Now
   event-line zs k slot i client event now is_client is_slot there =
-      let tells : Tells profile settings clients zs k slot client event = record {
+      let tells : Tells settings clients zs k slot client event = record {
         is_client = is_client;
         is_slot = is_slot;
         is_told = (i, there);
-        is_right = events-right settings zs (commands_before profile client slot zs) i event there;
+        is_right = events-right settings zs (commands_before client slot zs) i event there;
       } in
       inl (
         event,
@@ -96,25 +96,25 @@ module _ (profile : Profile) (settings : Settings) (clients : List Client) (xs :
   told-ones : (zs : List Sample) (k : ℕ) (client : Client) → Now zs
       → slice_get clients k ≡ Some client
       → AllByRecursion One
-      (map (for_client (1 + k)) (timed_texts zs (event_texts profile settings client zs)))
+      (map (for_client (1 + k)) (timed_texts zs (event_texts settings client zs)))
   unfolding event_texts
   told-ones zs k client now is_client =
-      all-map One (for_client (1 + k)) (timed_texts zs (event_texts profile settings client zs))
+      all-map One (for_client (1 + k)) (timed_texts zs (event_texts settings client zs))
       (all-map (λ l. One (for_client (1 + k) l)) (at_time (length zs))
-      (event_texts profile settings client zs)
+      (event_texts settings client zs)
       (all-range (λ l. One (for_client (1 + k) (at_time (length zs) l)))
-      (slot_event_texts settings zs (entries_of profile client)) 0 client.slots
+      (slot_event_texts settings zs (entries_of client)) 0 client.slots
       (λ slot below. all-map (λ l. One (for_client (1 + k) (at_time (length zs) l)))
       (event_text slot) _
       (all-found (λ e. One (for_client (1 + k) (at_time (length zs) (event_text slot e))))
-      (events_at_end settings zs (commands_before profile client slot zs))
+      (events_at_end settings zs (commands_before client slot zs))
       (λ i e there. event-line zs k slot i client e now is_client (omega (arith, below)) there)))))
 
   answer-line : (zs : List Sample) (k i : ℕ) (client : Client) (entry : Entry) → Now zs
-      → slice_get clients k ≡ Some client → slice_get (entries_of profile client) i ≡ Some entry
+      → slice_get clients k ≡ Some client → slice_get (entries_of client) i ≡ Some entry
       → (b : Bool) → nat_eq entry.time (length zs) ≡ b
       → AllByRecursion (λ l. One (for_client (1 + k) (at_time (length zs) l)))
-      (cond b (reply_text settings zs (take i (entries_of profile client)) entry.what ∷ []) [])
+      (cond b (reply_text settings zs (take i (entries_of client)) entry.what ∷ []) [])
   unfolding One Now
   answer-line zs k i client entry now is_client there false e = tt
   answer-line zs k i client entry now is_client there true e =
@@ -131,11 +131,11 @@ module _ (profile : Profile) (settings : Settings) (clients : List Client) (xs :
           there,
           within,
           ap (λ n. for_client (1 + k)
-              (at_time n (reply_text settings zs (take i (entries_of profile client)) entry.what)))
+              (at_time n (reply_text settings zs (take i (entries_of client)) entry.what)))
               same
               ∙ ap (λ ys. for_client (1 + k)
               (at_time entry.time
-              (reply_text settings ys (take i (entries_of profile client)) entry.what)))
+              (reply_text settings ys (take i (entries_of client)) entry.what)))
               samples,
         )),
         tt,
@@ -144,36 +144,36 @@ module _ (profile : Profile) (settings : Settings) (clients : List Client) (xs :
   answered-ones : (zs : List Sample) (k : ℕ) (client : Client) → Now zs
       → slice_get clients k ≡ Some client
       → AllByRecursion One
-      (map (for_client (1 + k)) (timed_texts zs (answer_texts profile settings client zs)))
+      (map (for_client (1 + k)) (timed_texts zs (answer_texts settings client zs)))
   unfolding answer_texts
   answered-ones zs k client now is_client =
-      all-map One (for_client (1 + k)) (timed_texts zs (answer_texts profile settings client zs))
+      all-map One (for_client (1 + k)) (timed_texts zs (answer_texts settings client zs))
       (all-map (λ l. One (for_client (1 + k) l)) (at_time (length zs))
-      (answer_texts profile settings client zs)
+      (answer_texts settings client zs)
       (all-numbered (λ l. One (for_client (1 + k) (at_time (length zs) l)))
-      (entry_answer_texts settings zs (entries_of profile client)) 0 (entries_of profile client)
+      (entry_answer_texts settings zs (entries_of client)) 0 (entries_of client)
       (λ i entry there. let z : 0 + i ≡ i = omega arith in
       rw z (answer-line zs k i client entry now is_client there (nat_eq entry.time (length zs))
       refl))))
 
-  at-ones : (zs : List Sample) → Now zs → AllByRecursion One (lines_at profile settings clients zs)
+  at-ones : (zs : List Sample) → Now zs → AllByRecursion One (lines_at settings clients zs)
   unfolding lines_at event_lines answer_lines for_each_client
   at-ones zs now =
-      all-append One (event_lines profile settings clients zs)
-      (answer_lines profile settings clients zs)
+      all-append One (event_lines settings clients zs)
+      (answer_lines settings clients zs)
       (all-numbered One
       (λ (p : ℕ × Client). map (for_client p.0)
-      (timed_texts zs (event_texts profile settings p.1 zs))) 1 clients
+      (timed_texts zs (event_texts settings p.1 zs))) 1 clients
       (λ k client is_client. told-ones zs k client now is_client))
       (all-numbered One
       (λ (p : ℕ × Client). map (for_client p.0)
-      (timed_texts zs (answer_texts profile settings p.1 zs))) 1 clients
+      (timed_texts zs (answer_texts settings p.1 zs))) 1 clients
       (λ k client is_client. answered-ones zs k client now is_client))
 
-  body-ones : AllByRecursion One (body_lines profile settings xs clients)
+  body-ones : AllByRecursion One (body_lines settings xs clients)
   unfolding body_lines at_each_time Now
   body-ones =
-      all-range One (λ t. lines_at profile settings clients (take t xs)) 0 (length xs + 1)
+      all-range One (λ t. lines_at settings clients (take t xs)) 0 (length xs + 1)
       (λ t below. let within : t ≤ length xs = omega (arith, below) in
       at-ones (take t xs) (t, within, refl, length-take-le t xs within))
 
@@ -183,15 +183,15 @@ module _ (profile : Profile) (settings : Settings) (clients : List Client) (xs :
       all-numbered One (λ (p : ℕ × Client). map (for_client p.0) (end_line xs ∷ [])) 1 clients
       (λ k client is_client. (inr (inr (k, below-end clients k client is_client, refl)), tt))
 
-  full-ones : AllByRecursion One (full_lines profile settings xs clients)
+  full-ones : AllByRecursion One (full_lines settings xs clients)
   unfolding full_lines
   full-ones =
-      all-append One (body_lines profile settings xs clients) (end_lines xs clients) body-ones
+      all-append One (body_lines settings xs clients) (end_lines xs clients) body-ones
       end-ones
 
 pub lines-come : LinesComeFromEvents
 unfolding One
-lines-come profile settings clients xs i line there =
-    all-at (λ l. IsOneOf profile settings clients xs l) (full_lines profile settings xs clients)
-    (full-ones profile settings clients xs) i line
-    (ap (λ ls. slice_get ls i) (sym (lines_of-full profile settings xs clients)) ∙ there)
+lines-come settings clients xs i line there =
+    all-at (λ l. IsOneOf settings clients xs l) (full_lines settings xs clients)
+    (full-ones settings clients xs) i line
+    (ap (λ ls. slice_get ls i) (sym (lines_of-full settings xs clients)) ∙ there)

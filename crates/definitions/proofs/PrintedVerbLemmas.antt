@@ -11,7 +11,7 @@ use Rattle.definitions.specs.Pages.{Kind, clock, eph2, eph3, almanac, utc, healt
 use Rattle.definitions.specs.DataSets.{Report, ephemeris, single, AlmanacSet}
 use Rattle.definitions.specs.Events.{Event, acquired, count, locked, unlocked, signal_lost, edge}
 use Rattle.definitions.specs.Events.{gap, subframe, reported, almanacs}
-use Rattle.definitions.specs.Receiver.{Client, Profile, entries_of}
+use Rattle.definitions.specs.Receiver.{Client, entries_of}
 use Rattle.definitions.specs.PrintedLaws.{verb_of, IsLineOf, IsOneOf, IsPrinted, IsPageVerb}
 use Rattle.definitions.specs.PrintedLaws.{PrintedCountsAreSums, PrintedAcquisitionsNameTheGreatest}
 use Rattle.definitions.specs.PrintedLaws.{PrintedWordsPass, PrintedPagesPass, PrintedAlmanacsAgree}
@@ -38,15 +38,15 @@ record IsOfEvents (test : Option (List ℕ) → Bool) : Type 0 where
   state : test (Some (codes "state")) ≡ false
   end : test (Some (codes "end")) ≡ false
 
-module _ (profile : Profile) (settings : Settings) (clients : List Client) (xs : List Sample)
+module _ (settings : Settings) (clients : List Client) (xs : List Sample)
     (line : List ℕ) where
   -- a line with such a verb is that of an event with it
   of-event : (verb : List ℕ) (test : Option (List ℕ) → Bool) → test (Some verb) ≡ true
-      → IsOfEvents test → IsPrinted profile settings clients xs line verb
-      → (event : Event) × (IsLineOf profile settings clients xs line event)
+      → IsOfEvents test → IsPrinted settings clients xs line verb
+      → (event : Event) × (IsLineOf settings clients xs line event)
       × (test (event_verb event) ≡ true)
   of-event verb test passes only printed =
-      by_kind (lines-come profile settings clients xs printed.0.0 line printed.0.1)
+      by_kind (lines-come settings clients xs printed.0.0 line printed.0.1)
     where
       holds : (o : Option (List ℕ)) → o ≡ Some verb → test o ≡ true
       holds o e = rw e passes
@@ -56,8 +56,8 @@ module _ (profile : Profile) (settings : Settings) (clients : List Client) (xs :
       no_answer o h (inr (inl e)) = clash (rw e at h) only.err
       no_answer o h (inr (inr e)) = clash (rw e at h) only.state
 
-      by_kind : IsOneOf profile settings clients xs line
-          → (event : Event) × (IsLineOf profile settings clients xs line event)
+      by_kind : IsOneOf settings clients xs line
+          → (event : Event) × (IsLineOf settings clients xs line event)
           × (test (event_verb event) ≡ true)
       by_kind (inl (event, (t, k, slot, client, within, tells, is))) = (
         event,
@@ -68,7 +68,7 @@ module _ (profile : Profile) (settings : Settings) (clients : List Client) (xs :
       by_kind (inr (inl (k, i, client, entry, a, b, c, is))) =
           absurd (no_answer _ (holds _ (ap verb_of (sym is) ∙ printed.1))
           (reply-verb (1 + k) entry.time settings (take entry.time xs)
-          (take i (entries_of profile client)) entry.what))
+          (take i (entries_of client)) entry.what))
       by_kind (inr (inr (k, below, is))) =
           absurd (clash (holds (Some (codes "end"))
           (sym (end-verb (1 + k) xs) ∙ ap verb_of (sym is) ∙ printed.1)) only.end)
@@ -182,33 +182,33 @@ is-report (almanacs set) e = cc
 
 -- ---- the laws
 pub counts-printed : PrintedCountsAreSums
-counts-printed profile settings clients xs line printed =
+counts-printed settings clients xs line printed =
     let it =
-    of-event profile settings clients xs line (codes "count") (is_verb (codes "count")) refl
+    of-event settings clients xs line (codes "count") (is_verb (codes "count")) refl
     (record { ok = refl; err = refl; state = refl; end = refl }) printed in
     let c = is-count it.0 it.2 in
     (c.0, rw c.1 at it.1)
 
 pub acquisitions-printed : PrintedAcquisitionsNameTheGreatest
-acquisitions-printed profile settings clients xs line printed =
+acquisitions-printed settings clients xs line printed =
     let it =
-    of-event profile settings clients xs line (codes "acq") (is_verb (codes "acq")) refl
+    of-event settings clients xs line (codes "acq") (is_verb (codes "acq")) refl
     (record { ok = refl; err = refl; state = refl; end = refl }) printed in
     let a = is-acq it.0 it.2 in
     (a.0, a.1, rw a.2 at it.1)
 
 pub words-printed : PrintedWordsPass
-words-printed profile settings clients xs line printed =
+words-printed settings clients xs line printed =
     let it =
-    of-event profile settings clients xs line (codes "sub") (is_verb (codes "sub")) refl
+    of-event settings clients xs line (codes "sub") (is_verb (codes "sub")) refl
     (record { ok = refl; err = refl; state = refl; end = refl }) printed in
     let s = is-sub it.0 it.2 in
     (s.0, rw s.1 at it.1)
 
 pub almanacs-printed : PrintedAlmanacsAgree
-almanacs-printed profile settings clients xs line printed =
+almanacs-printed settings clients xs line printed =
     let it =
-    of-event profile settings clients xs line (codes "als") (is_verb (codes "als")) refl
+    of-event settings clients xs line (codes "als") (is_verb (codes "als")) refl
     (record { ok = refl; err = refl; state = refl; end = refl }) printed in
     let s = is-als it.0 it.2 in
     (s.0, rw s.1 at it.1)
@@ -221,9 +221,9 @@ page-verb verb (inr (inr (inr (inl e)))) = rw e refl
 page-verb verb (inr (inr (inr (inr e)))) = rw e refl
 
 pub pages-printed : PrintedPagesPass
-pages-printed profile settings clients xs line verb is printed =
+pages-printed settings clients xs line verb is printed =
     let it =
-    of-event profile settings clients xs line verb is_page_verb (page-verb verb is)
+    of-event settings clients xs line verb is_page_verb (page-verb verb is)
     (record { ok = refl; err = refl; state = refl; end = refl }) printed in
     let r = is-report it.0 it.2 in
     (r.0, rw r.1 at it.1)

@@ -168,21 +168,21 @@ line-short n t text h =
     omega (arith, a, b, c, d, h)
 
 pub lines-short : LinesAreShort
-lines-short profile settings clients xs i line there =
-    by_kind (lines-come profile settings clients xs i line there)
+lines-short settings clients xs i line there =
+    by_kind (lines-come settings clients xs i line there)
   where
     moved : (l : List ℕ) → line ≡ l → length l ≤ 1024 → length line ≤ 1024
     moved l e h = rw e h
 
-    by_kind : IsOneOf profile settings clients xs line → length line ≤ 1024
+    by_kind : IsOneOf settings clients xs line → length line ≤ 1024
     by_kind (inl (event, (t, k, slot, client, in_time, tells, is))) =
         moved _ is (line-short (1 + k) t (event_text slot event)
         (event-short settings (take t xs) (tells.is_right).0 slot event (tells.is_right).2))
     by_kind (inr (inl (k, i, client, entry, a, b, c, is))) =
         moved _ is (line-short (1 + k) entry.time
-        (reply_text settings (take entry.time xs) (take i (entries_of profile client))
+        (reply_text settings (take entry.time xs) (take i (entries_of client))
         entry.what) (reply-short settings (take entry.time xs)
-        (take i (entries_of profile client)) entry.what))
+        (take i (entries_of client)) entry.what))
     by_kind (inr (inr (k, below, is))) =
         moved _ is (line-short (1 + k) (length xs) (codes "end")
         (leb-true (length (codes "end")) 880 refl))

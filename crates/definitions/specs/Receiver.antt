@@ -4,7 +4,7 @@
 -- Time is the number of samples so far: at time T samples 0 to T - 1 are known, and `xs` is always
 -- those. A command at time T acts before sample T; what the last sample causes comes before the
 -- commands of that time.
-use Rattle.std.specs.Prelude.{ℕ, Bool, true, ◌+◌, ◌==◌, nat_lt, if◌then◌else◌, List, [], ◌∷◌, ◌++◌}
+use Rattle.std.specs.Prelude.{ℕ, Bool, ◌+◌, ◌==◌, nat_lt, if◌then◌else◌, List, [], ◌∷◌, ◌++◌}
 use Rattle.std.specs.Prelude.{map, flat_map, length, take, drop, filter, nat_eq, filter_map, Option}
 use Rattle.std.specs.Prelude.{Some, None, Result, Ok, Err, codes}
 use Rattle.std.specs.List.{range_with_len, enumerate_from, starts_with}
@@ -12,8 +12,8 @@ use Rattle.definitions.specs.Samples.{Sample}
 use Rattle.definitions.specs.Oscillators.{Settings}
 use Rattle.definitions.specs.Commands.{Command, TimedRequest}
 use Rattle.definitions.specs.Lines.{as_bytes}
-use Rattle.definitions.specs.Scripts.{Entry, Verb, verbs, script}
-use Rattle.definitions.specs.Events.{Event, events_at_end}
+use Rattle.definitions.specs.Scripts.{Entry, verbs, script}
+use Rattle.definitions.specs.Events.{events_at_end}
 use Rattle.definitions.specs.Answers.{answer_at_end}
 use Rattle.definitions.specs.Texts.{event_text, answer_text, refusal_text, at_time, for_client}
 
@@ -22,16 +22,9 @@ pub record Client : Type 0 where
   pub slots : ℕ
   pub script : List ℕ
 
--- what a receiver offers: the verbs that it knows
-pub record Profile : Type 0 where
-  pub verbs : List Verb
-
--- all of them
-abbrev pub full_profile : Profile
-full_profile = record { verbs = verbs }
-
-unfoldable pub entries_of : Profile → Client → List Entry
-entries_of profile client = script profile.verbs client.slots client.script
+-- what the lines of its script ask
+unfoldable pub entries_of : Client → List Entry
+entries_of client = script verbs client.slots client.script
 
 -- the commands to one slot among the entries of a script
 abbrev pub command_to : ℕ → ℕ → Result Command ℕ → Option TimedRequest
@@ -53,9 +46,9 @@ slot_event_texts settings xs entries slot =
     (events_at_end settings xs (commands_to slot (entries_before (length xs) entries)))
 
 -- the texts of what the last sample makes a client's slots tell, slot by slot
-unfoldable pub event_texts : Profile → Settings → Client → List Sample → List (List ℕ)
-event_texts profile settings client xs =
-    flat_map (slot_event_texts settings xs (entries_of profile client))
+unfoldable pub event_texts : Settings → Client → List Sample → List (List ℕ)
+event_texts settings client xs =
+    flat_map (slot_event_texts settings xs (entries_of client))
     (range_with_len 0 client.slots)
 
 -- the answer to an entry, behind those before it
@@ -71,10 +64,10 @@ entry_answer_texts settings xs entries (i, entry) =
     else []
 
 -- the texts of the answers to a client's entries at the time of the last sample, in their order
-unfoldable pub answer_texts : Profile → Settings → Client → List Sample → List (List ℕ)
-answer_texts profile settings client xs =
-    flat_map (entry_answer_texts settings xs (entries_of profile client))
-    (enumerate_from 0 (entries_of profile client))
+unfoldable pub answer_texts : Settings → Client → List Sample → List (List ℕ)
+answer_texts settings client xs =
+    flat_map (entry_answer_texts settings xs (entries_of client))
+    (enumerate_from 0 (entries_of client))
 
 -- the lines of each time from 0 to the number of samples, each of them from the samples before that
 -- time alone
@@ -88,21 +81,21 @@ timed_texts xs texts = map (at_time (length xs)) texts
 -- ---- one client alone
 
 -- the lines at the last time: what the samples make the slots tell, and then the answers
-unfoldable pub lines_alone_at : Profile → Settings → Client → List Sample → List (List ℕ)
-lines_alone_at profile settings client xs =
-    timed_texts xs (event_texts profile settings client xs)
-    ++ timed_texts xs (answer_texts profile settings client xs)
+unfoldable pub lines_alone_at : Settings → Client → List Sample → List (List ℕ)
+lines_alone_at settings client xs =
+    timed_texts xs (event_texts settings client xs)
+    ++ timed_texts xs (answer_texts settings client xs)
 
 -- the lines of a client alone, time by time
-unfoldable pub alone : Profile → Settings → List Sample → Client → List (List ℕ)
-alone profile settings xs client = at_each_time (lines_alone_at profile settings client) xs
+unfoldable pub alone : Settings → List Sample → Client → List (List ℕ)
+alone settings xs client = at_each_time (lines_alone_at settings client) xs
 
 abbrev pub end_line : List Sample → List ℕ
 end_line xs = at_time (length xs) (codes "end")
 
 -- these, and then its end
-unfoldable pub alone_to_end : Profile → Settings → List Sample → Client → List (List ℕ)
-alone_to_end profile settings xs client = alone profile settings xs client ++ end_line xs ∷ []
+unfoldable pub alone_to_end : Settings → List Sample → Client → List (List ℕ)
+alone_to_end settings xs client = alone settings xs client ++ end_line xs ∷ []
 
 -- ---- several clients
 
@@ -112,19 +105,19 @@ for_each_client lines clients =
     flat_map (λ (number, client). map (for_client number) (lines client)) (enumerate_from 1 clients)
 
 -- at the last time: what the samples tell each client
-unfoldable pub event_lines : Profile → Settings → List Client → List Sample → List (List ℕ)
-event_lines profile settings clients xs =
-    for_each_client (λ client. timed_texts xs (event_texts profile settings client xs)) clients
+unfoldable pub event_lines : Settings → List Client → List Sample → List (List ℕ)
+event_lines settings clients xs =
+    for_each_client (λ client. timed_texts xs (event_texts settings client xs)) clients
 
 -- the answers to each
-unfoldable pub answer_lines : Profile → Settings → List Client → List Sample → List (List ℕ)
-answer_lines profile settings clients xs =
-    for_each_client (λ client. timed_texts xs (answer_texts profile settings client xs)) clients
+unfoldable pub answer_lines : Settings → List Client → List Sample → List (List ℕ)
+answer_lines settings clients xs =
+    for_each_client (λ client. timed_texts xs (answer_texts settings client xs)) clients
 
 -- what the samples tell, and then the answers
-unfoldable pub lines_at : Profile → Settings → List Client → List Sample → List (List ℕ)
-lines_at profile settings clients xs =
-    event_lines profile settings clients xs ++ answer_lines profile settings clients xs
+unfoldable pub lines_at : Settings → List Client → List Sample → List (List ℕ)
+lines_at settings clients xs =
+    event_lines settings clients xs ++ answer_lines settings clients xs
 
 -- what each of the samples ys behind xs adds, time after time, where tells gives what the last
 -- sample tells
@@ -134,22 +127,22 @@ at_each_sample tells xs [] = []
 at_each_sample tells xs (y ∷ ys) = tells (xs ++ y ∷ []) ++ at_each_sample tells (xs ++ y ∷ []) ys
 
 -- the lines without the ends, and all lines
-unfoldable pub body_lines : Profile → Settings → List Sample → List Client → List (List ℕ)
-body_lines profile settings xs clients = at_each_time (lines_at profile settings clients) xs
+unfoldable pub body_lines : Settings → List Sample → List Client → List (List ℕ)
+body_lines settings xs clients = at_each_time (lines_at settings clients) xs
 
 unfoldable pub end_lines : List Sample → List Client → List (List ℕ)
 end_lines xs clients = for_each_client (λ client. end_line xs ∷ []) clients
 
-unfoldable pub full_lines : Profile → Settings → List Sample → List Client → List (List ℕ)
-full_lines profile settings xs clients =
-    body_lines profile settings xs clients ++ end_lines xs clients
+unfoldable pub full_lines : Settings → List Sample → List Client → List (List ℕ)
+full_lines settings xs clients =
+    body_lines settings xs clients ++ end_lines xs clients
 
 -- the text of these lines
-unfoldable pub body : Profile → Settings → List Sample → List Client → List ℕ
-body profile settings xs clients = as_bytes (body_lines profile settings xs clients)
+unfoldable pub body : Settings → List Sample → List Client → List ℕ
+body settings xs clients = as_bytes (body_lines settings xs clients)
 
-unfoldable pub full : Profile → Settings → List Sample → List Client → List ℕ
-full profile settings xs clients = as_bytes (full_lines profile settings xs clients)
+unfoldable pub full : Settings → List Sample → List Client → List ℕ
+full settings xs clients = as_bytes (full_lines settings xs clients)
 
 -- ---- one client's lines among those of all
 

@@ -4,7 +4,7 @@ use Rattle.std.specs.Prelude.{List, [], ◌++◌, map, zip, length, take}
 use Rattle.std.specs.List.{list_all}
 use Rattle.definitions.specs.Samples.{Sample, samples, sample_count}
 use Rattle.definitions.specs.Oscillators.{Settings}
-use Rattle.definitions.specs.Receiver.{Client, Profile, body, full}
+use Rattle.definitions.specs.Receiver.{Client, body, full}
 
 -- one to eight scripts, and for each of them a share of one to eight slots
 abbrev pub is_share : ℕ → Bool
@@ -18,7 +18,6 @@ are_shares shares scripts = (length shares == length scripts) && list_all is_sha
 
 -- what a run is asked for: at most limit samples are to be taken
 pub record Task : Type 0 where
-  pub profile : Profile
   pub settings : Settings
   pub shares : List ℕ
   pub scripts : List (List ℕ)
@@ -52,10 +51,10 @@ taken_samples task input = take task.limit (samples task.settings.packing input.
 
 -- the text of those samples, without the ends, and with them
 abbrev pub body_text : Task → Input → List ℕ
-body_text task input = body task.profile task.settings (taken_samples task input) (clients_of task)
+body_text task input = body task.settings (taken_samples task input) (clients_of task)
 
 abbrev pub full_text : Task → Input → List ℕ
-full_text task input = full task.profile task.settings (taken_samples task input) (clients_of task)
+full_text task input = full task.settings (taken_samples task input) (clients_of task)
 
 -- the text that is due for what came: with the ends where reading came to its end within the limit,
 -- and without them behind a failed read, past the limit, and while reading goes on

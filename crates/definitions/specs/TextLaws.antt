@@ -7,7 +7,7 @@ use Rattle.definitions.specs.Samples.{Sample}
 use Rattle.definitions.specs.Oscillators.{Settings}
 use Rattle.definitions.specs.Lines.{lines_of, as_bytes}
 use Rattle.definitions.specs.Texts.{for_client, at_time}
-use Rattle.definitions.specs.Receiver.{Client, Profile, alone, alone_to_end, lines_alone_at}
+use Rattle.definitions.specs.Receiver.{Client, alone, alone_to_end, lines_alone_at}
 use Rattle.definitions.specs.Receiver.{lines_at, body_lines, body, full, lines_of_client}
 use Rattle.definitions.specs.Runs.{Task, Input, RunAnswer, IsAnswer, due_text, BeginsWith}
 
@@ -15,43 +15,43 @@ use Rattle.definitions.specs.Runs.{Task, Input, RunAnswer, IsAnswer, due_text, B
 -- these, are what that client gets alone, and then its end. (Numbers that fill more than 64 bits
 -- are left out: `decimal` is of 64 digits at most.)
 abbrev pub ClientsAreAlone : Type 0
-ClientsAreAlone = (profile : Profile) (settings : Settings) (xs : List Sample)
+ClientsAreAlone = (settings : Settings) (xs : List Sample)
     (clients : List Client) (k : ℕ) (client : Client)
     → slice_get clients k ≡ Some client → length clients < 2 ^ 64
-    → lines_of_client (1 + k) (lines_of (full profile settings xs clients))
-    ≡ alone_to_end profile settings xs client
+    → lines_of_client (1 + k) (lines_of (full settings xs clients))
+    ≡ alone_to_end settings xs client
 
 -- The same of the text without the ends.
 abbrev pub ClientsAreAloneInBody : Type 0
 ClientsAreAloneInBody =
-    (profile : Profile) (settings : Settings) (xs : List Sample) (clients : List Client) (k : ℕ)
+    (settings : Settings) (xs : List Sample) (clients : List Client) (k : ℕ)
     (client : Client)
     → slice_get clients k ≡ Some client → length clients < 2 ^ 64
-    → lines_of_client (1 + k) (lines_of (body profile settings xs clients))
-    ≡ alone profile settings xs client
+    → lines_of_client (1 + k) (lines_of (body settings xs clients))
+    ≡ alone settings xs client
 
 -- A run with one client writes what that client gets alone, and then its end, behind its number,
 -- which is 1.
 abbrev pub OneClientRuns : Type 0
-OneClientRuns = (profile : Profile) (settings : Settings) (xs : List Sample) (client : Client)
-    → full profile settings xs (client ∷ [])
-    ≡ as_bytes (map (for_client 1) (alone_to_end profile settings xs client))
+OneClientRuns = (settings : Settings) (xs : List Sample) (client : Client)
+    → full settings xs (client ∷ [])
+    ≡ as_bytes (map (for_client 1) (alone_to_end settings xs client))
 
 -- Where two receivers have the same samples and settings, a client that has the same script and
 -- slots in both gets the same lines from both, whatever the others ask, however many they are, and
 -- whatever the client's place among them.
 abbrev pub TwoWorldsAgree : Type 0
-TwoWorldsAgree = (profile : Profile) (settings : Settings) (xs : List Sample)
+TwoWorldsAgree = (settings : Settings) (xs : List Sample)
     (clients others : List Client) (k j : ℕ) (client : Client)
     → slice_get clients k ≡ Some client → length clients < 2 ^ 64
     → slice_get others j ≡ Some client → length others < 2 ^ 64
-    → lines_of_client (1 + k) (lines_of (full profile settings xs clients))
-    ≡ lines_of_client (1 + j) (lines_of (full profile settings xs others))
+    → lines_of_client (1 + k) (lines_of (full settings xs clients))
+    ≡ lines_of_client (1 + j) (lines_of (full settings xs others))
 
 -- The text of more samples begins with the text of fewer.
 abbrev pub BodyGrows : Type 0
-BodyGrows = (profile : Profile) (settings : Settings) (clients : List Client) (xs ys : List Sample)
-    → BeginsWith (body profile settings (xs ++ ys) clients) (body profile settings xs clients)
+BodyGrows = (settings : Settings) (clients : List Client) (xs ys : List Sample)
+    → BeginsWith (body settings (xs ++ ys) clients) (body settings xs clients)
 
 -- A client's line at a time after t.
 abbrev pub IsLaterThan : ℕ → List ℕ → Type 0
@@ -61,17 +61,17 @@ IsLaterThan t line = (client : ℕ) × (time : ℕ) × (text : List ℕ) × (t <
 -- More samples add lines of later times alone: a line rests on the samples before its time.
 abbrev pub MoreSamplesTellLater : Type 0
 MoreSamplesTellLater =
-    (profile : Profile) (settings : Settings) (clients : List Client) (xs ys : List Sample)
+    (settings : Settings) (clients : List Client) (xs ys : List Sample)
     → (rest : List (List ℕ))
-    × (body_lines profile settings (xs ++ ys) clients
-    ≡ body_lines profile settings xs clients ++ rest)
+    × (body_lines settings (xs ++ ys) clients
+    ≡ body_lines settings xs clients ++ rest)
     × AllByRecursion (IsLaterThan (length xs)) rest
 
 -- The whole text begins with the text without the ends.
 abbrev pub FullBeginsWithBody : Type 0
-FullBeginsWithBody = (profile : Profile) (settings : Settings) (clients : List Client)
+FullBeginsWithBody = (settings : Settings) (clients : List Client)
     (xs : List Sample)
-    → BeginsWith (full profile settings xs clients) (body profile settings xs clients)
+    → BeginsWith (full settings xs clients) (body settings xs clients)
 
 -- Whatever a run answers, what it has written is what the text that is due for its input begins
 -- with.
@@ -82,14 +82,14 @@ WrittenIsDue = (task : Task) (input : Input) (written : List ℕ) (answer : RunA
 
 -- With one more sample come the lines of the new time.
 abbrev pub BodyGrowsByOne : Type 0
-BodyGrowsByOne = (profile : Profile) (settings : Settings) (xs : List Sample) (x : Sample)
+BodyGrowsByOne = (settings : Settings) (xs : List Sample) (x : Sample)
     (clients : List Client)
-    → body_lines profile settings (xs ++ x ∷ []) clients
-    ≡ body_lines profile settings xs clients ++ lines_at profile settings clients (xs ++ x ∷ [])
+    → body_lines settings (xs ++ x ∷ []) clients
+    ≡ body_lines settings xs clients ++ lines_at settings clients (xs ++ x ∷ [])
 
 -- The same for one client alone.
 abbrev pub AloneGrowsByOne : Type 0
-AloneGrowsByOne = (profile : Profile) (settings : Settings) (xs : List Sample) (x : Sample)
+AloneGrowsByOne = (settings : Settings) (xs : List Sample) (x : Sample)
     (client : Client)
-    → alone profile settings (xs ++ x ∷ []) client
-    ≡ alone profile settings xs client ++ lines_alone_at profile settings client (xs ++ x ∷ [])
+    → alone settings (xs ++ x ∷ []) client
+    ≡ alone settings xs client ++ lines_alone_at settings client (xs ++ x ∷ [])

@@ -12,7 +12,6 @@ use Rattle.definitions.specs.Receiver.{Client}
 use Rattle.definitions.specs.Lines.{ended_line, as_bytes}
 use Rattle.definitions.specs.Receiver.{body, body_lines, full, full_lines, end_lines}
 use Rattle.definitions.proofs.BodyLemmas.{as_bytes-append}
-use Rattle.receiver.specs.Offered.{offer}
 use Rattle.channel_slots.specs.declared.event.SlotEvent.{SlotEvent}
 use Rattle.receiver.specs.declared.session.Session.{Session}
 use Rattle.receiver.specs.Texts.{AppendsPart}
@@ -121,8 +120,8 @@ stretch-part-answers start b c d before told answers all e p q r =
 
 -- ---- the whole text: the lines of all times, and then `end`
 pub full-is : (settings : Settings) (xs : List Sample) (clients : List Client)
-    → full offer settings xs clients
-    ≡ body offer settings xs clients ++ as_bytes (end_lines xs clients)
+    → full settings xs clients
+    ≡ body settings xs clients ++ as_bytes (end_lines xs clients)
 unfolding full full_lines body
 full-is settings xs clients =
-    as_bytes-append (body_lines offer settings xs clients) (end_lines xs clients)
+    as_bytes-append (body_lines settings xs clients) (end_lines xs clients)

@@ -16,7 +16,7 @@ use Rattle.definitions.specs.Receiver.{slot_event_texts, event_lines, answer_tex
 use Rattle.definitions.specs.Receiver.{for_each_client, body_lines, lines_at, at_each_time}
 use Rattle.definitions.specs.Receiver.{timed_texts, end_lines, end_line}
 use Rattle.definitions.proofs.EntryLemmas.{NoneBefore, answers_left, answered-left}
-use Rattle.receiver.specs.Offered.{offer, client_with}
+use Rattle.receiver.specs.Clients.{client_with}
 use Rattle.receiver.specs.LastLines.{ends}
 use Rattle.receiver.specs.declared.queue.Queue.{Queue}
 use Rattle.receiver.specs.Queues.{left_of}
@@ -49,19 +49,19 @@ slots-silent settings entries (slot ∷ slots) =
 
 clients-silent : (settings : Settings) (b : ℕ) (clients : List Client)
     → flat_map (λ (p : ℕ × Client). map (for_client p.0)
-    (timed_texts [] (event_texts offer settings p.1 []))) (enumerate_from b clients) ≡ []
+    (timed_texts [] (event_texts settings p.1 []))) (enumerate_from b clients) ≡ []
 unfolding event_texts
 clients-silent settings b [] = refl
 clients-silent settings b (client ∷ clients) =
-    rw (slots-silent settings (entries_of offer client) (range_with_len 0 client.slots))
+    rw (slots-silent settings (entries_of client) (range_with_len 0 client.slots))
     (clients-silent settings (b + 1) clients)
 
 pub first-lines : (settings : Settings) (clients : List Client)
-    → body_lines offer settings [] clients ≡ answer_lines offer settings clients []
+    → body_lines settings [] clients ≡ answer_lines settings clients []
 unfolding body_lines at_each_time lines_at event_lines for_each_client
 first-lines settings clients =
-    append-nil (lines_at offer settings clients [])
-    ∙ ap (λ (l : List (List ℕ)). l ++ answer_lines offer settings clients [])
+    append-nil (lines_at settings clients [])
+    ∙ ap (λ (l : List (List ℕ)). l ++ answer_lines settings clients [])
     (clients-silent settings 1 clients)
 
 abbrev none_done : ℕ → List Entry
@@ -73,7 +73,7 @@ from-start (e ∷ left) = (omega arith, from-start left)
 
 module _ {A : Type 0} (text : A → List ℕ) where
   entries_in_text : A → List Entry
-  entries_in_text script = entries_of offer (client_with (text script))
+  entries_in_text script = entries_of (client_with (text script))
 
   client_in_text : A → Client
   client_in_text script = client_with (text script)
@@ -84,7 +84,7 @@ module _ {A : Type 0} (text : A → List ℕ) where
   first-left script scripts q qs e = ap (λ (l : List (List Entry)). get_or l 0 []) e
 
   pub queues-open : (b : ℕ) (scripts : List A) (qs : List Queue)
-      → map left_of qs ≡ map (λ script. entries_of offer (client_with (text script))) scripts
+      → map left_of qs ≡ map (λ script. entries_of (client_with (text script))) scripts
       → AreQueues [] (λ client. []) b (map (λ script. client_with (text script)) scripts) qs
   unfolding entries_in_text
   queues-open b [] [] e = tt
@@ -104,9 +104,9 @@ module _ {A : Type 0} (text : A → List ℕ) where
   )
 
   waiting-from : (settings : Settings) (b : ℕ) (scripts : List A) (qs : List Queue)
-      → map left_of qs ≡ map (λ script. entries_of offer (client_with (text script))) scripts
+      → map left_of qs ≡ map (λ script. entries_of (client_with (text script))) scripts
       → flat_map (λ (p : ℕ × Client). map (for_client p.0)
-      (timed_texts [] (answer_texts offer settings p.1 [])))
+      (timed_texts [] (answer_texts settings p.1 [])))
       (enumerate_from b (map (λ script. client_with (text script)) scripts))
       ≡ answers_waiting settings [] (λ client. []) b qs
   unfolding entries_in_text
@@ -117,13 +117,13 @@ module _ {A : Type 0} (text : A → List ℕ) where
       let one : 0 ≡ suc (length (map entries_in_text scripts)) = ap length e in
       absurd (omega (arith, one))
   waiting-from settings b (script ∷ scripts) (q ∷ qs) e =
-      let own : answer_texts offer settings (client_with (text script)) []
+      let own : answer_texts settings (client_with (text script)) []
       ≡ answers_left settings [] [] (left_of q) =
-      answered-left offer settings (client_with (text script)) []
+      answered-left settings (client_with (text script)) []
       ∙ ap (answers_left settings [] []) (sym (first-left script scripts q qs e)) in
       let others : List (List ℕ) =
       flat_map (λ (p : ℕ × Client). map (for_client p.0)
-      (timed_texts [] (answer_texts offer settings p.1 [])))
+      (timed_texts [] (answer_texts settings p.1 [])))
       (enumerate_from (b + 1) (map (λ script. client_with (text script)) scripts)) in
       ap (λ (l : List (List ℕ)). map (for_client b) (timed_texts [] l) ++ others) own
       ∙ ap (λ (r : List (List ℕ)). map (for_client b)
@@ -131,8 +131,8 @@ module _ {A : Type 0} (text : A → List ℕ) where
       (waiting-from settings (b + 1) scripts qs (ap (λ (l : List (List Entry)). drop 1 l) e))
 
   pub waiting-open : (settings : Settings) (scripts : List A) (qs : List Queue)
-      → map left_of qs ≡ map (λ script. entries_of offer (client_with (text script))) scripts
-      → answer_lines offer settings (map (λ script. client_with (text script)) scripts) []
+      → map left_of qs ≡ map (λ script. entries_of (client_with (text script))) scripts
+      → answer_lines settings (map (λ script. client_with (text script)) scripts) []
       ≡ answers_waiting settings [] (λ client. []) 1 qs
   unfolding answer_lines for_each_client
   waiting-open settings scripts qs e = waiting-from settings 1 scripts qs e

@@ -5,7 +5,6 @@ use Rattle.definitions.specs.Samples.{Sample}
 use Rattle.definitions.specs.Oscillators.{Settings}
 use Rattle.definitions.specs.Receiver.{Client, body}
 use Rattle.definitions.proofs.BodyLemmas.{body-append}
-use Rattle.receiver.specs.Offered.{offer}
 use Rattle.receiver.specs.Texts.{AppendsPart}
 
 pub part-longer : (a b : Option (List ℕ)) (text rest whole : List ℕ) → whole ≡ text ++ rest
@@ -20,9 +19,9 @@ part-longer a b text rest whole e p = (
 )
 
 pub body-part-longer : (settings : Settings) (clients : List Client) (a b : Option (List ℕ))
-    (xs ys all : List Sample) → xs ++ ys ≡ all → AppendsPart a b (body offer settings xs clients)
-    → AppendsPart a b (body offer settings all clients)
+    (xs ys all : List Sample) → xs ++ ys ≡ all → AppendsPart a b (body settings xs clients)
+    → AppendsPart a b (body settings all clients)
 body-part-longer settings clients a b xs ys all e p =
-    let longer = body-append offer settings clients xs ys in
-    part-longer a b (body offer settings xs clients) longer.0 (body offer settings all clients)
-    (ap (λ r. body offer settings r clients) (sym e) ∙ longer.1) p
+    let longer = body-append settings clients xs ys in
+    part-longer a b (body settings xs clients) longer.0 (body settings all clients)
+    (ap (λ r. body settings r clients) (sym e) ∙ longer.1) p

@@ -10,7 +10,6 @@ use Rattle.definitions.specs.Receiver.{Client, full}
 use Rattle.definitions.specs.PrintedLaws.{IsLineOf, verb_of}
 use Rattle.definitions.proofs.PrintedVerbLemmas.{counts-printed, acquisitions-printed}
 use Rattle.definitions.proofs.PrintedVerbLemmas.{words-printed, almanacs-printed, pages-printed}
-use Rattle.receiver.specs.Offered.{offer}
 use Rattle.receiver.specs.declared.session.Session.{Session}
 use Rattle.receiver.specs.declared.faults.Stop.TheVariants.{AtEnd}
 use Rattle.receiver.specs.Runs.{Ran, Devices, samples_read}
@@ -30,14 +29,14 @@ module _ (settings : Settings) (clients : List Client) (limit : ℕ) (session : 
   each-line : (verb : List ℕ → Type 0) (kind : Event → Type 0)
       → ((i : ℕ) (line word : List ℕ)
       → slice_get (lines_of
-      (full offer settings (samples_read settings limit r.read) clients)) i ≡ Some line
+      (full settings (samples_read settings limit r.read) clients)) i ≡ Some line
       → verb_of line ≡ Some word → verb word
       → (event : Event) × kind event
-      × IsLineOf offer settings clients (samples_read settings limit r.read) line event)
+      × IsLineOf settings clients (samples_read settings limit r.read) line event)
       → EachLine settings clients old new verb kind
   each-line verb kind law = record {
     read = r.read;
-    text = full offer settings (samples_read settings limit r.read) clients;
+    text = full settings (samples_read settings limit r.read) clients;
     consumed = r.consumed;
     written = r.completes.written;
     each =
@@ -46,42 +45,42 @@ module _ (settings : Settings) (clients : List Client) (limit : ℕ) (session : 
           e.0,
           e.1,
           subst
-              (λ (ys : List Sample). IsLineOf offer settings clients ys line e.0) all e.2,
+              (λ (ys : List Sample). IsLineOf settings clients ys line e.0) all e.2,
         );
   }
 
   counts-are-sums : CountsAreSums settings clients old new
   counts-are-sums = each-line _ _ (λ i line word found verb_is is.
       let e =
-      counts-printed offer settings clients (samples_read settings limit r.read) line
+      counts-printed settings clients (samples_read settings limit r.read) line
       ((i, found), verb_is ∙ ap (λ (w : List ℕ). Some w) is) in
       (count e.0, (e.0, refl), e.1))
 
   acquisitions-name-the-greatest : AcquisitionsNameTheGreatest settings clients old new
   acquisitions-name-the-greatest = each-line _ _ (λ i line word found verb_is is.
       let e =
-      acquisitions-printed offer settings clients (samples_read settings limit r.read) line
+      acquisitions-printed settings clients (samples_read settings limit r.read) line
       ((i, found), verb_is ∙ ap (λ (w : List ℕ). Some w) is) in
       (acquired e.0 e.1, (e.0, e.1, refl), e.2))
 
   words-pass : WordsPass settings clients old new
   words-pass = each-line _ _ (λ i line word found verb_is is.
       let e =
-      words-printed offer settings clients (samples_read settings limit r.read) line
+      words-printed settings clients (samples_read settings limit r.read) line
       ((i, found), verb_is ∙ ap (λ (w : List ℕ). Some w) is) in
       (subframe e.0, (e.0, refl), e.1))
 
   pages-pass : PagesPass settings clients old new
   pages-pass = each-line _ _ (λ i line word found verb_is is.
       let e =
-      pages-printed offer settings clients (samples_read settings limit r.read) line word is
+      pages-printed settings clients (samples_read settings limit r.read) line word is
       ((i, found), verb_is) in
       (reported e.0, (e.0, refl), e.1))
 
   almanacs-agree : AlmanacsAgree settings clients old new
   almanacs-agree = each-line _ _ (λ i line word found verb_is is.
       let e =
-      almanacs-printed offer settings clients (samples_read settings limit r.read) line
+      almanacs-printed settings clients (samples_read settings limit r.read) line
       ((i, found), verb_is ∙ ap (λ (w : List ℕ). Some w) is) in
       (almanacs e.0, (e.0, refl), e.1))
 

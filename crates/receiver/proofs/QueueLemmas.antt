@@ -11,7 +11,6 @@ use Rattle.definitions.specs.Receiver.{Client, entries_of, entries_before, answe
 use Rattle.definitions.proofs.EntryLemmas.{NoneBefore, AreByTime, none_before-less}
 use Rattle.definitions.proofs.EntryLemmas.{entries_of-by_time, answers_left, answered-left}
 use Rattle.definitions.proofs.EntryLemmas.{answers_left-none, answers_left-past}
-use Rattle.receiver.specs.Offered.{offer}
 use Rattle.receiver.specs.Queues.{NoneDue, gap}
 use Rattle.receiver.specs.Sessions.{IsQueue}
 
@@ -67,7 +66,7 @@ after-gap now n (e ∷ es) some h by_time = (
 module _ (settings : Settings) (client : Client) (xs : List Sample) (done left : List Entry)
     (q : IsQueue xs client done left) where
   by_time : AreByTime left
-  by_time = later-by_time done left (rw q.all at (entries_of-by_time offer client))
+  by_time = later-by_time done left (rw q.all at (entries_of-by_time client))
 
   pub none-waits : NoneDue (length xs) left → answers_left settings xs done left ≡ []
   none-waits due = answers_left-none settings xs done left (none-due (length xs) left due by_time)
@@ -108,19 +107,19 @@ module _ (settings : Settings) (client : Client) (xs : List Sample) (done left :
 
     -- what waits then is all that is answered then
     pub waits-all : answers_left settings (xs ++ ys) done left
-        ≡ answer_texts offer settings client (xs ++ ys)
+        ≡ answer_texts settings client (xs ++ ys)
     waits-all =
-        sym (answered-left offer settings client (xs ++ ys)
+        sym (answered-left settings client (xs ++ ys)
         ∙ ap (λ (es : List Entry). answers_left settings (xs ++ ys) [] es) q.all
         ∙ answers_left-past settings (xs ++ ys) [] done left
         (none-past (length (xs ++ ys)) (length xs) done (omega (arith, both ys, some)) q.past))
 
     -- and nothing is answered before
     pub none-before : (zs : List Sample) → 0 < length zs → length zs < length ys
-        → answer_texts offer settings client (xs ++ zs) ≡ []
+        → answer_texts settings client (xs ++ zs) ≡ []
     none-before zs more fewer =
         let n : ℕ = length (xs ++ zs) in
-        answered-left offer settings client (xs ++ zs)
+        answered-left settings client (xs ++ zs)
         ∙ ap (λ (es : List Entry). answers_left settings (xs ++ zs) [] es) q.all
         ∙ answers_left-none settings (xs ++ zs) [] (done ++ left)
         (none_at-both n done left
@@ -129,7 +128,7 @@ module _ (settings : Settings) (client : Client) (xs : List Sample) (done left :
 
     -- the entries before each of the new times are those that were answered
     pub before-each : (zs : List Sample) → 0 < length zs → length zs ≤ length ys
-        → entries_before (length (xs ++ zs)) (entries_of offer client) ≡ done
+        → entries_before (length (xs ++ zs)) (entries_of client) ≡ done
     before-each zs more within =
         let n : ℕ = length (xs ++ zs) in
         ap (entries_before n) q.all

@@ -11,7 +11,6 @@ use Rattle.definitions.specs.Samples.{samples_from}
 use Rattle.definitions.specs.Receiver.{Client}
 use Rattle.definitions.specs.Lines.{as_bytes}
 use Rattle.definitions.specs.Receiver.{body, full}
-use Rattle.receiver.specs.Offered.{offer}
 use Rattle.receiver.specs.declared.session.Session.{Session}
 use Rattle.receiver.specs.declared.faults.Stop.{Stop}
 use Rattle.receiver.specs.declared.faults.Stop.TheVariants.{AtEnd, ReadFailed, PastLimit}
@@ -35,7 +34,7 @@ pub opened : (settings : Settings) (clients : List Client) (session answered : S
     (start contents : Option (List ℕ)) (none later : HeldText) → held_text none ≡ []
     → IsOpen settings clients session
     → Appends (promise start none) (promise contents later)
-    (as_bytes (answer_lines offer settings clients []))
+    (as_bytes (answer_lines settings clients []))
     × StandsFor settings clients answered [] []
     → IsWrittenTo settings clients start answered (promise contents later) []
 unfolding body
@@ -64,7 +63,7 @@ pub written-kept : (settings : Settings) (clients : List Client) (start : Option
 written-kept settings clients start session b c xs at k =
     record {
       stands = at.stands;
-      written = Appends-kept start b c (body offer settings xs clients) at.written k;
+      written = Appends-kept start b c (body settings xs clients) at.written k;
     }
 
 -- what was written stays through the flush
@@ -77,7 +76,7 @@ flushed-part settings clients xs a b c stop text e p k =
 
 pub no-end : (settings : Settings) (clients : List Client) (xs : List Sample) (stop : Stop)
     → ((stop ≡ ReadFailed) ⊎ (stop ≡ PastLimit))
-    → body offer settings xs clients ≡ text_for stop settings xs clients
+    → body settings xs clients ≡ text_for stop settings xs clients
 no-end settings clients xs stop (inl e) = rw e refl
 no-end settings clients xs stop (inr e) = rw e refl
 
@@ -103,12 +102,12 @@ pub served-alone : (settings : Settings) (clients : List Client) (limit : ℕ) (
     → ServesEachAlone settings clients old new
 served-alone settings clients limit session old new r few = record {
   read = r.read;
-  text = full offer settings (samples_read settings limit r.read) clients;
+  text = full settings (samples_read settings limit r.read) clients;
   consumed = r.consumed;
   written = r.completes.written;
   alone = λ k client found.
-      client-alone offer settings (samples_read settings limit r.read) clients k client found
+      client-alone settings (samples_read settings limit r.read) clients k client found
       (omega (arith, few))
-      ∙ ap (λ (xs : List Sample). alone_to_end offer settings xs client)
+      ∙ ap (λ (xs : List Sample). alone_to_end settings xs client)
       (take_all limit (samples settings.packing r.read) r.completes.why.1);
 }

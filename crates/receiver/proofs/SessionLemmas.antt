@@ -14,7 +14,6 @@ use Rattle.definitions.specs.Receiver.{Client, entries_of, entries_before, comma
 use Rattle.definitions.specs.Receiver.{answer_texts, answer_lines, for_each_client, timed_texts}
 use Rattle.definitions.proofs.EntryLemmas.{answers_left, answers_left-now}
 use Rattle.client_commands.specs.Entries.{result_in}
-use Rattle.receiver.specs.Offered.{offer}
 use Rattle.receiver.specs.declared.queue.Queue.{Queue}
 use Rattle.receiver.specs.declared.due.Due.{Due}
 use Rattle.receiver.specs.Queues.{left_of, NoneDue, gap, least_gap_of, all_left, IsTaken, TakesDue}
@@ -262,7 +261,7 @@ module _ (settings : Settings) (xs ys : List Sample) (done : ℕ → List Entry)
   abbrev answers_from : ℕ → List Client → List Sample → List (List ℕ)
   answers_from b cs zs =
       flat_map (λ (p : ℕ × Client). map (for_client p.0)
-      (timed_texts zs (answer_texts offer settings p.1 zs))) (enumerate_from b cs)
+      (timed_texts zs (answer_texts settings p.1 zs))) (enumerate_from b cs)
 
   waiting-from : (b : ℕ) (cs : List Client) (qs : List Queue) → AreQueues xs done b cs qs
       → length ys ≤ least_gap_of (length xs) qs
@@ -281,7 +280,7 @@ module _ (settings : Settings) (xs ys : List Sample) (done : ℕ → List Entry)
 
   pub waiting-later : (cs : List Client) (qs : List Queue) → AreQueues xs done 1 cs qs
       → length ys ≤ least_gap_of (length xs) qs
-      → answer_lines offer settings cs (xs ++ ys) ≡ answers_waiting settings (xs ++ ys) done 1 qs
+      → answer_lines settings cs (xs ++ ys) ≡ answers_waiting settings (xs ++ ys) done 1 qs
   unfolding answer_lines for_each_client
   waiting-later cs qs all free = waiting-from 1 cs qs all free
 
@@ -300,7 +299,7 @@ module _ (settings : Settings) (xs ys : List Sample) (done : ℕ → List Entry)
 
     pub quiet : length zs < length ys → (cs : List Client) (qs : List Queue)
         → AreQueues xs done 1 cs qs → length ys ≤ least_gap_of (length xs) qs
-        → answer_lines offer settings cs (xs ++ zs) ≡ []
+        → answer_lines settings cs (xs ++ zs) ≡ []
     unfolding answer_lines for_each_client
     quiet fewer cs qs all free = quiet-from fewer 1 cs qs all free
 
@@ -308,7 +307,7 @@ module _ (settings : Settings) (xs ys : List Sample) (done : ℕ → List Entry)
         → AreQueues xs done b cs qs → length ys ≤ least_gap_of (length xs) qs
         → (k : ℕ) (client : Client) → slice_get cs k ≡ Some client → (s : ℕ)
         → commands_to s (done (b + k))
-        ≡ commands_to s (entries_before (length (xs ++ zs)) (entries_of offer client))
+        ≡ commands_to s (entries_before (length (xs ++ zs)) (entries_of client))
     asked-each within b [] qs all free k client found s = absurd (none-some client found)
     asked-each within b (c ∷ cs) [] all free k client found s = absurd all
     asked-each within b (c ∷ cs) (q ∷ qs) all free zero client found s =
@@ -320,7 +319,7 @@ module _ (settings : Settings) (xs ys : List Sample) (done : ℕ → List Entry)
         (sym (before-each settings c xs (done b) (left_of q) all.0 ys some f.0 zs more
         within))
         ∙ ap (λ (x : Client). commands_to s
-        (entries_before (length (xs ++ zs)) (entries_of offer x))) is
+        (entries_before (length (xs ++ zs)) (entries_of x))) is
     asked-each within b (c ∷ cs) (q ∷ qs) all free (suc k) client found s =
         let f = free-first (length ys) (length xs) q qs free in
         let e : b + suc k ≡ b + 1 + k = omega arith in

@@ -18,7 +18,7 @@ use Rattle.definitions.specs.Runs.{AreRight, taken_samples, is_too_long, body_te
 use Rattle.definitions.specs.Runs.{due_text, IsAnswer}
 use Rattle.definitions.specs.Runs as runs
 use Rattle.definitions.proofs.SampleLemmas.{samples-length}
-use Rattle.receiver.specs.Offered.{offer, client_with}
+use Rattle.receiver.specs.Clients.{client_with}
 use Rattle.receiver.specs.Texts.{AppendsPart}
 use Rattle.receiver.specs.Sessions.{StandsFor, time_of}
 use Rattle.channel_slots.specs.declared.open_fault.OpenFault.{OpenFault}
@@ -58,7 +58,7 @@ same-clients text settings handed limit =
 opens : {A : Type 0} (text : A → List ℕ) (settings : Settings) (handed : List A) (limit : ℕ)
     (session : Session)
     → StandsFor settings (map (λ a. client_with (text a)) handed) session []
-    (answer_lines offer settings (map (λ a. client_with (text a)) handed) [])
+    (answer_lines settings (map (λ a. client_with (text a)) handed) [])
     → IsOpen settings (clients_of (task_of settings (map text handed) limit)) session
 opens text settings handed limit session stands =
     subst (λ (l : List Client). IsOpen settings l session)
@@ -154,7 +154,7 @@ module _ (settings : Settings) (scripts : List (List ℕ)) (limit : ℕ) where
       → Consumes old.remaining new.remaining read → new.read_failed ≡ old.read_failed
       → new.write_failed ≡ true
       → AppendsPart old.contents new.contents
-      (body offer settings (samples_read settings limit read)
+      (body settings (samples_read settings limit read)
       (clients_of (task_of settings scripts limit)))
       → BrokeOff (task_of settings scripts limit) old new
   unfolding taken_samples task
@@ -304,7 +304,7 @@ pub record IsOpened {A : Type 0} (text : A → List ℕ) (settings : Settings) (
 pub was-opened : {A : Type 0} (text : A → List ℕ) (settings : Settings) (handed : List A)
     (limit : ℕ) (session : Session)
     → StandsFor settings (map (λ a. client_with (text a)) handed) session []
-    (answer_lines offer settings (map (λ a. client_with (text a)) handed) [])
+    (answer_lines settings (map (λ a. client_with (text a)) handed) [])
     → (Ok session ≡ Err Faults.Clients) ↔ AreWrong (length handed)
     → IsOpened text settings handed limit session
 was-opened text settings handed limit session stands when = record {

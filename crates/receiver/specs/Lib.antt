@@ -1,7 +1,7 @@
 pub mod Devices
 pub mod Texts
 pub mod HeldTexts
-pub mod Offered
+pub mod Clients
 pub mod Sessions
 pub mod Runs
 pub mod LastLines

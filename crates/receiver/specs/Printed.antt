@@ -11,7 +11,6 @@ use Rattle.definitions.specs.Events.{Event, acquired, count, subframe, reported,
 use Rattle.definitions.specs.Lines.{lines_of}
 use Rattle.definitions.specs.Receiver.{Client}
 use Rattle.definitions.specs.PrintedLaws.{IsLineOf, IsPageVerb, verb_of}
-use Rattle.receiver.specs.Offered.{offer}
 use Rattle.receiver.specs.Runs.{Devices, ServesEachAlone}
 
 -- Each line that was written with such a word behind its client and its time is that of such an
@@ -27,7 +26,7 @@ pub record EachLine (settings : Settings) (clients : List Client) (old new : Dev
   pub each : (i : ℕ) (line word : List ℕ) → slice_get (lines_of text) i ≡ Some line
       → verb_of line ≡ Some word → verb word
       → (event : Event) × kind event
-      × IsLineOf offer settings clients (samples settings.packing read) line event
+      × IsLineOf settings clients (samples settings.packing read) line event
 
 -- Each count is that of a dump: the six plain sums over its samples.
 abbrev pub CountsAreSums : Settings → List Client → Devices → Devices → Type 0

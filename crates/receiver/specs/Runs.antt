@@ -9,7 +9,6 @@ use Rattle.definitions.specs.Runs.{Task, Input, InputEnd, RunAnswer, due_text, I
 use Rattle.definitions.specs.Runs as runs
 use Rattle.definitions.specs.Receiver.{body, full, body_lines, lines_of_client, alone_to_end}
 use Rattle.definitions.specs.Lines.{as_bytes, lines_of}
-use Rattle.receiver.specs.Offered.{offer}
 use Rattle.receiver.specs.Texts.{AppendsPart, WroteUpTo}
 use Rattle.definitions.specs.Receiver.{answer_lines}
 use Rattle.receiver.specs.Sessions.{StandsFor}
@@ -64,14 +63,13 @@ StopsFor limit count failed_before failed remaining PastLimit =
 
 -- the lines of all clients, with `end` only where all was read
 abbrev pub text_for : Stop → Settings → List Sample → List Client → List ℕ
-text_for AtEnd settings xs clients = full offer settings xs clients
-text_for ReadFailed settings xs clients = body offer settings xs clients
-text_for PastLimit settings xs clients = body offer settings xs clients
+text_for AtEnd settings xs clients = full settings xs clients
+text_for ReadFailed settings xs clients = body settings xs clients
+text_for PastLimit settings xs clients = body settings xs clients
 
 -- what a run is asked for: scripts of clients that have four slots each
 abbrev pub task_of : Settings → List (List ℕ) → ℕ → Task
 task_of settings scripts limit = record {
-  profile = offer;
   settings = settings;
   shares = replicate (length scripts) 4;
   scripts = scripts;
@@ -123,21 +121,21 @@ pub record ServesEachAlone (settings : Settings) (clients : List Client)
   pub written : Appends old.contents new.contents text
   pub alone : (k : ℕ) (client : Client) → slice_get clients k ≡ Some client
       → lines_of_client (1 + k) (lines_of text)
-      ≡ alone_to_end offer settings (samples settings.packing read) client
+      ≡ alone_to_end settings (samples settings.packing read) client
 
 -- ---- within a run
 
 -- a session before the first sample, with the answers at time 0 to come
 pub record IsOpen (settings : Settings) (clients : List Client) (session : Session) : Type 0 where
-  pub stands : StandsFor settings clients session [] (answer_lines offer settings clients [])
-  pub first : body_lines offer settings [] clients ≡ answer_lines offer settings clients []
+  pub stands : StandsFor settings clients session [] (answer_lines settings clients [])
+  pub first : body_lines settings [] clients ≡ answer_lines settings clients []
 
 -- a session at the end of samples, with all that was to be written by then, since the writer held
 -- `start`
 pub record IsWrittenTo (settings : Settings) (clients : List Client) (start : Option (List ℕ))
     (session : Session) (contents : Option (List ℕ)) (xs : List Sample) : Type 0 where
   pub stands : StandsFor settings clients session xs []
-  pub written : Appends start contents (body offer settings xs clients)
+  pub written : Appends start contents (body settings xs clients)
 
 -- a run of samples was taken: all that is to be written by its end is written behind what was
 abbrev pub TakesOn : List Sample → Session → Session → Option (List ℕ) → Option (List ℕ) → Type 0
@@ -151,7 +149,7 @@ abbrev pub TakesFront : List Sample → Session → Option (List ℕ) → Option
 TakesFront run before old new =
     (settings : Settings) (clients : List Client) (start : Option (List ℕ)) (xs : List Sample)
     → IsWrittenTo settings clients start before old xs
-    → AppendsPart start new (body offer settings (xs ++ run) clients)
+    → AppendsPart start new (body settings (xs ++ run) clients)
 
 -- behind what was to be written so far, the whole text for a stop is written
 abbrev pub WritesAll : Stop → Session → Option (List ℕ) → Option (List ℕ) → Type 0
@@ -193,7 +191,7 @@ pub record BrokeOffReading (settings : Settings) (clients : List Client) (limit 
   pub consumed : Consumes old.remaining new.remaining read
   pub read_failed : new.read_failed ≡ old.read_failed
   pub written : AppendsPart start new.contents
-      (body offer settings (samples_read settings limit read) clients)
+      (body settings (samples_read settings limit read) clients)
 
 -- all of the text was written
 pub record Completes (settings : Settings) (clients : List Client) (limit : ℕ) (read : List ℕ)

@@ -17,7 +17,6 @@ use Rattle.definitions.specs.Commands.{TimedRequest}
 use Rattle.receiver.specs.declared.due.Due.{Due}
 use Rattle.receiver.specs.declared.queue.Queue.{Queue}
 use Rattle.receiver.specs.declared.session.Session.{Session}
-use Rattle.receiver.specs.Offered.{offer}
 use Rattle.receiver.specs.Queues.{left_of, least_gap_of, all_left}
 
 -- how the samples are packed
@@ -40,7 +39,7 @@ lines_left session = all_left session.queues.items
 -- of the last sample or after it
 pub record IsQueue (xs : List Sample) (client : Client) (done left : List Entry) : Type 0 where
   pub slots : client.slots ≡ 4
-  pub all : entries_of offer client ≡ done ++ left
+  pub all : entries_of client ≡ done ++ left
   pub past : AllByRecursion (λ (e : Entry). e.time ≤ length xs) done
   pub to_come : NoneBefore (length xs) left
 

@@ -16,12 +16,12 @@ impl<'a> Queue<'a> {
     ghost use Rattle.std.specs.Prelude.{◌≤◌, ◌∷◌, IfSome};
     ghost use Rattle.client_commands.specs.Entries.{entry_in};
     ghost use Rattle.definitions.specs.Receiver.{entries_of};
-    ghost use Rattle.receiver.specs.Offered.{offer, client_with};
+    ghost use Rattle.receiver.specs.Clients.{client_with};
     ghost use Rattle.receiver.specs.Queues.{left_of, NoneDue, gap};
 
     /// All entries of a script.
     pub fn new(script: &'a [u8]) -> Queue<'a>
-        ensures { left_of result ≡ entries_of offer (client_with script.now) }
+        ensures { left_of result ≡ entries_of (client_with script.now) }
     {
         let mut rest = Script::new(script);
         let next = rest.next();

@@ -3,7 +3,7 @@
 ghost use Rattle.std.specs.Prelude.{◌≡◌, ◌≤◌, length, map, IfSome, IsNone};
 ghost use Rattle.std.specs.List.{AllByRecursion};
 ghost use Rattle.definitions.specs.Receiver.{entries_of};
-ghost use Rattle.receiver.specs.Offered.{offer, client_with};
+ghost use Rattle.receiver.specs.Clients.{client_with};
 ghost use Rattle.receiver.specs.declared.session.TheConstants.{QUEUES};
 ghost use Rattle.receiver.specs.Queues.{TakesDue, NoneDue, left_of, least_gap_of};
 
@@ -16,7 +16,7 @@ use arrayvec::ArrayVec;
 pub fn queues_of<'a>(scripts: &'a [&'a [u8]]) -> ArrayVec<Queue<'a>, QUEUES>
     requires { length scripts.now ≤ QUEUES }
     ensures { map left_of result.items
-        ≡ map (λ script. entries_of offer (client_with script.now)) scripts.now }
+        ≡ map (λ script. entries_of (client_with script.now)) scripts.now }
 {
     let mut queues = ArrayVec::new();
     for script in scripts {

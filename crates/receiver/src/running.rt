@@ -6,7 +6,7 @@ ghost use Rattle.definitions.specs.Oscillators.{Settings as DefinedSettings};
 ghost use Rattle.channel_slots.specs.declared.bank.TheConstants.{MOST_TIME};
 ghost use Rattle.channel_slots.specs.declared.place.TheConstants.{MOST_CLIENTS};
 ghost use Rattle.definitions.specs.Runs.{clients_of};
-ghost use Rattle.receiver.specs.Offered.{client_with};
+ghost use Rattle.receiver.specs.Clients.{client_with};
 ghost use Rattle.receiver.specs.Printed.{LinesAreRight};
 ghost use Rattle.receiver.specs.Runs.{devices_at, task_of, IsOpen, Ran, BrokeOff, IsRun};
 ghost use Rattle.receiver.specs.Sessions.{time_of};

@@ -34,7 +34,7 @@ impl<'a> Session<'a> {
     ghost use Rattle.definitions.specs.Samples.{Sample};
     ghost use Rattle.definitions.specs.Receiver.{Client, body_lines, answer_lines};
     ghost use Rattle.channel_slots.specs.Events.{line_of};
-    ghost use Rattle.receiver.specs.Offered.{offer, client_with};
+    ghost use Rattle.receiver.specs.Clients.{client_with};
     ghost use Rattle.receiver.specs.Sessions.{StandsFor, Gives, packing_in, time_of};
     ghost use Rattle.receiver.specs.Sessions.{until_next, lines_left};
 
@@ -50,7 +50,7 @@ impl<'a> Session<'a> {
         ensures time { IfOk result (λ session. time_of session ≡ 0) }
         ensures stands { IfOk result (λ session. StandsFor settings (map
             (λ script. client_with script.now) scripts.now) session []
-            (answer_lines offer settings
+            (answer_lines settings
             (map (λ script. client_with script.now) scripts.now) [])) }
     {
         let clients = scripts.len().min(QUEUES + 1);
@@ -105,12 +105,12 @@ impl<'a> Session<'a> {
         ensures stands { (settings : DefinedSettings) (clients : List Client) (xs : List Sample)
             → StandsFor settings clients self.old xs []
             → StandsFor settings clients self.new (xs ++ run.now.samples)
-            (answer_lines offer settings clients (xs ++ run.now.samples)) }
+            (answer_lines settings clients (xs ++ run.now.samples)) }
         ensures told { (settings : DefinedSettings) (clients : List Client) (xs : List Sample)
             → StandsFor settings clients self.old xs []
-            → body_lines offer settings (xs ++ run.now.samples) clients
-            ≡ body_lines offer settings xs clients ++ map line_of events.new.items
-            ++ answer_lines offer settings clients (xs ++ run.now.samples) }
+            → body_lines settings (xs ++ run.now.samples) clients
+            ≡ body_lines settings xs clients ++ map line_of events.new.items
+            ++ answer_lines settings clients (xs ++ run.now.samples) }
     {
         self.bank.feed_into(run, events);
     }

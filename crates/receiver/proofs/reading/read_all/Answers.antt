@@ -9,7 +9,6 @@ use Rattle.definitions.specs.Samples.{Sample, Packing, samples, sample_count, sa
 use Rattle.definitions.specs.Receiver.{body}
 use Rattle.definitions.specs.Oscillators.{Settings}
 use Rattle.receiver.specs.Sessions.{packing_in, time_of}
-use Rattle.receiver.specs.Offered.{offer}
 use Rattle.receiver.specs.Texts.{AppendsPart}
 use Rattle.receiver.specs.Runs.{IsWrittenTo}
 use Rattle.receiver.proofs.TextLemmas.{on_err, appended-part}
@@ -46,7 +45,7 @@ returns-in_err-take_piece-clause-broken g c =
     let Q : List Sample → Type 0 =
     λ ys. AppendsPart start
     (promise (s.contents c.take_piece.new.writer) c.take_piece.new.text)
-    (body offer settings ys clients) in
+    (body settings ys clients) in
     record {
       read = was.0 ++ take n buffer;
       consumed =

@@ -3,7 +3,6 @@ use Rattle.std.specs.Prelude.{map}
 use Rattle.std.proofs.lemmas.Result.{IfOk-weaker, IfErr-weaker}
 use Rattle.definitions.specs.Receiver.{body_lines, body}
 use Rattle.definitions.specs.Receiver.{answer_lines}
-use Rattle.receiver.specs.Offered.{offer}
 use Rattle.channel_slots.specs.Events.{line_of}
 use Rattle.receiver.proofs.TextLemmas.{on_err}
 use Rattle.receiver.proofs.AnswerLemmas.{stretch-all, stretch-part-told, stretch-part-answers}
@@ -18,12 +17,12 @@ returns-in_err-put_events-clause-err g c =
     let more = xs ++ c.args.run.now.samples in
     stretch-part-told start (promise (s.contents c.args.writer.now) c.args.text.now)
     (promise (s.contents c.put_events.new.writer) c.put_events.new.text)
-    (body_lines offer settings xs clients) (map line_of c.deref.result.now)
-    (answer_lines offer settings clients more)
-    (body_lines offer settings more clients)
+    (body_lines settings xs clients) (map line_of c.deref.result.now)
+    (answer_lines settings clients more)
+    (body_lines settings more clients)
     (c.feed.ensures.told settings clients xs at.stands
-    ∙ ap (λ r. body_lines offer settings xs clients ++ map line_of r
-    ++ answer_lines offer settings clients more) (sym c.deref.ensures.0))
+    ∙ ap (λ r. body_lines settings xs clients ++ map line_of r
+    ++ answer_lines settings clients more) (sym c.deref.ensures.0))
     at.written c.in_err-put_events.ensures.err)
 
 pub returns-clause-ok : goal.returns-clause-ok
@@ -33,7 +32,7 @@ returns-clause-ok g c =
     IfOk-weaker c.put_answers.result _ _ (λ _ answered. λ settings clients start xs at.
     let more = xs ++ c.args.run.now.samples in
     let said =
-    answered settings clients more (answer_lines offer settings clients more)
+    answered settings clients more (answer_lines settings clients more)
     (c.feed.ensures.stands settings clients xs at.stands) in
     record {
       stands = said.1;
@@ -41,12 +40,12 @@ returns-clause-ok g c =
           stretch-all start (promise (s.contents c.args.writer.now) c.args.text.now)
           (promise (s.contents c.put_events.new.writer) c.put_events.new.text)
           (promise (s.contents c.put_answers.new.writer) c.put_answers.new.text)
-          (body_lines offer settings xs clients) (map line_of c.deref.result.now)
-          (answer_lines offer settings clients more)
-          (body_lines offer settings more clients)
+          (body_lines settings xs clients) (map line_of c.deref.result.now)
+          (answer_lines settings clients more)
+          (body_lines settings more clients)
           (c.feed.ensures.told settings clients xs at.stands
-          ∙ ap (λ r. body_lines offer settings xs clients ++ map line_of r
-          ++ answer_lines offer settings clients more) (sym c.deref.ensures.0))
+          ∙ ap (λ r. body_lines settings xs clients ++ map line_of r
+          ++ answer_lines settings clients more) (sym c.deref.ensures.0))
           at.written c.in_ok-put_events.ensures.ok said.0;
     }) c.put_answers.ensures.ok
 
@@ -59,14 +58,14 @@ returns-clause-err g c =
     stretch-part-answers start (promise (s.contents c.args.writer.now) c.args.text.now)
     (promise (s.contents c.put_events.new.writer) c.put_events.new.text)
     (promise (s.contents c.put_answers.new.writer) c.put_answers.new.text)
-    (body_lines offer settings xs clients) (map line_of c.deref.result.now)
-    (answer_lines offer settings clients more)
-    (body_lines offer settings more clients)
+    (body_lines settings xs clients) (map line_of c.deref.result.now)
+    (answer_lines settings clients more)
+    (body_lines settings more clients)
     (c.feed.ensures.told settings clients xs at.stands
-    ∙ ap (λ r. body_lines offer settings xs clients ++ map line_of r
-    ++ answer_lines offer settings clients more) (sym c.deref.ensures.0))
+    ∙ ap (λ r. body_lines settings xs clients ++ map line_of r
+    ++ answer_lines settings clients more) (sym c.deref.ensures.0))
     at.written c.in_ok-put_events.ensures.ok
-    (answered settings clients more (answer_lines offer settings clients more)
+    (answered settings clients more (answer_lines settings clients more)
     (c.feed.ensures.stands settings clients xs at.stands)))
     c.put_answers.ensures.err
 

@@ -4,7 +4,6 @@ use Rattle.definitions.specs.Samples.{Sample}
 use Rattle.definitions.specs.Lines.{as_bytes}
 use Rattle.definitions.specs.Receiver.{body}
 use Rattle.definitions.specs.Receiver.{answer_lines}
-use Rattle.receiver.specs.Offered.{offer}
 use Rattle.receiver.specs.Texts.{AppendsPart}
 use Rattle.receiver.specs.Runs.{samples_read}
 use Rattle.receiver.proofs.TextLemmas.{on_err}
@@ -28,8 +27,8 @@ returns-in_err-put_answers-clause-broken g c =
     let part =
     unheld start now (held_text c.put_answers.new.text) _ c.put_answers.ensures.grows
     (rw none at (c.in_err-put_answers.ensures.err settings clients []
-    (answer_lines offer settings clients []) open_is.stands)) in
-    let Q : List Sample → Type 0 = λ ys. AppendsPart start now (body offer settings ys clients) in
+    (answer_lines settings clients []) open_is.stands)) in
+    let Q : List Sample → Type 0 = λ ys. AppendsPart start now (body settings ys clients) in
     breaks-in-body settings scripts c.args.limit []
     _ _ (Consumes-nil (g.R.Source.remaining c.args.reader.now)) refl
     c.in_err-put_answers.ensures.failure
@@ -45,7 +44,7 @@ returns-in_err-stop-clause-broken g c =
     (s.contents c.put_answers.new.writer) c.new-text.result c.put_answers.new.text
     c.new-text.ensures open_is
     (c.in_ok-put_answers.ensures.ok settings clients []
-    (answer_lines offer settings clients []) open_is.stands) in
+    (answer_lines settings clients []) open_is.stands) in
     let broke = c.in_err-stop.ensures.broken settings clients start first in
     let grown =
     grows-on start (s.contents c.put_answers.new.writer) (s.contents c.read_all.new.writer)
@@ -64,7 +63,7 @@ returns-in_err-finish-clause-broken g c =
     (s.contents c.put_answers.new.writer) c.new-text.result c.put_answers.new.text
     c.new-text.ensures open_is
     (c.in_ok-put_answers.ensures.ok settings clients []
-    (answer_lines offer settings clients []) open_is.stands) in
+    (answer_lines settings clients []) open_is.stands) in
     let has = c.in_ok-stop.ensures.read settings clients start first in
     let grown = grows-on start (s.contents c.read_all.new.writer) (s.contents c.finish.new.writer)
     (grows-on start (s.contents c.put_answers.new.writer) (s.contents c.read_all.new.writer)
@@ -83,7 +82,7 @@ returns-clause-ran g c = let s = g.W.Sink in λ settings scripts open_is.
     (s.contents c.put_answers.new.writer) c.new-text.result c.put_answers.new.text
     c.new-text.ensures open_is
     (c.in_ok-put_answers.ensures.ok settings clients []
-    (answer_lines offer settings clients []) open_is.stands) in
+    (answer_lines settings clients []) open_is.stands) in
     let has = c.in_ok-stop.ensures.read settings clients start first in
     record {
       read = has.read;

@@ -1,7 +1,7 @@
 use Rattle.std.proofs.Common.{◌∙◌, ap}
 use Rattle.std.specs.Prelude.{map, Err}
 use Rattle.channel_slots.specs.declared.open_fault.OpenFault.{OpenFault}
-use Rattle.receiver.specs.Offered.{client_with}
+use Rattle.receiver.specs.Clients.{client_with}
 use Rattle.receiver.proofs.TableLemmas.{was-opened, ran-them, for-memory, without-memory}
 use Rattle.receiver.proofs.TableLemmas.{without-clients, broke-off, ran-to-end, ran-to-fault}
 use Rattle.receiver.proofs.TableLemmas.{ran-to-limit}

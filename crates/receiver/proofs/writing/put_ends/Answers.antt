@@ -7,7 +7,6 @@ use Rattle.definitions.specs.Texts.{for_client, at_time}
 use Rattle.definitions.specs.Samples.{Sample}
 use Rattle.definitions.specs.Oscillators.{Settings}
 use Rattle.definitions.specs.Receiver.{Client, body, full}
-use Rattle.receiver.specs.Offered.{offer}
 use Rattle.receiver.specs.LastLines.{ends}
 use Rattle.receiver.specs.Sessions.{time_of, StandsFor}
 use Rattle.receiver.specs.declared.session.Session.{Session}
@@ -23,15 +22,15 @@ use Rattle.receiver.proofs.writing.put_ends.Goals as goal
 -- the ends of all clients
 all-ends : (settings : Settings) (clients : List Client) (session : Session) (xs : List Sample)
     (n : ℕ) → StandsFor settings clients session xs [] → n ≡ session.bank.clients
-    → full offer settings xs clients
-    ≡ body offer settings xs clients ++ as_bytes (ends (time_of session) 1 n)
+    → full settings xs clients
+    ≡ body settings xs clients ++ as_bytes (ends (time_of session) 1 n)
 all-ends settings clients session xs n s is =
     let many : length clients ≡ n =
     same-number xs s.done 1 clients session.queues.items s.queues ∙ session.clients ∙ sym is in
     full-is settings xs clients
-    ∙ ap (λ (l : List (List ℕ)). body offer settings xs clients ++ as_bytes l)
+    ∙ ap (λ (l : List (List ℕ)). body settings xs clients ++ as_bytes l)
     (ends-are (time_of session) xs clients (sym s.bank.now))
-    ∙ ap (λ (m : ℕ). body offer settings xs clients ++ as_bytes (ends (time_of session) 1 m)) many
+    ∙ ap (λ (m : ℕ). body settings xs clients ++ as_bytes (ends (time_of session) 1 m)) many
 
 pub loop-client-init : goal.loop-client-init
 loop-client-init g c =
@@ -95,10 +94,10 @@ returns-in_err-put-clause-err g c =
     all-ends settings clients c.args.session.now xs n at.stands
     c.clients-client-end.ensures.number in
     wrote-part start (promise (s.contents c.args.writer.now) c.args.text.now)
-    (promise (s.contents c.put.new.writer) c.put.new.self) (full offer settings xs clients)
+    (promise (s.contents c.put.new.writer) c.put.new.self) (full settings xs clients)
     (as_bytes (ends time 1 n)) (as_bytes (ends time 1 n)) []
     (wrote-front start (promise (s.contents c.args.writer.now) c.args.text.now)
-    (full offer settings xs clients) (body offer settings xs clients)
+    (full settings xs clients) (body settings xs clients)
     (as_bytes (ends time 1 n)) at.written whole) (sym (append-nil (as_bytes (ends time 1 n))))
     part)
 
@@ -119,13 +118,13 @@ returns-clause-ok g c settings clients start xs at =
     c.clients-client-end.ensures.number in
     let first =
     wrote-front start (promise (s.contents c.args.writer.now) c.args.text.now)
-    (full offer settings xs clients) (body offer settings xs clients) text at.written
+    (full settings xs clients) (body settings xs clients) text at.written
     whole in
     wrote-all start (promise (s.contents c.loop-client.writer) c.loop-client.text)
-    (full offer settings xs clients) [] refl
+    (full settings xs clients) [] refl
     (wrote-text start (promise (s.contents c.args.writer.now) c.args.text.now)
     (promise (s.contents c.loop-client.writer) c.loop-client.text)
-    (full offer settings xs clients) text text [] first (sym (append-nil text)) all)
+    (full settings xs clients) text text [] first (sym (append-nil text)) all)
 
 pub returns-in_err-put-clause-grows : goal.returns-in_err-put-clause-grows
 returns-in_err-put-clause-grows g c = let s = g.W.Sink in
