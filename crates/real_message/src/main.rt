@@ -1,6 +1,7 @@
 //! The program of `receiver_cli`, for its stored run over 20 s in which a satellite sends a real
-//! satellite's message: it tracks the satellite, and prints its lock, its subframes and its
-//! ephemeris. The recording, the script and the lines are those of `examples/`.
+//! satellite's message. One client searches for it, and another tracks it from a known shift on:
+//! each prints its lock, its subframes and its ephemeris. The recording, the scripts and the lines
+//! are those of `examples/`, those of both clients in the order of their times.
 #![tactic(auto)]
 
 use command_line::{Stored, carry_out};
