@@ -2,6 +2,7 @@
 
 ghost use Rattle.std.specs.Prelude.{◌≡◌, ◌≤◌, ◌%◌, ◌^◌};
 
+mod acquisitions;
 mod clients;
 mod devices;
 mod fakes;
