@@ -8,7 +8,7 @@ use Rattle.std.specs.Char.{digit_value}
 use Rattle.clap.specs.declared.parser.matches.Found.{Found}
 use Rattle.clap.specs.Matches.{matched_of, raw_values, first_value, one_text}
 use Rattle.definitions.specs.Oscillators.{Settings as DefinedSettings}
-use Rattle.definitions.specs.Samples.{Packing, real1, real2}
+use Rattle.definitions.specs.Samples.{Packing, real1, real2, iq1, iq2}
 use Rattle.oscillators.specs.Limits.{IsRate}
 use Rattle.oscillators.specs.declared.settings.SettingsFault.TheVariants.{Rate, Offset}
 use Rattle.channel_slots.specs.declared.bank.TheConstants.{MOST_TIME}
@@ -44,7 +44,10 @@ flag_in (Some text) = bytes_eq text (codes "true")
 -- a format by its name
 abbrev pub format_in : Option (List ℕ) → Packing
 format_in None = real1
-format_in (Some name) = if bytes_eq name (codes "real2") then real2 else real1
+format_in (Some name) =
+    if bytes_eq name (codes "real2") then real2
+    else if bytes_eq name (codes "iq1") then iq1
+    else if bytes_eq name (codes "iq2") then iq2 else real1
 
 -- what the options of a command line say of the recording
 pub record Asked : Type 0 where

@@ -18,7 +18,7 @@ Runs scripts of timed commands over recorded GPS L1 C/A samples.
 Reads the samples from standard input and prints a line for each result.";
 
 /// The formats that `--format` takes.
-static FORMATS: [&str; 2] = ["real1", "real2"];
+static FORMATS: [&str; 4] = ["real1", "real2", "iq1", "iq2"];
 
 /// The help after the options: scripts, printed lines, refusals and statuses.
 const MORE: &str = "\
@@ -118,7 +118,7 @@ fn format<'a>(alloc: Global) -> Arg<'a> {
         .action(ArgAction::Set)
         .value_parser(FORMATS.as_slice())
         .default_value("real1")
-        .help("Real samples of one or of two bits")
+        .help("Real samples of one or two bits, or complex ones of one or two bits a part")
 }
 
 /// The settings that the options ask for.
@@ -174,6 +174,8 @@ fn packing(matches: &ArgMatches) -> Format
 {
     match matches.get_str("format") {
         Some("real2") => Format::Real2,
+        Some("iq1") => Format::Iq1,
+        Some("iq2") => Format::Iq2,
         _ => Format::Real1,
     }
 }

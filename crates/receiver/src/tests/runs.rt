@@ -80,6 +80,31 @@ fn two_bit_byte(rt: HostRuntime) -> Result<(), Fail> {
     Ok(())
 }
 
+// Complex samples meet the same carrier and the same chips as the two-bit byte above. A sample
+// (x, y) with the pair (c, s) gives x c + y s in phase, and y c - x s in quadrature.
+//
+// The byte 1b as `iq1` is (1, 1), (1, -1), (-1, 1), (-1, -1): the products are (3, 1), (-3, -1),
+// (1, -3), (1, -3). The bytes 4b 2d as `iq2` are (3, 1), (-1, -3), (1, -1), (-3, 3): the products
+// are (7, -1), (-5, 5), (-1, 3), (-9, -3).
+#[test]
+fn complex_bytes(rt: HostRuntime) -> Result<(), Fail> {
+    let rows: [(Format, &[u8], &str); 2] = [
+        (Format::Iq1, &[0x1b], "-2 6 2 -6 2 -6"),
+        (Format::Iq2, &[0x4b, 0x2d], "12 4 -8 4 -8 4"),
+    ];
+    for (format, bytes, sums) in rows {
+        let settings = Settings::new(4_092_000, 1_023_000, format)?;
+        let mut reader = Giving::whole(bytes);
+        let mut writer = Holding::whole();
+        let script = b"0 hold 0 1 0 2044\n0 counts 0 1\n";
+        let answer = run(rt.alloc(), settings, &[script], &mut reader, &mut writer);
+        assert_eq!(rt; answer, Ok(4));
+        let text = format!(in rt.alloc(); "1 0 ok\n1 0 ok\n1 4 count 0 {sums}\n1 4 end\n")?;
+        assert_eq!(rt; writer.text()?, text.as_str());
+    }
+    Ok(())
+}
+
 // Three lines come before the first read, three with the last of 256 bytes, and the end behind the
 // read that gives none.
 #[test]
