@@ -1,17 +1,20 @@
 -- The verbs of the code, and the values of words that it reads, as the definitions have them.
 use Rattle.std.specs.Prelude.{ℕ, ℤ, pos, List, [], ◌∷◌, Result, Ok, Err}
-use Rattle.definitions.specs.Scripts.{Verb as DefinedVerb, hold_verb, track_verb, counts_verb}
-use Rattle.definitions.specs.Scripts.{state_verb, stop_verb}
+use Rattle.definitions.specs.Acquisition.{Plan}
+use Rattle.definitions.specs.Scripts.{Verb as DefinedVerb, hold_verb, track_verb, acquire_verb}
+use Rattle.definitions.specs.Scripts.{counts_verb, state_verb, stop_verb}
 use Rattle.client_commands.specs.declared.refusal.Refusal.{Refusal}
 use Rattle.client_commands.specs.declared.start.Start.{Start}
 use Rattle.client_commands.specs.declared.verb.Verb.{Verb}
-use Rattle.client_commands.specs.declared.verb.Verb.TheVariants.{Hold, Track, Counts, State, Stop}
+use Rattle.client_commands.specs.declared.verb.Verb.TheVariants.{Hold, Track, Acquire, Counts}
+use Rattle.client_commands.specs.declared.verb.Verb.TheVariants.{State, Stop}
 use Rattle.client_commands.specs.Entries.{number_of}
 
 -- a verb of the code
 abbrev pub verb_in : Verb → DefinedVerb
 verb_in Hold = hold_verb
 verb_in Track = track_verb
+verb_in Acquire = acquire_verb
 verb_in Counts = counts_verb
 verb_in State = state_verb
 verb_in Stop = stop_verb
@@ -30,3 +33,9 @@ number_alone (Err refusal) = Err (number_of refusal)
 abbrev pub values_of_start : Result Start Refusal → Result (List ℤ) ℕ
 values_of_start (Ok s) = Ok (pos s.slot ∷ pos s.prn ∷ s.doppler ∷ pos s.half ∷ [])
 values_of_start (Err refusal) = Err (number_of refusal)
+
+-- the values of the five words of a plan, or the refusal of one of them
+abbrev pub values_of_plan : Result Plan Refusal → Result (List ℤ) ℕ
+values_of_plan (Ok p) =
+    Ok (pos p.prn ∷ p.centre ∷ pos p.bins ∷ pos p.dwell ∷ pos p.threshold ∷ [])
+values_of_plan (Err refusal) = Err (number_of refusal)

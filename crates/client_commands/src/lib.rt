@@ -17,6 +17,7 @@
 
 mod line;
 mod number;
+mod plan;
 mod refusal;
 mod script;
 mod start;

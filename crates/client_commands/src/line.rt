@@ -2,12 +2,11 @@
 
 ghost use Rattle.std.specs.Prelude.{◌≡◌};
 ghost use Rattle.std.specs.List.{list_all};
-ghost use Rattle.definitions.specs.Scripts.{entry_of, command_in};
+ghost use Rattle.definitions.specs.Scripts.{entry_of, command_in, verbs};
 ghost use Rattle.definitions.specs.Scripts.{is_printable as defined_is_printable};
 ghost use Rattle.definitions.specs.Scripts.{time_in as defined_time_in};
 ghost use Rattle.definitions.specs.Lines.{words_of};
 ghost use Rattle.client_commands.specs.Entries.{entries_in, result_in};
-ghost use Rattle.client_commands.specs.Known.{known_verbs};
 
 use crate::number::number_in;
 use crate::refusal::Refusal;
@@ -25,7 +24,7 @@ const LAST_TIME: u64 = 1 << 40;
 /// The entry of a line that stands behind one of time `before`. A line without words has none.
 #[tactic(auto, unfolding(definitions::specs::Scripts::entry_of))]
 pub(crate) fn entry(line: &[u8], before: u64) -> Option<Timed>
-    ensures { entries_in result ≡ entry_of known_verbs 4 before line.now }
+    ensures { entries_in result ≡ entry_of verbs 4 before line.now }
 {
     if LINE_BYTES < line.len() {
         return refused(before, Refusal::LineTooLong);
@@ -70,7 +69,7 @@ fn refused(time: u64, refusal: Refusal) -> Option<Timed>
 
 /// The command that the words behind the time ask for.
 fn command(words: &[u8]) -> Result<Command, Refusal>
-    ensures { result_in result ≡ command_in known_verbs 4 (words_of words.now) }
+    ensures { result_in result ≡ command_in verbs 4 (words_of words.now) }
 {
     let (name, words) = next_word(words).ok_or(Refusal::NoVerb)?;
     let verb = Verb::named(name).ok_or(Refusal::NoVerb)?;

@@ -29,22 +29,20 @@ pub struct Script<'a> {
 
 impl<'a> Model for Script<'a> {
     ghost use Rattle.std.specs.Prelude.{List};
-    ghost use Rattle.definitions.specs.Scripts.{Entry, entries_after};
+    ghost use Rattle.definitions.specs.Scripts.{Entry, entries_after, verbs};
     ghost use Rattle.definitions.specs.Lines.{lines_of};
-    ghost use Rattle.client_commands.specs.Known.{known_verbs};
 
     ghost Value = { List Entry };
 
-    ghost view = { λ s. entries_after known_verbs 4 s.before (lines_of s.text.now) };
+    ghost view = { λ s. entries_after verbs 4 s.before (lines_of s.text.now) };
 }
 
 impl<'a> Script<'a> {
-    ghost use Rattle.definitions.specs.Scripts.{script};
-    ghost use Rattle.client_commands.specs.Known.{known_verbs};
+    ghost use Rattle.definitions.specs.Scripts.{script, verbs};
 
     /// A script from its text: lines, each ended by a line feed, the last one perhaps not.
     pub fn new(text: &'a [u8]) -> Script<'a>
-        ensures { result ≡ script known_verbs 4 text.now }
+        ensures { result ≡ script verbs 4 text.now }
     {
         Script { text, before: 0 }
     }

@@ -3,6 +3,7 @@
 mod any_bytes;
 
 use super::*;
+use acquisition::Plan;
 use ca_codes::Prn;
 use channel_slots::{Command, SlotNo};
 use oscillators::{Doppler, HalfChip};
@@ -59,6 +60,20 @@ fn track(slot: u8, prn: u8, doppler: i32, half: u16) -> Option<Command> {
     })
 }
 
+fn acquire(
+    slot: u8,
+    prn: u8,
+    centre: i32,
+    bins: u32,
+    dwell: u32,
+    threshold: u32,
+) -> Option<Command> {
+    Some(Command::Acquire {
+        slot: SlotNo::new(slot)?,
+        plan: Plan::new(Prn::new(prn)?, centre, bins, dwell, threshold).ok()?,
+    })
+}
+
 fn counts(slot: u8, n: u32) -> Option<Command> {
     Some(Command::Counts {
         slot: SlotNo::new(slot)?,
@@ -90,7 +105,7 @@ fn a_line_is_refused_by_its_first_case(rt: HostRuntime) {
         ("0", 0, 5),
         ("6 fly 0", 6, 5),
         ("0 Track 0 1 0 0", 0, 5),
-        ("0 acquire 0 1 0 0 1 20", 0, 5),
+        ("0 Acquire 0 1 0 0 1 20", 0, 5),
         ("6 stop", 6, 6),
         ("0 state 0 0", 0, 6),
         ("0 track 0 1 0", 0, 6),
@@ -126,6 +141,55 @@ fn a_line_is_refused_by_its_first_case(rt: HostRuntime) {
 }
 
 #[test]
+fn a_search_is_refused_by_its_first_bad_word(rt: HostRuntime) {
+    let rows = [
+        ("6 acquire", 6),
+        ("6 acquire 0", 6),
+        ("6 acquire 0 1 0 0 1", 6),
+        ("6 acquire 0 1 0 0 1 20 0", 6),
+        ("6 acquire 0 1 0 0 1 20 0 0", 6),
+        ("6 acquire 4 z", 6),
+        ("6 acquire z 1 0 0 1 20", 7),
+        ("6 acquire 0 z 0 0 1 20", 7),
+        ("6 acquire 0 1 z 0 1 20", 7),
+        ("6 acquire 0 1 0 z 1 20", 7),
+        ("6 acquire 0 1 0 0 z 20", 7),
+        ("6 acquire 0 1 0 0 1 z", 7),
+        ("6 acquire 4 1 0 0 1 20", 8),
+        ("6 acquire -1 1 0 0 1 20", 8),
+        ("6 acquire 0 0 0 0 1 20", 8),
+        ("6 acquire 0 33 0 0 1 20", 8),
+        ("6 acquire 0 1 -6001 0 1 20", 8),
+        ("6 acquire 0 1 6001 0 1 20", 8),
+        ("6 acquire 0 1 9999999999999 0 1 20", 8),
+        ("6 acquire 0 1 0 -1 1 20", 8),
+        ("6 acquire 0 1 0 41 1 20", 8),
+        ("6 acquire 0 1 0 4294967296 1 20", 8),
+        ("6 acquire 0 1 0 0 0 20", 8),
+        ("6 acquire 0 1 0 0 11 20", 8),
+        ("6 acquire 0 1 0 0 1 0", 8),
+        ("6 acquire 0 1 0 0 1 1001", 8),
+        ("6 acquire 4 z 0 0 1 20", 8),
+        ("6 acquire z 0 0 0 1 20", 7),
+        ("6 acquire 0 0 z 0 1 20", 8),
+        ("6 acquire 0 z 6001 0 1 20", 7),
+        ("6 acquire 0 1 6001 z 1 20", 8),
+        ("6 acquire 0 1 z 41 1 20", 7),
+        ("6 acquire 0 1 0 41 z 20", 8),
+        ("6 acquire 0 1 0 z 0 20", 7),
+        ("6 acquire 0 1 0 0 0 z", 8),
+        ("6 acquire 0 1 0 0 z 0", 7),
+    ];
+    for (line, number) in rows {
+        assert_eq!(rt;
+            answers(line.as_bytes()),
+            [refused(6, number), None, None],
+            "at {line}"
+        );
+    }
+}
+
+#[test]
 fn a_line_asks_for_its_command(rt: HostRuntime) {
     let rows = [
         ("0 state 0", 0, state(0)),
@@ -142,6 +206,23 @@ fn a_line_asks_for_its_command(rt: HostRuntime) {
         ("0 track 0 32 -16000 2045", 0, track(0, 32, -16_000, 2_045)),
         (" 8  track 3 01 16000 -0", 8, track(3, 1, 16_000, 0)),
         ("0 track 0 7 1000 100", 0, track(0, 7, 1_000, 100)),
+        ("0 acquire 0 1 0 0 1 20", 0, acquire(0, 1, 0, 0, 1, 20)),
+        (
+            "5 acquire 3 32 6000 40 10 1000",
+            5,
+            acquire(3, 32, 6_000, 40, 10, 1_000),
+        ),
+        (
+            "5  acquire 00 1 -6000 -0 01 1 ",
+            5,
+            acquire(0, 1, -6_000, 0, 1, 1),
+        ),
+        (
+            "0 acquire 2 7 1000 3 4 25\n",
+            0,
+            acquire(2, 7, 1_000, 3, 4, 25),
+        ),
+        ("9 counts 0 0", 9, counts(0, 0)),
         ("9 counts 0 1000000", 9, counts(0, 1_000_000)),
     ];
     for (line, time, command) in rows {

@@ -1,25 +1,27 @@
-//! The verbs of this receiver, and the commands that they ask for with the words behind them.
+//! The verbs, and the commands that they ask for with the words behind them.
 
 ghost use Rattle.std.specs.Prelude.{◌≡◌, ◌≤◌, ◌+◌, Some, find, option_map, length, bytes_eq};
-ghost use Rattle.definitions.specs.Scripts.{command_with};
+ghost use Rattle.definitions.specs.Scripts.{command_with, verbs};
 ghost use Rattle.definitions.specs.Lines.{words_of};
 ghost use Rattle.client_commands.specs.Entries.{result_in};
-ghost use Rattle.client_commands.specs.Known.{known_verbs};
 ghost use Rattle.client_commands.specs.Reading.{verb_in};
 ghost use Rattle.client_commands.specs.declared.words.TheConstants.{MOST_WORDS};
 
+use crate::plan::read_plan;
 use crate::refusal::Refusal;
 use crate::start::Start;
 use crate::words::Words;
 use channel_slots::Command;
 
-/// The verbs of this receiver.
+/// The verbs.
 #[derive(Clone, Copy)]
 pub(crate) enum Verb {
     /// Follow a satellite at a fixed Doppler shift.
     Hold,
     /// Track a satellite from a Doppler shift on.
     Track,
+    /// Search for a satellite, and track it where it is found.
+    Acquire,
     /// Print the next dumps.
     Counts,
     /// Show the slot.
@@ -31,11 +33,12 @@ pub(crate) enum Verb {
 impl Verb {
     /// The verb of that name.
     pub(crate) fn named(name: &[u8]) -> Option<Verb>
-        ensures { option_map verb_in result ≡ find (λ v. bytes_eq v.name name.now) known_verbs }
+        ensures { option_map verb_in result ≡ find (λ v. bytes_eq v.name name.now) verbs }
     {
         match name {
             b"hold" => Some(Verb::Hold),
             b"track" => Some(Verb::Track),
+            b"acquire" => Some(Verb::Acquire),
             b"counts" => Some(Verb::Counts),
             b"state" => Some(Verb::State),
             b"stop" => Some(Verb::Stop),
@@ -50,6 +53,7 @@ impl Verb {
     {
         match self {
             Verb::Hold | Verb::Track => 4,
+            Verb::Acquire => 6,
             Verb::Counts => 2,
             Verb::State | Verb::Stop => 1,
         }
@@ -63,6 +67,10 @@ impl Verb {
         match self {
             Verb::Hold => Ok(Start::read(&mut words)?.hold()),
             Verb::Track => Ok(Start::read(&mut words)?.track()),
+            Verb::Acquire => Ok(Command::Acquire {
+                slot: words.slot()?,
+                plan: read_plan(&mut words)?,
+            }),
             Verb::Counts => Ok(Command::Counts {
                 slot: words.slot()?,
                 n: words.dumps()?,

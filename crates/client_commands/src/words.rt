@@ -5,14 +5,15 @@ ghost use Rattle.definitions.specs.Lines.{pieces_ended_by, lines_of, words_of};
 
 use crate::number::signed_number_in;
 use crate::refusal::Refusal;
+use acquisition::MOST_CENTRE;
 use arrayvec::ArrayVec;
 use ca_codes::Prn;
 use channel_slots::SlotNo;
 use oscillators::{Doppler, HalfChip};
 use std::marker::Model;
 
-/// The most words behind a verb: those of `hold` and `track`.
-pub(crate) const MOST_WORDS: usize = 4;
+/// The most words behind a verb: those of `acquire`.
+pub(crate) const MOST_WORDS: usize = 6;
 
 /// The most dumps that a client can ask for at once.
 pub const MOST_DUMPS: u32 = 1_000_000;
@@ -82,11 +83,12 @@ impl<'a> Model for Words<'a> {
 }
 
 impl<'a> Words<'a> {
-    ghost use Rattle.std.specs.Prelude.{drop, get_or, ok_or, OkIff, IfErr};
+    ghost use Rattle.std.specs.Prelude.{drop, get_or, ok_or, unsigned_abs, OkIff, IfOk, IfErr};
     ghost use Rattle.definitions.specs.Scripts.{up_to, around_zero, values_in};
     ghost use Rattle.definitions.specs.Scripts.{signed_number_in as defined_signed_number_in};
     ghost use Rattle.client_commands.specs.Reading.{number_alone, integer_alone};
     ghost use Rattle.client_commands.specs.declared.words.TheConstants.{MOST_WORDS, MOST_DUMPS};
+    ghost use Rattle.acquisition.specs.declared.plan.TheConstants.{MOST_CENTRE};
 
     /// The words of a line, of which there are to be `count`. They are split before the first of
     /// them is judged, since a wrong number of words is refused before any value.
@@ -171,9 +173,31 @@ impl<'a> Words<'a> {
         ensures value { number_alone result ≡ values_in (up_to 0 MOST_DUMPS ∷ []) self.old }
         ensures left { self.new ≡ drop 1 self.old }
     {
-        let count = u32::try_from(self.number()?).ok();
-        count
-            .filter(|count| *count <= MOST_DUMPS)
+        self.number_between(0, MOST_DUMPS)
+    }
+
+    /// The centre of a search that the next word writes, -6,000 to 6,000 Hz.
+    pub(crate) fn centre(&mut self) -> Result<i32, Refusal>
+        requires { 0 < length self.old }
+        ensures value { integer_alone result ≡ values_in (around_zero 6000 ∷ []) self.old }
+        ensures range { IfOk result (λ hz. unsigned_abs hz ≤ MOST_CENTRE) }
+        ensures left { self.new ≡ drop 1 self.old }
+    {
+        let hz = i32::try_from(self.number()?).ok();
+        hz.filter(|hz| hz.unsigned_abs() <= MOST_CENTRE)
+            .ok_or(Refusal::OutOfRange)
+    }
+
+    /// The number that the next word writes, `low` to `high`.
+    pub(crate) fn number_between(&mut self, low: u32, high: u32) -> Result<u32, Refusal>
+        requires { 0 < length self.old }
+        ensures value { number_alone result ≡ values_in (up_to low high ∷ []) self.old }
+        ensures range { IfOk result (λ number. (low ≤ number) × (number ≤ high)) }
+        ensures left { self.new ≡ drop 1 self.old }
+    {
+        let number = u32::try_from(self.number()?).ok();
+        number
+            .filter(|number| low <= *number && *number <= high)
             .ok_or(Refusal::OutOfRange)
     }
 }

@@ -1,13 +1,12 @@
 use Rattle.std.proofs.Common.{◌≡◌, length}
-use Rattle.definitions.specs.Scripts.{entries_after}
+use Rattle.definitions.specs.Scripts.{entries_after, verbs}
 use Rattle.definitions.specs.Lines.{lines_of}
-use Rattle.client_commands.specs.Known.{known_verbs}
 use Rattle.client_commands.proofs.script.Script.next.Given as goal
 
 abbrev pub invariant-loop-line : goal.invariant-loop-line
-invariant-loop-line l = entries_after known_verbs 4 l.initial.self-inside.before
+invariant-loop-line l = entries_after verbs 4 l.initial.self-inside.before
     (lines_of l.initial.self-inside.text.now)
-    ≡ entries_after known_verbs 4 l.self-inside.before (lines_of l.self-inside.text.now)
+    ≡ entries_after verbs 4 l.self-inside.before (lines_of l.self-inside.text.now)
 
 abbrev pub decreases-loop-line : goal.decreases-loop-line
 decreases-loop-line l = length (lines_of l.self-inside.text.now)

@@ -1,5 +1,5 @@
 use Rattle.std.proofs.lemmas.Result.{err_from_is_err_and}
-use Rattle.definitions.specs.Scripts.{hold_verb, track_verb, counts_verb, up_to}
+use Rattle.definitions.specs.Scripts.{hold_verb, track_verb, acquire_verb, counts_verb, up_to}
 use Rattle.definitions.specs.Lines.{words_of}
 use Rattle.client_commands.proofs.ReadingLemmas.{asked, refused_first, taken_first, none_left}
 use Rattle.client_commands.proofs.verb.Verb.command.Goals as goal
@@ -35,6 +35,35 @@ returns-in_ok-read-in-Track c =
     rw (c.track.ensures, c.in-Track.is) (asked track_verb c.word_count.result
     (words_of c.args.line.now) c.in_ok-words.words _ count c.in_ok-words.ensures.words
     (λ all. c.in_ok-read-in-Track.ensures))
+
+pub returns-in_err-slot-in-Acquire : goal.returns-in_err-slot-in-Acquire
+returns-in_err-slot-in-Acquire c =
+    let refused = err_from_is_err_and c.from_residual-in_err-slot-in-Acquire.result
+    c.from_residual-in_err-slot-in-Acquire.ensures.1 in
+    let count = rw c.in-Acquire.is at c.word_count.ensures.same in
+    rw (refused.1, refused.2, c.in-Acquire.is) (asked acquire_verb c.word_count.result
+    (words_of c.args.line.now) c.in_ok-words.words _ count c.in_ok-words.ensures.words
+    (λ all. refused_first (up_to 0 3) _ _ _ all c.in_err-slot-in-Acquire.ensures.value))
+
+pub returns-in_err-read_plan-in-Acquire : goal.returns-in_err-read_plan-in-Acquire
+returns-in_err-read_plan-in-Acquire c =
+    let refused = err_from_is_err_and c.from_residual-in_err-read_plan-in-Acquire.result
+    c.from_residual-in_err-read_plan-in-Acquire.ensures.1 in
+    let count = rw c.in-Acquire.is at c.word_count.ensures.same in
+    rw (refused.1, refused.2, c.in-Acquire.is) (asked acquire_verb c.word_count.result
+    (words_of c.args.line.now) c.in_ok-words.words _ count c.in_ok-words.ensures.words
+    (λ all. taken_first (up_to 0 3) _ _ _ _ _ all c.in_ok-slot-in-Acquire.ensures.value
+    c.in_ok-slot-in-Acquire.ensures.left
+    (λ all. c.in_err-read_plan-in-Acquire.ensures)))
+
+pub returns-in_ok-read_plan-in-Acquire : goal.returns-in_ok-read_plan-in-Acquire
+returns-in_ok-read_plan-in-Acquire c =
+    let count = rw c.in-Acquire.is at c.word_count.ensures.same in
+    rw c.in-Acquire.is (asked acquire_verb c.word_count.result
+    (words_of c.args.line.now) c.in_ok-words.words _ count c.in_ok-words.ensures.words
+    (λ all. taken_first (up_to 0 3) _ _ _ _ _ all c.in_ok-slot-in-Acquire.ensures.value
+    c.in_ok-slot-in-Acquire.ensures.left
+    (λ all. c.in_ok-read_plan-in-Acquire.ensures)))
 
 pub returns-in_err-slot-in-Counts : goal.returns-in_err-slot-in-Counts
 returns-in_err-slot-in-Counts c =

@@ -3,7 +3,7 @@ use Rattle.std.specs.Prelude.{MatchOption, IsSome, IfSome}
 use Rattle.std.proofs.lemmas.Int.{to_z-of_z}
 use Rattle.std.specs.Result.{result_ok}
 use Rattle.client_commands.proofs.ReadingLemmas.{no_number, number_tried}
-use Rattle.client_commands.proofs.words.Words.dumps.Goals as goal
+use Rattle.client_commands.proofs.words.Words.number_between.Goals as goal
 
 pub returns-in_err-number-clause-value : goal.returns-in_err-number-clause-value
 returns-in_err-number-clause-value c = search (rules, no_number)
@@ -12,11 +12,11 @@ pub returns-clause-value : goal.returns-clause-value
 returns-clause-value c =
     let fits : FitsSigned w64 c.in_ok-number.field-0 = search rules in
     let typed = rw (to_z-of_z w64 c.in_ok-number.field-0 fits) at c.try_from.ensures in
-    let filtered = rw c.ok-count.ensures.value at c.filter.ensures in
+    let filtered = rw c.ok-number.ensures.value at c.filter.ensures in
     let ranged : MatchOption (result_ok c.try_from.result) (c.filter.result ≡ None)
-    (λ n. (IsSome c.filter.result ↔ (n ≤ 1000000)) × IfSome c.filter.result (λ s. s ≡ n)) =
-    search (rules, arith) in
+    (λ n. (IsSome c.filter.result ↔ ((c.args.low ≤ n) × (n ≤ c.args.high)))
+    × IfSome c.filter.result (λ s. s ≡ n)) = search (rules, arith) in
     rw c.ok_or.ensures.value (number_tried c.try_from.result c.in_ok-number.field-0
-    c.filter.result (λ n. n ≤ 1000000) 32 0 1000000 c.args.self.now (omega arith)
-    (λ n. (λ inside. (omega arith, omega arith), λ within. within.1))
+    c.filter.result (λ n. (c.args.low ≤ n) × (n ≤ c.args.high)) 32 c.args.low c.args.high
+    c.args.self.now c.ranges.high.fits (λ n. (λ inside. inside, λ within. within))
     c.requires c.in_ok-number.ensures.number typed ranged)
