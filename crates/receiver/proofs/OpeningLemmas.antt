@@ -1,7 +1,7 @@
 -- Before the first sample, and behind the last.
 use Rattle.std.proofs.Common.{◌≡◌, ℕ, suc, ◌+◌, ◌-◌, ◌<◌, ◌≤◌, List, [], ◌∷◌, ◌++◌, length, drop}
 use Rattle.std.proofs.Common.{refl, sym, ap, ◌∙◌, append-nil, arith, get_or}
-use Rattle.std.specs.Prelude.{false, map, flat_map, nat_lt, codes, filter}
+use Rattle.std.specs.Prelude.{false, map, flat_map, nat_lt, codes}
 use Rattle.std.specs.List.{range_with_len, enumerate_from}
 use Rattle.std.proofs.lemmas.Bool.{le-ltb}
 use Rattle.definitions.specs.Samples.{Sample}
