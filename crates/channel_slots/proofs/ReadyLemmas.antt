@@ -61,8 +61,11 @@ on-way time reach (On life) ready within = of_stage life.stage ready within
     of_stage : (stage : Stage) → stages.IsReady 0 time stage → stages.IsWithin reach stage
         → stages.is_on_way time reach stage ≡ true
     of_stage (Searching a) ready within =
-        rw (eq-eqb (due_of a) (time + to_due_of a) ready.1, lt-ltb 0 (to_due_of a) ready.2,
-        le-leb (due_of a) (start_of a + reach) within) refl
+        rw (
+          eq-eqb (due_of a) (time + to_due_of a) ready.1,
+          lt-ltb 0 (to_due_of a) ready.2,
+          le-leb (due_of a) (start_of a + reach) within,
+        ) refl
     of_stage (Holding h) ready within = refl
     of_stage (Tracking t) ready within = refl
 

@@ -1,18 +1,20 @@
 //! Slots by hand: what they answer, and sums of samples of which each product is plain. `banks` has
-//! those of all clients together.
+//! those of all clients together, and `searches` what a bank searches for.
 
 ghost use Rattle.std.specs.Prelude.{◌≡◌, ◌+◌, ◌<◌, ◌≤◌, IfOk};
 ghost use Rattle.definitions.specs.Samples.{real1};
-ghost use Rattle.channel_slots.specs.Slots.{dumps_of};
+ghost use Rattle.channel_slots.specs.Slots.{dumps_of, IsReady};
 
 use super::*;
+use acquisition::Plan;
 use ca_codes::{CodeBook, Prn};
 use lane_correlator::Counts;
 use oscillators::{Doppler, HalfChip, Settings};
-use sample_planes::{Format, unpack};
+use sample_planes::{Format, NumberedSamples, PackedSamples, unpack};
 use std::test::Fail;
 
 mod banks;
+mod searches;
 
 /// A recording of one-bit samples at two samples a chip, with the carrier at 0 Hz.
 fn plain_settings() -> Result<Settings, Fail>
@@ -42,6 +44,14 @@ fn hold(prn: u8, doppler: i32) -> Result<Command, Fail> {
         prn: Prn::new(prn).ok_or("a satellite")?,
         doppler: Doppler::new(doppler).ok_or("a shift")?,
         half: HalfChip::new(2_045).ok_or("a half chip")?,
+    })
+}
+
+/// A search for a satellite at 0 Hz, over one period of its code.
+fn acquire(prn: u8, threshold: u32) -> Result<Command, Fail> {
+    Ok(Command::Acquire {
+        slot: slot_zero()?,
+        plan: Plan::new(Prn::new(prn).ok_or("a satellite")?, 0, 0, 1, threshold)?,
     })
 }
 
@@ -83,10 +93,26 @@ fn idle_and_busy_slots_answer(rt: HostRuntime) -> Result<(), Fail> {
                 phase: Phase::Unlocked,
             }),
         ),
+        (acquire(1, 10)?, Answer::Refused(Refusal::Busy)),
         (stop, Answer::Accepted),
         (stop, Answer::Refused(Refusal::Idle)),
+        (acquire(4, 10)?, Answer::Accepted),
+        (hold(4, 0)?, Answer::Refused(Refusal::Busy)),
+        (track(4, 0)?, Answer::Refused(Refusal::Busy)),
+        (acquire(4, 10)?, Answer::Refused(Refusal::Busy)),
+        (counts, Answer::Accepted),
+        (
+            state,
+            Answer::State(SlotState::Acquire {
+                prn: Prn::new(4).ok_or("a satellite")?,
+                done: 0,
+                cells: 2_046,
+            }),
+        ),
+        (stop, Answer::Accepted),
+        (state, Answer::State(SlotState::Idle)),
     ] {
-        assert_eq!(rt; held.command(&settings, command), answer);
+        assert_eq!(rt; held.command(&settings, 0, command), answer);
     }
     Ok(())
 }
@@ -106,32 +132,39 @@ fn sums([ie, qe, ip, qp, il, ql]: [i32; 6]) -> Counts {
 /// A slot that began to hold before the first sample, with counts asked for.
 fn held(settings: &Settings, prn: u8, doppler: i32) -> Result<Slot, Fail>
     ensures few { IfOk result (λ slot. dumps_of slot ≡ 0) }
+    ensures ready { IfOk result (λ slot. IsReady 0 0 slot) }
 {
     let mut slot = Slot::new();
-    slot.command(settings, hold(prn, doppler)?);
+    slot.command(settings, 0, hold(prn, doppler)?);
     let counts = Command::Counts {
         slot: slot_zero()?,
         n: 1,
     };
-    slot.command(settings, counts);
+    slot.command(settings, 0, counts);
     Ok(slot)
 }
 
-/// What `len` samples of value 1 make it tell, where they go to its next event, or are `most`
-/// before it, and not beyond.
-fn told(slot: &mut Slot, most: usize, len: usize) -> Option<Counts>
+/// What `len` samples of value 1 make it tell at a time, where they go to its next event, or are
+/// `most` before it, and not beyond.
+fn told(slot: &mut Slot, time: u64, most: usize, len: usize) -> Result<Option<Counts>, Fail>
     requires few { dumps_of slot.old < 4 }
     requires some { 0 < most }
-    requires in_byte { len ≤ 8 }
-    ensures { dumps_of slot.new ≤ dumps_of slot.old + 1 }
+    requires ready { IsReady 0 time slot.old }
+    requires in_byte { time + len ≤ 8 }
+    ensures few { dumps_of slot.new ≤ dumps_of slot.old + 1 }
+    ensures ready { IfOk result (λ _. IsReady 0 (time + len) slot.new) }
 {
     let samples = unpack(Format::Real1, &[0], 0, len);
-    if samples.len() != slot.room(most) {
-        return None;
+    if slot.room(most) != len {
+        return Err(Fail::new("the next event is elsewhere"));
     }
-    match slot.step(&samples, 0, samples.len(), &mut CodeBook::new()) {
-        Some(news) => news.count,
-        None => None,
+    if samples.len() != len {
+        return Err(Fail::new("samples are missing"));
+    }
+    let source = NumberedSamples::new(PackedSamples::new(Format::Real1, &[0]), 0);
+    match slot.step(&samples, 0, len, &source, &mut CodeBook::new()) {
+        Some(SlotNews::Dump(dump)) => Ok(dump.count),
+        _ => Ok(None),
     }
 }
 
@@ -143,7 +176,7 @@ fn early_wraps(rt: HostRuntime) -> Result<(), Fail> {
     let settings = plain_settings()?;
     let mut slot = held(&settings, 1, 0)?;
     let counts = sums([-2, 1, 2, -1, 2, -1]);
-    assert_eq!(rt; told(&mut slot, 8, 1), Some(counts));
+    assert_eq!(rt; told(&mut slot, 0, 8, 1)?, Some(counts));
     Ok(())
 }
 
@@ -155,10 +188,10 @@ fn sums_do_not_depend_on_the_cut(rt: HostRuntime) -> Result<(), Fail> {
     let settings = plain_settings()?;
     let counts = sums([-4, 0, 4, 0, 4, 0]);
     let mut whole = held(&settings, 7, -1_000)?;
-    assert_eq!(rt; told(&mut whole, 8, 2), Some(counts));
+    assert_eq!(rt; told(&mut whole, 0, 8, 2)?, Some(counts));
     let mut cut = held(&settings, 7, -1_000)?;
-    assert_eq!(rt; told(&mut cut, 1, 1), None);
-    assert_eq!(rt; told(&mut cut, 8, 1), Some(counts));
+    assert_eq!(rt; told(&mut cut, 0, 1, 1)?, None);
+    assert_eq!(rt; told(&mut cut, 1, 8, 1)?, Some(counts));
     Ok(())
 }
 
