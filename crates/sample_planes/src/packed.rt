@@ -11,12 +11,14 @@ use crate::format::Format;
 use crate::planes::{Planes, unpack};
 use std::marker::Model;
 
-/// Where a run of packed samples lies: the bytes, and any behind them, the place of the first sample
-/// in the first byte, and how many samples there are.
+/// Where a run of packed samples lies among bytes.
 #[derive(Clone, Copy, Debug)]
 pub struct RunPlace<'a> {
+    /// The bytes that the samples lie in, and any behind them.
     pub bytes: &'a [u8],
+    /// The place of the first sample in the first byte, counted from 0.
     pub first: usize,
+    /// How many samples there are.
     pub len: usize,
 }
 
