@@ -6,10 +6,10 @@
 //! be the sample of the stream with that number.
 //!
 //!     use sample_history::SampleHistory;
-//!     use sample_planes::{Format, SampleSource};
+//!     use sample_planes::{Format, PackedSamples, SampleSource};
 //!
 //!     let mut history = SampleHistory::open(alloc, Format::Real2, 40_000)?;
-//!     history.take(bytes, 0, 1_000);
+//!     history.take(&PackedSamples::new(Format::Real2, bytes));
 //!     let planes = history.planes(history.end() - 10, 10);
 #![tactic(auto)]
 

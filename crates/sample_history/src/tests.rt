@@ -1,7 +1,7 @@
 //! Streams whose bits are computed place by place, taken in pieces of many kinds.
 
 use crate::{MOST_TAKEN, SampleHistory};
-use sample_planes::{Format, SampleSource};
+use sample_planes::{Format, PackedSamples, SampleSource};
 use std::alloc::AllocError;
 
 const FORMATS: [Format; 4] = [Format::Real1, Format::Real2, Format::Iq1, Format::Iq2];
@@ -54,7 +54,7 @@ fn sample(format: Format, n: u64) -> (i8, i8) {
 
 /// Bytes in which 1,024 samples of the stream, from sample `from` on, lie from place `first` of
 /// the first byte on.
-fn packed(format: Format, from: u64, first: usize) -> [u8; 520] {
+fn stream_bytes(format: Format, from: u64, first: usize) -> [u8; 520] {
     let mut bytes = [0x5a; 520];
     let stream = from.wrapping_mul(width(format) as u64);
     let start = width(format).wrapping_mul(first);
@@ -72,15 +72,24 @@ fn packed(format: Format, from: u64, first: usize) -> [u8; 520] {
     bytes
 }
 
-/// The history takes the next `len` samples of the stream. It tells whether it could.
-fn take_next(history: &mut SampleHistory, first: usize, len: usize) -> bool {
-    let per_byte = history.format().per_byte();
-    let bytes = packed(history.format(), history.end(), first);
-    if per_byte <= first || 1024 < len || MOST_TAKEN - 1024 < history.end() {
+/// The history takes `len` samples of some bytes from sample `first` on. It tells whether it could.
+fn take_part(history: &mut SampleHistory, bytes: &[u8], first: usize, len: usize) -> bool {
+    if 520 < bytes.len() || 1024 < len || MOST_TAKEN - 1024 < history.end() {
         return false;
     }
-    history.take(&bytes, first, len);
+    let run = PackedSamples::new(history.format(), bytes);
+    if run.len() < first || run.len() - first < len {
+        return false;
+    }
+    history.take(&run.part(first, len));
     true
+}
+
+/// The history takes the next `len` samples of the stream, which begin at place `first` of a byte.
+/// It tells whether it could.
+fn take_next(history: &mut SampleHistory, first: usize, len: usize) -> bool {
+    let bytes = stream_bytes(history.format(), history.end(), first);
+    take_part(history, &bytes, first, len)
 }
 
 /// Whether the history reads `len` samples from sample `n` on as those of the stream.
@@ -118,8 +127,8 @@ fn all_agree(history: &SampleHistory) -> bool {
 #[test]
 fn two_runs_share_a_byte(rt: HostRuntime) -> Result<(), AllocError> {
     let mut history = SampleHistory::open(rt.alloc(), Format::Real1, 16)?;
-    history.take(&[0x05], 5, 3);
-    history.take(&[0x60], 0, 3);
+    assert!(rt; take_part(&mut history, &[0x05], 5, 3));
+    assert!(rt; take_part(&mut history, &[0x60], 0, 3));
     assert_eq!(rt; (history.first(), history.end()), (0, 6));
     let planes = history.planes(0, 6);
     let mut values = [0; 6];
