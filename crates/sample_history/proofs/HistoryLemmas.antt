@@ -13,7 +13,7 @@ use Rattle.definitions.specs.Samples.{samples_per_byte}
 use Rattle.sample_planes.specs.Packings.{width_of}
 use Rattle.sample_planes.specs.Sources.{AreSamplesOf}
 use Rattle.sample_planes.proofs.BitLemmas.{same_sample}
-use Rattle.sample_history.specs.Shifts.{byte_from, shifted, headed, grown}
+use Rattle.sample_history.specs.Shifts.{byte_from, bytes_from, byte_of_two, with_bits_behind}
 use Rattle.sample_history.proofs.ShiftLemmas.{begun-bit, behind-bit}
 use Rattle.sample_history.proofs.PlaceLemmas.{first_in, used_bits, old_place, new_place}
 use Rattle.sample_history.proofs.PlaceLemmas.{few_used, some_bits}
@@ -46,10 +46,11 @@ bit_in-drop d bytes place =
 
 old_bit : (ring : List ℕ) (partial : ℕ) (bytes : List ℕ) (start used whole q : ℕ) → used < 8
     → q < 8 * length ring + used
-    → bit_in (grown ring partial used bytes start whole) q ≡ bit_in (ring ++ partial ∷ []) q
+    → bit_in (with_bits_behind ring partial used bytes start whole) q
+    ≡ bit_in (ring ++ partial ∷ []) q
 old_bit ring partial bytes start used whole q few h =
     let rest : List ℕ =
-    headed partial (byte_from bytes start) used ∷ shifted bytes (start + 8 - used) whole in
+    byte_of_two partial (byte_from bytes start) used ∷ bytes_from bytes (start + 8 - used) whole in
     elim (cases_lt q (8 * length ring)) [
       | inl inside ↦
           bit_in-front ring rest q inside ∙ sym (bit_in-front ring (partial ∷ []) q inside)
@@ -57,18 +58,18 @@ old_bit ring partial bytes start used whole q few h =
           let place : q ≡ 8 * length ring + (q - 8 * length ring) = omega (arith, behind) in
           ap (bit_in (ring ++ rest)) place ∙ bit_in-back ring rest (q - 8 * length ring)
           ∙ begun-bit partial (byte_from bytes start) used (q - 8 * length ring)
-          (shifted bytes (start + 8 - used) whole) (omega (arith, behind, h)) few
+          (bytes_from bytes (start + 8 - used) whole) (omega (arith, behind, h)) few
           ∙ sym (bit_in-back ring (partial ∷ []) (q - 8 * length ring))
           ∙ ap (bit_in (ring ++ partial ∷ [])) (sym place)
     ]
 
 new_bit : (ring : List ℕ) (partial : ℕ) (bytes : List ℕ) (start used whole m : ℕ) → used < 8
     → used + m < 8 * (1 + whole)
-    → bit_in (grown ring partial used bytes start whole) (8 * length ring + (used + m))
+    → bit_in (with_bits_behind ring partial used bytes start whole) (8 * length ring + (used + m))
     ≡ bit_in bytes (start + m)
 new_bit ring partial bytes start used whole m few h =
     let place : start + (used + m - used) ≡ start + m = omega arith in
-    bit_in-back ring (headed partial (byte_from bytes start) used ∷ shifted bytes
+    bit_in-back ring (byte_of_two partial (byte_from bytes start) used ∷ bytes_from bytes
     (start + 8 - used) whole) (used + m)
     ∙ behind-bit partial bytes start used whole (used + m) few (omega arith) h
     ∙ ap (bit_in bytes) place
@@ -84,7 +85,7 @@ pub held_on : (packing : Packing) (xs : List Sample) (ring : List ℕ) (partial 
     (λ n. sample packing (ring ++ partial ∷ []) (n - first_in packing taken (length ring)))
     → AreSamplesOf (xs ++ samples_from packing bytes first len)
     (first_in packing (taken + len) (length ring + whole - d)) (taken + len)
-    (λ n. sample packing (drop d (grown ring partial (used_bits packing taken) bytes
+    (λ n. sample packing (drop d (with_bits_behind ring partial (used_bits packing taken) bytes
     (width_of packing * first) whole))
     (n - first_in packing (taken + len) (length ring + whole - d)))
 unfolding samples_from
@@ -96,7 +97,7 @@ held_on packing xs ring partial bytes taken first len d whole is_whole some fits
     let used : ℕ = used_bits packing taken in
     let few : used_bits packing taken < 8 = few_used packing taken in
     let next : ℕ = first_in packing (taken + len) (length ring + whole - d) in
-    let bs : List ℕ = grown ring partial used bytes start whole in
+    let bs : List ℕ = with_bits_behind ring partial used bytes start whole in
     elim (cases_lt n taken) [
       | inl old ↦
           let inside : n < length xs = omega (arith, old, all) in
@@ -132,7 +133,7 @@ pub held_next : (packing : Packing) (xs : List Sample) (ring : List ℕ) (partia
     → whole ≡ (taken % samples_per_byte packing + len) / samples_per_byte packing
     → length ring ≤ taken / samples_per_byte packing → length new ≤ length ring + whole
     → new ++ next ∷ []
-    ≡ drop (length ring + whole - length new) (grown ring partial used bytes start whole)
+    ≡ drop (length ring + whole - length new) (with_bits_behind ring partial used bytes start whole)
     → taken ≡ length xs
     → AreSamplesOf xs (first_in packing taken (length ring)) taken
     (λ n. sample packing (ring ++ partial ∷ []) (n - first_in packing taken (length ring)))
@@ -144,8 +145,9 @@ held_next packing xs ring partial bytes taken first len used start whole new nex
     let d : ℕ = length ring + whole - length new in
     let left : length ring + whole - (length ring + whole - length new) ≡ length new =
     omega (arith, short) in
-    let is_drop : new ++ next ∷ [] ≡ drop (length ring + whole - length new) (grown ring partial
-    (used_bits packing taken) bytes (width_of packing * first) whole) =
+    let is_drop : new ++ next ∷ [] ≡ drop (length ring + whole - length new)
+    (with_bits_behind ring partial (used_bits packing taken) bytes (width_of packing * first)
+    whole) =
     rw (is_used, is_start) at is_new in
     rw is_drop (rw left at (held_on packing xs ring partial bytes taken first len
     (length ring + whole - length new) whole is_whole some (omega arith) all before))

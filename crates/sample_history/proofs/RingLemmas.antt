@@ -4,8 +4,8 @@ use Rattle.std.proofs.Common.{length, drop, refl, sym, ap, ◌∙◌, append_ass
 use Rattle.std.specs.Prelude.{min}
 use Rattle.std.proofs.lemmas.List.{drop-append-le, drop-drop, length-drop}
 use Rattle.circular_buffer.specs.Buffer.{keep_last}
-use Rattle.sample_history.specs.Shifts.{byte_from, shifted}
-use Rattle.sample_history.proofs.ShiftLemmas.{shifted-more, shifted-none}
+use Rattle.sample_history.specs.Shifts.{byte_from, bytes_from}
+use Rattle.sample_history.proofs.ShiftLemmas.{bytes_from-more, bytes_from-none}
 
 kept_twice : (c : ℕ) (xs ys : List ℕ) → keep_last c (keep_last c xs ++ ys) ≡ keep_last c (xs ++ ys)
 kept_twice c xs ys =
@@ -21,22 +21,22 @@ kept-length c xs = length-drop (length xs - c) xs
 
 -- none is full yet
 pub grows-none : (ring : List ℕ) (head : ℕ) (bytes : List ℕ) (place : ℕ)
-    → ring ++ head ∷ [] ≡ drop (length ring + 0 - length ring) (ring ++ (head ∷ shifted bytes place
-    0))
+    → ring ++ head ∷ []
+    ≡ drop (length ring + 0 - length ring) (ring ++ (head ∷ bytes_from bytes place 0))
 grows-none ring head bytes place =
     let none : length ring + 0 - length ring ≡ 0 = omega arith in
-    rw (none, shifted-none bytes place) refl
+    rw (none, bytes_from-none bytes place) refl
 
 -- one is full, and n behind it
 pub grows : (c : ℕ) (ring : List ℕ) (head : ℕ) (bytes : List ℕ) (place n count : ℕ)
     (kept : List ℕ)
-    → kept ≡ keep_last c (keep_last c (ring ++ head ∷ []) ++ shifted bytes place n)
+    → kept ≡ keep_last c (keep_last c (ring ++ head ∷ []) ++ bytes_from bytes place n)
     → count ≡ length ring + (n + 1) - length kept
-    → length (shifted bytes place n) ≡ n
+    → length (bytes_from bytes place n) ≡ n
     → kept ++ byte_from bytes (place + 8 * n) ∷ []
-    ≡ drop count (ring ++ (head ∷ shifted bytes place (n + 1)))
+    ≡ drop count (ring ++ (head ∷ bytes_from bytes place (n + 1)))
 grows c ring head bytes place n count kept is_kept is_count long =
-    let S : List ℕ = shifted bytes place n in
+    let S : List ℕ = bytes_from bytes place n in
     let z : ℕ = byte_from bytes (place + 8 * n) in
     let all : List ℕ = (ring ++ head ∷ []) ++ S in
     let once : kept ≡ keep_last c all = is_kept ∙ kept_twice c (ring ++ head ∷ []) S in
@@ -47,13 +47,13 @@ grows c ring head bytes place n count kept is_kept is_count long =
     let gone : length all - c ≡ count = omega (arith, known, size) in
     let behind : drop (length all - c) (all ++ z ∷ []) ≡ drop (length all - c) all ++ z ∷ [] =
     drop-append-le (length all - c) all (z ∷ []) (omega arith) in
-    let order : all ++ z ∷ [] ≡ ring ++ (head ∷ shifted bytes place (n + 1)) =
+    let order : all ++ z ∷ [] ≡ ring ++ (head ∷ bytes_from bytes place (n + 1)) =
     ap (λ (xs : List ℕ). xs ++ z ∷ []) (append_assoc ring (head ∷ []) S)
     ∙ append_assoc ring (head ∷ S) (z ∷ [])
-    ∙ ap (λ (xs : List ℕ). ring ++ (head ∷ xs)) (sym (shifted-more bytes place n)) in
+    ∙ ap (λ (xs : List ℕ). ring ++ (head ∷ xs)) (sym (bytes_from-more bytes place n)) in
     ap (λ (xs : List ℕ). xs ++ z ∷ []) once ∙ sym behind
     ∙ ap (drop (length all - c)) order
-    ∙ ap (λ (k : ℕ). drop k (ring ++ (head ∷ shifted bytes place (n + 1)))) gone
+    ∙ ap (λ (k : ℕ). drop k (ring ++ (head ∷ bytes_from bytes place (n + 1)))) gone
 
 pub grows-count : (c : ℕ) (ring : List ℕ) (head n : ℕ) (more kept : List ℕ)
     → kept ≡ keep_last c (keep_last c (ring ++ head ∷ []) ++ more) → length more ≡ n

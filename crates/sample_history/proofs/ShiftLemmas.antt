@@ -11,7 +11,7 @@ use Rattle.std.proofs.lemmas.List.FromFn.{get_or-map-range_with_len, length-map-
 use Rattle.std.proofs.lemmas.List.FromFn.{map-range_with_len_more, fill_by_all}
 use Rattle.std.proofs.lemmas.List.{get_or-take, get_or-drop, length-take-le, length-drop}
 use Rattle.definitions.specs.Samples.{bit_in}
-use Rattle.sample_history.specs.Shifts.{eight_bits, byte_from, shifted, headed}
+use Rattle.sample_history.specs.Shifts.{eight_bits, byte_from, bytes_from, byte_of_two}
 
 low_bit : (n i : ℕ) → i < 8 → bit_at (n % 2 ^ 8) i ≡ bit_at n i
 low_bit n i h =
@@ -44,20 +44,20 @@ byte_from-bit bytes place j h =
           ∙ low_bit low at (omega (arith, behind, h)))
     ]
 
-pub shifted-bit : (bytes : List ℕ) (place count q : ℕ) → q < 8 * count
-    → bit_in (shifted bytes place count) q ≡ bit_in bytes (place + q)
-unfolding shifted
-shifted-bit bytes place count q h =
+pub bytes_from-bit : (bytes : List ℕ) (place count q : ℕ) → q < 8 * count
+    → bit_in (bytes_from bytes place count) q ≡ bit_in bytes (place + q)
+unfolding bytes_from
+bytes_from-bit bytes place count q h =
     let there : place + 8 * (q / 8) + q % 8 ≡ place + q = omega arith in
     ap (λ (x : ℕ). bit_at x (7 - q % 8))
     (get_or-map-range_with_len (λ k. byte_from bytes (place + 8 * k)) 0 count (q / 8) (q / 8) 0
     (omega (arith, h)) (omega arith))
     ∙ byte_from-bit bytes (place + 8 * (q / 8)) (q % 8) (omega arith) ∙ ap (bit_in bytes) there
 
-headed-front : (before behind count j : ℕ) → j < count → count < 8
-    → bit_at (headed before behind count) (7 - j) ≡ bit_at before (7 - j)
-unfolding headed
-headed-front before behind count j inside few =
+byte_of_two-front : (before behind count j : ℕ) → j < count → count < 8
+    → bit_at (byte_of_two before behind count) (7 - j) ≡ bit_at before (7 - j)
+unfolding byte_of_two
+byte_of_two-front before behind count j inside few =
     let at : ℕ = count + (7 - j) in
     let place : 8 - count + (at - 8) ≡ 7 - j = omega (arith, inside, few) in
     let small : behind % 2 ^ 8 < 2 ^ 8 = omega arith in
@@ -67,10 +67,10 @@ headed-front before behind count j inside few =
     (omega (arith, inside, few))
     ∙ ap (λ (x : ℕ). x % 2) (shr-shr before (8 - count) (at - 8)) ∙ ap (bit_at before) place
 
-headed-back : (before behind count j : ℕ) → count ≤ j → j < 8
-    → bit_at (headed before behind count) (7 - j) ≡ bit_at behind (7 - (j - count))
-unfolding headed
-headed-back before behind count j from inside =
+byte_of_two-back : (before behind count j : ℕ) → count ≤ j → j < 8
+    → bit_at (byte_of_two before behind count) (7 - j) ≡ bit_at behind (7 - (j - count))
+unfolding byte_of_two
+byte_of_two-back before behind count j from inside =
     let at : ℕ = count + (7 - j) in
     let place : at ≡ 7 - (j - count) = omega (arith, inside, from) in
     read_bit (before / 2 ^ (8 - count) * 2 ^ 8 + behind % 2 ^ 8) count j inside
@@ -79,33 +79,33 @@ headed-back before behind count j from inside =
 
 -- the byte that was begun keeps its bits
 pub begun-bit : (before behind count q : ℕ) (rest : List ℕ) → q < count → count < 8
-    → bit_in (headed before behind count ∷ rest) q ≡ bit_in (before ∷ []) q
+    → bit_in (byte_of_two before behind count ∷ rest) q ≡ bit_in (before ∷ []) q
 begun-bit before behind count q rest inside few =
     let byte : q / 8 ≡ 0 = omega (arith, inside, few) in
     let bit : q % 8 ≡ q = omega (arith, inside, few) in
-    rw (byte, bit) (headed-front before behind count q inside few)
+    rw (byte, bit) (byte_of_two-front before behind count q inside few)
 
 -- and behind them come those of the run, in the bytes behind it too
 pub behind-bit : (before : ℕ) (bytes : List ℕ) (start count whole q : ℕ) → count < 8 → count ≤ q
     → q < 8 * (1 + whole)
-    → bit_in (headed before (byte_from bytes start) count ∷ shifted bytes (start + 8 - count) whole)
-    q ≡ bit_in bytes (start + (q - count))
+    → bit_in (byte_of_two before (byte_from bytes start) count
+    ∷ bytes_from bytes (start + 8 - count) whole) q ≡ bit_in bytes (start + (q - count))
 behind-bit before bytes start count whole q few from short =
     elim (cases_lt q 8) [
       | inl inside ↦
           let byte : q / 8 ≡ 0 = omega (arith, inside) in
           let bit : q % 8 ≡ q = omega (arith, inside) in
-          rw (byte, bit) (headed-back before (byte_from bytes start) count q from inside
+          rw (byte, bit) (byte_of_two-back before (byte_from bytes start) count q from inside
           ∙ byte_from-bit bytes start (q - count) (omega (arith, inside, from)))
       | inr above ↦
           let byte : q / 8 ≡ 1 + (q - 8) / 8 = omega (arith, above) in
           let bit : q % 8 ≡ (q - 8) % 8 = omega (arith, above) in
           let there : start + 8 - count + (q - 8) ≡ start + (q - count) =
           omega (arith, above, from, few) in
-          let rest : List ℕ = shifted bytes (start + 8 - count) whole in
+          let rest : List ℕ = bytes_from bytes (start + 8 - count) whole in
           rw (byte, bit) (ap (λ (x : ℕ). bit_at x (7 - (q - 8) % 8)) (get_or-append-add
-          (headed before (byte_from bytes start) count ∷ []) rest ((q - 8) / 8) 0)
-          ∙ shifted-bit bytes (start + 8 - count) whole (q - 8)
+          (byte_of_two before (byte_from bytes start) count ∷ []) rest ((q - 8) / 8) 0)
+          ∙ bytes_from-bit bytes (start + 8 - count) whole (q - 8)
           (omega (arith, above, short)) ∙ ap (bit_in bytes) there)
     ]
 
@@ -131,26 +131,27 @@ read_whole bytes place even small =
     go : (high low : ℕ) → high < 256 → high ≡ (high * 256 + low % 256) / 256 % 256
     go high low h = omega arith
 
-pub shifted-length : (bytes : List ℕ) (place n : ℕ) → length (shifted bytes place n) ≡ n
-unfolding shifted
-shifted-length bytes place n =
+pub bytes_from-length : (bytes : List ℕ) (place n : ℕ) → length (bytes_from bytes place n) ≡ n
+unfolding bytes_from
+bytes_from-length bytes place n =
     length-map-range_with_len (λ k. byte_from bytes (place + 8 * k)) 0 n
 
-pub shifted-more : (bytes : List ℕ) (place n : ℕ)
-    → shifted bytes place (n + 1) ≡ shifted bytes place n ++ byte_from bytes (place + 8 * n) ∷ []
-unfolding shifted
-shifted-more bytes place n =
+pub bytes_from-more : (bytes : List ℕ) (place n : ℕ)
+    → bytes_from bytes place (n + 1)
+    ≡ bytes_from bytes place n ++ byte_from bytes (place + 8 * n) ∷ []
+unfolding bytes_from
+bytes_from-more bytes place n =
     map-range_with_len_more (λ k. byte_from bytes (place + 8 * k)) 0 n n (omega arith)
 
-pub shifted-none : (bytes : List ℕ) (place : ℕ) → shifted bytes place 0 ≡ []
-unfolding shifted
-shifted-none bytes place = refl
+pub bytes_from-none : (bytes : List ℕ) (place : ℕ) → bytes_from bytes place 0 ≡ []
+unfolding bytes_from
+bytes_from-none bytes place = refl
 
 -- bytes that are copied whole
 pub copied : (bytes : List ℕ) (place count : ℕ) → place % 8 ≡ 0
     → place / 8 + count ≤ length bytes → ((i : ℕ) → slice_index bytes i < 256)
-    → take (place / 8 + count - place / 8) (drop (place / 8) bytes) ≡ shifted bytes place count
-unfolding shifted
+    → take (place / 8 + count - place / 8) (drop (place / 8) bytes) ≡ bytes_from bytes place count
+unfolding bytes_from
 copied bytes place count even within small =
     let many : place / 8 + count - place / 8 ≡ count = omega arith in
     rw many (fill_by_all (λ (k : ℕ). byte_from bytes (place + 8 * k))

@@ -13,15 +13,16 @@ byte_from bytes place =
     eight_bits (slice_index bytes (place / 8)) (slice_index bytes (place / 8 + 1)) (place % 8)
 
 -- a number of bytes, which are the bits of others from one on
-unfoldable pub shifted : List ℕ → ℕ → ℕ → List ℕ
-shifted bytes place count = map (λ k. byte_from bytes (place + 8 * k)) (range_with_len 0 count)
+unfoldable pub bytes_from : List ℕ → ℕ → ℕ → List ℕ
+bytes_from bytes place count = map (λ k. byte_from bytes (place + 8 * k)) (range_with_len 0 count)
 
 -- the first bits of one byte, as many as are said, and behind them the first ones of another
-unfoldable pub headed : ℕ → ℕ → ℕ → ℕ
-headed before behind count = (before / 2 ^ (8 - count) * 256 + behind % 256) / 2 ^ count % 256
+unfoldable pub byte_of_two : ℕ → ℕ → ℕ → ℕ
+byte_of_two before behind count = (before / 2 ^ (8 - count) * 256 + behind % 256) / 2 ^ count % 256
 
 -- bytes, and behind them a byte of which the first bits stand, as many as are said, filled up from
 -- bit `start` of others on, and so many bytes of their bits behind it
-abbrev pub grown : List ℕ → ℕ → ℕ → List ℕ → ℕ → ℕ → List ℕ
-grown ring begun used bytes start whole =
-    ring ++ (headed begun (byte_from bytes start) used ∷ shifted bytes (start + 8 - used) whole)
+abbrev pub with_bits_behind : List ℕ → ℕ → ℕ → List ℕ → ℕ → ℕ → List ℕ
+with_bits_behind ring begun used bytes start whole =
+    ring
+    ++ (byte_of_two begun (byte_from bytes start) used ∷ bytes_from bytes (start + 8 - used) whole)

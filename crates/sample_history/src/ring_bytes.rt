@@ -4,10 +4,10 @@ ghost use Rattle.std.specs.Prelude.{◌≡◌, ◌+◌, ◌-◌, ◌*◌, ◌<�
 ghost use Rattle.std.specs.Prelude.{drop};
 ghost use Rattle.std.specs.List.{slice_range};
 ghost use Rattle.circular_buffer.specs.Buffer.{buffer, keep_last};
-ghost use Rattle.sample_history.specs.Shifts.{shifted, grown};
+ghost use Rattle.sample_history.specs.Shifts.{bytes_from, with_bits_behind};
 ghost use Rattle.sample_history.specs.declared.shifted_bytes.TheConstants.{MOST_BYTES};
 
-use crate::shifted_bytes::{MOST_BYTES, joined, shifted_byte, shifted_bytes};
+use crate::shifted_bytes::{MOST_BYTES, filled_byte, shifted_byte, shifted_bytes};
 use circular_buffer::HeapCircularBuffer;
 
 /// Appends `count` bytes, which are the bits of some bytes from bit `place` on. The ring keeps
@@ -21,7 +21,7 @@ pub(crate) fn append_bits(
     requires few { count ≤ MOST_BYTES }
     requires within { place + 8 * count ≤ 8 * length bytes.now }
     ensures { ring.new ≡ buffer (keep_last ring.old.capacity (ring.old.items
-        ++ shifted bytes.now place count)) ring.old.capacity }
+        ++ bytes_from bytes.now place count)) ring.old.capacity }
 {
     if place % 8 == 0 {
         ring.extend_from_slice(&bytes[place / 8..place / 8 + count]);
@@ -51,9 +51,9 @@ pub(crate) fn grow(
         (length ring.old.items + whole) }
     ensures bytes { ring.new.items ++ result ∷ []
         ≡ drop (length ring.old.items + whole - length ring.new.items)
-        (grown ring.old.items begun used bytes.now start whole) }
+        (with_bits_behind ring.old.items begun used bytes.now start whole) }
 {
-    let head = joined(begun, shifted_byte(bytes, start), used);
+    let head = filled_byte(begun, shifted_byte(bytes, start), used);
     if whole == 0 {
         return head;
     }

@@ -1,7 +1,7 @@
 //! Bytes read from any bit of other bytes on.
 
 ghost use Rattle.std.specs.Prelude.{◌≡◌, ◌+◌, ◌/◌, ◌<◌, ◌≤◌, length, take};
-ghost use Rattle.sample_history.specs.Shifts.{eight_bits, byte_from, headed, shifted};
+ghost use Rattle.sample_history.specs.Shifts.{eight_bits, byte_from, byte_of_two, bytes_from};
 ghost use Rattle.sample_history.specs.declared.shifted_bytes.TheConstants.{MOST_BYTES};
 
 /// The most bytes that a run of samples fills.
@@ -31,9 +31,9 @@ pub(crate) fn shifted_byte(bytes: &[u8], place: usize) -> u8
 
 /// A byte whose first bits, as many as `place` says, are those of `before`, and whose other bits
 /// are the first ones of `behind`.
-pub(crate) fn joined(before: u8, behind: u8, place: usize) -> u8
+pub(crate) fn filled_byte(before: u8, behind: u8, place: usize) -> u8
     requires { place < 8 }
-    ensures { result ≡ headed before behind place }
+    ensures { result ≡ byte_of_two before behind place }
 {
     ((((before as u32 >> (8 - place)) * 256 + behind as u32) >> place) % 256) as u8
 }
@@ -42,7 +42,7 @@ pub(crate) fn joined(before: u8, behind: u8, place: usize) -> u8
 pub(crate) fn shifted_bytes(bytes: &[u8], place: usize, count: usize) -> [u8; MOST_BYTES]
     requires few { count ≤ MOST_BYTES }
     requires within { place / 8 + count < length bytes.now }
-    ensures { take count result ≡ shifted bytes.now place count }
+    ensures { take count result ≡ bytes_from bytes.now place count }
 {
     let at = place / 8;
     let mut out = [0; MOST_BYTES];

@@ -22,8 +22,8 @@ pub struct RunPlace<'a> {
     pub len: usize,
 }
 
-/// A run of samples, packed into bytes. Clauses see it as the list of its samples and their packing,
-/// wherever in a byte they begin.
+/// A run of samples, packed into bytes. Clauses see it as the list of its samples and their
+/// packing, wherever in a byte they begin.
 #[derive(Debug, Drop)]
 pub struct PackedSamples<'a> {
     format: Format,

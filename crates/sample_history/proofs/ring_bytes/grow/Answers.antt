@@ -1,14 +1,14 @@
 use Rattle.std.proofs.Common.{◌≡◌, ℕ, ◌+◌, ◌-◌, ◌∷◌, [], ◌++◌, length, refl, ap, arith}
 use Rattle.circular_buffer.specs.Buffer.{Buffer, keep_last}
-use Rattle.sample_history.specs.Shifts.{shifted}
+use Rattle.sample_history.specs.Shifts.{bytes_from}
 use Rattle.sample_history.proofs.RingLemmas.{grows, grows-none, grows-count}
-use Rattle.sample_history.proofs.ShiftLemmas.{shifted-length}
+use Rattle.sample_history.proofs.ShiftLemmas.{bytes_from-length}
 use Rattle.sample_history.proofs.ring_bytes.grow.Goals as goal
 
 -- what the ring holds at the end
 kept : (c : goal.After-shifted_byte-2) → c.append_bits.new.ring.items
     ≡ keep_last c.args.ring.now.capacity (keep_last c.args.ring.now.capacity
-    (c.args.ring.now.items ++ c.joined-head.result ∷ []) ++ shifted c.args.bytes.now
+    (c.args.ring.now.items ++ c.filled_byte-head.result ∷ []) ++ bytes_from c.args.bytes.now
     (c.args.start + 8 - c.args.used) (c.args.whole - 1))
 kept c =
     let pushed = ap (λ (b : Buffer ℕ). b.items) c.push_back.ensures.items in
@@ -17,16 +17,16 @@ kept c =
 
 pub returns-then-whole-eq0-clause-bytes : goal.returns-then-whole-eq0-clause-bytes
 returns-then-whole-eq0-clause-bytes c =
-    rw (c.if-whole-eq0.true, c.joined-head.ensures, c.shifted_byte.ensures)
+    rw (c.if-whole-eq0.true, c.filled_byte-head.ensures, c.shifted_byte.ensures)
     (grows-none c.args.ring.now.items _ c.args.bytes.now (c.args.start + 8 - c.args.used))
 
 pub returns-clause-count : goal.returns-clause-count
 returns-clause-count c =
     let some : c.args.whole - 1 + 1 ≡ c.args.whole = omega (arith, c.if-whole-eq0.false) in
-    rw some at (grows-count c.args.ring.now.capacity c.args.ring.now.items c.joined-head.result
-    (c.args.whole - 1) (shifted c.args.bytes.now (c.args.start + 8 - c.args.used)
+    rw some at (grows-count c.args.ring.now.capacity c.args.ring.now.items c.filled_byte-head.result
+    (c.args.whole - 1) (bytes_from c.args.bytes.now (c.args.start + 8 - c.args.used)
     (c.args.whole - 1)) c.append_bits.new.ring.items (kept c)
-    (shifted-length c.args.bytes.now (c.args.start + 8 - c.args.used) (c.args.whole - 1))
+    (bytes_from-length c.args.bytes.now (c.args.start + 8 - c.args.used) (c.args.whole - 1))
     c.requires.holds)
 
 pub returns-clause-bytes : goal.returns-clause-bytes
@@ -37,9 +37,9 @@ returns-clause-bytes c =
     let some : c.args.whole - 1 + 1 ≡ c.args.whole = omega (arith, c.if-whole-eq0.false) in
     let gone : length ring + c.args.whole - length new
     ≡ length ring + (c.args.whole - 1 + 1) - length new = rw some refl in
-    let here = grows c.args.ring.now.capacity ring c.joined-head.result c.args.bytes.now
+    let here = grows c.args.ring.now.capacity ring c.filled_byte-head.result c.args.bytes.now
     (c.args.start + 8 - c.args.used) (c.args.whole - 1) (length ring + c.args.whole - length new)
     new (kept c) gone
-    (shifted-length c.args.bytes.now (c.args.start + 8 - c.args.used) (c.args.whole - 1)) in
+    (bytes_from-length c.args.bytes.now (c.args.start + 8 - c.args.used) (c.args.whole - 1)) in
     rw c.shifted_byte-2.ensures
-    (rw (some, c.joined-head.ensures, c.shifted_byte.ensures) at here)
+    (rw (some, c.filled_byte-head.ensures, c.shifted_byte.ensures) at here)

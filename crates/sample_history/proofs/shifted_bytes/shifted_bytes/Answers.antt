@@ -1,12 +1,12 @@
 use Rattle.std.proofs.Common.{ℕ, ◌+◌, ◌*◌, ◌∙◌, take, arith}
 use Rattle.std.proofs.lemmas.List.{get_or-take, length-take-le}
 use Rattle.std.proofs.lemmas.List.FromFn.{fill_by_all}
-use Rattle.sample_history.specs.Shifts.{byte_from, shifted}
+use Rattle.sample_history.specs.Shifts.{byte_from, bytes_from}
 use Rattle.sample_history.proofs.ShiftLemmas.{read_on}
 use Rattle.sample_history.proofs.shifted_bytes.shifted_bytes.Goals as goal
 
 pub returns : goal.returns
-unfolding shifted
+unfolding bytes_from
 returns c =
     let bytes = c.args.bytes.now in
     fill_by_all (λ (k : ℕ). byte_from bytes (c.args.place + 8 * k)) (take c.args.count c.loop-k.out)

@@ -8,50 +8,57 @@ use Rattle.sample_planes.proofs.packed.PackedSamples.split_at.Goals as goal
 pub overflow_add-behind : goal.overflow_add-behind
 overflow_add-behind c =
     let i = c.self.inside in
-    let part = has_part (packing_of i.format) i.bytes.now i.first i.len c.args.n c.args.self.now.samples
-    (ap (λ (r : PackedRun). r.samples) c.self.view_is) c.requires c.self.invariant.1 in
+    let part = has_part (packing_of i.format) i.bytes.now i.first i.len c.args.n
+    c.args.self.now.samples (ap (λ (r : PackedRun). r.samples) c.self.view_is) c.requires
+    c.self.invariant.1 in
     omega (arith, part.enough, c.self.invariant.2)
 
 pub from_byte-front-requires-clause-within : goal.from_byte-front-requires-clause-within
 from_byte-front-requires-clause-within c =
     let i = c.self.inside in
-    let part = has_part (packing_of i.format) i.bytes.now i.first i.len c.args.n c.args.self.now.samples
-    (ap (λ (r : PackedRun). r.samples) c.self.view_is) c.requires c.self.invariant.1 in
+    let part = has_part (packing_of i.format) i.bytes.now i.first i.len c.args.n
+    c.args.self.now.samples (ap (λ (r : PackedRun). r.samples) c.self.view_is) c.requires
+    c.self.invariant.1 in
     part.front
 
 pub from_byte-front-requires-clause-few : goal.from_byte-front-requires-clause-few
 from_byte-front-requires-clause-few c =
     let i = c.self.inside in
-    let part = has_part (packing_of i.format) i.bytes.now i.first i.len c.args.n c.args.self.now.samples
-    (ap (λ (r : PackedRun). r.samples) c.self.view_is) c.requires c.self.invariant.1 in
+    let part = has_part (packing_of i.format) i.bytes.now i.first i.len c.args.n
+    c.args.self.now.samples (ap (λ (r : PackedRun). r.samples) c.self.view_is) c.requires
+    c.self.invariant.1 in
     omega (arith, part.enough, c.self.invariant.2)
 
 pub overflow_sub-self-inside : goal.overflow_sub-self-inside
 overflow_sub-self-inside c =
     let i = c.self.inside in
-    let part = has_part (packing_of i.format) i.bytes.now i.first i.len c.args.n c.args.self.now.samples
-    (ap (λ (r : PackedRun). r.samples) c.self.view_is) c.requires c.self.invariant.1 in
+    let part = has_part (packing_of i.format) i.bytes.now i.first i.len c.args.n
+    c.args.self.now.samples (ap (λ (r : PackedRun). r.samples) c.self.view_is) c.requires
+    c.self.invariant.1 in
     part.enough
 
 pub from_byte-back-requires-clause-within : goal.from_byte-back-requires-clause-within
 from_byte-back-requires-clause-within c =
     let i = c.self.inside in
-    let part = has_part (packing_of i.format) i.bytes.now i.first i.len c.args.n c.args.self.now.samples
-    (ap (λ (r : PackedRun). r.samples) c.self.view_is) c.requires c.self.invariant.1 in
+    let part = has_part (packing_of i.format) i.bytes.now i.first i.len c.args.n
+    c.args.self.now.samples (ap (λ (r : PackedRun). r.samples) c.self.view_is) c.requires
+    c.self.invariant.1 in
     part.back
 
 pub from_byte-back-requires-clause-few : goal.from_byte-back-requires-clause-few
 from_byte-back-requires-clause-few c =
     let i = c.self.inside in
-    let part = has_part (packing_of i.format) i.bytes.now i.first i.len c.args.n c.args.self.now.samples
-    (ap (λ (r : PackedRun). r.samples) c.self.view_is) c.requires c.self.invariant.1 in
+    let part = has_part (packing_of i.format) i.bytes.now i.first i.len c.args.n
+    c.args.self.now.samples (ap (λ (r : PackedRun). r.samples) c.self.view_is) c.requires
+    c.self.invariant.1 in
     omega (arith, part.enough, c.self.invariant.2)
 
 pub returns-clause-front : goal.returns-clause-front
 returns-clause-front c =
     let i = c.self.inside in
-    let part = has_part (packing_of i.format) i.bytes.now i.first i.len c.args.n c.args.self.now.samples
-    (ap (λ (r : PackedRun). r.samples) c.self.view_is) c.requires c.self.invariant.1 in
+    let part = has_part (packing_of i.format) i.bytes.now i.first i.len c.args.n
+    c.args.self.now.samples (ap (λ (r : PackedRun). r.samples) c.self.view_is) c.requires
+    c.self.invariant.1 in
     c.from_byte-front.ensures
     ∙ ap (λ (l : List Sample). let r : PackedRun =
     record { packing = packing_of i.format; samples = l } in r)
@@ -61,8 +68,9 @@ returns-clause-front c =
 pub returns-clause-back : goal.returns-clause-back
 returns-clause-back c =
     let i = c.self.inside in
-    let part = has_part (packing_of i.format) i.bytes.now i.first i.len c.args.n c.args.self.now.samples
-    (ap (λ (r : PackedRun). r.samples) c.self.view_is) c.requires c.self.invariant.1 in
+    let part = has_part (packing_of i.format) i.bytes.now i.first i.len c.args.n
+    c.args.self.now.samples (ap (λ (r : PackedRun). r.samples) c.self.view_is) c.requires
+    c.self.invariant.1 in
     c.from_byte-back.ensures
     ∙ ap (λ (l : List Sample). let r : PackedRun =
     record { packing = packing_of i.format; samples = l } in r)
