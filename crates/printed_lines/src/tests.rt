@@ -4,9 +4,11 @@ mod page_rows;
 mod subframe_rows;
 
 use super::*;
+use acquisition::Cell;
 use ca_codes::Prn;
 use channel_slots::{Answer, Event, Phase, Refusal, SlotEvent, SlotState};
 use lane_correlator::Counts;
+use oscillators::HalfChip;
 use std::test::Fail;
 
 /// The sums of the tests.
@@ -60,6 +62,53 @@ fn each_kind_of_event(rt: HostRuntime) {
     }
 }
 
+// The code of satellite 1, recorded with no noise, is named at its third half chip. Where all
+// samples are +1, all cells have the power 20, and the first of them is named.
+#[test]
+fn each_kind_of_acquisition(rt: HostRuntime) -> Result<(), Fail> {
+    let rows: [(u64, u8, bool, i32, u16, u64, &[u8]); 5] = [
+        (
+            10_232,
+            1,
+            true,
+            0,
+            2,
+            20_930_580,
+            b"1 10232 acq 0 1 found 0 2 20930580\n",
+        ),
+        (10_230, 1, true, 0, 0, 20, b"1 10230 acq 0 1 found 0 0 20\n"),
+        (10_230, 1, false, 0, 0, 20, b"1 10230 acq 0 1 none 0 0 20\n"),
+        (
+            TIME,
+            32,
+            true,
+            -40,
+            2_045,
+            18_446_744_073_709_551_615,
+            b"1 1099511627776 acq 0 32 found -40 2045 18446744073709551615\n",
+        ),
+        (0, 7, false, 40, 1_022, 0, b"1 0 acq 0 7 none 40 1022 0\n"),
+    ];
+    for (time, prn, found, bin, half, power, text) in rows {
+        let prn = Prn::new(prn).ok_or("a satellite")?;
+        let half = HalfChip::new(half).ok_or("a half chip")?;
+        let cell = Cell {
+            bin,
+            half,
+            power,
+            found,
+        };
+        let told = SlotEvent {
+            client: 1,
+            slot: 0,
+            time,
+            event: Event::Acquired { prn, cell },
+        };
+        assert!(rt; is_text(&event_line(&told), text));
+    }
+    Ok(())
+}
+
 #[test]
 fn each_kind_of_answer(rt: HostRuntime) -> Result<(), Fail> {
     let prn = Prn::new(32).ok_or("a satellite")?;
@@ -79,6 +128,35 @@ fn each_kind_of_answer(rt: HostRuntime) -> Result<(), Fail> {
     ];
     for (answer, text) in rows {
         assert!(rt; is_text(&answer_line(8, TIME, 3, &answer), text));
+    }
+    Ok(())
+}
+
+// One bin has 2,046 cells, 81 bins have 165,726.
+#[test]
+fn each_state_of_acquiring(rt: HostRuntime) -> Result<(), Fail> {
+    let rows: [(u64, u8, u64, u64, &[u8]); 4] = [
+        (2_049, 1, 0, 2_046, b"1 2049 state 0 acquire 1 0 2046\n"),
+        (2_050, 1, 1, 2_046, b"1 2050 state 0 acquire 1 1 2046\n"),
+        (
+            TIME,
+            32,
+            165_725,
+            165_726,
+            b"1 1099511627776 state 0 acquire 32 165725 165726\n",
+        ),
+        (
+            0,
+            7,
+            0,
+            18_446_744_073_709_551_615,
+            b"1 0 state 0 acquire 7 0 18446744073709551615\n",
+        ),
+    ];
+    for (time, prn, done, cells, text) in rows {
+        let prn = Prn::new(prn).ok_or("a satellite")?;
+        let shown = Answer::State(SlotState::Acquire { prn, done, cells });
+        assert!(rt; is_text(&answer_line(1, time, 0, &shown), text));
     }
     Ok(())
 }
