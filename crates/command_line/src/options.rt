@@ -27,6 +27,11 @@ Each script is a client with the slots 0 to 3.
   T hold S PRN DOPPLER HALF  follow satellite PRN (1 to 32) in slot S, at a Doppler shift of DOPPLER
                              Hz (-16000 to 16000), its code beginning at half chip HALF (0 to 2045)
   T track S PRN DOPPLER HALF follow it from there on with closed loops, and read its message
+  T acquire S PRN CENTRE BINS MS THRESHOLD
+                             search for satellite PRN in BINS (0 to 40) bins of 250 Hz to each side
+                             of CENTRE Hz (-6000 to 6000), over MS (1 to 10) milliseconds; track it
+                             where the greatest power is at least THRESHOLD (1 to 1000) tenths of
+                             the mean power
   T counts S N               print the next N dumps (0 to 1000000); 0 ends printing
   T state S                  show the slot
   T stop S                   make the slot idle
@@ -38,6 +43,8 @@ A printed line is `CLIENT T TEXT`:
   err N                      a line of the script was refused
   count S IE QE IP QP IL QL  a dump: sums in phase (I) and in quadrature (Q) with the early (E),
                              prompt (P) and late (L) code
+  acq S PRN found BIN HALF POWER
+                             a search is done: its strongest cell; or none in the place of found
   lock S, unlock S, lost S   the loops locked, unlocked, or lost the signal (the slot is idle then)
   bits S                     the edge of the data bits was found
   gap S N                    the next subframe starts N bits late
@@ -45,6 +52,8 @@ A printed line is `CLIENT T TEXT`:
   eph S FIELDS               clock and ephemeris; FIELDS are name=integer:exponent
   alm, utc, hlt, msg, als    a page of almanac, time, health or text; the almanacs of all
   state S idle               the slot is idle
+  state S acquire PRN DONE CELLS
+                             it searches for PRN, and has done DONE of CELLS cells
   state S hold PRN DUMPS     it follows PRN, and has had DUMPS dumps
   state S track PRN DUMPS V W open
                              it tracks PRN: Doppler shift V in 1/65536 Hz, code correction W in

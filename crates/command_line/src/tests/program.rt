@@ -91,6 +91,7 @@ fn options_not_understood(rt: HostRuntime) -> Result<(), Fail> {
     for text in [
         "count S IE QE IP QP IL QL",
         "T track S PRN DOPPLER HALF",
+        "T acquire S PRN CENTRE BINS MS THRESHOLD",
         "covers the rest of\nthe code only, which is (2046 - HALF)/2 chips.",
         "half the rate; see --minus",
         "0  the samples came to their end",
