@@ -121,7 +121,10 @@ goes-begin left time p before few first held = record {
   added = refl;
   ready = λ from ready. let none : time + 0 ≡ time = omega arith in rw none ready;
   reach = λ reach within. within;
-  tells = λ settings xs commands now samples s. record { told = refl; stands = rw (append-nil xs) s };
+  tells = λ settings xs commands now samples s. record {
+    told = refl;
+    stands = rw (append-nil xs) s;
+  };
 }
 
 pub goes-more : (left n : ℕ) (ys zs : List Sample) (time first : ℕ) (held : ℕ → Sample)

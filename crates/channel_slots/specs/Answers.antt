@@ -1,6 +1,7 @@
 -- Answers to commands as the definitions have them.
 use Rattle.std.specs.Prelude.{ℕ, Bool, true, false}
-use Rattle.definitions.specs.Answers.{View, idle, acquiring, holding, tracking, Answer as DefinedAnswer}
+use Rattle.definitions.specs.Answers.{View, idle, acquiring, holding, tracking}
+use Rattle.definitions.specs.Answers.{Answer as DefinedAnswer}
 use Rattle.definitions.specs.Answers.{accepted, refused, shown}
 use Rattle.channel_slots.specs.declared.answer.Phase.{Phase}
 use Rattle.channel_slots.specs.declared.answer.Phase.TheVariants.{Unlocked, Locked, Edged}

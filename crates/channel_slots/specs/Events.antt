@@ -1,13 +1,15 @@
 -- What slots tell as the definitions have it.
 use Rattle.std.specs.Prelude.{◌≡◌, ℕ, List, map}
-use Rattle.definitions.specs.Events.{Event as DefinedEvent, acquired, count, locked, unlocked, signal_lost}
+use Rattle.definitions.specs.Events.{Event as DefinedEvent, acquired, count, locked, unlocked}
+use Rattle.definitions.specs.Events.{signal_lost}
 use Rattle.definitions.specs.Events.{edge, gap, subframe, reported, almanacs}
 use Rattle.definitions.specs.Banks.{SlotEvent as DefinedSlotEvent, line_of as defined_line_of}
 use Rattle.acquisition.specs.Cells.{cell_in}
 use Rattle.lane_correlator.specs.Counting.{counts_in}
 use Rattle.data_sets.specs.Reports.{report_in, almanacs_in}
 use Rattle.channel_slots.specs.declared.event.Event.{Event}
-use Rattle.channel_slots.specs.declared.event.Event.TheVariants.{Acquired, Count, Lock, Unlock, Lost}
+use Rattle.channel_slots.specs.declared.event.Event.TheVariants.{Acquired, Count, Lock, Unlock}
+use Rattle.channel_slots.specs.declared.event.Event.TheVariants.{Lost}
 use Rattle.channel_slots.specs.declared.event.Event.TheVariants.{Bits, Gap, Sub, Page, Almanacs}
 use Rattle.channel_slots.specs.declared.event.SlotEvent.{SlotEvent}
 

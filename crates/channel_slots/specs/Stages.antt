@@ -1,5 +1,6 @@
 -- What a life follows over the samples so far, and what it brings to the life.
-use Rattle.std.specs.Prelude.{◌≡◌, ◌<◌, ◌≤◌, ◌+◌, ◌*◌, ◌==◌, ◌&&◌, not, nat_le, if◌then◌else◌, ℤ, ℕ, Bool, true, false, List, [], ◌∷◌, ◌++◌, length, take}
+use Rattle.std.specs.Prelude.{◌≡◌, ◌<◌, ◌≤◌, ◌+◌, ◌*◌, ◌==◌, ◌&&◌, not, nat_le, if◌then◌else◌, ℤ, ℕ}
+use Rattle.std.specs.Prelude.{Bool, true, false, List, [], ◌∷◌, ◌++◌, length, take}
 use Rattle.std.specs.Prelude.{nat_lt, Option, Some, None}
 use Rattle.definitions.specs.Samples.{Sample}
 use Rattle.definitions.specs.Oscillators.{Settings, samples_per_ms}
@@ -130,7 +131,8 @@ Follows settings xs life (Holding h) = IsHeld settings xs life h
 Follows settings xs life (Tracking t) = IsTracked settings xs life t
 
 -- what ys behind xs bring to a life is what was answered: nothing, the cell that its acquisition
--- names, or a dump with the last of them, whose sums are told where they are wanted, and then what it tells beside
+-- names, or a dump with the last of them, whose sums are told where they are wanted, and then what
+-- it tells beside
 abbrev pub Brings : Settings → List Sample → List Sample → Life → Option StageNews → Type 0
 Brings settings xs ys life None =
     (dumps_of_life settings (xs ++ ys) life ≡ dumps_of_life settings xs life)

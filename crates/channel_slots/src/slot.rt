@@ -13,8 +13,8 @@ use ca_codes::CodeBook;
 use oscillators::Settings;
 use sample_planes::{Planes, SampleSource};
 
-/// The most events that a slot tells of a run of samples: the answer of an acquisition, and those of
-/// a dump.
+/// The most events that a slot tells of a run of samples: the answer of an acquisition, and those
+/// of a dump.
 pub const SLOT_EVENTS: usize = 7;
 
 /// A slot: idle, or with a life of its own.

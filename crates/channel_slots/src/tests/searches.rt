@@ -12,6 +12,7 @@ use ca_codes::Prn;
 use made_signals::code_file;
 use oscillators::HalfChip;
 use sample_planes::{Format, PackedSamples};
+use std::alloc::Global;
 use std::process::Abort;
 use std::test::Fail;
 
@@ -22,11 +23,11 @@ const MOST_TOLD: usize = 8;
 const LONGEST: u64 = 100_000;
 
 /// A bank of one client over a plain recording.
-fn bank_of_one(rt: &HostRuntime) -> Result<Bank, Fail>
+fn bank_of_one(alloc: Global) -> Result<Bank, Fail>
     ensures packing { IfOk result (λ bank. (settings_of bank).packing ≡ real1) }
     ensures clients { IfOk result (λ bank. clients_of bank ≡ 1) }
 {
-    Ok(Bank::open(rt.alloc(), plain_settings()?, 1)?)
+    Ok(Bank::open(alloc, plain_settings()?, 1)?)
 }
 
 /// Feeds a bank the samples of a recording up to a time, in pieces, and gives what it tells.
@@ -153,7 +154,7 @@ fn acquire_code_file(rt: HostRuntime) -> Result<(), Fail> {
     let bytes = code_of_six_periods();
     let recording = PackedSamples::new(Format::Real1, &bytes);
     let state = Command::State { slot: slot_zero()? };
-    let mut bank = bank_of_one(&rt)?;
+    let mut bank = bank_of_one(rt.alloc())?;
     hear(&rt, &mut bank, &recording, 1_024, 2, &[])?;
     assert_eq!(rt; bank.command(1, acquire(1, 10)?), Answer::Accepted);
     hear(&rt, &mut bank, &recording, 1_024, 10_231, &[])?;
@@ -174,7 +175,7 @@ fn equal_cells(rt: HostRuntime) -> Result<(), Fail> {
     let zeros = [0; 1_279];
     let recording = PackedSamples::new(Format::Real1, &zeros);
     for (threshold, found) in [(10, true), (11, false)] {
-        let mut bank = bank_of_one(&rt)?;
+        let mut bank = bank_of_one(rt.alloc())?;
         bank.command(1, acquire(1, threshold)?);
         let named = Event::Acquired {
             prn: Prn::new(1).ok_or("a satellite")?,
@@ -200,7 +201,7 @@ fn cells_come_with_samples(rt: HostRuntime) -> Result<(), Fail> {
     let bytes = code_of_six_periods();
     let recording = PackedSamples::new(Format::Real1, &bytes);
     let state = Command::State { slot: slot_zero()? };
-    let mut bank = bank_of_one(&rt)?;
+    let mut bank = bank_of_one(rt.alloc())?;
     bank.command(1, acquire(1, 10)?);
     for (time, done) in [
         (0, 0),
@@ -234,7 +235,7 @@ fn counts_outlast_the_search(rt: HostRuntime) -> Result<(), Fail> {
         slot: slot_zero()?,
         n: 1,
     };
-    let mut bank = bank_of_one(&rt)?;
+    let mut bank = bank_of_one(rt.alloc())?;
     hear(&rt, &mut bank, &recording, 1_024, 2, &[])?;
     bank.command(1, acquire(1, 10)?);
     hear(&rt, &mut bank, &recording, 1_024, 3_000, &[])?;
@@ -264,7 +265,7 @@ fn stop_at_the_due_time(rt: HostRuntime) -> Result<(), Fail> {
         (11, 10_229, 0, Answer::Accepted),
         (11, 10_230, 1, Answer::Refused(Refusal::Idle)),
     ] {
-        let mut bank = bank_of_one(&rt)?;
+        let mut bank = bank_of_one(rt.alloc())?;
         bank.command(1, acquire(1, threshold)?);
         let told = feed_to(&mut bank, &recording, 1_024, time)?;
         assert_eq!(rt; told.len(), events, "by {time}");
@@ -292,21 +293,35 @@ fn behind(bytes: &[u8; 1_536], first: usize) -> [u8; 1_537]
     moved
 }
 
-// Wherever in a byte the recording begins, and in whatever pieces it comes, the bank tells the
-// same.
-#[test]
-fn searches_do_not_depend_on_the_cut(rt: HostRuntime) -> Result<(), Fail> {
+/// Sees that a bank tells the same in pieces, wherever in a byte the recording begins.
+fn hear_from_each_place(rt: &impl Abort, alloc: Global, piece: usize) -> Result<(), Fail>
+    requires some { 0 < piece }
+    requires short { piece ≤ 1024 }
+{
     let bytes = code_of_six_periods();
     let named = told_at(10_232, found_at_two()?);
     for first in 0..8 {
         let moved = behind(&bytes, first);
         let recording = PackedSamples::new(Format::Real1, &moved).part(first, 10_240);
-        for piece in [1, 3, 1_024] {
-            let mut bank = bank_of_one(&rt)?;
-            hear(&rt, &mut bank, &recording, piece, 2, &[])?;
-            bank.command(1, acquire(1, 10)?);
-            hear(&rt, &mut bank, &recording, piece, 10_240, &[named])?;
-        }
+        let mut bank = bank_of_one(alloc)?;
+        hear(rt, &mut bank, &recording, piece, 2, &[])?;
+        bank.command(1, acquire(1, 10)?);
+        hear(rt, &mut bank, &recording, piece, 10_240, &[named])?;
     }
     Ok(())
+}
+
+#[test]
+fn samples_one_by_one(rt: HostRuntime) -> Result<(), Fail> {
+    hear_from_each_place(&rt, rt.alloc(), 1)
+}
+
+#[test]
+fn samples_by_threes(rt: HostRuntime) -> Result<(), Fail> {
+    hear_from_each_place(&rt, rt.alloc(), 3)
+}
+
+#[test]
+fn samples_by_whole_runs(rt: HostRuntime) -> Result<(), Fail> {
+    hear_from_each_place(&rt, rt.alloc(), 1_024)
 }

@@ -89,7 +89,8 @@ returns-clause-answer c settings xs asked s =
     s.recorded c.deref_mut.ensures.value c.command_at.ensures in
     let n : c.get-slot.result ≡ slot_of c.args.command = c.get-slot.ensures.same ∙ c.slot.ensures in
     let last = many c.args.client c.args.self.now.clients ps c.requires.last c.args.self.now.keys in
-    e.answers xs _ (sym s.now) (subst (λ (m : ℕ). StandsFor settings xs (asked c.args.client m) e.old.slot) n
+    e.answers xs _ (sym s.now) (subst
+    (λ (m : ℕ). StandsFor settings xs (asked c.args.client m) e.old.slot) n
     (stands-at settings xs asked ps c.args.client c.get-slot.result c.args.self.now.time e.old
     e.old c.requires.first last c.get-slot.ensures.range
     (own_keys c.args.self.now.clients ps c.args.self.now.keys) e.is s.slots))

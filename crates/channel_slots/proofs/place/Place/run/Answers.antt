@@ -82,12 +82,12 @@ loop-done-preserved g c =
     let left : c.len-len.result - (done + count) ≡ c.len-len.result - done - count = omega arith in
     let from : ℕ = g.S.SampleSource.from c.args.source.now in
     let held : ℕ → Sample = g.S.SampleSource.held c.args.source.now in
-    let steps : PlaceAdds zs (c.args.time + (done + count)) from held c.loop-done.self c.step.new.self
-    c.loop-done.events.items c.step.new.events.items = c.step.ensures in
-    let adds : PlaceAdds zs (c.args.time + length ys + length zs) from held c.loop-done.self c.step.new.self
-    c.loop-done.events.items c.step.new.events.items =
-    subst (λ (t : ℕ). PlaceAdds zs t from held c.loop-done.self c.step.new.self c.loop-done.events.items
-    c.step.new.events.items) here steps in
+    let steps : PlaceAdds zs (c.args.time + (done + count)) from held c.loop-done.self
+    c.step.new.self c.loop-done.events.items c.step.new.events.items = c.step.ensures in
+    let adds : PlaceAdds zs (c.args.time + length ys + length zs) from held c.loop-done.self
+    c.step.new.self c.loop-done.events.items c.step.new.events.items =
+    subst (λ (t : ℕ). PlaceAdds zs t from held c.loop-done.self c.step.new.self
+    c.loop-done.events.items c.step.new.events.items) here steps in
     rw (left, take_part xs done count) (record {
       within = omega (arith, c.room-count.ensures.within, c.loop-done-test.true);
       goes =

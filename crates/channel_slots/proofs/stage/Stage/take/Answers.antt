@@ -10,7 +10,8 @@ use Rattle.channel_slots.specs.declared.stage.Stage.TheVariants.{Tracking}
 use Rattle.channel_slots.proofs.stage.Stage.take.Goals as goal
 use Rattle.channel_slots.proofs.stage.Stage.take.Goals.{in-Some, in_default}
 
-pub returns-in_err-cell-in-Searching-clause-takes : goal.returns-in_err-cell-in-Searching-clause-takes
+pub returns-in_err-cell-in-Searching-clause-takes
+    : goal.returns-in_err-cell-in-Searching-clause-takes
 returns-in_err-cell-in-Searching-clause-takes g c settings xs life samples follows =
     let ys : List Sample = part c.args.run.now c.args.from c.args.count in
     let many = part-length c.args.run.now c.args.from c.args.count c.requires.within in
@@ -50,7 +51,8 @@ returns-after-follow-clause-takes g c settings xs life samples follows =
           (c.follow.ensures.found.1 here))))
     ]
 
-pub returns-in_err-counts-in-Holding-clause-takes : goal.returns-in_err-counts-in-Holding-clause-takes
+pub returns-in_err-counts-in-Holding-clause-takes
+    : goal.returns-in_err-counts-in-Holding-clause-takes
 returns-in_err-counts-in-Holding-clause-takes g c settings xs life samples follows =
     let ys : List Sample = part c.args.run.now c.args.from c.args.count in
     let more : 0 < length ys =
