@@ -125,6 +125,19 @@ impl<'a> Words<'a> {
         signed_number_in(word).ok_or(Refusal::NotANumber)
     }
 
+    /// The number that the next word writes, `low` to `high`.
+    pub(crate) fn number_between(&mut self, low: u32, high: u32) -> Result<u32, Refusal>
+        requires { 0 < length self.old }
+        ensures value { number_alone result ≡ values_in (up_to low high ∷ []) self.old }
+        ensures range { IfOk result (λ number. (low ≤ number) × (number ≤ high)) }
+        ensures left { self.new ≡ drop 1 self.old }
+    {
+        let number = u32::try_from(self.number()?).ok();
+        number
+            .filter(|number| low <= *number && *number <= high)
+            .ok_or(Refusal::OutOfRange)
+    }
+
     /// The slot that the next word names, 0 to 3.
     pub(crate) fn slot(&mut self) -> Result<SlotNo, Refusal>
         requires { 0 < length self.old }
@@ -155,6 +168,18 @@ impl<'a> Words<'a> {
         hz.and_then(Doppler::new).ok_or(Refusal::OutOfRange)
     }
 
+    /// The centre of a search that the next word writes, -6,000 to 6,000 Hz.
+    pub(crate) fn centre(&mut self) -> Result<i32, Refusal>
+        requires { 0 < length self.old }
+        ensures value { integer_alone result ≡ values_in (around_zero 6000 ∷ []) self.old }
+        ensures range { IfOk result (λ hz. unsigned_abs hz ≤ MOST_CENTRE) }
+        ensures left { self.new ≡ drop 1 self.old }
+    {
+        let hz = i32::try_from(self.number()?).ok();
+        hz.filter(|hz| hz.unsigned_abs() <= MOST_CENTRE)
+            .ok_or(Refusal::OutOfRange)
+    }
+
     /// The place in the code that the next word writes, 0 to 2,045 half chips.
     pub(crate) fn half_chip(&mut self) -> Result<HalfChip, Refusal>
         requires { 0 < length self.old }
@@ -174,30 +199,5 @@ impl<'a> Words<'a> {
         ensures left { self.new ≡ drop 1 self.old }
     {
         self.number_between(0, MOST_DUMPS)
-    }
-
-    /// The centre of a search that the next word writes, -6,000 to 6,000 Hz.
-    pub(crate) fn centre(&mut self) -> Result<i32, Refusal>
-        requires { 0 < length self.old }
-        ensures value { integer_alone result ≡ values_in (around_zero 6000 ∷ []) self.old }
-        ensures range { IfOk result (λ hz. unsigned_abs hz ≤ MOST_CENTRE) }
-        ensures left { self.new ≡ drop 1 self.old }
-    {
-        let hz = i32::try_from(self.number()?).ok();
-        hz.filter(|hz| hz.unsigned_abs() <= MOST_CENTRE)
-            .ok_or(Refusal::OutOfRange)
-    }
-
-    /// The number that the next word writes, `low` to `high`.
-    pub(crate) fn number_between(&mut self, low: u32, high: u32) -> Result<u32, Refusal>
-        requires { 0 < length self.old }
-        ensures value { number_alone result ≡ values_in (up_to low high ∷ []) self.old }
-        ensures range { IfOk result (λ number. (low ≤ number) × (number ≤ high)) }
-        ensures left { self.new ≡ drop 1 self.old }
-    {
-        let number = u32::try_from(self.number()?).ok();
-        number
-            .filter(|number| low <= *number && *number <= high)
-            .ok_or(Refusal::OutOfRange)
     }
 }

@@ -14,8 +14,8 @@ returns-clause-value c =
     let typed = rw (to_z-of_z w64 c.in_ok-number.field-0 fits) at c.try_from.ensures in
     let filtered = rw c.ok-hz.ensures.value at c.filter.ensures in
     let ranged : MatchOption (result_ok c.try_from.result) (c.filter.result ≡ None)
-    (λ z. (IsSome c.filter.result ↔ (unsigned_abs z ≤ 6000)) × IfSome c.filter.result (λ s. s ≡ z)) =
-    search (rules, arith) in
+    (λ z. (IsSome c.filter.result ↔ (unsigned_abs z ≤ 6000))
+    × IfSome c.filter.result (λ s. s ≡ z)) = search (rules, arith) in
     rw c.ok_or.ensures.value (integer_tried c.try_from.result c.in_ok-number.field-0
     c.filter.result w32 6000 c.args.self.now (λ small. search (rules, arith, ints))
     c.requires c.in_ok-number.ensures.number typed ranged)
