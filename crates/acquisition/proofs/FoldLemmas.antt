@@ -14,12 +14,12 @@ use Rattle.acquisition.specs.declared.sums.Sums.{Sums}
 use Rattle.acquisition.specs.declared.fold.Fold.{Fold}
 use Rattle.acquisition.specs.FoldStates.{IsFold}
 use Rattle.acquisition.specs.Replicas.{phases, AreSums}
-use Rattle.acquisition.specs.Folds.{folded, place_at, in_phase_at, quadrature_at, IsTable}
-use Rattle.acquisition.specs.Folds.{correlated, correlated_to, total_to, sizes_to}
+use Rattle.acquisition.specs.Folds.{sum_at_key, place_at, in_phase_at, quadrature_at, IsTable}
+use Rattle.acquisition.specs.Folds.{correlation, correlation_to, total_to, sizes_to}
 use Rattle.acquisition.proofs.PlaceLemmas.{chip_of_place, place_below}
 use Rattle.acquisition.proofs.RegroupedLemmas.{regrouped}
 use Rattle.acquisition.proofs.SizeLemmas.{abs_add}
-use Rattle.acquisition.proofs.TableLemmas.{correlated-none, correlated-more, correlated_size}
+use Rattle.acquisition.proofs.TableLemmas.{correlation-none, correlation-more, correlation_size}
 use Rattle.acquisition.proofs.TableLemmas.{total_to-none, total_to-more, total_size}
 
 -- values times the prompt chips from an offset on, n of them, from a table of the values
@@ -27,8 +27,8 @@ from_table : (y : ℕ → ℤ) (prn half step from n : ℕ) (table : List ℤ)
     → IsTable y (half % 2) step from n table
     → total (λ i. y (from + i)
     *ℤ prompt_sign prn (code_phase_after (half * 2 ^ 31) step (from + i))) n
-    ≡ correlated prn (half / 2) table
-unfolding correlated_to
+    ≡ correlation prn (half / 2) table
+unfolding correlation_to
 from_table y prn half step from n table is =
     total-same
     (λ i. y (from + i) *ℤ prompt_sign prn (code_phase_after (half * 2 ^ 31) step (from + i)))
@@ -37,7 +37,7 @@ from_table y prn half step from n table is =
     ∙ regrouped (λ i. y (from + i)) (λ i. place_at (half % 2) step (from + i))
     (λ k. chip_sign prn (half / 2 + k)) n 1024 (λ i h. place_below (half % 2) step (from + i))
     ∙ total-same
-    (λ k. folded (λ i. y (from + i)) (λ i. place_at (half % 2) step (from + i)) n k
+    (λ k. sum_at_key (λ i. y (from + i)) (λ i. place_at (half % 2) step (from + i)) n k
     *ℤ chip_sign prn (half / 2 + k))
     (λ k. get_or table k (pos 0) *ℤ chip_sign prn (half / 2 + k)) 1024
     (λ k h. ap (λ (v : ℤ). v *ℤ chip_sign prn (half / 2 + k)) (sym (is k h)))
@@ -46,8 +46,8 @@ pub folded_sums : (x : ℕ → Sample) (prn half step carrier_step from n : ℕ)
     (in_phase quadrature : List ℤ) (s : Sums)
     → IsTable (in_phase_at x carrier_step) (half % 2) step from n in_phase
     → IsTable (quadrature_at x carrier_step) (half % 2) step from n quadrature
-    → s.in_phase ≡ correlated prn (half / 2) in_phase
-    → s.quadrature ≡ correlated prn (half / 2) quadrature
+    → s.in_phase ≡ correlation prn (half / 2) in_phase
+    → s.quadrature ≡ correlation prn (half / 2) quadrature
     → AreSums x (replica_of prn (phases half step carrier_step)) from (from + n) s
 unfolding in_phase_sum quadrature_sum
 folded_sums x prn half step carrier_step from n in_phase quadrature s is_i is_q i q =
@@ -64,8 +64,8 @@ pub folded_power : (x : ℕ → Sample) (prn half step carrier_step from n : ℕ
     (in_phase quadrature : List ℤ) (s : Sums)
     → IsTable (in_phase_at x carrier_step) (half % 2) step from n in_phase
     → IsTable (quadrature_at x carrier_step) (half % 2) step from n quadrature
-    → s.in_phase ≡ correlated prn (half / 2) in_phase
-    → s.quadrature ≡ correlated prn (half / 2) quadrature
+    → s.in_phase ≡ correlation prn (half / 2) in_phase
+    → s.quadrature ≡ correlation prn (half / 2) quadrature
     → square s.in_phase + square s.quadrature
     ≡ power_over x (replica_of prn (phases half step carrier_step)) from (from + n)
 folded_power x prn half step carrier_step from n in_phase quadrature s is_i is_q i q =
@@ -75,8 +75,8 @@ folded_power x prn half step carrier_step from n in_phase quadrature s is_i is_q
 
 pub fold_power : (x : ℕ → Sample) (prn half parity step carrier_step from n : ℕ) (fold : Fold)
     (s : Sums) → half % 2 ≡ parity → IsFold x parity step carrier_step from n fold
-    → s.in_phase ≡ correlated prn (half / 2) fold.in_phase.sums
-    → s.quadrature ≡ correlated prn (half / 2) fold.quadrature.sums
+    → s.in_phase ≡ correlation prn (half / 2) fold.in_phase.sums
+    → s.quadrature ≡ correlation prn (half / 2) fold.quadrature.sums
     → square s.in_phase + square s.quadrature
     ≡ power_over x (replica_of prn (phases half step carrier_step)) from (from + n)
 fold_power x prn half parity step carrier_step from n fold s same is i q =
@@ -115,17 +115,17 @@ picked-more : (sum whole entry picked : ℤ)
 picked-more sum whole entry picked = omega (arith, ints)
 
 pub less_picked-none : (prn first : ℕ) (table : List ℤ)
-    → correlated_to prn first table 0 ≡ total_to table 0 -ℤ pos 0
-less_picked-none prn first table = rw (correlated-none prn first table, total_to-none table) refl
+    → correlation_to prn first table 0 ≡ total_to table 0 -ℤ pos 0
+less_picked-none prn first table = rw (correlation-none prn first table, total_to-none table) refl
 
 pub less_picked-more : (prn first k : ℕ) (table : List ℤ) (sum entry sign picked : ℤ)
-    → correlated_to prn first table k ≡ total_to table k -ℤ pos 2 *ℤ sum
+    → correlation_to prn first table k ≡ total_to table k -ℤ pos 2 *ℤ sum
     → entry ≡ get_or table k (pos 0) → sign ≡ chip_sign prn (first + k)
     → entry *ℤ sign ≡ entry -ℤ pos 2 *ℤ picked
-    → correlated_to prn first table (k + 1)
+    → correlation_to prn first table (k + 1)
     ≡ total_to table (k + 1) -ℤ pos 2 *ℤ (sum +ℤ picked)
 less_picked-more prn first k table sum entry sign picked before at chip is =
-    correlated-more prn first k table
+    correlation-more prn first k table
     ∙ rw (before, ← at, ← chip, is, total_to-more table k, ← at)
     (picked-more sum (total_to table k) entry picked)
 
@@ -133,20 +133,20 @@ less_picked-more prn first k table sum entry sign picked before at chip is =
 pub record IsLess (prn first : ℕ) (table : List ℤ) (whole sum : ℤ) : Type 0 where
   pub fits : FitsSigned w32 (to_z w32 (of_z w32 whole) -ℤ to_z w32 (of_z w32 (pos 2 *ℤ sum)))
   pub value : to_z w32 (of_z w32 (to_z w32 (of_z w32 whole)
-      -ℤ to_z w32 (of_z w32 (pos 2 *ℤ sum)))) ≡ correlated prn first table
+      -ℤ to_z w32 (of_z w32 (pos 2 *ℤ sum)))) ≡ correlation prn first table
   pub small : unsigned_abs (to_z w32 (of_z w32 (to_z w32 (of_z w32 whole)
       -ℤ to_z w32 (of_z w32 (pos 2 *ℤ sum))))) ≤ 180000
 
 pub less_picked : (prn first taken : ℕ) (table : List ℤ) (whole sum : ℤ)
     → sizes_to table 1024 ≤ 9 * taken → taken ≤ 20000 → whole ≡ total_to table 1024
-    → correlated_to prn first table 1024 ≡ total_to table 1024 -ℤ pos 2 *ℤ sum
+    → correlation_to prn first table 1024 ≡ total_to table 1024 -ℤ pos 2 *ℤ sum
     → unsigned_abs sum ≤ 180000 * 1024 → IsLess prn first table whole sum
 less_picked prn first taken table whole sum sizes few all is small =
     let size : unsigned_abs whole ≤ 180000 = rw all
     (omega (arith, total_size 1024 table, sizes, few)) in
-    let result : ℤ = correlated_to prn first table 1024 in
+    let result : ℤ = correlation_to prn first table 1024 in
     let near : unsigned_abs result ≤ 180000 =
-    omega (arith, correlated_size prn first 1024 table, sizes, few) in
+    omega (arith, correlation_size prn first 1024 table, sizes, few) in
     let twice : to_z w32 (of_z w32 (pos 2 *ℤ sum)) ≡ pos 2 *ℤ sum = to_z-of_z w32 (pos 2 *ℤ sum)
     (fits_signed_from_abs w32 (pos 2 *ℤ sum) (omega (arith, doubled sum, small))) in
     let e : whole -ℤ pos 2 *ℤ sum ≡ result = rw all (sym is) in

@@ -6,7 +6,7 @@ use Rattle.std.proofs.Math.IntN.{*ℤ_comm, suc_ℤ-*ℤ, *ℤ-negsuc, *ℤ-zero
 use Rattle.std.proofs.lemmas.Int.{ints}
 use Rattle.std.proofs.lemmas.Bool.{eq-eqb}
 use Rattle.definitions.specs.Sums.{total}
-use Rattle.acquisition.specs.Folds.{folded}
+use Rattle.acquisition.specs.Folds.{sum_at_key}
 
 one_more_times : (z : ℤ) (n : ℕ) → z *ℤ pos (suc n) ≡ z *ℤ pos n +ℤ z
 one_more_times z n =
@@ -98,11 +98,11 @@ one_picked key y f (suc n) h = elim (last_or_before key n (omega arith)) [
 -- a sum of values times what belongs to their keys is the sum over the keys
 pub regrouped : (y : ℕ → ℤ) (key : ℕ → ℕ) (f : ℕ → ℤ) (n most : ℕ)
     → ((i : ℕ) → i < n → key i < most)
-    → total (λ i. y i *ℤ f (key i)) n ≡ total (λ k. folded y key n k *ℤ f k) most
-unfolding total folded at_key
+    → total (λ i. y i *ℤ f (key i)) n ≡ total (λ k. sum_at_key y key n k *ℤ f k) most
+unfolding total sum_at_key at_key
 regrouped y key f zero most within = sym (no_terms f most)
 regrouped y key f (suc n) most within =
     rw (
       regrouped y key f n most (λ i h. within i (omega arith)),
       ← one_picked (key n) (y n) f most (within n (omega arith)),
-    ) (sym (sums_apart (folded y key n) (at_key (key n) (y n)) f most))
+    ) (sym (sums_apart (sum_at_key y key n) (at_key (key n) (y n)) f most))

@@ -9,7 +9,8 @@ use Rattle.std.proofs.lemmas.Bool.{eq-eqb, cases_lt}
 use Rattle.std.proofs.lemmas.List.{get_or-replicate, get_or-set_same, get_or-set_other}
 use Rattle.definitions.specs.Sums.{total}
 use Rattle.definitions.specs.Codes.{chip_sign}
-use Rattle.acquisition.specs.Folds.{folded, place_at, IsTable, total_to, sizes_to, correlated_to}
+use Rattle.acquisition.specs.Folds.{sum_at_key, place_at, IsTable, total_to, sizes_to}
+use Rattle.acquisition.specs.Folds.{correlation_to}
 use Rattle.acquisition.proofs.SizeLemmas.{abs_add}
 use Rattle.acquisition.proofs.SignLemmas.{sign_cases}
 
@@ -20,13 +21,13 @@ all_same n k z h = get_or-replicate {A = ℤ} n k z (pos 0) h
 -- a table of no values, and of one more
 pub table-none : (y : ℕ → ℤ) (parity step from : ℕ) (table : List ℤ)
     → ((k : ℕ) → k < 1024 → get_or table k (pos 0) ≡ pos 0) → IsTable y parity step from 0 table
-unfolding folded total
+unfolding sum_at_key total
 table-none y parity step from table none k h = none k h
 
-folded-more : (y : ℕ → ℤ) (key : ℕ → ℕ) (n k : ℕ) → folded y key (n + 1) k
-    ≡ folded y key n k +ℤ cond (key n == k) (y n) (pos 0)
-unfolding folded total
-folded-more y key n k = let e : n + 1 ≡ suc n = omega arith in rw e refl
+sum_at_key-more : (y : ℕ → ℤ) (key : ℕ → ℕ) (n k : ℕ) → sum_at_key y key (n + 1) k
+    ≡ sum_at_key y key n k +ℤ cond (key n == k) (y n) (pos 0)
+unfolding sum_at_key total
+sum_at_key-more y key n k = let e : n + 1 ≡ suc n = omega arith in rw e refl
 
 pub table-more : (y : ℕ → ℤ) (parity step from n place : ℕ) (value : ℤ) (old new : List ℤ)
     → IsTable y parity step from n old → place ≡ place_at parity step (from + n)
@@ -36,7 +37,7 @@ pub table-more : (y : ℕ → ℤ) (parity step from n place : ℕ) (value : ℤ
     → IsTable y parity step from (n + 1) new
 table-more y parity step from n place value old new is at same more k h =
     more k h ∙ rw (is k h, at, same)
-    (sym (folded-more (λ i. y (from + i)) (λ i. place_at parity step (from + i)) n k))
+    (sym (sum_at_key-more (λ i. y (from + i)) (λ i. place_at parity step (from + i)) n k))
 
 -- the sizes of a table's entries
 pub sizes-none : (table : List ℤ) (n : ℕ)
@@ -110,15 +111,15 @@ pub total_to-more : (table : List ℤ) (k : ℕ)
 unfolding total_to total
 total_to-more table k = let e : k + 1 ≡ suc k = omega arith in rw e refl
 
-pub correlated-none : (prn first : ℕ) (table : List ℤ) → correlated_to prn first table 0 ≡ pos 0
-unfolding correlated_to total
-correlated-none prn first table = refl
+pub correlation-none : (prn first : ℕ) (table : List ℤ) → correlation_to prn first table 0 ≡ pos 0
+unfolding correlation_to total
+correlation-none prn first table = refl
 
-pub correlated-more : (prn first k : ℕ) (table : List ℤ)
-    → correlated_to prn first table (k + 1)
-    ≡ correlated_to prn first table k +ℤ get_or table k (pos 0) *ℤ chip_sign prn (first + k)
-unfolding correlated_to total
-correlated-more prn first k table = let e : k + 1 ≡ suc k = omega arith in rw e refl
+pub correlation-more : (prn first k : ℕ) (table : List ℤ)
+    → correlation_to prn first table (k + 1)
+    ≡ correlation_to prn first table k +ℤ get_or table k (pos 0) *ℤ chip_sign prn (first + k)
+unfolding correlation_to total
+correlation-more prn first k table = let e : k + 1 ≡ suc k = omega arith in rw e refl
 
 -- a product with a sign has the size of the other factor
 signed_size : (y s : ℤ) → (s ≡ pos 1) ⊎ (s ≡ negsuc 0) → unsigned_abs (y *ℤ s) ≤ unsigned_abs y
@@ -133,16 +134,16 @@ signed_size y s cases = elim cases [
     by_one_less : (y : ℤ) → unsigned_abs (y *ℤ negsuc 0) ≤ unsigned_abs y
     by_one_less y = omega (arith, ints)
 
-pub correlated_size : (prn first n : ℕ) (table : List ℤ)
-    → unsigned_abs (correlated_to prn first table n) ≤ sizes_to table n
-unfolding correlated_to total sizes_to
-correlated_size prn first zero table = omega arith
-correlated_size prn first (suc n) table =
+pub correlation_size : (prn first n : ℕ) (table : List ℤ)
+    → unsigned_abs (correlation_to prn first table n) ≤ sizes_to table n
+unfolding correlation_to total sizes_to
+correlation_size prn first zero table = omega arith
+correlation_size prn first (suc n) table =
     let term : ℤ = get_or table n (pos 0) *ℤ chip_sign prn (first + n) in
     omega (
       arith,
-      abs_add (correlated_to prn first table n) term,
-      correlated_size prn first n table,
+      abs_add (correlation_to prn first table n) term,
+      correlation_size prn first n table,
       signed_size (get_or table n (pos 0)) (chip_sign prn (first + n))
           (sign_cases prn (first + n)),
     )

@@ -2,6 +2,7 @@
 use Rattle.std.specs.Prelude.{◌≡◌, ℕ}
 use Rattle.definitions.specs.Samples.{Sample}
 use Rattle.acquisition.specs.Folds.{IsTable, in_phase_at, quadrature_at, total_to}
+use Rattle.acquisition.specs.declared.chip_table.TheConstants.{PLACES}
 use Rattle.acquisition.specs.declared.fold.Fold.{Fold}
 use Rattle.acquisition.specs.declared.period_fold.PeriodFold.{PeriodFold}
 use Rattle.acquisition.specs.declared.sums.Sums.{Sums}
@@ -20,8 +21,8 @@ pub record ArePeriodFolds (x : ℕ → Sample) (step carrier_step from n : ℕ) 
 
 -- the sums of all entries of a fold
 pub record IsWhole (sums : Sums) (fold : Fold) : Type 0 where
-  pub in_phase : sums.in_phase ≡ total_to fold.in_phase.sums 1024
-  pub quadrature : sums.quadrature ≡ total_to fold.quadrature.sums 1024
+  pub in_phase : sums.in_phase ≡ total_to fold.in_phase.sums PLACES
+  pub quadrature : sums.quadrature ≡ total_to fold.quadrature.sums PLACES
 
 -- how many samples it has taken
 abbrev pub taken_of : Fold → ℕ

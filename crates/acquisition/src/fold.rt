@@ -22,7 +22,7 @@ pub(crate) struct Fold {
 
 impl Fold {
     ghost use Rattle.definitions.specs.Samples.{Sample};
-    ghost use Rattle.acquisition.specs.Folds.{place_at, in_phase_at, quadrature_at, correlated};
+    ghost use Rattle.acquisition.specs.Folds.{place_at, in_phase_at, quadrature_at, correlation};
     ghost use Rattle.acquisition.specs.Folds.{total_to};
     ghost use Rattle.acquisition.specs.FoldStates.{IsFold, IsWhole, taken_of};
 
@@ -79,9 +79,9 @@ impl Fold {
         requires whole { IsWhole whole self.now }
         requires first { first < 1023 }
         ensures in_phase { result.in_phase
-            ≡ correlated signs.now.prn first self.now.in_phase.sums }
+            ≡ correlation signs.now.prn first self.now.in_phase.sums }
         ensures quadrature { result.quadrature
-            ≡ correlated signs.now.prn first self.now.quadrature.sums }
+            ≡ correlation signs.now.prn first self.now.quadrature.sums }
         ensures small_in_phase { unsigned_abs result.in_phase ≤ MOST_SUM }
         ensures small_quadrature { unsigned_abs result.quadrature ≤ MOST_SUM }
     {

@@ -5,6 +5,7 @@ ghost use Rattle.std.specs.Prelude.{unsigned_abs};
 ghost use Rattle.definitions.specs.Oscillators.{code_cycle};
 ghost use Rattle.definitions.specs.Samples.{Sample, sample_at};
 ghost use Rattle.definitions.specs.Correlation.{wiped_in_phase, wiped_quadrature};
+ghost use Rattle.acquisition.specs.declared.bin_powers.TheConstants.{BIN_CELLS};
 ghost use Rattle.acquisition.specs.declared.dwell.TheConstants.{MOST_START};
 ghost use Rattle.acquisition.specs.declared.sums.TheConstants.{MOST_PERIOD_POWER};
 ghost use Rattle.oscillators.specs.declared.settings.TheConstants.{MOST_PER_MS};
@@ -101,7 +102,7 @@ impl PeriodFold {
     /// The power over the period with the code from a half chip on, for the sums of all entries of
     /// both folds.
     pub(crate) fn power(&self, even: Sums, odd: Sums, signs: &ChipSigns, half: usize) -> u64
-        requires half { half < 2046 }
+        requires half { half < BIN_CELLS }
         requires even { IsWhole even self.now.even }
         requires odd { IsWhole odd self.now.odd }
         ensures power { (x : ℕ → Sample) (step carrier_step from n : ℕ)

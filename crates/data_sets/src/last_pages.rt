@@ -5,7 +5,7 @@ ghost use Rattle.definitions.specs.Pages.{Page as DefinedPage};
 ghost use Rattle.definitions.specs.DataSets.{is_ephemeris};
 ghost use Rattle.subframes.specs.PageViews.{page_in};
 
-use crate::issue::{are_of_one_issue, joined};
+use crate::issue::{are_of_one_issue, numbers_of_pages};
 use subframes::Page;
 
 /// The numbers of the last clock page and of the last of both ephemeris pages.
@@ -53,7 +53,7 @@ impl LastPages {
         let eph2 = &self.eph2?;
         let eph3 = &self.eph3?;
         if are_of_one_issue(clock, eph2, eph3) {
-            Some(joined(clock, eph2, eph3))
+            Some(numbers_of_pages(clock, eph2, eph3))
         } else {
             None
         }

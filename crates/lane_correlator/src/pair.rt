@@ -37,7 +37,7 @@ pub(crate) fn pair_of_run(
         let first = from.max(64 * w) - 64 * w;
         let end = to.min(64 * w + 64) - 64 * w;
         let more = pair_of_word(samples, carrier, code, w, first, end, has_sizes);
-        sums = added(sums, more);
+        sums = sum_of_pairs(sums, more);
     }
     sums
 }
@@ -74,7 +74,7 @@ fn pair_of_word(
         Some(part) => pair_of_part(part, wave.sin, wave.cos, chips.1, mask),
         None => (0, 0),
     };
-    added(in_phase, quadrature)
+    sum_of_pairs(in_phase, quadrature)
 }
 
 /// What one part of the samples of a word adds to the two sums: its products with one carrier in
@@ -93,7 +93,7 @@ fn pair_of_part(part: Factors, i: Factors, q: Factors, chips: u64, mask: u64) ->
 }
 
 /// Two sums and two more. The caller sees to it that each fits in an `i32`.
-fn added(sums: (i32, i32), more: (i32, i32)) -> (i32, i32)
+fn sum_of_pairs(sums: (i32, i32), more: (i32, i32)) -> (i32, i32)
     requires in_phase { unsigned_abs sums.0 + unsigned_abs more.0 < 2 ^ 31 }
     requires quadrature { unsigned_abs sums.1 + unsigned_abs more.1 < 2 ^ 31 }
     ensures in_phase { result.0 ≡ sums.0 +ℤ more.0 }

@@ -61,10 +61,10 @@ impl ChipSigns {
             if stage(first, 10) ^ stage(second, stages.0) ^ stage(second, stages.1) == 1 {
                 *sign = -1;
             }
-            first = shifted(first, stage(first, 3) ^ stage(first, 10));
+            first = next_register(first, stage(first, 3) ^ stage(first, 10));
             let lower = stage(second, 2) ^ stage(second, 3) ^ stage(second, 6);
             let upper = stage(second, 8) ^ stage(second, 9) ^ stage(second, 10);
-            second = shifted(second, lower ^ upper);
+            second = next_register(second, lower ^ upper);
         }
         ChipSigns { signs }
     }
@@ -81,6 +81,6 @@ fn stage(register: u32, number: u32) -> u32 {
 }
 
 /// Each stage moves to the next higher one, and a bit comes into stage 1.
-fn shifted(register: u32, bit: u32) -> u32 {
+fn next_register(register: u32, bit: u32) -> u32 {
     (register << 1 | bit) & 0x3ff
 }

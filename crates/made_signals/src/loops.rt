@@ -33,12 +33,12 @@ impl PlainLoops {
         self.dumps = self.dumps.wrapping_add(1);
         if self.dumps < 200 {
             let turn = frequency_error((self.ip, self.qp), (ip, qp));
-            self.u = limited(self.u.wrapping_add(turn.wrapping_mul(160)));
+            self.u = within_most_shift(self.u.wrapping_add(turn.wrapping_mul(160)));
             self.v = self.u;
         } else {
             let turn = phase_error(ip, qp);
-            self.u = limited(self.u.wrapping_add(turn.wrapping_mul(6)));
-            self.v = limited(self.u.wrapping_add(turn.wrapping_mul(170)));
+            self.u = within_most_shift(self.u.wrapping_add(turn.wrapping_mul(6)));
+            self.v = within_most_shift(self.u.wrapping_add(turn.wrapping_mul(170)));
         }
         let early = product(ie, ie).wrapping_add(product(qe, qe));
         let late = product(il, il).wrapping_add(product(ql, ql));
@@ -83,6 +83,6 @@ fn product(a: i32, b: i32) -> i64 {
     i64::from(a).wrapping_mul(i64::from(b))
 }
 
-fn limited(a: i64) -> i64 {
+fn within_most_shift(a: i64) -> i64 {
     a.max(-MOST_SHIFT).min(MOST_SHIFT)
 }

@@ -79,14 +79,14 @@ impl<'a> SampleStream<'a> {
     fn next_byte(&mut self) -> u8 {
         let mut byte = 0u8;
         for _ in 0..4 {
-            byte = byte.wrapping_mul(4) | packed(self.next_value());
+            byte = byte.wrapping_mul(4) | sign_and_magnitude(self.next_value());
         }
         byte
     }
 }
 
 /// The sign and the magnitude bit of a value.
-fn packed(value: Option<i32>) -> u8 {
+fn sign_and_magnitude(value: Option<i32>) -> u8 {
     match value {
         Some(3) => 1,
         Some(-1) => 2,

@@ -21,8 +21,8 @@ use Rattle.subframes.specs.Entries.{eph3_name, almanac_name, utc_name, health_na
 use Rattle.data_sets.specs.declared.report.Report.{Report}
 use Rattle.data_sets.specs.declared.report.Report.TheVariants.{Eph, Alm, Utc as UtcPage, Hlt}
 use Rattle.data_sets.specs.Reports.{fields_in, numbers_in, report_in}
-use Rattle.printed_lines.specs.Spaced.{spaced}
-use Rattle.printed_lines.proofs.LineLemmas.{more-spaced}
+use Rattle.printed_lines.specs.SpacedWords.{with_spaces}
+use Rattle.printed_lines.proofs.LineLemmas.{with_spaces-more}
 
 -- ---- how long a name and an exponent are
 is_short : fields.Field → Bool
@@ -64,7 +64,7 @@ field-words line f value = simp append_assoc
 
 -- fields behind a word
 pub fields-words : (word : List ℕ) (fs : List Field) (values : List ℤ)
-    → word ++ spaced (λ (field, value). field_text (entry_of field) value) (zip fs values)
+    → word ++ with_spaces (λ (field, value). field_text (entry_of field) value) (zip fs values)
     ≡ words_text (word ∷ field_texts (map entry_of fs) values)
 fields-words word [] values = append-nil word
 fields-words word (f ∷ fs) [] = append-nil word
@@ -74,17 +74,17 @@ fields-words word (f ∷ fs) (value ∷ values) =
 -- one more field
 pub more-fields : (line now : List ℕ) (fs : List Field) (values : List ℤ) (i : ℕ) (f : Field)
     (value : ℤ) → i < length fs → length fs ≡ length values
-    → now ≡ line ++ spaced (λ (field, value). field_text (entry_of field) value)
+    → now ≡ line ++ with_spaces (λ (field, value). field_text (entry_of field) value)
     (take i (zip fs values))
     → now ++ 32 ∷ field_text (entry_of (get_or fs i f)) (get_or values i value)
-    ≡ line ++ spaced (λ (field, value). field_text (entry_of field) value)
+    ≡ line ++ with_spaces (λ (field, value). field_text (entry_of field) value)
     (take (i + 1) (zip fs values))
 more-fields line now fs values i f value within same is =
     let both : get_or (zip fs values) i (f, value) ≡ (get_or fs i f, get_or values i value) =
     get_or-zip fs values i (f, value) within (omega (arith, within, same)) in
     let room : i < length (zip fs values) =
     omega (arith, length-zip fs values, within, same) in
-    rw both at (more-spaced (λ (p : Field × ℤ). field_text (entry_of p.0) p.1) line now
+    rw both at (with_spaces-more (λ (p : Field × ℤ). field_text (entry_of p.0) p.1) line now
     (zip fs values) i (f, value) room is)
 
 -- the words of a report behind those of its kind

@@ -16,19 +16,19 @@ use Rattle.definitions.specs.Events.{subframe, reported, almanacs}
 use Rattle.definitions.specs.Answers.{acquiring, idle, holding, tracking, accepted, refused, shown}
 use Rattle.definitions.specs.Texts.{words_text, word_text, hex_of_bytes, event_text, page_text}
 use Rattle.definitions.specs.Texts.{answer_text, refusal_text}
-use Rattle.printed_lines.specs.Spaced.{spaced}
+use Rattle.printed_lines.specs.SpacedWords.{with_spaces}
 
 -- ---- words behind a word
-pub spaced-words : {A : Type 0} (f : A → List ℕ) (word : List ℕ) (xs : List A)
-    → word ++ spaced f xs ≡ words_text (word ∷ map f xs)
-spaced-words f word [] = append-nil word
-spaced-words f word (x ∷ xs) = ap (λ r. word ++ 32 ∷ r) (spaced-words f (f x) xs)
+pub with_spaces-words : {A : Type 0} (f : A → List ℕ) (word : List ℕ) (xs : List A)
+    → word ++ with_spaces f xs ≡ words_text (word ∷ map f xs)
+with_spaces-words f word [] = append-nil word
+with_spaces-words f word (x ∷ xs) = ap (λ r. word ++ 32 ∷ r) (with_spaces-words f (f x) xs)
 
 -- one more word
-pub more-spaced : {A : Type 0} (f : A → List ℕ) (line now : List ℕ) (xs : List A) (i : ℕ) (d : A)
-    → i < length xs → now ≡ line ++ spaced f (take i xs)
-    → now ++ 32 ∷ f (get_or xs i d) ≡ line ++ spaced f (take (i + 1) xs)
-more-spaced f line now xs i d within is =
+pub with_spaces-more : {A : Type 0} (f : A → List ℕ) (line now : List ℕ) (xs : List A) (i : ℕ)
+    (d : A) → i < length xs → now ≡ line ++ with_spaces f (take i xs)
+    → now ++ 32 ∷ f (get_or xs i d) ≡ line ++ with_spaces f (take (i + 1) xs)
+with_spaces-more f line now xs i d within is =
     rw (is, take_more xs i d within)
     (flat_map_more (λ x. 32 ∷ f x) line (take i xs) (get_or xs i d))
 
@@ -121,17 +121,17 @@ acquired-text line slot prn cell =
 
 pub subframe-text : (line : List ℕ) (slot : ℕ) (s : Subframe)
     → ((((line ++ codes " sub") ++ 32 ∷ decimal slot) ++ 32 ∷ decimal (id_of s))
-    ++ 32 ∷ decimal (tow_of s)) ++ spaced word_text s.words
+    ++ 32 ∷ decimal (tow_of s)) ++ with_spaces word_text s.words
     ≡ line ++ 32 ∷ event_text slot (subframe s)
 unfolding event_text
 subframe-text line slot s =
-    append_assoc _ (32 ∷ decimal (tow_of s)) (spaced word_text s.words)
+    append_assoc _ (32 ∷ decimal (tow_of s)) (with_spaces word_text s.words)
     ∙ append_assoc _ (32 ∷ decimal (id_of s))
-    (32 ∷ (decimal (tow_of s) ++ spaced word_text s.words))
+    (32 ∷ (decimal (tow_of s) ++ with_spaces word_text s.words))
     ∙ kind-text line (codes "sub") slot _
     (decimal (id_of s) ∷ decimal (tow_of s) ∷ map word_text s.words)
     (ap (λ r. decimal slot ++ 32 ∷ (decimal (id_of s) ++ 32 ∷ r))
-    (spaced-words word_text (decimal (tow_of s)) s.words))
+    (with_spaces-words word_text (decimal (tow_of s)) s.words))
 
 same-naturals : (xs : List ℕ) → xs ≡ map natural (map (λ x. pos x) xs)
 same-naturals [] = refl
@@ -150,7 +150,7 @@ message-text line slot characters =
 
 pub almanacs-text : (line : List ℕ) (slot : ℕ) (set : AlmanacSet)
     → (((((line ++ codes " als") ++ 32 ∷ decimal slot) ++ codes " toa=") ++ signed_decimal set.toa)
-    ++ codes ":12") ++ spaced signed_decimal set.health
+    ++ codes ":12") ++ with_spaces signed_decimal set.health
     ≡ line ++ 32 ∷ event_text slot (almanacs set)
 unfolding event_text
 almanacs-text line slot set =
@@ -158,7 +158,7 @@ almanacs-text line slot set =
     ∙ kind-text line (codes "als") slot _
     ((codes "toa=" ++ signed_decimal set.toa ++ codes ":12") ∷ map signed_decimal set.health)
     (ap (λ r. decimal slot ++ 32 ∷ r)
-    (spaced-words signed_decimal (codes "toa=" ++ signed_decimal set.toa ++ codes ":12")
+    (with_spaces-words signed_decimal (codes "toa=" ++ signed_decimal set.toa ++ codes ":12")
     set.health))
   where
     four_parts : (l a b c d : List ℕ) → (((l ++ a) ++ b) ++ c) ++ d ≡ l ++ (((a ++ b) ++ c) ++ d)

@@ -6,7 +6,7 @@ ghost use Rattle.definitions.specs.Events.{almanacs};
 ghost use Rattle.definitions.specs.Texts.{event_text};
 ghost use Rattle.data_sets.specs.Reports.{almanacs_in};
 ghost use Rattle.printed_lines.specs.Room.{HasRoom, TakesUp};
-ghost use Rattle.printed_lines.specs.Spaced.{spaced};
+ghost use Rattle.printed_lines.specs.SpacedWords.{with_spaces};
 ghost use Rattle.printed_lines.specs.declared.almanacs.TheConstants.{ALMANACS_BYTES};
 ghost use Rattle.printed_lines.specs.declared.words.TheConstants.{WORD_BYTES};
 
@@ -33,7 +33,7 @@ pub(crate) fn put_almanacs(line: &mut Line, slot: u8, set: &AlmanacSet)
 /// Adds the health of each satellite.
 fn put_health(line: &mut Line, health: &[i64; 32])
     requires room { HasRoom (32 * WORD_BYTES) line.old }
-    ensures text { line.new ≡ line.old ++ spaced signed_decimal health.now }
+    ensures text { line.new ≡ line.old ++ with_spaces signed_decimal health.now }
     ensures longer { TakesUp (32 * WORD_BYTES) line.old line.new }
 {
     for value in health {

@@ -8,7 +8,7 @@ ghost use Rattle.definitions.specs.Texts.{words_text};
 ghost use Rattle.subframes.specs.Entries.{entry_of};
 ghost use Rattle.data_sets.specs.Reports.{fields_in, numbers_in, report_in};
 ghost use Rattle.printed_lines.specs.Room.{HasRoom, TakesUp};
-ghost use Rattle.printed_lines.specs.Spaced.{spaced};
+ghost use Rattle.printed_lines.specs.SpacedWords.{with_spaces};
 ghost use Rattle.printed_lines.specs.declared.pages.TheConstants.{FIELD_BYTES, PAGE_BYTES};
 ghost use Rattle.printed_lines.specs.declared.pages.TheConstants.{MESSAGE_BYTES};
 ghost use Rattle.printed_lines.specs.declared.words.TheConstants.{NUMBER_BYTES, KIND_LETTERS};
@@ -61,7 +61,7 @@ fn put_fields(line: &mut Line, fields: &[Field], values: &[i64])
     requires one_each { length fields.now ≡ length values.now }
     requires room { HasRoom (length fields.now * FIELD_BYTES + NUMBER_BYTES) line.old }
     ensures text { line.new ≡ line.old
-        ++ spaced (λ (field, value). field_text (entry_of field) value)
+        ++ with_spaces (λ (field, value). field_text (entry_of field) value)
         (zip fields.now values.now) }
     ensures longer { TakesUp (length fields.now * FIELD_BYTES) line.old line.new }
 {

@@ -4,7 +4,7 @@ ghost use Rattle.std.specs.Prelude.{◌≡◌, ◌++◌, ◌∷◌, ◌+◌, ◌
 ghost use Rattle.definitions.specs.Texts.{event_text, word_text};
 ghost use Rattle.definitions.specs.Events as events;
 ghost use Rattle.printed_lines.specs.Room.{HasRoom, TakesUp};
-ghost use Rattle.printed_lines.specs.Spaced.{spaced};
+ghost use Rattle.printed_lines.specs.SpacedWords.{with_spaces};
 ghost use Rattle.printed_lines.specs.declared.subframe_words.TheConstants.{DATA_BYTES};
 ghost use Rattle.printed_lines.specs.declared.subframe_words.TheConstants.{SUBFRAME_BYTES};
 
@@ -32,7 +32,7 @@ pub(crate) fn put_subframe(line: &mut Line, slot: u8, subframe: &Subframe)
 /// Adds the ten words of a subframe.
 fn put_words(line: &mut Line, subframe: &Subframe)
     requires room { HasRoom (10 * DATA_BYTES) line.old }
-    ensures text { line.new ≡ line.old ++ spaced word_text subframe.now.words }
+    ensures text { line.new ≡ line.old ++ with_spaces word_text subframe.now.words }
     ensures longer { TakesUp (10 * DATA_BYTES) line.old line.new }
 {
     for i in 0..10 {

@@ -60,15 +60,15 @@ loop-w-preserved c =
     let i = c.loop-w.invariant in
     let more = c.pair_of_word-more.ensures in
     record {
-      in_phase = c.added-sums.ensures.in_phase
+      in_phase = c.sum_of_pairs-sums.ensures.in_phase
           ∙ ap₂ (λ (a b : ℤ). a +ℤ b) i.in_phase
           (more.in_phase ∙ ap₂ (λ (a b : ℕ). in_phase_sum x cos sin chip a b) a_is b_is)
           ∙ sym (in_phase-split x cos sin chip from p q low high);
-      quadrature = c.added-sums.ensures.quadrature
+      quadrature = c.sum_of_pairs-sums.ensures.quadrature
           ∙ ap₂ (λ (a b : ℤ). a +ℤ b) i.quadrature
           (more.quadrature ∙ ap₂ (λ (a b : ℕ). quadrature_sum x cos sin chip a b) a_is b_is)
           ∙ sym (quadrature-split x cos sin chip from p q low high);
-      small_in_phase = rw c.added-sums.ensures.in_phase (omega (
+      small_in_phase = rw c.sum_of_pairs-sums.ensures.in_phase (omega (
         arith,
         abs_add c.loop-w.sums.0 c.pair_of_word-more.result.0,
         i.small_in_phase,
@@ -78,7 +78,7 @@ loop-w-preserved c =
         low,
         high,
       ));
-      small_quadrature = rw c.added-sums.ensures.quadrature (omega (
+      small_quadrature = rw c.sum_of_pairs-sums.ensures.quadrature (omega (
         arith,
         abs_add c.loop-w.sums.1 c.pair_of_word-more.result.1,
         i.small_quadrature,

@@ -11,9 +11,9 @@ use Rattle.lane_correlator.proofs.RunLemmas.{part_of_run, quadrature_of_run, cos
 use Rattle.lane_correlator.proofs.RunLemmas.{minus_sin_of_run, chips_of_run, real_in_run}
 use Rattle.lane_correlator.proofs.RunLemmas.{quadrature_small, real_small, word_is_small}
 use Rattle.lane_correlator.proofs.pair.pair_of_word.Goals as goal
-use Rattle.lane_correlator.proofs.pair.pair_of_word.Goals.{After-added, in-Some, in-None}
+use Rattle.lane_correlator.proofs.pair.pair_of_word.Goals.{After-sum_of_pairs, in-Some, in-None}
 
-mask_is : (c : After-added) → IsMask c.args.first c.args.end c.places-mask.result
+mask_is : (c : After-sum_of_pairs) → IsMask c.args.first c.args.end c.places-mask.result
 mask_is c = record {
   ordered = c.requires.ordered;
   within = c.requires.within;
@@ -22,17 +22,20 @@ mask_is c = record {
   behind = c.places-mask.ensures.behind;
 }
 
-chips_are : (c : After-added) → AreChips (view_at c.args.code.now.prompt) (64 * c.args.w) c.args.end
+chips_are : (c : After-sum_of_pairs)
+    → AreChips (view_at c.args.code.now.prompt) (64 * c.args.w) c.args.end
     c.word-chips.result.1
 chips_are c = chips_of_run c.args.w c.args.end c.requires.within c.args.code.now.prompt
     c.word-chips.result.1 c.requires.long_enough.prompt_reaches c.word-chips.ensures.prompt
 
-signs : (c : After-added) → AreSigns (view_at c.args.code.now.prompt) (64 * c.args.w + c.args.first)
+signs : (c : After-sum_of_pairs)
+    → AreSigns (view_at c.args.code.now.prompt) (64 * c.args.w + c.args.first)
     (64 * c.args.w + c.args.end)
 signs c = chips_are_signs (view_at c.args.code.now.prompt) (64 * c.args.w) c.args.first c.args.end
     c.word-chips.result.1 (chips_are c)
 
-small : (c : After-added) → AreSmall (sample_at c.args.samples.now) (view_at c.args.carrier.now.cos)
+small : (c : After-sum_of_pairs)
+    → AreSmall (sample_at c.args.samples.now) (view_at c.args.carrier.now.cos)
     (view_at c.args.carrier.now.sin) (64 * c.args.w + c.args.first) (64 * c.args.w + c.args.end)
 small c =
     let long = c.requires.long_enough in
@@ -47,7 +50,7 @@ small c =
           w.in-None.ensures.real
     ]) c.new-wave.ensures.cos c.new-wave.ensures.sin c.new-wave.ensures.sizes
 
-in_phase : (c : After-added) → c.added.result.0 ≡ prompt_in_phase c.args.samples.now
+in_phase : (c : After-sum_of_pairs) → c.sum_of_pairs.result.0 ≡ prompt_in_phase c.args.samples.now
     c.args.carrier.now c.args.code.now (64 * c.args.w + c.args.first) (64 * c.args.w + c.args.end)
 unfolding IsSumOf
 in_phase c =
@@ -58,7 +61,7 @@ in_phase c =
     let sin : ℕ → ℤ = view_at c.args.carrier.now.sin in
     let from : ℕ = 64 * c.args.w + c.args.first in
     let to : ℕ = 64 * c.args.w + c.args.end in
-    c.added.ensures.in_phase ∙ ap₂ (λ (a b : ℤ). a +ℤ b)
+    c.sum_of_pairs.ensures.in_phase ∙ ap₂ (λ (a b : ℤ). a +ℤ b)
     (c.pair_of_part-in_phase.ensures.in_phase (λ j. (sample_at c.args.samples.now j).in_phase) cos
     chip (64 * c.args.w) c.args.first c.args.end (mask_is c)
     (part_of_run c.args.w c.args.end within c.args.samples.now c.in_phase-part.result
@@ -81,7 +84,8 @@ in_phase c =
     ])
     ∙ sym (in_phase_by_parts (sample_at c.args.samples.now) cos sin chip from to (signs c))
 
-quadrature : (c : After-added) → c.added.result.1 ≡ prompt_quadrature c.args.samples.now
+quadrature : (c : After-sum_of_pairs)
+    → c.sum_of_pairs.result.1 ≡ prompt_quadrature c.args.samples.now
     c.args.carrier.now c.args.code.now (64 * c.args.w + c.args.first) (64 * c.args.w + c.args.end)
 unfolding IsSumOf
 quadrature c =
@@ -92,7 +96,7 @@ quadrature c =
     let sin : ℕ → ℤ = view_at c.args.carrier.now.sin in
     let from : ℕ = 64 * c.args.w + c.args.first in
     let to : ℕ = 64 * c.args.w + c.args.end in
-    c.added.ensures.quadrature ∙ ap₂ (λ (a b : ℤ). a +ℤ b)
+    c.sum_of_pairs.ensures.quadrature ∙ ap₂ (λ (a b : ℤ). a +ℤ b)
     (c.pair_of_part-in_phase.ensures.quadrature (λ j. (sample_at c.args.samples.now j).in_phase)
     (λ j. pos 0 -ℤ sin j) chip (64 * c.args.w) c.args.first c.args.end (mask_is c)
     (part_of_run c.args.w c.args.end within c.args.samples.now c.in_phase-part.result

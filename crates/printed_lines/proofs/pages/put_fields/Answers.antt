@@ -6,7 +6,7 @@ use Rattle.std.proofs.lemmas.List.{take_all}
 use Rattle.std.proofs.lemmas.Slice.Zip.{length-zip}
 use Rattle.definitions.specs.Texts.{field_text}
 use Rattle.subframes.specs.Entries.{entry_of}
-use Rattle.printed_lines.specs.Spaced.{spaced}
+use Rattle.printed_lines.specs.SpacedWords.{with_spaces}
 use Rattle.printed_lines.proofs.FieldLemmas.{more-fields}
 use Rattle.printed_lines.proofs.pages.put_fields.Goals as goal
 
@@ -27,5 +27,5 @@ returns-clause-text c =
     omega (arith, length-zip c.args.fields.now c.args.values.now, c.loop-i-test.false) in
     c.loop-i.invariant.text
     ∙ ap (λ pairs. c.args.line.now
-    ++ spaced (λ (field, value). field_text (entry_of field) value) pairs)
+    ++ with_spaces (λ (field, value). field_text (entry_of field) value) pairs)
     (take_all c.loop-i.i (zip c.args.fields.now c.args.values.now) all)

@@ -1,8 +1,8 @@
 use Rattle.std.proofs.Common.{◌≡◌, ◌+◌, ◌-◌, length, None, arith, ap, ◌∙◌, ◌++◌}
 use Rattle.std.proofs.lemmas.List.{take_all}
 use Rattle.definitions.specs.Texts.{word_text}
-use Rattle.printed_lines.specs.Spaced.{spaced}
-use Rattle.printed_lines.proofs.LineLemmas.{more-spaced}
+use Rattle.printed_lines.specs.SpacedWords.{with_spaces}
+use Rattle.printed_lines.proofs.LineLemmas.{with_spaces-more}
 use Rattle.printed_lines.proofs.subframe_words.put_words.Goals as goal
 
 pub loop-i-preserved : goal.loop-i-preserved
@@ -11,7 +11,7 @@ loop-i-preserved c =
     record {
       text =
           rw (c.put_word.ensures.text, c.word.ensures.word, place)
-          (more-spaced word_text c.args.line.now c.loop-i.line c.args.subframe.now.words
+          (with_spaces-more word_text c.args.line.now c.loop-i.line c.args.subframe.now.words
           c.loop-i.i None (omega (arith, c.loop-i-test.true, c.word.ensures.ten))
           c.loop-i.invariant.text);
       longer = omega (arith, c.put_word.ensures.longer, c.loop-i.invariant.longer);
@@ -22,5 +22,5 @@ pub returns-clause-text : goal.returns-clause-text
 returns-clause-text c =
     let ten : length c.args.subframe.now.words ≡ 10 = c.loop-i.invariant.ten (omega arith) in
     c.loop-i.invariant.text
-    ∙ ap (λ ws. c.args.line.now ++ spaced word_text ws)
+    ∙ ap (λ ws. c.args.line.now ++ with_spaces word_text ws)
     (take_all c.loop-i.i c.args.subframe.now.words (omega (arith, ten)))

@@ -2,5 +2,5 @@
 use Rattle.std.specs.Prelude.{ℕ, List, ◌∷◌, flat_map}
 
 -- the words that these write, each behind a space
-abbrev pub spaced : {A : Type 0} → (A → List ℕ) → List A → List ℕ
-spaced text xs = flat_map (λ x. 32 ∷ text x) xs
+abbrev pub with_spaces : {A : Type 0} → (A → List ℕ) → List A → List ℕ
+with_spaces text xs = flat_map (λ x. 32 ∷ text x) xs
