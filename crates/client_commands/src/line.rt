@@ -27,15 +27,15 @@ pub(crate) fn entry(line: &[u8], before: u64) -> Option<Timed>
     ensures { entries_in result ≡ entry_of verbs 4 before line.now }
 {
     if LINE_BYTES < line.len() {
-        return refused(before, Refusal::LineTooLong);
+        return refusal_at(before, Refusal::LineTooLong);
     }
     if !is_printable(line) {
-        return refused(before, Refusal::NotPrintable);
+        return refusal_at(before, Refusal::NotPrintable);
     }
     let (word, rest) = next_word(line)?;
     match time_in(word) {
-        None => refused(before, Refusal::NoTime),
-        Some(time) if time < before => refused(before, Refusal::TimeGoesBack),
+        None => refusal_at(before, Refusal::NoTime),
+        Some(time) if time < before => refusal_at(before, Refusal::TimeGoesBack),
         Some(time) => Some(Timed {
             time,
             what: command(rest),
@@ -58,7 +58,7 @@ fn time_in(word: &[u8]) -> Option<u64>
 }
 
 /// A refusal at a time.
-fn refused(time: u64, refusal: Refusal) -> Option<Timed>
+fn refusal_at(time: u64, refusal: Refusal) -> Option<Timed>
     ensures { result ≡ Some (record { time = time; what = Err refusal }) }
 {
     Some(Timed {
@@ -72,6 +72,6 @@ fn command(words: &[u8]) -> Result<Command, Refusal>
     ensures { result_in result ≡ command_in verbs 4 (words_of words.now) }
 {
     let (name, words) = next_word(words).ok_or(Refusal::NoVerb)?;
-    let verb = Verb::named(name).ok_or(Refusal::NoVerb)?;
+    let verb = Verb::with_name(name).ok_or(Refusal::NoVerb)?;
     verb.command(words)
 }

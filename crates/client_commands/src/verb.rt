@@ -32,7 +32,7 @@ pub(crate) enum Verb {
 
 impl Verb {
     /// The verb of that name.
-    pub(crate) fn named(name: &[u8]) -> Option<Verb>
+    pub(crate) fn with_name(name: &[u8]) -> Option<Verb>
         ensures { option_map verb_in result ≡ find (λ v. bytes_eq v.name name.now) verbs }
     {
         match name {

@@ -77,9 +77,8 @@ fn waiting_state(rt: HostRuntime) -> Result<(), Fail> {
         1 2049 state 0 acquire 1 0 2046\n\
         1 2050 state 0 acquire 1 1 2046\n\
         1 2056 end\n";
-    let begun = &bytes[..257];
-    for bytes_a_read in [1, 257] {
-        let mut reader = Giving::pieces(begun, bytes_a_read);
+    for (len, bytes_a_read) in [(257, 1), (257, 257)] {
+        let mut reader = Giving::pieces(&bytes[..len], bytes_a_read);
         let mut writer = Holding::whole();
         let answer = run_plain(rt.alloc(), &[script], &mut reader, &mut writer)?;
         assert_eq!(rt; answer, Ok(2_056));
