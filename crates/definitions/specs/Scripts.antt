@@ -97,7 +97,7 @@ state_verb = record { name = codes "state"; ranges = []; meaning = λ v. state }
 abbrev pub stop_verb : Verb
 stop_verb = record { name = codes "stop"; ranges = []; meaning = λ v. stop }
 
--- all six verbs. A receiver that knows fewer of them has a shorter table
+-- all six verbs
 abbrev pub verbs : List Verb
 verbs = hold_verb ∷ track_verb ∷ acquire_verb ∷ counts_verb ∷ state_verb ∷ stop_verb ∷ []
 
