@@ -2,7 +2,7 @@
 use Rattle.std.proofs.Common.{◌≡◌, ℕ, zero, suc, ◌+◌, ◌-◌, ◌*◌, ◌/◌, ◌%◌, ◌<◌, ◌≤◌, List, drop}
 use Rattle.std.proofs.Common.{length-set, [], ◌∷◌, ◌++◌, length, refl, sym, ap, ◌∙◌, arith, get_or}
 use Rattle.std.proofs.Common.{slice_set}
-use Rattle.std.specs.Prelude.{Bool, true, false, nat_eq}
+use Rattle.std.specs.Prelude.{Bool, true, false, nat_eq, replicate}
 use Rattle.std.specs.List.{AllByRecursion}
 use Rattle.std.proofs.lemmas.Bool.{ne_eqb, eqb-true, true_from_ne_false, eqb-false}
 use Rattle.definitions.specs.Oscillators.{Settings}
@@ -11,9 +11,9 @@ use Rattle.channel_slots.specs.declared.place.Place.{Place}
 use Rattle.channel_slots.specs.Slots.{StandsFor, dumps_of}
 use Rattle.channel_slots.specs.Banks.{keys_of, BankStands, AllFew, most_dumps}
 use Rattle.definitions.specs.Samples.{Sample}
-use Rattle.definitions.specs.Banks.{with_command}
-use Rattle.channel_slots.proofs.BankLemmas.{few-from_most, most-from_few}
-use Rattle.channel_slots.proofs.LayoutLemmas.{by_fours}
+use Rattle.definitions.specs.Banks.{layout, with_command}
+use Rattle.channel_slots.proofs.BankLemmas.{few-from_most, most-from_few, slots-four}
+use Rattle.channel_slots.proofs.LayoutLemmas.{by_fours, layout-fours}
 
 pub each-at : {A : Type 0} (P : A → Type 0) (xs : List A) (i : ℕ) (d : A) → i < length xs
     → AllByRecursion P xs → P (get_or xs i d)
@@ -21,10 +21,10 @@ each-at P [] i d h all = absurd (omega arith)
 each-at P (x ∷ xs) zero d h all = all.0
 each-at P (x ∷ xs) (suc i) d h all = each-at P xs i d (omega arith) all.1
 
-AreFrom : ℕ → List Place → Type 0
+unfoldable pub AreFrom : ℕ → List Place → Type 0
 AreFrom n ps = keys_of ps ≡ by_fours n (length ps)
 
-heads : (p : Place) (ps : List Place) (n : ℕ) → AreFrom n (p ∷ ps)
+pub heads : (p : Place) (ps : List Place) (n : ℕ) → AreFrom n (p ∷ ps)
     → (p.client ≡ n / 4 + 1) × (p.number ≡ n % 4) × AreFrom (n + 1) ps
 unfolding AreFrom
 heads p ps n e = (
@@ -91,6 +91,20 @@ key_at (p ∷ ps) n zero d h keys =
 key_at (p ∷ ps) n (suc i) d h keys =
     let e : n + suc i ≡ n + 1 + i = omega arith in
     rw e (key_at ps (n + 1) i d (omega arith) (heads p ps n keys).2)
+
+-- the slots of a bank of so many clients
+pub many : (client clients : ℕ) (ps : List Place) → client ≤ clients
+    → keys_of ps ≡ layout (replicate clients 4) → 4 * client ≤ length ps
+many client clients ps h keys = omega (arith, h, slots-four clients ps keys)
+
+pub own_keys : (clients : ℕ) (ps : List Place) → keys_of ps ≡ layout (replicate clients 4)
+    → keys_of ps ≡ by_fours 0 (length ps)
+own_keys clients ps keys =
+    keys ∙ layout-fours clients ∙ ap (by_fours 0) (sym (slots-four clients ps keys))
+
+pub within : (client number : ℕ) (ps : List Place) → 1 ≤ client → 4 * client ≤ length ps
+    → number < 4 → (client - 1) * 4 + number < length ps
+within client number ps first last small = omega (arith, first, last, small)
 
 -- the place of a client's slot
 pub record IsPlace (ps : List Place) (client number : ℕ) (p : Place) : Type 0 where

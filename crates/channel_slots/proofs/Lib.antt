@@ -1,4 +1,5 @@
 pub mod BankLemmas
+pub mod CellLemmas
 pub mod CommandLemmas
 pub mod LayoutLemmas
 pub mod LifeLemmas

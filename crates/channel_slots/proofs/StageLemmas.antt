@@ -169,7 +169,7 @@ module _ (settings : Settings) (xs ys : List Sample) (life : Life) (h : Held)
       never None e = cc
       never (Some c) e = cc
 
-tracked-view : (settings : Settings) (xs : List Sample) (life : Life) (channel : Channel)
+pub tracked-view : (settings : Settings) (xs : List Sample) (life : Life) (channel : Channel)
     → is_steered life.start ≡ true
     → channel_of settings xs life.begun life.start ≡ Some channel → (dumps : List DefinedDump)
     → dumps_of_life settings xs life ≡ dumps → answer_with settings xs (Some life) state

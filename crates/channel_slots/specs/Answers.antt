@@ -1,5 +1,5 @@
 -- Answers to commands as the definitions have them.
-use Rattle.std.specs.Prelude.{ℕ, Bool, true, false}
+use Rattle.std.specs.Prelude.{ℕ, Bool, true, false, Option, Some, None}
 use Rattle.definitions.specs.Answers.{View, idle, acquiring, holding, tracking}
 use Rattle.definitions.specs.Answers.{Answer as DefinedAnswer}
 use Rattle.definitions.specs.Answers.{accepted, refused, shown}
@@ -38,6 +38,18 @@ abbrev pub answer_in : Answer → DefinedAnswer
 answer_in Accepted = accepted
 answer_in (Refused refusal) = refused (number_of refusal)
 answer_in (State state) = shown (view_in state)
+
+-- how many cells are done of what is shown: none where nothing is searched for
+abbrev pub cells_done_in : View → Option ℕ
+cells_done_in idle = None
+cells_done_in (acquiring prn done cells) = Some done
+cells_done_in (holding prn dumps) = None
+cells_done_in (tracking prn dumps shift is_locked has_edge) = None
+
+abbrev pub cells_shown : DefinedAnswer → Option ℕ
+cells_shown accepted = None
+cells_shown (refused number) = None
+cells_shown (shown view) = cells_done_in view
 
 abbrev pub IsRefusal : Answer → Type 0
 IsRefusal Accepted = ⊥

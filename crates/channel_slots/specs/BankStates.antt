@@ -1,5 +1,5 @@
 -- What a bank stands for.
-use Rattle.std.specs.Prelude.{◌≡◌, ◌++◌, ℕ, List, length, replicate}
+use Rattle.std.specs.Prelude.{◌≡◌, ◌≤◌, ◌+◌, ◌/◌, ◌++◌, ℕ, List, length, replicate, Option, Some}
 use Rattle.definitions.specs.Samples.{Sample}
 use Rattle.definitions.specs.Receiver.{at_each_sample}
 use Rattle.definitions.specs.Banks.{bank_events_at_end, layout}
@@ -8,7 +8,7 @@ use Rattle.definitions.specs.Commands.{TimedRequest}
 use Rattle.channel_slots.specs.declared.bank.Bank.{Bank}
 use Rattle.channel_slots.specs.declared.event.SlotEvent.{SlotEvent}
 use Rattle.sample_history.specs.Histories as histories
-use Rattle.channel_slots.specs.Banks.{BankStands}
+use Rattle.channel_slots.specs.Banks.{BankStands, cells_done_at}
 use Rattle.channel_slots.specs.Events.{AreTold}
 use Rattle.channel_slots.specs.declared.command.TheConstants.{CLIENT_SLOTS}
 
@@ -23,6 +23,11 @@ clients_of bank = bank.clients
 -- what is known of the recording
 abbrev pub settings_of : Bank → Settings
 settings_of bank = bank.settings
+
+-- how many cells the search of a client's slot has done: none where it isn't acquiring, or no
+-- client has that number
+abbrev pub cells_done_in : Bank → ℕ → ℕ → Option ℕ
+cells_done_in bank client slot = cells_done_at bank.places.items client slot
 
 -- the settings, the samples so far, and for each client and slot its commands so far
 pub record StandsFor (settings : Settings) (xs : List Sample)
@@ -45,3 +50,12 @@ abbrev pub Takes : Bank → List Sample → Bank → Type 0
 Takes old run new =
     (settings : Settings) (xs : List Sample) (asked : ℕ → ℕ → List TimedRequest)
     → StandsFor settings xs asked old → StandsFor settings (xs ++ run) asked new
+
+-- whatever a bank stood for: a search that goes on has done at most m / 4 + 1 cells over a run of m
+-- samples
+abbrev pub WorksLittle : Bank → List Sample → Bank → Type 0
+WorksLittle old run new =
+    (settings : Settings) (xs : List Sample) (asked : ℕ → ℕ → List TimedRequest)
+    → StandsFor settings xs asked old → (client slot before after : ℕ)
+    → cells_done_in old client slot ≡ Some before → cells_done_in new client slot ≡ Some after
+    → after ≤ before + (length run / 4 + 1)

@@ -1,6 +1,6 @@
 -- What a slot stands for: the samples so far and the commands that it was given.
 use Rattle.std.specs.Prelude.{◌≡◌, ◌≤◌, ◌<◌, ℕ, Bool, true, List, [], ◌++◌, length, take, map}
-use Rattle.std.specs.Prelude.{Some, None}
+use Rattle.std.specs.Prelude.{Option, Some, None}
 use Rattle.std.specs.List.{AllByRecursion}
 use Rattle.definitions.specs.Samples.{Sample}
 use Rattle.definitions.specs.Oscillators.{Settings}
@@ -54,6 +54,11 @@ IsWithin reach (On life) = stages.IsWithin reach life.stage
 abbrev pub is_on_way : ℕ → ℕ → Slot → Bool
 is_on_way time reach Idle = true
 is_on_way time reach (On life) = stages.is_on_way time reach life.stage
+
+-- how many cells its search has done: none where it doesn't search
+abbrev pub cells_done_of : Slot → Option ℕ
+cells_done_of Idle = None
+cells_done_of (On life) = stages.cells_done_of life.stage
 
 abbrev pub dumps_of : Slot → ℕ
 dumps_of Idle = 0

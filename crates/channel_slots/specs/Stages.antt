@@ -34,6 +34,12 @@ dumps_of (Searching s) = 0
 dumps_of (Holding h) = held.dumps_of h
 dumps_of (Tracking t) = tracked.dumps_of t
 
+-- how many cells its search has done: none where it doesn't search
+abbrev pub cells_done_of : Stage → Option ℕ
+cells_done_of (Searching s) = Some (sought.done_of s)
+cells_done_of (Holding h) = None
+cells_done_of (Tracking t) = None
+
 -- so many samples don't go past its next event
 abbrev pub MayTake : Stage → ℕ → Type 0
 MayTake (Searching s) n = n ≤ sought.to_due_of s

@@ -35,6 +35,7 @@ impl Life {
     ghost use Rattle.channel_slots.specs.Answers.{view_in};
     ghost use Rattle.channel_slots.specs.Stages.{Follows, MayTake, Ends, chance, dumps_of};
     ghost use Rattle.channel_slots.specs.Stages.{IsWaiting, IsReady, IsWithin, Holds};
+    ghost use Rattle.channel_slots.specs.Stages.{cells_done_of};
     ghost use Rattle.channel_slots.specs.Lives.{StandsFor, Steps, first_life};
 
     /// It follows a stage from the next sample on, and prints nothing.
@@ -77,6 +78,13 @@ impl Life {
             → shown (view_in result) ≡ answer_with settings xs (Some life) state }
     {
         self.stage.state()
+    }
+
+    /// How many cells its search has done, if it searches.
+    pub fn cells_done(&self) -> Option<u64>
+        ensures { result ≡ cells_done_of self.now.stage }
+    {
+        self.stage.cells_done()
     }
 
     /// The sums of the next dump, if some are still to be printed. That is one fewer then.

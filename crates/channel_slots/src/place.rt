@@ -7,7 +7,7 @@ ghost use Rattle.definitions.specs.Banks.{layout};
 ghost use Rattle.channel_slots.specs.Slots.{StandsFor};
 ghost use Rattle.arrayvec.specs.ArrayVec.{array_vec_len};
 ghost use Rattle.channel_slots.specs.Banks.{keys_of, AllFew, AllReady, RunsAll, IsCommanded};
-ghost use Rattle.channel_slots.specs.Banks.{AllWithin};
+ghost use Rattle.channel_slots.specs.Banks.{AllWithin, HasDone};
 ghost use Rattle.channel_slots.specs.Slots.{IsReady, IsWithin, Holds};
 ghost use Rattle.channel_slots.specs.Stages.{most_wait};
 ghost use Rattle.acquisition.specs.declared.dwell.TheConstants.{MOST_START};
@@ -283,4 +283,12 @@ pub fn command_at(
     ensures { IsCommanded settings.now time (request_in command) places.old places.new at result }
 {
     places[at].command(settings, time, command)
+}
+
+/// How many cells the search of one of the slots has done, if it searches.
+pub fn cells_done_at(places: &[Place], at: usize) -> Option<u64>
+    requires { at < length places.now }
+    ensures { HasDone places.now at result }
+{
+    places[at].slot.cells_done()
 }

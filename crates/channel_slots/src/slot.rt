@@ -36,6 +36,7 @@ impl Slot {
     ghost use Rattle.channel_slots.specs.Answers.{answer_in, view_in, IsRefusal};
     ghost use Rattle.channel_slots.specs.Slots.{chances, StandsFor, Tells, MayStep, ComesToEvent};
     ghost use Rattle.channel_slots.specs.Slots.{dumps_of, IsWaiting, IsReady, IsWithin, Holds};
+    ghost use Rattle.channel_slots.specs.Slots.{cells_done_of};
     ghost use Rattle.sample_planes.specs.Sources.{AreSamplesOf};
     ghost use Rattle.channel_slots.specs.Lives.{first_life};
     ghost use Rattle.channel_slots.specs.NewsEvents.{events_of};
@@ -114,6 +115,16 @@ impl Slot {
             *self = Slot::Idle;
         }
         Some(news)
+    }
+
+    /// How many cells its search has done, if it searches.
+    pub fn cells_done(&self) -> Option<u64>
+        ensures { result ≡ cells_done_of self.now }
+    {
+        match self {
+            Slot::Idle => None,
+            Slot::On(life) => life.cells_done(),
+        }
     }
 
     /// What it shows of itself.

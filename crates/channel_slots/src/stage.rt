@@ -32,7 +32,7 @@ impl Stage {
     ghost use Rattle.channel_slots.specs.Answers.{view_in};
     ghost use Rattle.channel_slots.specs.Stages.{Follows, Takes, MayTake, Ends, chance, dumps_of};
     ghost use Rattle.channel_slots.specs.Stages.{IsReady, IsWithin, IsWaiting, Holds, room_for};
-    ghost use Rattle.channel_slots.specs.Stages.{ends_with, most_wait};
+    ghost use Rattle.channel_slots.specs.Stages.{ends_with, most_wait, cells_done_of};
     ghost use Rattle.sample_planes.specs.Sources.{AreSamplesOf};
     ghost use Rattle.acquisition.specs.declared.dwell.TheConstants.{MOST_START};
 
@@ -108,6 +108,16 @@ impl Stage {
                 w: tracked.w(),
                 phase: Phase::of(tracked.is_locked(), tracked.has_edge()),
             },
+        }
+    }
+
+    /// How many cells its search has done, if it searches.
+    pub fn cells_done(&self) -> Option<u64>
+        ensures { result ≡ cells_done_of self.now }
+    {
+        match self {
+            Stage::Searching(sought) => Some(sought.done()),
+            Stage::Holding(_) | Stage::Tracking(_) => None,
         }
     }
 

@@ -5,8 +5,8 @@ ghost use Rattle.channel_slots.specs.BankStates.{settings_of, clients_of};
 ghost use Rattle.definitions.specs.Samples.{real1};
 
 use super::{acquire, hold, plain_settings, slot_zero, sums, track};
-use crate::{Answer, Bank, Command, Event, Phase, Refusal, SlotEvent, SlotState};
-use acquisition::Cell;
+use crate::{Answer, Bank, Command, Event, Phase, Refusal, SlotEvent, SlotNo, SlotState};
+use acquisition::{Cell, Plan};
 use arrayvec::ArrayVec;
 use ca_codes::Prn;
 use made_signals::code_file;
@@ -17,7 +17,7 @@ use std::process::Abort;
 use std::test::Fail;
 
 /// The most events that these tests wait for.
-const MOST_TOLD: usize = 8;
+const MOST_TOLD: usize = 32;
 
 /// The longest recording of these tests, in samples.
 const LONGEST: u64 = 100_000;
@@ -220,6 +220,68 @@ fn cells_come_with_samples(rt: HostRuntime) -> Result<(), Fail> {
         let shown = searching(done)?;
         assert_eq!(rt; bank.command(1, state), Answer::State(shown), "at {time}");
     }
+    Ok(())
+}
+
+/// Client 1's slot 0 is to search over ten periods at time 0, and slot s of client k over one at
+/// time 4 (k - 1) + s.
+fn ask_in_turn(bank: &mut Bank, recording: &PackedSamples) -> Result<(), Fail>
+    requires packing { recording.now.packing ≡ (settings_of bank.old).packing }
+    requires clients { clients_of bank.old ≡ 8 }
+    ensures settings { settings_of bank.new ≡ settings_of bank.old }
+    ensures clients { clients_of bank.new ≡ clients_of bank.old }
+{
+    let prn = Prn::new(1).ok_or("a satellite")?;
+    for turn in 0..32u8 {
+        feed_to(bank, recording, 1, u64::from(turn))?;
+        let (bins, dwell) = if turn == 0 { (40, 10) } else { (0, 1) };
+        let plan = Plan::new(prn, 0, bins, dwell, 1_000)?;
+        let slot = SlotNo::new(turn % 4).ok_or("a slot")?;
+        bank.command(turn / 4 + 1, Command::Acquire { slot, plan });
+    }
+    Ok(())
+}
+
+/// When the answer is due that slot s of client k asks for at time 4 (k - 1) + s: its dwell has
+/// 2,046 samples, and there are 2,046 cells.
+fn due_in_turn(client: u8, slot: u8) -> u64 {
+    10_226 + 4 * u64::from(client) + u64::from(slot)
+}
+
+/// Sees that each answer comes when it is due.
+fn hear_in_turn(rt: &impl Abort, told: &[SlotEvent]) {
+    for event in told {
+        assert_eq!(rt; event.time, due_in_turn(event.client, event.slot));
+    }
+}
+
+// Whatever 31 other slots search for, the dwell of client 1's slot 0 ends at 20,460, and one cell
+// is done with the fourth sample behind it.
+#[test]
+fn cells_among_strangers(rt: HostRuntime) -> Result<(), Fail> {
+    let zeros = [0; 2_558];
+    let recording = PackedSamples::new(Format::Real1, &zeros);
+    let first = slot_zero()?;
+    let second = SlotNo::new(1).ok_or("a slot")?;
+    let last = SlotNo::new(3).ok_or("a slot")?;
+    let mut bank = Bank::open(rt.alloc(), plain_settings()?, 8)?;
+    assert_eq!(rt; bank.cells_done(1, first), None);
+    ask_in_turn(&mut bank, &recording)?;
+    assert_eq!(rt; bank.cells_done(8, last), Some(0));
+    // The dwells of the second and of the last slot end at 2,047 and at 2,077.
+    hear(&rt, &mut bank, &recording, 1_024, 10_000, &[])?;
+    assert_eq!(rt; bank.cells_done(1, first), Some(0));
+    assert_eq!(rt; bank.cells_done(1, second), Some(1_988));
+    assert_eq!(rt; bank.cells_done(8, last), Some(1_980));
+    assert_eq!(rt; bank.cells_done(0, last), None);
+    assert_eq!(rt; bank.cells_done(9, first), None);
+    let told = feed_to(&mut bank, &recording, 1_024, 20_463)?;
+    assert_eq!(rt; told.len(), 31);
+    hear_in_turn(&rt, told.as_slice());
+    assert_eq!(rt; bank.cells_done(8, last), None);
+    assert_eq!(rt; bank.cells_done(1, first), Some(0));
+    hear(&rt, &mut bank, &recording, 1_024, 20_464, &[])?;
+    assert_eq!(rt; bank.cells_done(1, first), Some(1));
     Ok(())
 }
 

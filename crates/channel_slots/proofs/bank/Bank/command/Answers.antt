@@ -1,33 +1,18 @@
-use Rattle.std.proofs.Common.{◌≡◌, ◌≤◌, ◌<◌, ◌+◌, ◌-◌, ◌*◌, arith, ℕ, List, length, refl, sym, ap}
+use Rattle.std.proofs.Common.{◌≡◌, ◌<◌, ◌+◌, ◌-◌, ◌*◌, arith, ℕ, List, length, refl, sym, ap}
 use Rattle.std.proofs.Common.{subst, ◌∙◌, slice_set, length-set}
-use Rattle.std.specs.Prelude.{replicate}
 use Rattle.definitions.specs.Oscillators.{Settings}
-use Rattle.definitions.specs.Banks.{layout}
 use Rattle.channel_slots.specs.declared.place.Place.{Place}
 use Rattle.channel_slots.specs.declared.command.Command.{Command}
 use Rattle.channel_slots.specs.declared.answer.Answer.{Answer}
 use Rattle.channel_slots.specs.Slots.{StandsFor, IsReady, IsWithin}
-use Rattle.channel_slots.specs.Banks.{IsCommanded, keys_of}
+use Rattle.channel_slots.specs.Banks.{IsCommanded}
 use Rattle.channel_slots.specs.Commands.{slot_of, request_in}
-use Rattle.channel_slots.proofs.BankLemmas.{refilled, slots-four}
-use Rattle.channel_slots.proofs.LayoutLemmas.{by_fours, layout-fours}
+use Rattle.channel_slots.proofs.BankLemmas.{refilled}
 use Rattle.channel_slots.proofs.CommandLemmas.{stands-at, commanded, keeps, set-keeps}
+use Rattle.channel_slots.proofs.CommandLemmas.{many, own_keys, within}
 use Rattle.channel_slots.proofs.ReadyLemmas.{all-ready, all-on-way}
 use Rattle.channel_slots.specs.Stages.{most_wait}
 use Rattle.channel_slots.proofs.bank.Bank.command.Goals as goal
-
-many : (client clients : ℕ) (ps : List Place) → client ≤ clients
-    → keys_of ps ≡ layout (replicate clients 4) → 4 * client ≤ length ps
-many client clients ps h keys = omega (arith, h, slots-four clients ps keys)
-
-own_keys : (clients : ℕ) (ps : List Place) → keys_of ps ≡ layout (replicate clients 4)
-    → keys_of ps ≡ by_fours 0 (length ps)
-own_keys clients ps keys =
-    keys ∙ layout-fours clients ∙ ap (by_fours 0) (sym (slots-four clients ps keys))
-
-within : (client number : ℕ) (ps : List Place) → 1 ≤ client → 4 * client ≤ length ps → number < 4
-    → (client - 1) * 4 + number < length ps
-within client number ps first last small = omega (arith, first, last, small)
 
 -- what the command does to the places
 done : (own settings : Settings) (time : ℕ) (command : Command) (taken ps qs : List Place)

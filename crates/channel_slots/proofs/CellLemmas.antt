@@ -1,0 +1,197 @@
+-- How many cells a search has done: what is shown of it, and how many more they are behind a run.
+use Rattle.std.proofs.Common.{◌≡◌, ◌≤◌, ◌<◌, ◌+◌, ◌-◌, ◌*◌, ◌/◌, ◌++◌, ◌∷◌, ◌∙◌, ℕ, zero, suc}
+use Rattle.std.proofs.Common.{List, [], drop, length, length-append, get_or, refl, sym, ap, arith}
+use Rattle.std.proofs.Common.{◌⊎◌, inl, inr}
+use Rattle.std.specs.Prelude.{Bool, true, false, nat_eq, Some, None}
+use Rattle.std.specs.Prelude.{◌&&◌, if◌then◌else◌}
+use Rattle.std.specs.List.{AllByRecursion}
+use Rattle.std.proofs.lemmas.Bool.{eq-eqb, and_parts, eqb-true}
+use Rattle.definitions.specs.Samples.{Sample}
+use Rattle.definitions.specs.Oscillators.{Settings}
+use Rattle.definitions.specs.Acquisition.{cells_done}
+use Rattle.definitions.specs.Commands.{TimedRequest, state}
+use Rattle.definitions.specs.Lives.{Life}
+use Rattle.definitions.specs.Answers.{answer_at_end, answer_with}
+use Rattle.definitions.proofs.CellLemmas.{cells-come}
+use Rattle.definitions.proofs.BodyLemmas.{life_of-append}
+use Rattle.channel_slots.specs.declared.stage.Stage.{Stage}
+use Rattle.channel_slots.specs.declared.stage.Stage.TheVariants.{Searching, Holding, Tracking}
+use Rattle.channel_slots.specs.declared.slot.Slot.{Slot}
+use Rattle.channel_slots.specs.declared.slot.Slot.TheVariants.{Idle, On}
+use Rattle.channel_slots.specs.declared.place.Place.{Place}
+use Rattle.channel_slots.specs.Answers.{cells_shown}
+use Rattle.channel_slots.specs.Stages as stages
+use Rattle.channel_slots.specs.Stages.{Follows, IsSought}
+use Rattle.channel_slots.specs.Slots.{StandsFor, cells_done_of}
+use Rattle.channel_slots.specs.Banks.{cells_done_at, keys_of}
+use Rattle.channel_slots.proofs.SearchLemmas.{shows-sought}
+use Rattle.channel_slots.proofs.StageLemmas.{shows-held, tracked-view}
+use Rattle.channel_slots.proofs.SlotLemmas.{has-life, answers, idle-shown}
+use Rattle.channel_slots.proofs.LayoutLemmas.{by_fours}
+use Rattle.channel_slots.proofs.CommandLemmas.{AreFrom, heads}
+
+-- ---- what is shown
+
+shown-of : (settings : Settings) (xs : List Sample) (life : Life) (stage : Stage)
+    → Follows settings xs life stage
+    → stages.cells_done_of stage ≡ cells_shown (answer_with settings xs (Some life) state)
+shown-of settings xs life (Searching a) s =
+    ap cells_shown (shows-sought settings xs life a s _ _ _ refl refl refl)
+shown-of settings xs life (Holding h) s =
+    ap cells_shown (shows-held settings xs life h _ _ s refl refl)
+shown-of settings xs life (Tracking t) s =
+    sym (ap cells_shown (tracked-view settings xs life s.channel s.steered s.given _ refl))
+
+pub cells-shown : (settings : Settings) (xs : List Sample) (commands : List TimedRequest)
+    (slot : Slot) → StandsFor settings xs commands slot
+    → cells_done_of slot ≡ cells_shown (answer_at_end settings xs commands state)
+cells-shown settings xs commands Idle s =
+    ap cells_shown (idle-shown settings xs commands Idle s refl)
+cells-shown settings xs commands (On l) s =
+    let i = has-life settings xs commands (On l) s l refl in
+    shown-of settings xs i.life l.stage i.stands.stage
+    ∙ ap cells_shown (answers settings xs commands (On l) s state (Some i.life) i.now)
+
+-- ---- the slot of a client among all
+
+is_key : Place → ℕ → ℕ → Bool
+is_key p client number = nat_eq p.client client && nat_eq p.number number
+
+here : (p : Place) (ps : List Place) (client number : ℕ) → p.client ≡ client → p.number ≡ number
+    → cells_done_at (p ∷ ps) client number ≡ cells_done_of p.slot
+unfolding cells_done_at
+here p ps client number c n = rw (eq-eqb p.client client c, eq-eqb p.number number n) refl
+
+elsewhere : (p : Place) (ps : List Place) (client number : ℕ)
+    → ((p.client ≡ client) → (p.number ≡ number) → ⊥)
+    → cells_done_at (p ∷ ps) client number ≡ cells_done_at ps client number
+unfolding cells_done_at is_key
+elsewhere p ps client number other = by_test (is_key p client number) refl
+  where
+    by_test : (b : Bool) → is_key p client number ≡ b
+        → (if is_key p client number then cells_done_of p.slot
+        else cells_done_at ps client number) ≡ cells_done_at ps client number
+    by_test true e =
+        let both = and_parts (nat_eq p.client client) (nat_eq p.number number) e in
+        absurd (other (eqb-true p.client client both.0) (eqb-true p.number number both.1))
+    by_test false e = rw e refl
+
+from-first : (ps : List Place) (n i client number : ℕ) (d : Place) → i < length ps → AreFrom n ps
+    → n + i ≡ (client - 1) * 4 + number → 1 ≤ client → number < 4
+    → cells_done_at ps client number ≡ cells_done_of (get_or ps i d).slot
+from-first [] n i client number d h keys is first small = absurd (omega arith)
+from-first (p ∷ ps) n zero client number d h keys is first small =
+    let k = heads p ps n keys in
+    here p ps client number (omega (arith, k.0, is, first, small))
+    (omega (arith, k.1, is, first, small))
+from-first (p ∷ ps) n (suc i) client number d h keys is first small =
+    let k = heads p ps n keys in
+    elsewhere p ps client number (λ c m. omega (arith, k.0, k.1, c, m, is, first, small))
+    ∙ from-first ps (n + 1) i client number d (omega (arith, h)) k.2 (omega (arith, is)) first small
+
+-- that of its place
+pub cells-at : (ps : List Place) (client number : ℕ) (p : Place) → 1 ≤ client
+    → 4 * client ≤ length ps → number < 4 → keys_of ps ≡ by_fours 0 (length ps)
+    → p ≡ get_or ps ((client - 1) * 4 + number) p
+    → cells_done_at ps client number ≡ cells_done_of p.slot
+unfolding AreFrom
+cells-at ps client number p first last small keys is =
+    from-first ps 0 ((client - 1) * 4 + number) client number p (omega (arith, first, last, small))
+    keys (omega arith) first small
+    ∙ sym (ap (λ (q : Place). cells_done_of q.slot) is)
+
+-- no place is that of another client
+from-none : (ps : List Place) (n client number : ℕ) → AreFrom n ps
+    → (client ≡ 0) ⊎ (n + length ps ≤ 4 * (client - 1))
+    → cells_done_at ps client number ≡ None
+unfolding cells_done_at
+from-none [] n client number keys other = refl
+from-none (p ∷ ps) n client number keys other =
+    let k = heads p ps n keys in
+    elsewhere p ps client number (λ c m. elim other [
+      | inl zero_is ↦ omega (arith, k.0, c, zero_is)
+      | inr behind ↦ omega (arith, k.0, c, behind)
+    ])
+    ∙ from-none ps (n + 1) client number k.2 (elim other [
+      | inl zero_is ↦ inl zero_is
+      | inr behind ↦ inr (omega (arith, behind))
+    ])
+
+pub no-client : (ps : List Place) (clients client number : ℕ)
+    → keys_of ps ≡ by_fours 0 (length ps) → length ps ≡ 4 * clients
+    → (client ≡ 0) ⊎ (clients < client) → cells_done_at ps client number ≡ None
+unfolding AreFrom
+no-client ps clients client number keys many other =
+    from-none ps 0 client number keys (elim other [
+      | inl zero_is ↦ inl zero_is
+      | inr behind ↦ inr (omega (arith, many, behind))
+    ])
+
+-- ---- how many more they are
+
+-- one search, of which two stages have come as far as the samples bring it
+more : (settings : Settings) (xs ys : List Sample) (life : Life) (old new : Stage)
+    (before after : ℕ) → Follows settings xs life old → Follows settings (xs ++ ys) life new
+    → stages.cells_done_of old ≡ Some before → stages.cells_done_of new ≡ Some after
+    → after ≤ before + (length ys / 4 + 1)
+more settings xs ys life (Holding h) new before after s t b a = cc
+more settings xs ys life (Tracking h) new before after s t b a = cc
+more settings xs ys life (Searching p) (Holding h) before after s t b a = cc
+more settings xs ys life (Searching p) (Tracking h) before after s t b a = cc
+more settings xs ys life (Searching p) (Searching q) before after s t b a =
+    let many : length (xs ++ ys) ≡ length xs + length ys = simp length-append (omega arith) in
+    let same : t.plan ≡ s.plan = cc in
+    let first : before ≡ cells_done settings s.plan life.begun (length xs) = cc in
+    let last : after ≡ cells_done settings s.plan life.begun (length xs + length ys) = cc in
+    omega (arith, first, last, cells-come settings s.plan life.begun (length xs) (length ys))
+
+pub more-of : (settings : Settings) (xs ys : List Sample) (commands : List TimedRequest)
+    (old new : Slot) (before after : ℕ) → StandsFor settings xs commands old
+    → StandsFor settings (xs ++ ys) commands new → cells_done_of old ≡ Some before
+    → cells_done_of new ≡ Some after → after ≤ before + (length ys / 4 + 1)
+more-of settings xs ys commands Idle new before after s t b a = cc
+more-of settings xs ys commands (On l) Idle before after s t b a = cc
+more-of settings xs ys commands (On l) (On m) before after s t b a =
+    let i = has-life settings xs commands (On l) s l refl in
+    let j = has-life settings (xs ++ ys) commands (On m) t m refl in
+    let same : Some j.life ≡ Some i.life =
+    sym j.of ∙ life_of-append settings xs ys commands s.early ∙ i.of in
+    let one : j.life ≡ i.life = cc in
+    more settings xs ys i.life l.stage m.stage before after i.stands.stage
+    (rw one at j.stands.stage) b a
+
+-- the same of all places
+module _ (settings : Settings) (xs ys : List Sample) (asked : ℕ → ℕ → List TimedRequest)
+    (client number before after : ℕ) where
+  Each : List Sample → List Place → Type 0
+  Each zs ps =
+      AllByRecursion (λ (p : Place). StandsFor settings zs (asked p.client p.number) p.slot) ps
+
+  pub more-at : (ps qs : List Place) → keys_of qs ≡ keys_of ps
+      → AllByRecursion (λ (p : Place). StandsFor settings xs (asked p.client p.number) p.slot) ps
+      → AllByRecursion
+      (λ (p : Place). StandsFor settings (xs ++ ys) (asked p.client p.number) p.slot) qs
+      → cells_done_at ps client number ≡ Some before
+      → cells_done_at qs client number ≡ Some after
+      → after ≤ before + (length ys / 4 + 1)
+  unfolding cells_done_at is_key
+  more-at [] qs keys old new b a = cc
+  more-at (p ∷ ps) [] keys old new b a = cc
+  more-at (p ∷ ps) (q ∷ qs) keys old new b a =
+      let c : q.client ≡ p.client =
+      ap (λ (l : List (ℕ × ℕ)). (get_or l 0 (0, 0)).0) keys in
+      let n : q.number ≡ p.number =
+      ap (λ (l : List (ℕ × ℕ)). (get_or l 0 (0, 0)).1) keys in
+      let others : List (ℕ × ℕ) → List (ℕ × ℕ) = drop 1 in
+      by_test (is_key p client number) refl c n
+      (more-at ps qs (ap others keys) old.1 new.1)
+    where
+      by_test : (is : Bool) → is_key p client number ≡ is → q.client ≡ p.client
+          → q.number ≡ p.number
+          → (cells_done_at ps client number ≡ Some before
+          → cells_done_at qs client number ≡ Some after → after ≤ before + (length ys / 4 + 1))
+          → after ≤ before + (length ys / 4 + 1)
+      by_test true e c n rest =
+          more-of settings xs ys (asked p.client p.number) p.slot q.slot before after old.0
+          (rw (c, n) at new.0) (rw e at b) (rw (c, n, e) at a)
+      by_test false e c n rest = rest (rw e at b) (rw (c, n, e) at a)
