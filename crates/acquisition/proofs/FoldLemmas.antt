@@ -11,6 +11,9 @@ use Rattle.definitions.specs.Oscillators.{prompt_sign, code_phase_after}
 use Rattle.definitions.specs.Correlation.{replica_of, in_phase_sum, quadrature_sum}
 use Rattle.definitions.specs.Acquisition.{square, power_over}
 use Rattle.acquisition.specs.declared.sums.Sums.{Sums}
+use Rattle.acquisition.specs.declared.sums.TheConstants.{MOST_SUM}
+use Rattle.acquisition.specs.declared.chip_table.TheConstants.{PLACES}
+use Rattle.oscillators.specs.declared.settings.TheConstants.{MOST_PER_MS}
 use Rattle.acquisition.specs.declared.fold.Fold.{Fold}
 use Rattle.acquisition.specs.FoldStates.{IsFold}
 use Rattle.acquisition.specs.Replicas.{phases, AreSums}
@@ -35,11 +38,11 @@ from_table y prn half step from n table is =
     (λ i. y (from + i) *ℤ chip_sign prn (half / 2 + place_at (half % 2) step (from + i))) n
     (λ i h. ap (λ (s : ℤ). y (from + i) *ℤ s) (chip_of_place prn half step (from + i)))
     ∙ regrouped (λ i. y (from + i)) (λ i. place_at (half % 2) step (from + i))
-    (λ k. chip_sign prn (half / 2 + k)) n 1024 (λ i h. place_below (half % 2) step (from + i))
+    (λ k. chip_sign prn (half / 2 + k)) n PLACES (λ i h. place_below (half % 2) step (from + i))
     ∙ total-same
     (λ k. sum_at_key (λ i. y (from + i)) (λ i. place_at (half % 2) step (from + i)) n k
     *ℤ chip_sign prn (half / 2 + k))
-    (λ k. get_or table k (pos 0) *ℤ chip_sign prn (half / 2 + k)) 1024
+    (λ k. get_or table k (pos 0) *ℤ chip_sign prn (half / 2 + k)) PLACES
     (λ k h. ap (λ (v : ℤ). v *ℤ chip_sign prn (half / 2 + k)) (sym (is k h)))
 
 pub folded_sums : (x : ℕ → Sample) (prn half step carrier_step from n : ℕ)
@@ -88,15 +91,15 @@ pub record IsKept (sum term : ℤ) (k : ℕ) : Type 0 where
   pub fits : FitsSigned w32 (sum +ℤ to_z w32 (of_z w32 term))
   pub value : to_z w32 (of_z w32 (sum +ℤ to_z w32 (of_z w32 term))) ≡ sum +ℤ term
   pub small : unsigned_abs (to_z w32 (of_z w32 (sum +ℤ to_z w32 (of_z w32 term))))
-      ≤ 180000 * (k + 1)
+      ≤ MOST_SUM * (k + 1)
 
-pub entry_in_32 : (z : ℤ) → unsigned_abs z ≤ 180000 → to_z w32 (of_z w32 z) ≡ z
+pub entry_in_32 : (z : ℤ) → unsigned_abs z ≤ MOST_SUM → to_z w32 (of_z w32 z) ≡ z
 entry_in_32 z small = to_z-of_z w32 z (fits_signed_from_abs w32 z (omega (arith, small)))
 
-pub sum-kept : (sum term : ℤ) (k : ℕ) → unsigned_abs sum ≤ 180000 * k
-    → unsigned_abs term ≤ 180000 → k < 1024 → IsKept sum term k
+pub sum-kept : (sum term : ℤ) (k : ℕ) → unsigned_abs sum ≤ MOST_SUM * k
+    → unsigned_abs term ≤ MOST_SUM → k < PLACES → IsKept sum term k
 sum-kept sum term k before small h =
-    let more : unsigned_abs (sum +ℤ term) ≤ 180000 * (k + 1) =
+    let more : unsigned_abs (sum +ℤ term) ≤ MOST_SUM * (k + 1) =
     omega (arith, abs_add sum term, before, small) in
     let fits : FitsSigned w32 (sum +ℤ term) = fits_signed_from_abs w32 (sum +ℤ term)
     (omega (arith, more, h)) in
@@ -135,18 +138,18 @@ pub record IsLess (prn first : ℕ) (table : List ℤ) (whole sum : ℤ) : Type 
   pub value : to_z w32 (of_z w32 (to_z w32 (of_z w32 whole)
       -ℤ to_z w32 (of_z w32 (pos 2 *ℤ sum)))) ≡ correlation prn first table
   pub small : unsigned_abs (to_z w32 (of_z w32 (to_z w32 (of_z w32 whole)
-      -ℤ to_z w32 (of_z w32 (pos 2 *ℤ sum))))) ≤ 180000
+      -ℤ to_z w32 (of_z w32 (pos 2 *ℤ sum))))) ≤ MOST_SUM
 
 pub less_picked : (prn first taken : ℕ) (table : List ℤ) (whole sum : ℤ)
-    → sizes_to table 1024 ≤ 9 * taken → taken ≤ 20000 → whole ≡ total_to table 1024
-    → correlation_to prn first table 1024 ≡ total_to table 1024 -ℤ pos 2 *ℤ sum
-    → unsigned_abs sum ≤ 180000 * 1024 → IsLess prn first table whole sum
+    → sizes_to table PLACES ≤ 9 * taken → taken ≤ MOST_PER_MS → whole ≡ total_to table PLACES
+    → correlation_to prn first table PLACES ≡ total_to table PLACES -ℤ pos 2 *ℤ sum
+    → unsigned_abs sum ≤ MOST_SUM * PLACES → IsLess prn first table whole sum
 less_picked prn first taken table whole sum sizes few all is small =
-    let size : unsigned_abs whole ≤ 180000 = rw all
-    (omega (arith, total_size 1024 table, sizes, few)) in
-    let result : ℤ = correlation_to prn first table 1024 in
-    let near : unsigned_abs result ≤ 180000 =
-    omega (arith, correlation_size prn first 1024 table, sizes, few) in
+    let size : unsigned_abs whole ≤ MOST_SUM = rw all
+    (omega (arith, total_size PLACES table, sizes, few)) in
+    let result : ℤ = correlation_to prn first table PLACES in
+    let near : unsigned_abs result ≤ MOST_SUM =
+    omega (arith, correlation_size prn first PLACES table, sizes, few) in
     let twice : to_z w32 (of_z w32 (pos 2 *ℤ sum)) ≡ pos 2 *ℤ sum = to_z-of_z w32 (pos 2 *ℤ sum)
     (fits_signed_from_abs w32 (pos 2 *ℤ sum) (omega (arith, doubled sum, small))) in
     let e : whole -ℤ pos 2 *ℤ sum ≡ result = rw all (sym is) in

@@ -6,6 +6,7 @@ use Rattle.definitions.specs.Codes.{chip, chip_sign}
 use Rattle.definitions.specs.Oscillators.{prompt_sign, code_phase_after, carrier_phase_after}
 use Rattle.definitions.specs.Oscillators.{cosine, sine, cosines, sines}
 use Rattle.acquisition.specs.Folds.{place_at}
+use Rattle.acquisition.specs.declared.chip_table.TheConstants.{PLACES}
 
 -- the chip of a sample is that of its place, half / 2 chips on
 chip_place : (half way : ℕ) → (half * 2 ^ 31 + way) % (1023 * 2 ^ 32) / 2 ^ 32 % 1023
@@ -18,7 +19,7 @@ pub chip_of_place : (prn half step j : ℕ)
 unfolding chip
 chip_of_place prn half step j = rw (chip_place half (j * step)) refl
 
-pub place_below : (parity step j : ℕ) → place_at parity step j < 1024
+pub place_below : (parity step j : ℕ) → place_at parity step j < PLACES
 place_below parity step j = omega arith
 
 -- the place of a phase, and of one half a chip on

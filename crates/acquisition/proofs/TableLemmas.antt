@@ -11,6 +11,8 @@ use Rattle.definitions.specs.Sums.{total}
 use Rattle.definitions.specs.Codes.{chip_sign}
 use Rattle.acquisition.specs.Folds.{sum_at_key, place_at, IsTable, total_to, sizes_to}
 use Rattle.acquisition.specs.Folds.{correlation_to}
+use Rattle.acquisition.specs.declared.chip_table.TheConstants.{PLACES}
+use Rattle.oscillators.specs.declared.settings.TheConstants.{MOST_PER_MS}
 use Rattle.acquisition.proofs.SizeLemmas.{abs_add}
 use Rattle.acquisition.proofs.SignLemmas.{sign_cases}
 
@@ -20,7 +22,7 @@ all_same n k z h = get_or-replicate {A = ℤ} n k z (pos 0) h
 
 -- a table of no values, and of one more
 pub table-none : (y : ℕ → ℤ) (parity step from : ℕ) (table : List ℤ)
-    → ((k : ℕ) → k < 1024 → get_or table k (pos 0) ≡ pos 0) → IsTable y parity step from 0 table
+    → ((k : ℕ) → k < PLACES → get_or table k (pos 0) ≡ pos 0) → IsTable y parity step from 0 table
 unfolding sum_at_key total
 table-none y parity step from table none k h = none k h
 
@@ -32,7 +34,7 @@ sum_at_key-more y key n k = let e : n + 1 ≡ suc n = omega arith in rw e refl
 pub table-more : (y : ℕ → ℤ) (parity step from n place : ℕ) (value : ℤ) (old new : List ℤ)
     → IsTable y parity step from n old → place ≡ place_at parity step (from + n)
     → value ≡ y (from + n)
-    → ((k : ℕ) → k < 1024 → get_or new k (pos 0)
+    → ((k : ℕ) → k < PLACES → get_or new k (pos 0)
     ≡ get_or old k (pos 0) +ℤ cond (place == k) value (pos 0))
     → IsTable y parity step from (n + 1) new
 table-more y parity step from n place value old new is at same more k h =
@@ -159,28 +161,47 @@ total_size (suc n) table = omega (
 
 -- an entry in 32 bits, and its sum with a value
 pub entry_fits : (z : ℤ) (size taken : ℕ) → unsigned_abs z ≤ size → size ≤ 9 * taken
-    → taken ≤ 20000 → FitsSigned w32 z
+    → taken ≤ MOST_PER_MS → FitsSigned w32 z
 entry_fits z size taken within small few =
     fits_signed_from_abs w32 z (omega (arith, within, small, few))
 
-pub sum_fits : (z value : ℤ) (size taken : ℕ) → unsigned_abs z ≤ size → size ≤ 9 * taken
-    → taken ≤ 20000 → unsigned_abs value ≤ 9 → FitsSigned w32 (z +ℤ value)
+sum_fits : (z value : ℤ) (size taken : ℕ) → unsigned_abs z ≤ size → size ≤ 9 * taken
+    → taken ≤ MOST_PER_MS → unsigned_abs value ≤ 9 → FitsSigned w32 (z +ℤ value)
 sum_fits z value size taken within small few one =
     fits_signed_from_abs w32 (z +ℤ value) (omega (arith, abs_add z value, within, small, few, one))
 
 pub value-kept : (value : ℤ) → unsigned_abs value ≤ 9 → to_z w32 (of_z w32 value) ≡ value
 value-kept value one = to_z-of_z w32 value (fits_signed_from_abs w32 value (omega (arith, one)))
 
-pub entry-kept : (table : List ℤ) (k taken : ℕ) → k < 1024 → sizes_to table 1024 ≤ 9 * taken
-    → taken ≤ 20000
+pub entry-kept : (table : List ℤ) (k taken : ℕ) → k < PLACES → sizes_to table PLACES ≤ 9 * taken
+    → taken ≤ MOST_PER_MS
     → to_z w32 (of_z w32 (get_or table k (pos 0))) ≡ get_or table k (pos 0)
 entry-kept table k taken h small few = to_z-of_z w32 (get_or table k (pos 0))
-    (entry_fits (get_or table k (pos 0)) (sizes_to table 1024) taken (size_of_one table k 1024 h)
+    (entry_fits (get_or table k (pos 0)) (sizes_to table PLACES) taken (size_of_one table k PLACES h)
     small few)
 
+-- an entry and a value added to it, in 32 bits
+pub record AddsUp (entry value : ℤ) : Type 0 where
+  pub fits : FitsSigned w32 (to_z w32 (of_z w32 entry) +ℤ to_z w32 (of_z w32 value))
+  pub is : to_z w32 (of_z w32 (to_z w32 (of_z w32 entry) +ℤ to_z w32 (of_z w32 value)))
+      ≡ entry +ℤ value
+
+pub adds_up : (table : List ℤ) (place taken : ℕ) (value : ℤ) → place < PLACES
+    → sizes_to table PLACES ≤ 9 * taken → taken ≤ MOST_PER_MS → unsigned_abs value ≤ 9
+    → AddsUp (get_or table place (pos 0)) value
+adds_up table place taken value inside small few one =
+    let entry : ℤ = get_or table place (pos 0) in
+    let sum : FitsSigned w32 (entry +ℤ value) = sum_fits entry value (sizes_to table PLACES) taken
+    (size_of_one table place PLACES inside) small few one in
+    let kept = entry-kept table place taken inside small few in
+    record {
+      fits = rw (kept, value-kept value one) sum;
+      is = rw (kept, value-kept value one) (to_z-of_z w32 (entry +ℤ value) sum);
+    }
+
 -- a table with a value added to an entry
-pub entry_set : (table : List ℤ) (place k : ℕ) (entry value : ℤ) → place < 1024
-    → length table ≡ 1024 → entry ≡ get_or table place (pos 0) +ℤ value
+pub entry_set : (table : List ℤ) (place k : ℕ) (entry value : ℤ) → place < PLACES
+    → length table ≡ PLACES → entry ≡ get_or table place (pos 0) +ℤ value
     → get_or (set table place entry) k (pos 0)
     ≡ get_or table k (pos 0) +ℤ cond (place == k) value (pos 0)
 entry_set table place k entry value h long is = elim (three place k) [
