@@ -177,8 +177,8 @@ pub entry-kept : (table : List ℤ) (k taken : ℕ) → k < PLACES → sizes_to 
     → taken ≤ MOST_PER_MS
     → to_z w32 (of_z w32 (get_or table k (pos 0))) ≡ get_or table k (pos 0)
 entry-kept table k taken h small few = to_z-of_z w32 (get_or table k (pos 0))
-    (entry_fits (get_or table k (pos 0)) (sizes_to table PLACES) taken (size_of_one table k PLACES h)
-    small few)
+    (entry_fits (get_or table k (pos 0)) (sizes_to table PLACES) taken
+    (size_of_one table k PLACES h) small few)
 
 -- an entry and a value added to it, in 32 bits
 pub record AddsUp (entry value : ℤ) : Type 0 where
