@@ -24,6 +24,7 @@ pub(crate) struct ChipTable {
 
 impl ChipTable {
     /// Of no values.
+    #[inline(always)]
     pub(crate) fn new() -> ChipTable
         ensures none { (k : ℕ) → k < PLACES → get_or result.sums k (pos 0) ≡ pos 0 }
         ensures taken { result.taken ≡ 0 }

@@ -27,6 +27,7 @@ impl Fold {
     ghost use Rattle.acquisition.specs.FoldStates.{IsFold, IsWhole, taken_of};
 
     /// Of no samples.
+    #[inline(always)]
     pub(crate) fn new() -> Fold
         ensures fold { (x : ℕ → Sample) (parity step carrier_step from : ℕ)
             → IsFold x parity step carrier_step from 0 result }

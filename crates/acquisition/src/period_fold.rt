@@ -36,17 +36,32 @@ impl PeriodFold {
     ghost use Rattle.acquisition.specs.Replicas.{phases};
     ghost use Rattle.acquisition.specs.FoldStates.{ArePeriodFolds, IsWhole, taken_of};
 
-    /// Those of samples `first` to `first + len - 1` of a source, for a code and a carrier that
-    /// stand at the first of them; `len` is at most `MOST_PER_MS`. The code, which began at half
-    /// chip 0, goes on by `code_step`.
-    pub(crate) fn new<S: SampleSource>(
+    /// Of no samples.
+    #[inline(always)]
+    pub(crate) fn new() -> PeriodFold
+        ensures folds { (x : ℕ → Sample) (step carrier_step from : ℕ)
+            → ArePeriodFolds x step carrier_step from 0 result }
+        ensures even { taken_of result.even ≡ 0 }
+        ensures odd { taken_of result.odd ≡ 0 }
+    {
+        PeriodFold {
+            even: Fold::new(),
+            odd: Fold::new(),
+        }
+    }
+
+    /// Becomes those of samples `first` to `first + len - 1` of a source, for a code and a carrier
+    /// that stand at the first of them; `len` is at most `MOST_PER_MS`. The code, which began at
+    /// half chip 0, goes on by `code_step`.
+    pub(crate) fn fill<S: SampleSource>(
+        &mut self,
         source: &S,
         first: u64,
         len: usize,
         mut code: CodeOsc,
         code_step: u32,
         mut carrier: CarrierOsc,
-    ) -> PeriodFold
+    )
         requires from { S.from source.now ≤ first }
         requires to { first + len ≤ S.to source.now }
         requires early { first ≤ 2 * MOST_START }
@@ -55,22 +70,18 @@ impl PeriodFold {
         ensures { (x : ℕ → Sample) (from : ℕ) → code.phase ≡ code_phase_after 0 code_step from
             → carrier.phase ≡ carrier_phase_after 0 carrier.step from
             → ((j : ℕ) → j < len → S.held source.now (first + j) ≡ x (from + j))
-            → ArePeriodFolds x code_step carrier.step from len result }
+            → ArePeriodFolds x code_step carrier.step from len self.new }
     {
-        let mut folds = PeriodFold {
-            even: Fold::new(),
-            odd: Fold::new(),
-        };
+        *self = PeriodFold::new();
         let mut done = 0;
         while done < len {
             let count = (len - done).min(MAX_SAMPLES);
             let samples = source.planes(first + done as u64, count);
-            folds.take(&samples, code.phase(), code_step, &carrier);
+            self.take(&samples, code.phase(), code_step, &carrier);
             code.jump(count as u64);
             carrier.advance(count as u64);
             done += count;
         }
-        folds
     }
 
     /// Adds a run of samples. The code is at phase `code` at the first of them, and each takes it

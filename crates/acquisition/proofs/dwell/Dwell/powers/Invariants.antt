@@ -5,8 +5,8 @@ use Rattle.acquisition.proofs.dwell.Dwell.powers.Given as goal
 
 abbrev pub invariant-loop-period : goal.invariant-loop-period
 invariant-loop-period g l = record {
-  periods : l.powers.periods ≡ l.period;
+  periods : l.room.powers.periods ≡ l.period;
   powers : (x : ℕ → Sample) → ((j : ℕ) → j < l.self.periods * l.self.per_period
       → g.S.SampleSource.held l.source (l.self.start + j) ≡ x j)
-      → ArePowers x l.signs.prn l.self.per_period l.period l.cells l.powers;
+      → ArePowers x l.signs.prn l.self.per_period l.period l.cells l.room.powers;
 }

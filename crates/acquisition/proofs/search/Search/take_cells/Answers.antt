@@ -34,7 +34,7 @@ loop-i-preserved g c =
           (rw bin (is.carrier ∙ s.steps.carrier (done / 2046) few))
           s.per_period
           s.periods
-          (c.power.ensures.value ∙ c.powers-powers.ensures (λ j. sample_at xs (start + j)) (λ j h.
+          (c.power.ensures.value ∙ c.powers.ensures (λ j. sample_at xs (start + j)) (λ j h.
           let within = rw (s.periods, s.per_period) at h in
           rw s.start_is (holds (start + j) (omega arith) (omega (arith, within)))) i inside) in
           record {

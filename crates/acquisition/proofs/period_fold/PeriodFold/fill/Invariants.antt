@@ -2,13 +2,13 @@ use Rattle.std.proofs.Common.{◌-◌, ◌≡◌, ◌≤◌, ◌<◌, ◌+◌, �
 use Rattle.definitions.specs.Samples.{Sample}
 use Rattle.definitions.specs.Oscillators.{carrier_phase_after, code_phase_after}
 use Rattle.acquisition.specs.FoldStates.{ArePeriodFolds, taken_of}
-use Rattle.acquisition.proofs.period_fold.PeriodFold.new.Given as goal
+use Rattle.acquisition.proofs.period_fold.PeriodFold.fill.Given as goal
 
 abbrev pub invariant-loop-done : goal.invariant-loop-done
 invariant-loop-done g l = record {
   done : l.done ≤ l.len;
-  even : taken_of l.folds.even ≡ l.done;
-  odd : taken_of l.folds.odd ≡ l.done;
+  even : taken_of l.self.even ≡ l.done;
+  odd : taken_of l.self.odd ≡ l.done;
   code_step : l.code.step ≡ l.code_step;
   carrier_step : l.carrier.step ≡ l.fn.carrier.step;
   code : (from : ℕ) → l.fn.code.phase ≡ code_phase_after 0 l.code_step from
@@ -18,7 +18,7 @@ invariant-loop-done g l = record {
   folds : (x : ℕ → Sample) (from : ℕ) → l.fn.code.phase ≡ code_phase_after 0 l.code_step from
       → l.fn.carrier.phase ≡ carrier_phase_after 0 l.fn.carrier.step from
       → ((j : ℕ) → j < l.len → g.S.SampleSource.held l.source (l.first + j) ≡ x (from + j))
-      → ArePeriodFolds x l.code_step l.fn.carrier.step from l.done l.folds;
+      → ArePeriodFolds x l.code_step l.fn.carrier.step from l.done l.self;
 }
 
 abbrev pub decreases-loop-done : goal.decreases-loop-done

@@ -1,7 +1,7 @@
 use Rattle.std.proofs.Common.{rules, ◌≡◌, ◌*◌, ◌^◌, ◌∙◌, ℕ, ap}
 use Rattle.definitions.specs.Oscillators.{code_phase_after, carrier_phase_after}
 use Rattle.oscillators.specs.Views.{Oscillation}
-use Rattle.acquisition.proofs.dwell.Dwell.folds.Goals as goal
+use Rattle.acquisition.proofs.dwell.Dwell.fold.Goals as goal
 
 pub returns : goal.returns
 returns g c x same =
@@ -19,4 +19,4 @@ returns g c x same =
     let step : c.advance.new.self.step ≡ cells.carrier_step =
     ap (λ (o : Oscillation). o.step) c.advance.ensures
     ∙ ap (λ (o : Oscillation). o.step) c.new-carrier.ensures in
-    rw (← step) (c.new-2.ensures x behind code (rw step carrier) same)
+    rw (← step) (c.fill.ensures x behind code (rw step carrier) same)
