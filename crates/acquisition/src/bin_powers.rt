@@ -35,25 +35,6 @@ pub(crate) struct BinPowers {
     ghost most: { (i : ℕ) → i < BIN_CELLS → get_or powers i 0 ≤ MOST_PERIOD_POWER * periods },
 }
 
-/// The room in which a search works: the folds of a period, and the powers of a bin's cells. It is
-/// lent, so that values of this size aren't moved.
-#[derive(Drop)]
-pub(crate) struct BinRoom {
-    pub(crate) folds: PeriodFold,
-    pub(crate) powers: BinPowers,
-}
-
-impl BinRoom {
-    /// Of no samples.
-    #[inline(always)]
-    pub(crate) fn new() -> BinRoom {
-        BinRoom {
-            folds: PeriodFold::new(),
-            powers: BinPowers::new(),
-        }
-    }
-}
-
 impl BinPowers {
     ghost use Rattle.definitions.specs.Samples.{Sample};
     ghost use Rattle.acquisition.specs.FoldStates.{ArePeriodFolds};

@@ -24,6 +24,7 @@
 #![tactic(auto)]
 
 mod bin_powers;
+mod bin_room;
 mod bin_steps;
 mod cell;
 mod chip_signs;

@@ -2,8 +2,10 @@ use Rattle.std.proofs.Common.{◌≡◌, ◌≤◌, ◌<◌, ◌+◌, ◌∙◌,
 use Rattle.definitions.specs.Samples.{Sample, sample_at}
 use Rattle.definitions.specs.Oscillators.{code_phase_after, carrier_phase_after}
 use Rattle.oscillators.specs.Views.{Oscillation}
+use Rattle.oscillators.specs.declared.settings.TheConstants.{MOST_PER_MS}
 use Rattle.acquisition.proofs.PlaceLemmas.{code-goes_on, carrier-goes_on}
 use Rattle.acquisition.proofs.PowerLemmas.{held_run, run_length}
+use Rattle.acquisition.proofs.period_fold.PeriodFold.fill.Given.{Over}
 use Rattle.acquisition.proofs.period_fold.PeriodFold.fill.Goals as goal
 
 pub loop-done-init : goal.loop-done-init
@@ -19,33 +21,20 @@ loop-done-init g c = record {
       c.new.ensures.folds x c.args.code_step c.args.carrier.step from;
 }
 
-pub take-requires-clause-even : goal.take-requires-clause-even
-take-requires-clause-even g c =
+-- a fold of the samples so far has room for the run
+room : (g : Over) (c : goal.After-carrier-1 g) (taken : ℕ) → taken ≡ c.loop-done.done
+    → taken + length c.planes-samples.result ≤ MOST_PER_MS
+room g c taken is =
     let long : length c.planes-samples.result ≡ c.min-count.result = run_length
     (g.S.SampleSource.held c.args.source.now) (c.args.first + c.loop-done.done)
     c.min-count.result c.planes-samples.result c.planes-samples.ensures in
-    omega (
-      arith,
-      long,
-      c.loop-done.invariant.even,
-      c.min-count.ensures,
-      c.loop-done-test.true,
-      c.requires.short,
-    )
+    omega (arith, long, is, c.min-count.ensures, c.loop-done-test.true, c.requires.short)
+
+pub take-requires-clause-even : goal.take-requires-clause-even
+take-requires-clause-even g c = room g c _ c.loop-done.invariant.even
 
 pub take-requires-clause-odd : goal.take-requires-clause-odd
-take-requires-clause-odd g c =
-    let long : length c.planes-samples.result ≡ c.min-count.result = run_length
-    (g.S.SampleSource.held c.args.source.now) (c.args.first + c.loop-done.done)
-    c.min-count.result c.planes-samples.result c.planes-samples.ensures in
-    omega (
-      arith,
-      long,
-      c.loop-done.invariant.odd,
-      c.min-count.ensures,
-      c.loop-done-test.true,
-      c.requires.short,
-    )
+take-requires-clause-odd g c = room g c _ c.loop-done.invariant.odd
 
 pub loop-done-preserved : goal.loop-done-preserved
 loop-done-preserved g c =

@@ -1,0 +1,23 @@
+//! The room in which a search works.
+
+use crate::bin_powers::BinPowers;
+use crate::period_fold::PeriodFold;
+
+/// The room in which a search works: the folds of a period, and the powers of a bin's cells. It is
+/// lent, so that values of this size aren't moved.
+#[derive(Drop)]
+pub(crate) struct BinRoom {
+    pub(crate) folds: PeriodFold,
+    pub(crate) powers: BinPowers,
+}
+
+impl BinRoom {
+    /// Of no samples.
+    #[inline(always)]
+    pub(crate) fn new() -> BinRoom {
+        BinRoom {
+            folds: PeriodFold::new(),
+            powers: BinPowers::new(),
+        }
+    }
+}
