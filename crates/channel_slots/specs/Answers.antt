@@ -40,16 +40,16 @@ answer_in (Refused refusal) = refused (number_of refusal)
 answer_in (State state) = shown (view_in state)
 
 -- how many cells are done of what is shown: none where nothing is searched for
-abbrev pub cells_done_in : View → Option ℕ
-cells_done_in idle = None
-cells_done_in (acquiring prn done cells) = Some done
-cells_done_in (holding prn dumps) = None
-cells_done_in (tracking prn dumps shift is_locked has_edge) = None
+abbrev pub cells_in_view : View → Option ℕ
+cells_in_view idle = None
+cells_in_view (acquiring prn done cells) = Some done
+cells_in_view (holding prn dumps) = None
+cells_in_view (tracking prn dumps shift is_locked has_edge) = None
 
 abbrev pub cells_shown : DefinedAnswer → Option ℕ
 cells_shown accepted = None
 cells_shown (refused number) = None
-cells_shown (shown view) = cells_done_in view
+cells_shown (shown view) = cells_in_view view
 
 abbrev pub IsRefusal : Answer → Type 0
 IsRefusal Accepted = ⊥
