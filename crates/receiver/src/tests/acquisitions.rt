@@ -60,8 +60,7 @@ fn equal_cells(rt: HostRuntime) -> Result<(), Fail> {
         let mut writer = Holding::whole();
         let answer = run_plain(rt.alloc(), &[script], &mut reader, &mut writer)?;
         assert_eq!(rt; answer, Ok(10_232));
-        let text =
-            format!(in rt.alloc(); "1 0 ok\n1 10230 acq 0 1 {word} 0 0 20\n1 10232 end\n")?;
+        let text = format!(in rt.alloc(); "1 0 ok\n1 10230 acq 0 1 {word} 0 0 20\n1 10232 end\n")?;
         assert_eq!(rt; writer.text()?, text.as_str());
     }
     Ok(())
