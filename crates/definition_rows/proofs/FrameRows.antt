@@ -82,7 +82,8 @@ abbrev header_inside : List Bool
 header_inside = false ∷ false ∷ header ++ replicate 90 false ++ header ++ replicate 90 false
 
 one_start : starts_of header_inside ≡ 2 ∷ []
-unfolding starts_of starts_from is_candidate checked_at checked_data passes holds data_of least_below
+unfolding starts_of starts_from is_candidate checked_at checked_data passes holds data_of
+    least_below
 one_start = refl
 
 -- five bits behind a subframe, and another one: the gap is five

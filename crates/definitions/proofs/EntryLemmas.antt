@@ -71,14 +71,14 @@ pub record ComeAfter (before : ℕ) (entries : List Entry) : Type 0 where
   pub by_time : AreByTime entries
 
 -- an entry or none, and those of the lines behind it
-joined : (before : ℕ) (here rest : List Entry) → length here ≤ 1 → NoneBefore before here
+join : (before : ℕ) (here rest : List Entry) → length here ≤ 1 → NoneBefore before here
     → ComeAfter (last_time before here) rest → ComeAfter before (here ++ rest)
-joined before [] rest one later after = after
-joined before (e ∷ []) rest one later after = record {
+join before [] rest one later after = after
+join before (e ∷ []) rest one later after = record {
   later = (later.0, none_before-less before e.time rest later.0 after.later);
   by_time = (after.later, after.by_time);
 }
-joined before (e ∷ f ∷ es) rest one later after = absurd (omega arith)
+join before (e ∷ f ∷ es) rest one later after = absurd (omega arith)
 
 one_chosen : (long odd : Bool) (a b : Entry) (es : List Entry) → length es ≤ 1
     → length (cond long (a ∷ []) (cond odd (b ∷ []) es)) ≤ 1
@@ -106,7 +106,7 @@ unfolding entries_after
 entries_after-later known slots before [] = record { later = tt; by_time = tt }
 entries_after-later known slots before (line ∷ lines) =
     let here : List Entry = entry_of known slots before line in
-    joined before here (entries_after known slots (last_time before here) lines)
+    join before here (entries_after known slots (last_time before here) lines)
     (entry_of-one known slots before line) (entry_of-later known slots before line)
     (entries_after-later known slots (last_time before here) lines)
 

@@ -26,7 +26,7 @@ mod tests;
 mod tracker;
 
 pub use news::PlainNews;
-pub use recording::{RECORDING, code_file};
+pub use recording::{RECORDING, code_file, long_code_file};
 pub use signal::MadeSignal;
 pub use stream::SampleStream;
 pub use tracker::{PlainDump, PlainTracker};

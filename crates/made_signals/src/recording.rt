@@ -84,9 +84,18 @@ pub const RECORDING: [u8; 1200] = [
 
 /// 2,048 one-bit samples: sample n is the chip of satellite 1 with number (n mod 2,046) / 2.
 pub fn code_file() -> [u8; 256] {
+    code_bytes()
+}
+
+/// The same, gone on with: 12,288 samples, six periods of the code and twelve samples.
+pub fn long_code_file() -> [u8; 1_536] {
+    code_bytes()
+}
+
+fn code_bytes<const BYTES: usize>() -> [u8; BYTES] {
     let signs = ChipSigns::of(1);
-    let mut bytes = [0; 256];
-    for place in 0..256 {
+    let mut bytes = [0; BYTES];
+    for place in 0..BYTES {
         bytes[place] = code_byte(&signs, place as u64);
     }
     bytes

@@ -72,7 +72,8 @@ fn take_piece<W: Sink>(
     requires ready { 0 < until_next session.old }
     ensures empty { OnOk result (events.new.items ≡ []) }
     ensures packing { packing_in session.new ≡ packing_in session.old }
-    ensures time { OnOk result (time_of session.new ≡ time_of session.old + length piece.now.samples) }
+    ensures time { OnOk result
+        (time_of session.new ≡ time_of session.old + length piece.now.samples) }
     ensures ready { OnOk result (0 < until_next session.new) }
     ensures ok { OnOk result (TakesOn piece.now.samples session.old session.new
         (promise (W.contents writer.old) text.old) (promise (W.contents writer.new) text.new)) }

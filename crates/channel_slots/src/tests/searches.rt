@@ -3,13 +3,14 @@
 ghost use Rattle.std.specs.Prelude.{◌≡◌, ◌<◌, ◌≤◌, IfOk};
 ghost use Rattle.channel_slots.specs.BankStates.{settings_of, clients_of};
 ghost use Rattle.definitions.specs.Samples.{real1};
+ghost use Rattle.sample_planes.TheConstants.{MAX_SAMPLES};
 
 use super::{acquire, hold, plain_settings, slot_zero, sums, track};
 use crate::{Answer, Bank, Command, Event, Phase, Refusal, SlotEvent, SlotNo, SlotState};
 use acquisition::{Cell, Plan};
 use arrayvec::ArrayVec;
 use ca_codes::Prn;
-use made_signals::code_file;
+use made_signals::long_code_file;
 use oscillators::HalfChip;
 use sample_planes::{Format, PackedSamples};
 use std::alloc::Global;
@@ -39,7 +40,7 @@ fn feed_to(
 ) -> Result<ArrayVec<SlotEvent, MOST_TOLD>, Fail>
     requires packing { recording.now.packing ≡ (settings_of bank.old).packing }
     requires some { 0 < piece }
-    requires short { piece ≤ 1024 }
+    requires short { piece ≤ MAX_SAMPLES }
     ensures settings { settings_of bank.new ≡ settings_of bank.old }
     ensures clients { clients_of bank.new ≡ clients_of bank.old }
 {
@@ -75,7 +76,7 @@ fn hear(
 ) -> Result<(), Fail>
     requires packing { recording.now.packing ≡ (settings_of bank.old).packing }
     requires some { 0 < piece }
-    requires short { piece ≤ 1024 }
+    requires short { piece ≤ MAX_SAMPLES }
     ensures settings { settings_of bank.new ≡ settings_of bank.old }
     ensures clients { clients_of bank.new ≡ clients_of bank.old }
 {
@@ -86,21 +87,6 @@ fn hear(
         "from {piece} at a time, by {until}"
     );
     Ok(())
-}
-
-/// Bytes of 12,288 samples, of which number n is the chip of satellite 1 with number
-/// (n mod 2,046) / 2.
-fn code_of_six_periods() -> [u8; 1_536] {
-    let code = code_file();
-    let mut bytes = [0; 1_536];
-    for k in 0..1_536 {
-        for j in 0..8 {
-            let n = (8 * k + j) % 2_046;
-            let bit = code[n / 8] >> (7 - n % 8) & 1;
-            bytes[k] |= bit << (7 - j);
-        }
-    }
-    bytes
 }
 
 /// The cell that the code of satellite 1 is found in: half chip 2, where all its products are 2 in
@@ -151,7 +137,7 @@ fn tracking() -> Result<SlotState, Fail> {
 // and not before. From then on the signal is tracked.
 #[test]
 fn acquire_code_file(rt: HostRuntime) -> Result<(), Fail> {
-    let bytes = code_of_six_periods();
+    let bytes = long_code_file();
     let recording = PackedSamples::new(Format::Real1, &bytes);
     let state = Command::State { slot: slot_zero()? };
     let mut bank = bank_of_one(rt.alloc())?;
@@ -198,7 +184,7 @@ fn equal_cells(rt: HostRuntime) -> Result<(), Fail> {
 // The dwell ends at 2,046, and one cell is done with every four samples behind it.
 #[test]
 fn cells_come_with_samples(rt: HostRuntime) -> Result<(), Fail> {
-    let bytes = code_of_six_periods();
+    let bytes = long_code_file();
     let recording = PackedSamples::new(Format::Real1, &bytes);
     let state = Command::State { slot: slot_zero()? };
     let mut bank = bank_of_one(rt.alloc())?;
@@ -291,7 +277,7 @@ fn cells_among_strangers(rt: HostRuntime) -> Result<(), Fail> {
 // those of chips 1,022 and 0 late, which is -1.
 #[test]
 fn counts_outlast_the_search(rt: HostRuntime) -> Result<(), Fail> {
-    let bytes = code_of_six_periods();
+    let bytes = long_code_file();
     let recording = PackedSamples::new(Format::Real1, &bytes);
     let counts = Command::Counts {
         slot: slot_zero()?,
@@ -358,9 +344,9 @@ fn behind(bytes: &[u8; 1_536], first: usize) -> [u8; 1_537]
 /// Sees that a bank tells the same in pieces, wherever in a byte the recording begins.
 fn hear_from_each_place(rt: &impl Abort, alloc: Global, piece: usize) -> Result<(), Fail>
     requires some { 0 < piece }
-    requires short { piece ≤ 1024 }
+    requires short { piece ≤ MAX_SAMPLES }
 {
-    let bytes = code_of_six_periods();
+    let bytes = long_code_file();
     let named = told_at(10_232, found_at_two()?);
     for first in 0..8 {
         let moved = behind(&bytes, first);

@@ -3,30 +3,16 @@
 use super::run_plain;
 use crate::tests::fakes::{Giving, Holding};
 use crate::tests::signals::written;
-use made_signals::{MadeSignal, SampleStream, code_file};
+use made_signals::{MadeSignal, SampleStream, long_code_file};
 use std::test::Fail;
 
-/// The samples of a period of the code file.
-const PERIOD: usize = 2_046;
+/// As many bytes of samples as a dwell of one period needs, with the four samples for each of its
+/// cells.
+const DUE_BYTES: usize = 1_279;
 
-/// As many bytes of the code file as a dwell of one period needs, with the four samples for each of
-/// its cells.
-const LONG_FILE: usize = 1_279;
-
-/// The code file, gone on with: one sample for each half chip of satellite 1, period after period.
-fn long_code_file() -> [u8; LONG_FILE] {
-    let code = code_file();
-    let mut bytes = [0; LONG_FILE];
-    for n in 0..8 * LONG_FILE {
-        let place = n % PERIOD;
-        let sample = code[place / 8] >> (7 - place % 8) & 1;
-        bytes[n / 8] |= sample << (7 - n % 8);
-    }
-    bytes
-}
-
-// The code stands at the third half chip where the search begins: there all products of samples and
-// chips are 1, so that the sums are 2,046 times 2 and -1, and the power 5 times the square of 2,046.
+// The code stands at the third half chip where the search begins: there all products of samples
+// and chips are 1, so that the sums are 2,046 times 2 and -1, and the power is 5 times the square
+// of 2,046.
 // It is due behind a period and four samples for each of the 2,046 cells.
 #[test]
 fn acquire_code_file(rt: HostRuntime) -> Result<(), Fail> {
@@ -34,7 +20,7 @@ fn acquire_code_file(rt: HostRuntime) -> Result<(), Fail> {
     let script = b"2 acquire 0 1 0 0 1 10\n";
     let found = "1 2 ok\n1 10232 acq 0 1 found 0 2 20930580\n1 10232 end\n";
     let not_due = "1 2 ok\n1 10224 end\n";
-    for (len, samples, text) in [(1_279, 10_232, found), (1_278, 10_224, not_due)] {
+    for (len, samples, text) in [(DUE_BYTES, 10_232, found), (DUE_BYTES - 1, 10_224, not_due)] {
         for bytes_a_read in [1, 3, 128, 2_000] {
             let mut reader = Giving::pieces(&bytes[..len], bytes_a_read);
             let mut writer = Holding::whole();
@@ -47,8 +33,8 @@ fn acquire_code_file(rt: HostRuntime) -> Result<(), Fail> {
 }
 
 // With samples that are all 1 each cell's sums are 2 and -1 times two samples for each chip, of
-// which all chips of satellite 1 add up to -1. So all powers are 20, and the first cell is named. It
-// reaches ten tenths of the mean, and not eleven.
+// which all chips of satellite 1 add up to -1. So all powers are 20, and the first cell is named.
+// It reaches ten tenths of the mean, and not eleven.
 #[test]
 fn equal_cells(rt: HostRuntime) -> Result<(), Fail> {
     let rows: [(&[u8], &str); 2] = [
@@ -56,7 +42,7 @@ fn equal_cells(rt: HostRuntime) -> Result<(), Fail> {
         (b"0 acquire 0 1 0 0 1 11\n", "none"),
     ];
     for (script, word) in rows {
-        let mut reader = Giving::whole(&[0; LONG_FILE]);
+        let mut reader = Giving::whole(&[0; DUE_BYTES]);
         let mut writer = Holding::whole();
         let answer = run_plain(rt.alloc(), &[script], &mut reader, &mut writer)?;
         assert_eq!(rt; answer, Ok(10_232));
@@ -97,7 +83,7 @@ fn commands_at_the_due_time(rt: HostRuntime) -> Result<(), Fail> {
     let mut reader = Giving::whole(&bytes);
     let mut writer = Holding::whole();
     let answer = run_plain(rt.alloc(), &[found, missed], &mut reader, &mut writer)?;
-    assert_eq!(rt; answer, Ok(10_232));
+    assert_eq!(rt; answer, Ok(12_288));
     let text = "1 2 ok\n\
         2 2 ok\n\
         1 10232 acq 0 1 found 0 2 20930580\n\
@@ -107,8 +93,8 @@ fn commands_at_the_due_time(rt: HostRuntime) -> Result<(), Fail> {
         1 10232 state 0 idle\n\
         2 10232 state 3 idle\n\
         2 10232 err 10\n\
-        1 10232 end\n\
-        2 10232 end\n";
+        1 12288 end\n\
+        2 12288 end\n";
     assert_eq!(rt; writer.text()?, text);
     Ok(())
 }
@@ -128,7 +114,7 @@ fn commands_while_it_searches(rt: HostRuntime) -> Result<(), Fail> {
     let mut reader = Giving::whole(&bytes);
     let mut writer = Holding::whole();
     let answer = run_plain(rt.alloc(), &[script], &mut reader, &mut writer)?;
-    assert_eq!(rt; answer, Ok(10_232));
+    assert_eq!(rt; answer, Ok(12_288));
     let text = "1 0 ok\n\
         1 5 err 9\n\
         1 6 err 9\n\
@@ -137,7 +123,7 @@ fn commands_while_it_searches(rt: HostRuntime) -> Result<(), Fail> {
         1 3000 ok\n\
         1 3000 state 0 idle\n\
         1 3000 err 10\n\
-        1 10232 end\n";
+        1 12288 end\n";
     assert_eq!(rt; writer.text()?, text);
     Ok(())
 }

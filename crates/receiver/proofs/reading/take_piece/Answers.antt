@@ -13,6 +13,9 @@ use Rattle.receiver.specs.HeldTexts.{promise}
 use Rattle.receiver.proofs.HeldLemmas.{grows-none, grows-on}
 use Rattle.receiver.proofs.reading.take_piece.Goals as goal
 
+same-samples : (r s : PackedRun) → r ≡ s → r.samples ≡ s.samples
+same-samples r s e = ap (λ (t : PackedRun). t.samples) e
+
 -- a part of the piece behind those before it
 behind : (xs piece : List Sample) (n m : ℕ)
     → (xs ++ take n piece) ++ take m (drop n piece) ≡ xs ++ take (n + m) piece
@@ -36,7 +39,8 @@ returns-in_err-take_samples-clause-err g c =
     body-part-longer settings clients start
     (promise (s.contents c.take_samples.new.writer) c.take_samples.new.text)
     ((xs ++ take first piece) ++ c.part.result.samples) (drop next piece) (xs ++ piece)
-    (ap (λ (l : List Sample). ((xs ++ take first piece) ++ l) ++ drop next piece) (ap (λ (r : PackedRun). r.samples) c.part.ensures)
+    (ap (λ (l : List Sample). ((xs ++ take first piece) ++ l) ++ drop next piece)
+    (same-samples c.part.result _ c.part.ensures)
     ∙ ap (λ (l : List Sample). l ++ drop next piece) (behind xs piece first c.min-len.result)
     ∙ all-of xs piece next)
     (c.in_err-take_samples.ensures.err settings clients start (xs ++ take first piece)
@@ -65,7 +69,8 @@ loop-first-preserved g c =
     let within : first + len ≤ length piece =
     omega (arith, c.len-count.ensures, c.min-most.ensures, c.min-len.ensures) in
     let many : length c.part.result.samples ≡ len =
-    ap length (ap (λ (r : PackedRun). r.samples) c.part.ensures) ∙ part-length piece first len within in
+    ap length (same-samples c.part.result _ c.part.ensures)
+    ∙ part-length piece first len within in
     let more : time_of c.take_samples.new.session
     ≡ time_of c.loop-first.session + length c.part.result.samples = e.time in
     record {
@@ -80,7 +85,8 @@ loop-first-preserved g c =
       written = λ settings clients start xs at.
           subst (IsWrittenTo settings clients start c.take_samples.new.session
           (promise (s.contents c.take_samples.new.writer) c.take_samples.new.text))
-          (ap (λ (l : List Sample). (xs ++ take first piece) ++ l) (ap (λ (r : PackedRun). r.samples) c.part.ensures)
+          (ap (λ (l : List Sample). (xs ++ take first piece) ++ l)
+          (same-samples c.part.result _ c.part.ensures)
           ∙ behind xs piece first len)
           (e.ok settings clients start (xs ++ take first piece)
           (i.written settings clients start xs at));
