@@ -23,12 +23,11 @@ use Rattle.channel_slots.specs.Answers.{cells_shown}
 use Rattle.channel_slots.specs.Stages as stages
 use Rattle.channel_slots.specs.Stages.{Follows, IsSought}
 use Rattle.channel_slots.specs.Slots.{StandsFor, cells_done_of}
-use Rattle.channel_slots.specs.Banks.{cells_done_at, keys_of}
+use Rattle.channel_slots.specs.Banks.{cells_done_at, keys_of, IsAt}
 use Rattle.channel_slots.proofs.SearchLemmas.{shows-sought}
 use Rattle.channel_slots.proofs.StageLemmas.{shows-held, tracked-view}
 use Rattle.channel_slots.proofs.SlotLemmas.{has-life, answers, idle-shown}
-use Rattle.channel_slots.proofs.LayoutLemmas.{by_fours}
-use Rattle.channel_slots.proofs.CommandLemmas.{AreFrom, heads}
+use Rattle.channel_slots.proofs.CommandLemmas.{Once, once-tail, not-first, found}
 
 -- ---- what is shown
 
@@ -76,56 +75,28 @@ elsewhere p ps client number other = by_test (is_key p client number) refl
         absurd (other (eqb-true p.client client both.0) (eqb-true p.number number both.1))
     by_test false e = rw e refl
 
-from-first : (ps : List Place) (n i client number : ℕ) (d : Place) → i < length ps → AreFrom n ps
-    → n + i ≡ (client - 1) * 4 + number → 1 ≤ client → number < 4
-    → cells_done_at ps client number ≡ cells_done_of (get_or ps i d).slot
-from-first [] n i client number d h keys is first small = absurd (omega arith)
-from-first (p ∷ ps) n zero client number d h keys is first small =
-    let k = heads p ps n keys in
-    here p ps client number (omega (arith, k.0, is, first, small))
-    (omega (arith, k.1, is, first, small))
-from-first (p ∷ ps) n (suc i) client number d h keys is first small =
-    let k = heads p ps n keys in
-    elsewhere p ps client number (λ c m. omega (arith, k.0, k.1, c, m, is, first, small))
-    ∙ from-first ps (n + 1) i client number d (omega (arith, h)) k.2 (omega (arith, is)) first small
-
 -- that of its place
-pub cells-at : (ps : List Place) (client number : ℕ) (p : Place) → 1 ≤ client
-    → 4 * client ≤ length ps → number < 4 → keys_of ps ≡ by_fours 0 (length ps)
-    → p ≡ get_or ps ((client - 1) * 4 + number) p
+pub cells-at : (ps : List Place) (at client number : ℕ) (p : Place) → Once (keys_of ps)
+    → IsAt (keys_of ps) at client number → p ≡ get_or ps at p
     → cells_done_at ps client number ≡ cells_done_of p.slot
-unfolding AreFrom
-cells-at ps client number p first last small keys is =
-    from-first ps 0 ((client - 1) * 4 + number) client number p (omega (arith, first, last, small))
-    keys (omega arith) first small
-    ∙ sym (ap (λ (q : Place). cells_done_of q.slot) is)
+cells-at [] at client number p once there is = cc
+cells-at (q ∷ ps) zero client number p once there is =
+    let f = found (q ∷ ps) zero client number q there refl in
+    here q ps client number f.client_is f.number_is
+    ∙ sym (ap (λ (x : Place). cells_done_of x.slot) is)
+cells-at (q ∷ ps) (suc at) client number p once there is =
+    elsewhere q ps client number
+    (not-first (q.client, q.number) (keys_of ps) at client number once there)
+    ∙ cells-at ps at client number p (once-tail (q.client, q.number) (keys_of ps) once) there is
 
--- no place is that of another client
-from-none : (ps : List Place) (n client number : ℕ) → AreFrom n ps
-    → (client ≡ 0) ⊎ (n + length ps ≤ 4 * (client - 1))
-    → cells_done_at ps client number ≡ None
+-- no place is that of another slot
+pub cells-nowhere : (ps : List Place) (client number : ℕ)
+    → ((j : ℕ) → IsAt (keys_of ps) j client number → ⊥) → cells_done_at ps client number ≡ None
 unfolding cells_done_at
-from-none [] n client number keys other = refl
-from-none (p ∷ ps) n client number keys other =
-    let k = heads p ps n keys in
-    elsewhere p ps client number (λ c m. elim other [
-      | inl zero_is ↦ omega (arith, k.0, c, zero_is)
-      | inr behind ↦ omega (arith, k.0, c, behind)
-    ])
-    ∙ from-none ps (n + 1) client number k.2 (elim other [
-      | inl zero_is ↦ inl zero_is
-      | inr behind ↦ inr (omega (arith, behind))
-    ])
-
-pub no-client : (ps : List Place) (clients client number : ℕ)
-    → keys_of ps ≡ by_fours 0 (length ps) → length ps ≡ 4 * clients
-    → (client ≡ 0) ⊎ (clients < client) → cells_done_at ps client number ≡ None
-unfolding AreFrom
-no-client ps clients client number keys many other =
-    from-none ps 0 client number keys (elim other [
-      | inl zero_is ↦ inl zero_is
-      | inr behind ↦ inr (omega (arith, many, behind))
-    ])
+cells-nowhere [] client number out = refl
+cells-nowhere (p ∷ ps) client number out =
+    elsewhere p ps client number (λ c n. out 0 (rw (c, n) refl))
+    ∙ cells-nowhere ps client number (λ j. out (suc j))
 
 -- ---- how many more they are
 

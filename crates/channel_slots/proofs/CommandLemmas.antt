@@ -1,19 +1,17 @@
 -- One slot of a bank takes a command; what the others stand for stays.
-use Rattle.std.proofs.Common.{◌≡◌, ℕ, zero, suc, ◌+◌, ◌-◌, ◌*◌, ◌/◌, ◌%◌, ◌<◌, ◌≤◌, List, drop}
-use Rattle.std.proofs.Common.{length-set, [], ◌∷◌, ◌++◌, length, refl, sym, ap, ◌∙◌, arith, get_or}
-use Rattle.std.proofs.Common.{slice_set}
-use Rattle.std.specs.Prelude.{Bool, true, false, nat_eq, replicate}
+use Rattle.std.proofs.Common.{◌≡◌, ℕ, zero, suc, ◌+◌, ◌-◌, ◌<◌, ◌≤◌, List, drop, length-set, []}
+use Rattle.std.proofs.Common.{◌∷◌, ◌++◌, length, refl, sym, ap, ◌∙◌, arith, get_or, slice_set}
+use Rattle.std.specs.Prelude.{Bool, true, false, nat_eq, Option, Some, None, slice_get, unwrap_or}
 use Rattle.std.specs.List.{AllByRecursion}
 use Rattle.std.proofs.lemmas.Bool.{ne_eqb, eqb-true, true_from_ne_false, eqb-false}
 use Rattle.definitions.specs.Oscillators.{Settings}
 use Rattle.definitions.specs.Commands.{TimedRequest, Request}
+use Rattle.definitions.specs.Samples.{Sample}
+use Rattle.definitions.specs.Banks.{with_command}
 use Rattle.channel_slots.specs.declared.place.Place.{Place}
 use Rattle.channel_slots.specs.Slots.{StandsFor, dumps_of}
-use Rattle.channel_slots.specs.Banks.{keys_of, BankStands, AllFew, most_dumps}
-use Rattle.definitions.specs.Samples.{Sample}
-use Rattle.definitions.specs.Banks.{layout, with_command}
-use Rattle.channel_slots.proofs.BankLemmas.{few-from_most, most-from_few, slots-four}
-use Rattle.channel_slots.proofs.LayoutLemmas.{by_fours, layout-fours}
+use Rattle.channel_slots.specs.Banks.{keys_of, BankStands, AllFew, most_dumps, IsAt}
+use Rattle.channel_slots.proofs.BankLemmas.{few-from_most, most-from_few}
 
 pub each-at : {A : Type 0} (P : A → Type 0) (xs : List A) (i : ℕ) (d : A) → i < length xs
     → AllByRecursion P xs → P (get_or xs i d)
@@ -21,36 +19,63 @@ each-at P [] i d h all = absurd (omega arith)
 each-at P (x ∷ xs) zero d h all = all.0
 each-at P (x ∷ xs) (suc i) d h all = each-at P xs i d (omega arith) all.1
 
-unfoldable pub AreFrom : ℕ → List Place → Type 0
-AreFrom n ps = keys_of ps ≡ by_fours n (length ps)
+-- ---- places by their keys, of which no two are the same
 
-pub heads : (p : Place) (ps : List Place) (n : ℕ) → AreFrom n (p ∷ ps)
-    → (p.client ≡ n / 4 + 1) × (p.number ≡ n % 4) × AreFrom (n + 1) ps
-unfolding AreFrom
-heads p ps n e = (
-  ap (λ (l : List (ℕ × ℕ)). (get_or l 0 (0, 0)).0) e,
-  ap (λ (l : List (ℕ × ℕ)). (get_or l 0 (0, 0)).1) e,
-  ap (λ (l : List (ℕ × ℕ)). drop 1 l) e,
-)
+abbrev pub Once : List (ℕ × ℕ) → Type 0
+Once keys = (i j client number : ℕ) → IsAt keys i client number → IsAt keys j client number → i ≡ j
 
-module _ (settings : Settings) (xs : List Sample) (asked : ℕ → ℕ → List TimedRequest) (m time : ℕ)
-    (request : Request) where
+pub once-tail : (key : ℕ × ℕ) (keys : List (ℕ × ℕ)) → Once (key ∷ keys) → Once keys
+once-tail key keys once i j client number a b =
+    let same : suc i ≡ suc j = once (suc i) (suc j) client number a b in omega (arith, same)
+
+-- the first key isn't that of a later place
+pub not-first : (key : ℕ × ℕ) (keys : List (ℕ × ℕ)) (i client number : ℕ) → Once (key ∷ keys)
+    → IsAt keys i client number → key.0 ≡ client → key.1 ≡ number → ⊥
+not-first key keys i client number once is c n =
+    let here : IsAt (key ∷ keys) 0 client number = rw (c, n) refl in
+    let same : 0 ≡ suc i = once 0 (suc i) client number here is in omega (arith, same)
+
+-- a place whose key is known
+pub record IsPlace (ps : List Place) (at client number : ℕ) (p : Place) : Type 0 where
+  pub within : at < length ps
+  pub client_is : p.client ≡ client
+  pub number_is : p.number ≡ number
+
+pub found : (ps : List Place) (at client number : ℕ) (p : Place)
+    → IsAt (keys_of ps) at client number → p ≡ get_or ps at p → IsPlace ps at client number p
+found [] at client number p is e = cc
+found (q ∷ ps) zero client number p is e = record {
+  within = omega arith;
+  client_is =
+      ap (λ (x : Place). x.client) e
+      ∙ ap (λ (o : Option (ℕ × ℕ)). (unwrap_or o (q.client, q.number)).0) is;
+  number_is =
+      ap (λ (x : Place). x.number) e
+      ∙ ap (λ (o : Option (ℕ × ℕ)). (unwrap_or o (q.client, q.number)).1) is;
+}
+found (q ∷ ps) (suc at) client number p is e =
+    let f = found ps at client number p is e in
+    record {
+      within = omega (arith, f.within);
+      client_is = f.client_is;
+      number_is = f.number_is;
+    }
+
+module _ (settings : Settings) (xs : List Sample) (asked : ℕ → ℕ → List TimedRequest)
+    (client number time : ℕ) (request : Request) where
   abbrev longer : ℕ → ℕ → List TimedRequest
-  longer = with_command asked (m / 4 + 1) (m % 4) time request
+  longer = with_command asked client number time request
 
-  other : (n : ℕ) → (n ≡ m → ⊥) → longer (n / 4 + 1) (n % 4) ≡ asked (n / 4 + 1) (n % 4)
-  other n ne = by_test (nat_eq (n / 4 + 1) (m / 4 + 1)) refl
+  other : (c n : ℕ) → (c ≡ client → n ≡ number → ⊥) → longer c n ≡ asked c n
+  other c n ne = by_test (nat_eq c client) refl
     where
-      by_test : (b : Bool) → nat_eq (n / 4 + 1) (m / 4 + 1) ≡ b
-          → longer (n / 4 + 1) (n % 4) ≡ asked (n / 4 + 1) (n % 4)
-      by_test true e =
-          let same : n / 4 + 1 ≡ m / 4 + 1 = eqb-true (n / 4 + 1) (m / 4 + 1) e in
-          rw (e, ne_eqb (n % 4) (m % 4) (λ h. ne (omega (arith, same, h))))
+      by_test : (b : Bool) → nat_eq c client ≡ b → longer c n ≡ asked c n
+      by_test true e = rw (e, ne_eqb n number (λ h. ne (eqb-true c client e) h))
       by_test false e = rw e
 
-  own : longer (m / 4 + 1) (m % 4)
-      ≡ asked (m / 4 + 1) (m % 4) ++ record { time = time; request = request } ∷ []
-  own = rw (same (m / 4 + 1), same (m % 4))
+  own : longer client number
+      ≡ asked client number ++ record { time = time; request = request } ∷ []
+  own = rw (same client, same number)
     where
       same : (n : ℕ) → nat_eq n n ≡ true
       same n = true_from_ne_false (nat_eq n n) (λ e. eqb-false n n e refl)
@@ -58,86 +83,46 @@ module _ (settings : Settings) (xs : List Sample) (asked : ℕ → ℕ → List 
   Each : (ℕ → ℕ → List TimedRequest) → List Place → Type 0
   Each a ps = AllByRecursion (λ (p : Place). StandsFor settings xs (a p.client p.number) p.slot) ps
 
-  later : (ps : List Place) (n : ℕ) → m < n → AreFrom n ps → Each asked ps → Each longer ps
+  others : (ps : List Place) → ((j : ℕ) → IsAt (keys_of ps) j client number → ⊥) → Each asked ps
+      → Each longer ps
   unfolding Each
-  later [] n h keys each = tt
-  later (p ∷ ps) n h keys each =
-      let k = heads p ps n keys in (
-        rw (k.0, k.1) (rw (other n (λ e. omega (arith, e, h))) (rw (k.0, k.1) at each.0)),
-        later ps (n + 1) (omega arith) k.2 each.1,
-      )
+  others [] out each = tt
+  others (p ∷ ps) out each = (
+    rw (other p.client p.number (λ c n. out 0 (rw (c, n) refl))) each.0,
+    others ps (λ j. out (suc j)) each.1,
+  )
 
-  at_place : (ps : List Place) (n i : ℕ) (q : Place) → i < length ps → m ≡ n + i → AreFrom n ps
-      → q.client ≡ m / 4 + 1 → q.number ≡ m % 4
+  at_place : (ps : List Place) (i : ℕ) (q : Place) → Once (keys_of ps)
+      → IsAt (keys_of ps) i client number → q.client ≡ client → q.number ≡ number
       → StandsFor settings xs
-      (asked (m / 4 + 1) (m % 4) ++ record { time = time; request = request } ∷ []) q.slot
+      (asked client number ++ record { time = time; request = request } ∷ []) q.slot
       → Each asked ps → Each longer (slice_set ps i q)
   unfolding Each
-  at_place [] n i q h is keys client number stands each = absurd (omega arith)
-  at_place (p ∷ ps) n zero q h is keys client number stands each =
-      let k = heads p ps n keys in
-      (rw (client, number) (rw own stands), later ps (n + 1) (omega (arith, is)) k.2 each.1)
-  at_place (p ∷ ps) n (suc i) q h is keys client number stands each =
-      let k = heads p ps n keys in (
-        rw (k.0, k.1) (rw (other n (λ e. omega (arith, e, is))) (rw (k.0, k.1) at each.0)),
-        at_place ps (n + 1) i q (omega arith) (omega (arith, is)) k.2 client number stands each.1,
-      )
-
-key_at : (ps : List Place) (n i : ℕ) (d : Place) → i < length ps → AreFrom n ps
-    → ((get_or ps i d).client ≡ (n + i) / 4 + 1) × ((get_or ps i d).number ≡ (n + i) % 4)
-key_at [] n i d h keys = absurd (omega arith)
-key_at (p ∷ ps) n zero d h keys =
-    let k = heads p ps n keys in let e : n + 0 ≡ n = omega arith in rw e (k.0, k.1)
-key_at (p ∷ ps) n (suc i) d h keys =
-    let e : n + suc i ≡ n + 1 + i = omega arith in
-    rw e (key_at ps (n + 1) i d (omega arith) (heads p ps n keys).2)
-
--- the slots of a bank of so many clients
-pub many : (client clients : ℕ) (ps : List Place) → client ≤ clients
-    → keys_of ps ≡ layout (replicate clients 4) → 4 * client ≤ length ps
-many client clients ps h keys = omega (arith, h, slots-four clients ps keys)
-
-pub own_keys : (clients : ℕ) (ps : List Place) → keys_of ps ≡ layout (replicate clients 4)
-    → keys_of ps ≡ by_fours 0 (length ps)
-own_keys clients ps keys =
-    keys ∙ layout-fours clients ∙ ap (by_fours 0) (sym (slots-four clients ps keys))
-
-pub within : (client number : ℕ) (ps : List Place) → 1 ≤ client → 4 * client ≤ length ps
-    → number < 4 → (client - 1) * 4 + number < length ps
-within client number ps first last small = omega (arith, first, last, small)
-
--- the place of a client's slot
-pub record IsPlace (ps : List Place) (client number : ℕ) (p : Place) : Type 0 where
-  pub within : (client - 1) * 4 + number < length ps
-  pub client_is : p.client ≡ client
-  pub number_is : p.number ≡ number
-
-pub found : (ps : List Place) (client number : ℕ) (p : Place) → 1 ≤ client → 4 * client ≤ length ps
-    → number < 4 → keys_of ps ≡ by_fours 0 (length ps) → p ≡ get_or ps ((client - 1) * 4 + number) p
-    → IsPlace ps client number p
-unfolding AreFrom
-found ps client number p first last small keys is =
-    let b : (client - 1) * 4 + number < length ps = omega arith in
-    let k = key_at ps 0 ((client - 1) * 4 + number) p b keys in
-    record {
-      within = b;
-      client_is = ap (λ (x : Place). x.client) is ∙ k.0 ∙ (omega arith);
-      number_is = ap (λ (x : Place). x.number) is ∙ k.1 ∙ (omega arith);
-    }
+  at_place [] i q once is c n stands each = tt
+  at_place (p ∷ ps) zero q once is c n stands each = (
+    rw (c, n) (rw own stands),
+    others ps (λ j at. absurd_at j (once 0 (suc j) client number is at)) each.1,
+  )
+    where
+      absurd_at : (j : ℕ) → 0 ≡ suc j → ⊥
+      absurd_at j e = omega (arith, e)
+  at_place (p ∷ ps) (suc i) q once is c n stands each = (
+    rw (other p.client p.number
+        (not-first (p.client, p.number) (keys_of ps) i client number once is)) each.0,
+    at_place ps i q (once-tail (p.client, p.number) (keys_of ps) once) is c n stands each.1,
+  )
 
 module _ (settings : Settings) (xs : List Sample) (asked : ℕ → ℕ → List TimedRequest)
-    (ps : List Place) (client number time : ℕ) (p q : Place) (first : 1 ≤ client)
-    (last : 4 * client ≤ length ps) (small : number < 4)
-    (keys : keys_of ps ≡ by_fours 0 (length ps))
-    (is : p ≡ get_or ps ((client - 1) * 4 + number) p) where
+    (ps : List Place) (at client number time : ℕ) (p q : Place) (once : Once (keys_of ps))
+    (there : IsAt (keys_of ps) at client number) (is : p ≡ get_or ps at p) where
   pub stands-at : BankStands settings xs asked time ps
       → StandsFor settings xs (asked client number) p.slot
   stands-at stands =
-      let f = found ps client number p first last small keys is in
+      let f = found ps at client number p there is in
       let s =
       rw (sym is) at (each-at
-      (λ (p : Place). StandsFor settings xs (asked p.client p.number) p.slot) ps
-      ((client - 1) * 4 + number) p f.within stands.each) in
+      (λ (p : Place). StandsFor settings xs (asked p.client p.number) p.slot) ps at p f.within
+      stands.each) in
       rw (f.client_is, f.number_is) at s
 
   pub commanded : (request : Request) → BankStands settings xs asked time ps → q.client ≡ p.client
@@ -146,19 +131,16 @@ module _ (settings : Settings) (xs : List Sample) (asked : ℕ → ℕ → List 
       → StandsFor settings xs (commands ++ record { time = length xs; request = request } ∷ [])
       q.slot)
       → BankStands settings xs (with_command asked client number (length xs) request) time
-      (slice_set ps ((client - 1) * 4 + number) q)
-  unfolding Each AreFrom
+      (slice_set ps at q)
+  unfolding Each
   commanded request stands c n takes =
-      let f = found ps client number p first last small keys is in
-      let m : ℕ = (client - 1) * 4 + number in
-      let a : m / 4 + 1 ≡ client = omega arith in
-      let b : m % 4 ≡ number = omega arith in
+      let f = found ps at client number p there is in
       record {
         now = stands.now;
         each =
-            rw (a, b) at (at_place settings xs asked m (length xs) request ps 0 m q f.within
-            (omega arith) keys (c ∙ f.client_is ∙ sym a) (n ∙ f.number_is ∙ sym b)
-            (rw (a, b) (takes (asked client number) (stands-at stands))) stands.each);
+            at_place settings xs asked client number (length xs) request ps at q once there
+            (c ∙ f.client_is) (n ∙ f.number_is) (takes (asked client number) (stands-at stands))
+            stands.each;
       }
 
 keys-set : (ps : List Place) (i : ℕ) (d q : Place) → q.client ≡ (get_or ps i d).client

@@ -1,7 +1,6 @@
 pub mod BankLemmas
 pub mod CellLemmas
 pub mod CommandLemmas
-pub mod LayoutLemmas
 pub mod LifeLemmas
 pub mod NewsLemmas
 pub mod OrderLemmas
@@ -10,6 +9,7 @@ pub mod PutLemmas
 pub mod QuietLemmas
 pub mod ReadyLemmas
 pub mod SearchLemmas
+pub mod ShareLemmas
 pub mod SlotLemmas
 pub mod StageLemmas
 pub mod SteeredLemmas

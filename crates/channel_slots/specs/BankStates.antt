@@ -1,5 +1,5 @@
 -- What a bank stands for.
-use Rattle.std.specs.Prelude.{◌≡◌, ◌≤◌, ◌+◌, ◌/◌, ◌++◌, ℕ, List, length, replicate, Option, Some}
+use Rattle.std.specs.Prelude.{◌≡◌, ◌≤◌, ◌+◌, ◌-◌, ◌/◌, ◌++◌, ℕ, List, length, get_or, Option, Some}
 use Rattle.definitions.specs.Samples.{Sample}
 use Rattle.definitions.specs.Receiver.{at_each_sample}
 use Rattle.definitions.specs.Banks.{bank_events_at_end, layout}
@@ -10,15 +10,18 @@ use Rattle.channel_slots.specs.declared.event.SlotEvent.{SlotEvent}
 use Rattle.sample_history.specs.Histories as histories
 use Rattle.channel_slots.specs.Banks.{BankStands, cells_done_at}
 use Rattle.channel_slots.specs.Events.{AreTold}
-use Rattle.channel_slots.specs.declared.command.TheConstants.{CLIENT_SLOTS}
 
 -- how many samples there were
 abbrev pub time_of : Bank → ℕ
 time_of bank = bank.time
 
--- how many clients it has
-abbrev pub clients_of : Bank → ℕ
-clients_of bank = bank.clients
+-- how many slots each of its clients has
+abbrev pub shares_of : Bank → List ℕ
+shares_of bank = bank.shares.items
+
+-- that of one of them, of those that are numbered from 1; none where no client has that number
+abbrev pub share_of : Bank → ℕ → ℕ
+share_of bank client = get_or (shares_of bank) (client - 1) 0
 
 -- what is known of the recording
 abbrev pub settings_of : Bank → Settings
@@ -43,7 +46,7 @@ Tells old run events =
     (settings : Settings) (xs : List Sample) (asked : ℕ → ℕ → List TimedRequest)
     → StandsFor settings xs asked old
     → AreTold events (at_each_sample
-    (bank_events_at_end settings (layout (replicate (clients_of old) CLIENT_SLOTS)) asked) xs run)
+    (bank_events_at_end settings (layout (shares_of old)) asked) xs run)
 
 -- and behind the run it stands for the same with these samples
 abbrev pub Takes : Bank → List Sample → Bank → Type 0

@@ -1,17 +1,18 @@
 //! What a client asks of one of its slots.
 
 ghost use Rattle.std.specs.Prelude.{◌≡◌, ◌<◌, ◌↔◌, ℕ, IsSome, IfSome};
-ghost use Rattle.channel_slots.specs.declared.command.TheConstants.{CLIENT_SLOTS};
+ghost use Rattle.channel_slots.specs.declared.command.TheConstants.{MOST_SLOTS};
 
 use acquisition::Plan;
 use ca_codes::Prn;
 use oscillators::{Doppler, HalfChip};
 use std::marker::Model;
 
-/// How many slots a client has.
-pub const CLIENT_SLOTS: u8 = 4;
+/// The most slots that a client has.
+pub const MOST_SLOTS: u8 = 8;
 
-/// The number of a client's slot, 0 to 3. Clauses see it as a number.
+/// The number of a client's slot, 0 to 7; a client with a share of N slots has those below N.
+/// Clauses see it as a number.
 #[derive(Clone, Copy, Debug, PartialEq, Eq)]
 pub struct SlotNo(u8);
 
@@ -20,18 +21,18 @@ impl Model for SlotNo {
 
     ghost view = { λ s. s.0 };
 
-    ghost invariant = { λ s. s.0 < CLIENT_SLOTS };
+    ghost invariant = { λ s. s.0 < MOST_SLOTS };
 
     ghost inverse = { λ n. record { 0 = n } };
 }
 
 impl SlotNo {
-    /// The slot of that number, or `None` outside 0 to 3.
+    /// The slot of that number, or `None` outside 0 to 7.
     pub fn new(number: u8) -> Option<SlotNo>
-        ensures valid { IsSome result ↔ (number < CLIENT_SLOTS) }
+        ensures valid { IsSome result ↔ (number < MOST_SLOTS) }
         ensures same { IfSome result (λ slot. slot ≡ number) }
     {
-        if number < CLIENT_SLOTS {
+        if number < MOST_SLOTS {
             Some(SlotNo(number))
         } else {
             None
@@ -41,7 +42,7 @@ impl SlotNo {
     /// Its number.
     pub fn get(self) -> u8
         ensures same { result ≡ self }
-        ensures range { result < CLIENT_SLOTS }
+        ensures range { result < MOST_SLOTS }
     {
         self.0
     }

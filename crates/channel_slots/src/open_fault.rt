@@ -2,7 +2,7 @@
 
 use thiserror::Error;
 
-/// Why no bank was opened. The number of clients is looked at first.
+/// Why no bank was opened. The number of clients is looked at first, then their shares.
 #[derive(Clone, Copy, Debug, PartialEq, Eq, Error)]
 pub enum OpenFault {
     /// There was no memory for the slots.
@@ -11,4 +11,7 @@ pub enum OpenFault {
     /// The number of clients is outside 1 to 8.
     #[error("clients")]
     Clients,
+    /// A client's share of the slots is outside 1 to 8.
+    #[error("share")]
+    Share,
 }

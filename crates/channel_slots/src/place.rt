@@ -1,20 +1,20 @@
 //! The slots of all clients, each with whose it is.
 
-ghost use Rattle.std.specs.Prelude.{◌≡◌, ◌≤◌, ◌<◌, ◌+◌, ◌*◌, ◌^◌, ℕ, length, replicate, [], IfOk};
+ghost use Rattle.std.specs.Prelude.{◌≡◌, ◌≤◌, ◌<◌, ◌+◌, ◌*◌, ◌^◌, ℕ, length, [], IfOk, OnOk};
 ghost use Rattle.std.specs.List.{AllByRecursion};
 ghost use Rattle.definitions.specs.Oscillators.{Settings as DefinedSettings};
 ghost use Rattle.definitions.specs.Banks.{layout};
 ghost use Rattle.channel_slots.specs.Slots.{StandsFor};
 ghost use Rattle.arrayvec.specs.ArrayVec.{array_vec_len};
 ghost use Rattle.channel_slots.specs.Banks.{keys_of, AllFew, AllReady, RunsAll, IsCommanded};
-ghost use Rattle.channel_slots.specs.Banks.{AllWithin, HasDone};
+ghost use Rattle.channel_slots.specs.Banks.{HasDone, total, AddsIdle, AllIdle};
 ghost use Rattle.channel_slots.specs.Slots.{IsReady, IsWithin, Holds};
 ghost use Rattle.channel_slots.specs.Stages.{most_wait};
 ghost use Rattle.acquisition.specs.declared.dwell.TheConstants.{MOST_START};
 ghost use Rattle.channel_slots.specs.declared.slot_news.TheConstants.{DUMP_EVENTS};
 ghost use Rattle.channel_slots.specs.Commands.{request_in};
 ghost use Rattle.channel_slots.specs.declared.bank.TheConstants.{MOST_TIME};
-ghost use Rattle.channel_slots.specs.declared.command.TheConstants.{CLIENT_SLOTS};
+ghost use Rattle.channel_slots.specs.declared.command.TheConstants.{MOST_SLOTS};
 ghost use Rattle.channel_slots.specs.declared.place.TheConstants.{MOST_CLIENTS, RUN_EVENTS};
 ghost use Rattle.channel_slots.specs.declared.place.TheConstants.{FRAME_EVENTS};
 ghost use Rattle.channel_slots.specs.NewsEvents.{if_any, lock_events, frame_events, events_with};
@@ -24,7 +24,7 @@ ghost use Rattle.tracking_loops.specs.declared.limits.TheConstants.{MOST_DUMPS};
 ghost use Rattle.sample_planes.specs.declared.planes.TheConstants.{MAX_SAMPLES};
 
 use crate::answer::Answer;
-use crate::command::{CLIENT_SLOTS, Command};
+use crate::command::{Command, MOST_SLOTS};
 use crate::event::{Event, SlotEvent};
 use crate::slot::{SLOT_EVENTS, Slot};
 use crate::slot_news::{DUMP_EVENTS, DumpNews, SlotNews};
@@ -40,11 +40,11 @@ use std::alloc::{AllocError, Global};
 use tracking_loops::News;
 
 /// The most clients.
-pub const MOST_CLIENTS: u8 = 8;
+pub const MOST_CLIENTS: usize = 8;
 
 /// The most events of a run of samples: each slot has at most one dump in it, with all that comes
 /// with it.
-pub const RUN_EVENTS: usize = 256;
+pub const RUN_EVENTS: usize = 512;
 
 /// The most events that come with a subframe: a gap, the subframe, a page and a set of almanacs.
 const FRAME_EVENTS: usize = 4;
@@ -224,26 +224,45 @@ fn lock_event(lock: News) -> Option<Event>
     }
 }
 
-/// Idle slots for each of so many clients, by client and then by slot.
-pub fn idle_places(alloc: Global, clients: u8) -> Result<Vec<Place>, AllocError>
-    requires { clients ≤ MOST_CLIENTS }
-    ensures keys { IfOk result (λ places. keys_of places.items
-        ≡ layout (replicate clients CLIENT_SLOTS)) }
-    ensures few { IfOk result (λ places. AllFew 0 places.items) }
-    ensures stand { IfOk result (λ places. (settings : DefinedSettings)
-        → AllByRecursion (λ p. StandsFor settings [] [] p.slot) places.items) }
-    ensures ready { IfOk result (λ places. AllReady 0 0 places.items) }
-    ensures within { IfOk result (λ places. (reach : ℕ) → AllWithin reach places.items) }
+/// Idle slots for clients that have these shares of them, by client and then by slot.
+pub fn idle_places(alloc: Global, shares: &[u8]) -> Result<Vec<Place>, AllocError>
+    requires clients { length shares.now ≤ MOST_CLIENTS }
+    requires few { AllByRecursion (λ share. share ≤ MOST_SLOTS) shares.now }
+    ensures keys { IfOk result (λ places. keys_of places.items ≡ layout shares.now) }
+    ensures idle { IfOk result (λ places. AllIdle places.items) }
 {
-    let mut places = Vec::with_capacity(alloc, (CLIENT_SLOTS * clients) as usize)?;
-    for place in 0..CLIENT_SLOTS * clients {
+    let mut places = Vec::with_capacity(alloc, slots_in(shares))?;
+    for index in 0..shares.len() {
+        add_idle(&mut places, index as u8 + 1, shares[index])?;
+    }
+    Ok(places)
+}
+
+/// How many slots clients with these shares have together.
+pub fn slots_in(shares: &[u8]) -> usize
+    requires clients { length shares.now ≤ MOST_CLIENTS }
+    requires few { AllByRecursion (λ share. share ≤ MOST_SLOTS) shares.now }
+    ensures { result ≡ total shares.now }
+{
+    let mut slots = 0;
+    for share in shares {
+        slots += *share as usize;
+    }
+    slots
+}
+
+/// Adds the idle slots of a client.
+fn add_idle(places: &mut Vec<Place>, client: u8, share: u8) -> Result<(), AllocError>
+    ensures { OnOk result (AddsIdle client share places.old.items places.new.items) }
+{
+    for number in 0..share {
         places.push(Place {
-            client: place / CLIENT_SLOTS + 1,
-            number: place % CLIENT_SLOTS,
+            client,
+            number,
             slot: Slot::new(),
         })?;
     }
-    Ok(places)
+    Ok(())
 }
 
 /// All slots take a run, one behind the other, and put in by time what they tell.

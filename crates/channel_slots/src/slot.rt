@@ -50,6 +50,7 @@ impl Slot {
         ensures dumps { dumps_of result ≡ 0 }
         ensures ready { (first time : ℕ) → IsReady first time result }
         ensures within { (reach : ℕ) → IsWithin reach result }
+        ensures idle { result ≡ Slot.Idle }
     {
         Slot::Idle
     }

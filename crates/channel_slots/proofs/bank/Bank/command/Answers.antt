@@ -9,7 +9,7 @@ use Rattle.channel_slots.specs.Banks.{IsCommanded}
 use Rattle.channel_slots.specs.Commands.{slot_of, request_in}
 use Rattle.channel_slots.proofs.BankLemmas.{refilled}
 use Rattle.channel_slots.proofs.CommandLemmas.{stands-at, commanded, keeps, set-keeps}
-use Rattle.channel_slots.proofs.CommandLemmas.{many, own_keys, within}
+use Rattle.channel_slots.proofs.ShareLemmas.{once-of}
 use Rattle.channel_slots.proofs.ReadyLemmas.{all-ready, all-on-way}
 use Rattle.channel_slots.specs.Stages.{most_wait}
 use Rattle.channel_slots.proofs.bank.Bank.command.Goals as goal
@@ -23,25 +23,21 @@ done own settings time command taken ps qs at answer known same e =
     subst (λ (l : List Place). IsCommanded settings time (request_in command) l qs at answer) same
     (subst (λ (r : Settings). IsCommanded r time (request_in command) taken qs at answer) known e)
 
+pub place-place-requires-clause-slot : goal.place-place-requires-clause-slot
+place-place-requires-clause-slot c = rw (c.get.ensures.same ∙ c.slot.ensures) c.requires.slot
+
 pub command_at-requires-clause-at : goal.command_at-requires-clause-at
-command_at-requires-clause-at c =
-    let ps : List Place = c.args.self.now.places.items in
-    rw c.deref_mut.ensures.value
-    (within c.args.client c.get-slot.result ps c.requires.first
-    (many c.args.client c.args.self.now.clients ps c.requires.last c.args.self.now.keys)
-    c.get-slot.ensures.range)
+command_at-requires-clause-at c = rw c.deref_mut.ensures.value c.place-place.ensures.within
 
 pub invariant_of-self : goal.invariant_of-self
 invariant_of-self c =
     let ps : List Place = c.args.self.now.places.items in
-    let at : ℕ = (c.args.client - 1) * 4 + c.get-slot.result in
+    let at : ℕ = c.place-place.result in
     let e =
     done _ c.args.self.now.settings _ c.args.command _ ps
     c.command_at.new.places at c.command_at.result refl c.deref_mut.ensures.value
     c.command_at.ensures in
-    let last = many c.args.client c.args.self.now.clients ps c.requires.last c.args.self.now.keys in
-    let b : at < length ps =
-    within c.args.client c.get-slot.result ps c.requires.first last c.get-slot.ensures.range in
+    let b : at < length ps = c.place-place.ensures.within in
     let k =
     keeps ps at c.args.self.now.time e.old e.new b e.is e.client e.number e.dumps
     c.args.self.now.few in
@@ -61,34 +57,33 @@ invariant_of-self c =
       packed = c.args.self.now.packed;
       room = c.args.self.now.room;
       taken = c.args.self.now.taken;
-      size = c.args.self.now.size;
+      clients = c.args.self.now.clients;
+      shared = c.args.self.now.shared;
       keys = rw (e.set, whole) (k.keys ∙ c.args.self.now.keys);
     }
 
 pub returns-clause-answer : goal.returns-clause-answer
 returns-clause-answer c settings xs asked s =
     let ps : List Place = c.args.self.now.places.items in
-    let at : ℕ = (c.args.client - 1) * 4 + c.get-slot.result in
+    let at : ℕ = c.place-place.result in
     let e =
     done _ settings _ c.args.command _ ps c.command_at.new.places at c.command_at.result
     s.recorded c.deref_mut.ensures.value c.command_at.ensures in
-    let n : c.get-slot.result ≡ slot_of c.args.command = c.get-slot.ensures.same ∙ c.slot.ensures in
-    let last = many c.args.client c.args.self.now.clients ps c.requires.last c.args.self.now.keys in
+    let n : c.get.result ≡ slot_of c.args.command = c.get.ensures.same ∙ c.slot.ensures in
     e.answers xs _ (sym s.now) (subst
     (λ (m : ℕ). StandsFor settings xs (asked c.args.client m) e.old.slot) n
-    (stands-at settings xs asked ps c.args.client c.get-slot.result c.args.self.now.time e.old
-    e.old c.requires.first last c.get-slot.ensures.range
-    (own_keys c.args.self.now.clients ps c.args.self.now.keys) e.is s.slots))
+    (stands-at settings xs asked ps at c.args.client c.get.result c.args.self.now.time e.old
+    e.old (once-of c.args.self.now.shares.items ps c.args.self.now.keys) c.place-place.ensures.there e.is
+    s.slots))
 
 pub returns-clause-stands : goal.returns-clause-stands
 returns-clause-stands c settings xs asked s =
     let ps : List Place = c.args.self.now.places.items in
-    let at : ℕ = (c.args.client - 1) * 4 + c.get-slot.result in
+    let at : ℕ = c.place-place.result in
     let e =
     done _ settings _ c.args.command _ ps c.command_at.new.places at c.command_at.result
     s.recorded c.deref_mut.ensures.value c.command_at.ensures in
-    let n : c.get-slot.result ≡ slot_of c.args.command = c.get-slot.ensures.same ∙ c.slot.ensures in
-    let last = many c.args.client c.args.self.now.clients ps c.requires.last c.args.self.now.keys in
+    let n : c.get.result ≡ slot_of c.args.command = c.get.ensures.same ∙ c.slot.ensures in
     let whole =
     refilled c.args.self.now.places.len ps (slice_set ps at e.new)
     (length-set ps at e.new ∙ sym (ap length c.deref_mut.ensures.value)
@@ -99,9 +94,9 @@ returns-clause-stands c settings xs asked s =
       history = s.history;
       slots =
           rw (e.set, whole, ← n)
-          (commanded settings xs asked ps c.args.client c.get-slot.result c.args.self.now.time
-          e.old e.new c.requires.first last c.get-slot.ensures.range
-          (own_keys c.args.self.now.clients ps c.args.self.now.keys) e.is
+          (commanded settings xs asked ps at c.args.client c.get.result c.args.self.now.time
+          e.old e.new (once-of c.args.self.now.shares.items ps c.args.self.now.keys)
+          c.place-place.ensures.there e.is
           (request_in c.args.command) s.slots e.client e.number
           (λ commands t. e.stands xs commands (sym s.now) t));
     }

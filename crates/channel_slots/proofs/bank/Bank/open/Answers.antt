@@ -1,26 +1,43 @@
-use Rattle.std.proofs.Common.{refl, ◌∙◌, arith}
+use Rattle.std.proofs.Common.{refl, ◌∙◌, ◌≡◌, arith, sym, ap, List, ℕ}
+use Rattle.std.specs.Prelude.{true}
+use Rattle.std.specs.List.{list_all}
+use Rattle.definitions.specs.Banks.{layout}
+use Rattle.definitions.specs.Runs.{is_share}
 use Rattle.channel_slots.proofs.BankLemmas.{most-from_few}
 use Rattle.channel_slots.proofs.ReadyLemmas.{all-on-way}
+use Rattle.channel_slots.proofs.ShareLemmas.{idle-few, idle-ready, idle-within, idle-stand, few-each}
 use Rattle.channel_slots.proofs.bank.Bank.open.Goals as goal
 
+pub idle_places-requires-clause-few : goal.idle_places-requires-clause-few
+idle_places-requires-clause-few c =
+    few-each c.args.shares.now (sym c.are_shares.ensures ∙ c.if-not-are_shares.false)
+
 pub invariant_of-result : goal.invariant_of-result
-invariant_of-result c = record {
-  few = most-from_few 0 c.in-Ok-idle_places.places.items c.in-Ok-idle_places.ensures.few;
-  early = omega arith;
-  on_way = all-on-way 0 _ c.in-Ok-idle_places.places.items c.in-Ok-idle_places.ensures.ready
-      (c.in-Ok-idle_places.ensures.within _);
-  packed = c.in-Ok.ensures.packing ∙ c.format.ensures;
-  room = omega (arith, c.in-Ok.ensures.room, c.most_reach.ensures);
-  taken = c.in-Ok.ensures.taken;
-  size = omega (arith, c.if-clients-gt-MOST_CLIENTS.false);
-  keys = c.in-Ok-idle_places.ensures.keys;
-}
+invariant_of-result c =
+    let idle = c.in-Ok-idle_places.ensures.idle in
+    let shared : list_all is_share c.args.shares.now ≡ true =
+    sym c.are_shares.ensures ∙ c.if-not-are_shares.false in
+    record {
+      few = most-from_few 0 _ (idle-few _ idle);
+      early = omega arith;
+      on_way = all-on-way 0 _ _ (idle-ready _ idle) (idle-within _ _ idle);
+      packed = c.in-Ok-open.ensures.packing ∙ c.format.ensures;
+      room = omega (arith, c.in-Ok-open.ensures.room, c.most_reach.ensures);
+      taken = c.in-Ok-open.ensures.taken;
+      clients = rw c.in-Ok.ensures.0 c.in-Ok.ensures.1;
+      shared = ap (list_all is_share) c.in-Ok.ensures.0 ∙ shared;
+      keys = c.in-Ok-idle_places.ensures.keys ∙ ap layout (sym c.in-Ok.ensures.0);
+    }
 
 pub returns-clause-stands : goal.returns-clause-stands
 returns-clause-stands c =
     record {
       recorded = refl;
       now = refl;
-      history = c.in-Ok.ensures.stands;
-      slots = record { now = refl; each = c.in-Ok-idle_places.ensures.stand c.args.settings };
+      history = c.in-Ok-open.ensures.stands;
+      slots =
+          record {
+            now = refl;
+            each = idle-stand c.args.settings _ c.in-Ok-idle_places.ensures.idle;
+          };
     }
