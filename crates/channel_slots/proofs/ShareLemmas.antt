@@ -156,7 +156,7 @@ rows-length : (first : ℕ) (shares : List ℕ) → length (rows first shares) �
 rows-length first [] = refl
 rows-length first (share ∷ shares) =
     let both : length (row first share ++ rows (first + 1) shares)
-        ≡ length (row first share) + length (rows (first + 1) shares) =
+    ≡ length (row first share) + length (rows (first + 1) shares) =
     length-append (row first share) (rows (first + 1) shares) in
     omega (arith, both, row-length first share, rows-length (first + 1) shares)
 

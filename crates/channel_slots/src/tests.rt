@@ -4,6 +4,7 @@
 ghost use Rattle.std.specs.Prelude.{◌≡◌, ◌+◌, ◌<◌, ◌≤◌, IfOk};
 ghost use Rattle.definitions.specs.Samples.{real1};
 ghost use Rattle.channel_slots.specs.Slots.{dumps_of, IsReady};
+ghost use Rattle.channel_slots.specs.Commands.{slot_of};
 
 use super::*;
 use acquisition::Plan;
@@ -23,12 +24,16 @@ fn plain_settings() -> Result<Settings, Fail>
     Ok(Settings::new(2_046_000, 0, Format::Real1)?)
 }
 
-fn slot_zero() -> Result<SlotNo, Fail> {
+fn slot_zero() -> Result<SlotNo, Fail>
+    ensures { IfOk result (λ slot. slot ≡ 0) }
+{
     Ok(SlotNo::new(0).ok_or("a slot")?)
 }
 
 /// A track that begins half a chip before the end of the code.
-fn track(prn: u8, doppler: i32) -> Result<Command, Fail> {
+fn track(prn: u8, doppler: i32) -> Result<Command, Fail>
+    ensures { IfOk result (λ command. slot_of command ≡ 0) }
+{
     Ok(Command::Track {
         slot: slot_zero()?,
         prn: Prn::new(prn).ok_or("a satellite")?,
@@ -37,10 +42,19 @@ fn track(prn: u8, doppler: i32) -> Result<Command, Fail> {
     })
 }
 
+/// A hold of the first slot.
+fn hold(prn: u8, doppler: i32) -> Result<Command, Fail>
+    ensures { IfOk result (λ command. slot_of command ≡ 0) }
+{
+    hold_in(slot_zero()?, prn, doppler)
+}
+
 /// A hold that begins half a chip before the end of the code.
-fn hold(prn: u8, doppler: i32) -> Result<Command, Fail> {
+fn hold_in(slot: SlotNo, prn: u8, doppler: i32) -> Result<Command, Fail>
+    ensures { IfOk result (λ command. slot_of command ≡ slot) }
+{
     Ok(Command::Hold {
-        slot: slot_zero()?,
+        slot,
         prn: Prn::new(prn).ok_or("a satellite")?,
         doppler: Doppler::new(doppler).ok_or("a shift")?,
         half: HalfChip::new(2_045).ok_or("a half chip")?,
@@ -48,7 +62,9 @@ fn hold(prn: u8, doppler: i32) -> Result<Command, Fail> {
 }
 
 /// A search for a satellite at 0 Hz, over one period of its code.
-fn acquire(prn: u8, threshold: u32) -> Result<Command, Fail> {
+fn acquire(prn: u8, threshold: u32) -> Result<Command, Fail>
+    ensures { IfOk result (λ command. slot_of command ≡ 0) }
+{
     Ok(Command::Acquire {
         slot: slot_zero()?,
         plan: Plan::new(Prn::new(prn).ok_or("a satellite")?, 0, 0, 1, threshold)?,
@@ -196,7 +212,7 @@ fn sums_do_not_depend_on_the_cut(rt: HostRuntime) -> Result<(), Fail> {
 }
 
 #[test]
-fn slots_are_0_to_3(rt: HostRuntime) {
-    assert_eq!(rt; SlotNo::new(3).map(|slot| slot.get()), Some(3));
-    assert_eq!(rt; SlotNo::new(4), None);
+fn slots_are_0_to_7(rt: HostRuntime) {
+    assert_eq!(rt; SlotNo::new(7).map(|slot| slot.get()), Some(7));
+    assert_eq!(rt; SlotNo::new(8), None);
 }

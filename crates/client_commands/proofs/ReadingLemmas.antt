@@ -1,5 +1,5 @@
 -- The value of the word that is next.
-use Rattle.std.proofs.Common.{◌≡◌, ◌<◌, ◌≤◌, ◌≤ℤ◌, ◌↔◌, ◌+◌, ◌^◌, ℕ, List, [], ◌∷◌, length, get_or}
+use Rattle.std.proofs.Common.{◌≡◌, ◌<◌, ◌≤◌, ◌≤ℤ◌, ◌↔◌, ◌+◌, ◌-◌, ◌^◌, ℕ, List, [], ◌∷◌, length, get_or}
 use Rattle.std.proofs.Common.{drop, Bool, true, false, FitsSigned, refl, ap, sym, ◌∙◌, rules, arith}
 use Rattle.std.specs.Prelude.{ℤ, pos, negsuc, unsigned_abs, int_le, ◌&&◌, if◌then◌else◌, Result, Ok}
 use Rattle.std.specs.Prelude.{Err, Option, Some, None, ok_or, option_map, OkIff, MatchOption}
@@ -176,16 +176,32 @@ taken_first range ranges (word ∷ words) left value values all is next others =
     rw (others (rw next (omega (arith, all))), next)
     (taken_before range (signed_number_in word) value (values_in ranges words) is)
 
--- what a verb asks with its words
-pub asked : (verb : Verb) (count : ℕ) (line words : List (List ℕ)) (values : Result (List ℤ) ℕ)
+-- a slot that is refused
+pub no_slot : (verb : Verb) (share count : ℕ) (line words : List (List ℕ)) (refusal : ℕ)
     → count ≡ length verb.ranges + 1 → (length line ≡ count) × (words ≡ line)
-    → (length words ≡ length (up_to 0 3 ∷ verb.ranges)
-    → values ≡ values_in (up_to 0 3 ∷ verb.ranges) words)
-    → meant verb values ≡ command_with 4 (Some verb) line
-asked verb count line words values all is read =
+    → Err refusal ≡ values_in (up_to 0 (share - 1) ∷ []) words
+    → Err refusal ≡ command_with share (Some verb) line
+no_slot verb share count line words refusal all is refused =
     let whole : length line ≡ length verb.ranges + 1 = omega (arith, is) in
+    let many : length words ≡ length (up_to 0 (share - 1) ∷ verb.ranges) =
+    rw is.1 (omega (arith, whole)) in
     rw (eq-eqb (length line) (length verb.ranges + 1) whole, sym is.1)
-    (ap (meant verb) (read (rw is.1 (omega (arith, whole)))))
+    (ap (meant verb) (refused_first (up_to 0 (share - 1)) verb.ranges words refusal many refused))
+
+-- what a verb asks of a slot with the words behind it
+pub asked : (verb : Verb) (share count : ℕ) (line words left : List (List ℕ)) (slot : ℕ)
+    (values : Result (List ℤ) ℕ) → count ≡ length verb.ranges + 1
+    → (length line ≡ count) × (words ≡ line)
+    → Ok (pos slot ∷ []) ≡ values_in (up_to 0 (share - 1) ∷ []) words → left ≡ drop 1 words
+    → (length left ≡ length verb.ranges → values ≡ values_in verb.ranges left)
+    → meant verb (with_value (pos slot) values) ≡ command_with share (Some verb) line
+asked verb share count line words left slot values all is named next read =
+    let whole : length line ≡ length verb.ranges + 1 = omega (arith, is) in
+    let many : length words ≡ length (up_to 0 (share - 1) ∷ verb.ranges) =
+    rw is.1 (omega (arith, whole)) in
+    rw (eq-eqb (length line) (length verb.ranges + 1) whole, sym is.1)
+    (ap (meant verb)
+    (taken_first (up_to 0 (share - 1)) verb.ranges words left (pos slot) values many named next read))
 
 pub none_left : (words : List (List ℕ)) → Ok [] ≡ values_in [] words
 unfolding values_in

@@ -29,9 +29,9 @@ abbrev pub number_alone : Result ℕ Refusal → Result (List ℤ) ℕ
 number_alone (Ok number) = Ok (pos number ∷ [])
 number_alone (Err refusal) = Err (number_of refusal)
 
--- the values of the four words of a start, or the refusal of one of them
+-- the values of the three words of a start, or the refusal of one of them
 abbrev pub values_of_start : Result Start Refusal → Result (List ℤ) ℕ
-values_of_start (Ok s) = Ok (pos s.slot ∷ pos s.prn ∷ s.doppler ∷ pos s.half ∷ [])
+values_of_start (Ok s) = Ok (pos s.prn ∷ s.doppler ∷ pos s.half ∷ [])
 values_of_start (Err refusal) = Err (number_of refusal)
 
 -- the values of the five words of a plan, or the refusal of one of them

@@ -6,7 +6,7 @@
 //!
 //!     use client_commands::Script;
 //!
-//!     let mut script = Script::new(text);
+//!     let mut script = Script::new(text, 4);
 //!     while let Some(timed) = script.next() {
 //!         match timed.what {
 //!             Ok(command) => carry_out(timed.time, command),

@@ -1,12 +1,13 @@
 //! The entry of one line: its time, and a command or why it is refused.
 
-ghost use Rattle.std.specs.Prelude.{◌≡◌};
+ghost use Rattle.std.specs.Prelude.{◌≡◌, ◌≤◌};
 ghost use Rattle.std.specs.List.{list_all};
 ghost use Rattle.definitions.specs.Scripts.{entry_of, command_in, verbs};
 ghost use Rattle.definitions.specs.Scripts.{is_printable as defined_is_printable};
 ghost use Rattle.definitions.specs.Scripts.{time_in as defined_time_in};
 ghost use Rattle.definitions.specs.Lines.{words_of};
 ghost use Rattle.client_commands.specs.Entries.{entries_in, result_in};
+ghost use Rattle.channel_slots.specs.declared.command.TheConstants.{MOST_SLOTS};
 
 use crate::number::number_in;
 use crate::refusal::Refusal;
@@ -21,10 +22,13 @@ const LINE_BYTES: usize = 80;
 /// The latest time of a command, in samples.
 const LAST_TIME: u64 = 1 << 40;
 
-/// The entry of a line that stands behind one of time `before`. A line without words has none.
+/// The entry of a line that stands behind one of time `before`, in the script of a client with a
+/// share of the slots. A line without words has none.
 #[tactic(auto, unfolding(definitions::specs::Scripts::entry_of))]
-pub(crate) fn entry(line: &[u8], before: u64) -> Option<Timed>
-    ensures { entries_in result ≡ entry_of verbs 4 before line.now }
+pub(crate) fn entry(line: &[u8], before: u64, share: u8) -> Option<Timed>
+    requires some { 1 ≤ share }
+    requires most { share ≤ MOST_SLOTS }
+    ensures { entries_in result ≡ entry_of verbs share before line.now }
 {
     if LINE_BYTES < line.len() {
         return refusal_at(before, Refusal::LineTooLong);
@@ -38,7 +42,7 @@ pub(crate) fn entry(line: &[u8], before: u64) -> Option<Timed>
         Some(time) if time < before => refusal_at(before, Refusal::TimeGoesBack),
         Some(time) => Some(Timed {
             time,
-            what: command(rest),
+            what: command(rest, share),
         }),
     }
 }
@@ -68,10 +72,12 @@ fn refusal_at(time: u64, refusal: Refusal) -> Option<Timed>
 }
 
 /// The command that the words behind the time ask for.
-fn command(words: &[u8]) -> Result<Command, Refusal>
-    ensures { result_in result ≡ command_in verbs 4 (words_of words.now) }
+fn command(words: &[u8], share: u8) -> Result<Command, Refusal>
+    requires some { 1 ≤ share }
+    requires most { share ≤ MOST_SLOTS }
+    ensures { result_in result ≡ command_in verbs share (words_of words.now) }
 {
     let (name, words) = next_word(words).ok_or(Refusal::NoVerb)?;
     let verb = Verb::with_name(name).ok_or(Refusal::NoVerb)?;
-    verb.command(words)
+    verb.command(words, share)
 }

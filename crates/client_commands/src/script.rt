@@ -1,6 +1,7 @@
 //! A script, read entry by entry.
 
-ghost use Rattle.std.specs.Prelude.{◌≡◌, ◌∷◌, [], List, IfSome, IsNone};
+ghost use Rattle.std.specs.Prelude.{◌≡◌, ◌≤◌, ◌∷◌, [], List, IfSome, IsNone};
+ghost use Rattle.channel_slots.specs.declared.command.TheConstants.{MOST_SLOTS};
 ghost use Rattle.client_commands.specs.Entries.{entry_in};
 
 use crate::line::entry;
@@ -23,28 +24,40 @@ pub struct Timed {
 pub struct Script<'a> {
     /// The lines that are left.
     text: &'a [u8],
+    /// How many slots the client has.
+    share: u8,
     /// The time of the line before, or 0.
     before: u64,
 }
 
 impl<'a> Model for Script<'a> {
-    ghost use Rattle.std.specs.Prelude.{List};
+    ghost use Rattle.std.specs.Prelude.{◌≤◌, List};
     ghost use Rattle.definitions.specs.Scripts.{Entry, entries_after, verbs};
     ghost use Rattle.definitions.specs.Lines.{lines_of};
+    ghost use Rattle.channel_slots.specs.declared.command.TheConstants.{MOST_SLOTS};
 
     ghost Value = { List Entry };
 
-    ghost view = { λ s. entries_after verbs 4 s.before (lines_of s.text.now) };
+    ghost view = { λ s. entries_after verbs s.share s.before (lines_of s.text.now) };
+
+    ghost invariant = { λ s. (1 ≤ s.share) × (s.share ≤ MOST_SLOTS) };
 }
 
 impl<'a> Script<'a> {
     ghost use Rattle.definitions.specs.Scripts.{script, verbs};
 
-    /// A script from its text: lines, each ended by a line feed, the last one perhaps not.
-    pub fn new(text: &'a [u8]) -> Script<'a>
-        ensures { result ≡ script verbs 4 text.now }
+    /// The script of a client that has a share of 1 to `MOST_SLOTS` slots, from its text: lines,
+    /// each ended by a line feed, the last one perhaps not.
+    pub fn new(text: &'a [u8], share: u8) -> Script<'a>
+        requires some { 1 ≤ share }
+        requires most { share ≤ MOST_SLOTS }
+        ensures { result ≡ script verbs share text.now }
     {
-        Script { text, before: 0 }
+        Script {
+            text,
+            share,
+            before: 0,
+        }
     }
 
     /// The next entry, or `None` once the text is used up. Lines without words have none.
@@ -55,7 +68,7 @@ impl<'a> Script<'a> {
     {
         while let Some((line, rest)) = next_line(self.text) {
             self.text = rest;
-            if let Some(timed) = entry(line, self.before) {
+            if let Some(timed) = entry(line, self.before, self.share) {
                 self.before = timed.time;
                 return Some(timed);
             }

@@ -10,10 +10,8 @@ use ca_codes::Prn;
 use channel_slots::{Command, SlotNo};
 use oscillators::{Doppler, HalfChip};
 
-/// What the words behind `hold` and `track` write.
+/// What the words behind the slot of a `hold` or a `track` write.
 pub(crate) struct Start {
-    /// The slot.
-    pub(crate) slot: SlotNo,
     /// The satellite.
     pub(crate) prn: Prn,
     /// The Doppler shift to begin with.
@@ -23,30 +21,24 @@ pub(crate) struct Start {
 }
 
 impl Start {
-    /// The values of four words: slot, satellite, Doppler shift and half chip.
+    /// The values of three words: satellite, Doppler shift and half chip.
     pub(crate) fn read(words: &mut Words<'_>) -> Result<Start, Refusal>
-        requires { length words.old ≡ 4 }
+        requires { length words.old ≡ 3 }
         ensures { values_of_start result ≡ values_in
-            (up_to 0 3 ∷ up_to 1 32 ∷ around_zero 16000 ∷ up_to 0 2045 ∷ []) words.old }
+            (up_to 1 32 ∷ around_zero 16000 ∷ up_to 0 2045 ∷ []) words.old }
     {
         Ok(Start {
-            slot: words.slot()?,
             prn: words.prn()?,
             doppler: words.doppler()?,
             half: words.half_chip()?,
         })
     }
 
-    /// Follow it at a fixed Doppler shift.
-    pub(crate) fn hold(self) -> Command
-        ensures { result ≡ Command.Hold self.slot self.prn self.doppler self.half }
+    /// A slot is to follow it at a fixed Doppler shift.
+    pub(crate) fn hold(self, slot: SlotNo) -> Command
+        ensures { result ≡ Command.Hold slot self.prn self.doppler self.half }
     {
-        let Start {
-            slot,
-            prn,
-            doppler,
-            half,
-        } = self;
+        let Start { prn, doppler, half } = self;
         Command::Hold {
             slot,
             prn,
@@ -55,16 +47,11 @@ impl Start {
         }
     }
 
-    /// Track it.
-    pub(crate) fn track(self) -> Command
-        ensures { result ≡ Command.Track self.slot self.prn self.doppler self.half }
+    /// A slot is to track it.
+    pub(crate) fn track(self, slot: SlotNo) -> Command
+        ensures { result ≡ Command.Track slot self.prn self.doppler self.half }
     {
-        let Start {
-            slot,
-            prn,
-            doppler,
-            half,
-        } = self;
+        let Start { prn, doppler, half } = self;
         Command::Track {
             slot,
             prn,

@@ -1,5 +1,8 @@
 //! Scripts and what the rules say of their lines.
 
+ghost use Rattle.std.specs.Prelude.{◌≤◌};
+ghost use Rattle.channel_slots.specs.declared.command.TheConstants.{MOST_SLOTS};
+
 mod any_bytes;
 
 use super::*;
@@ -20,9 +23,17 @@ fn answer(timed: Timed) -> Answer {
     }
 }
 
-/// The first three entries of a script.
+/// The first three entries of the script of a client with four slots.
 fn answers(text: &[u8]) -> [Option<Answer>; 3] {
-    let mut script = Script::new(text);
+    answers_with(4, text)
+}
+
+/// The same of a client with a share of the slots.
+fn answers_with(share: u8, text: &[u8]) -> [Option<Answer>; 3]
+    requires some { 1 ≤ share }
+    requires most { share ≤ MOST_SLOTS }
+{
+    let mut script = Script::new(text, share);
     let mut found = [None; 3];
     for place in &mut found {
         if let Some(timed) = script.next() {
@@ -91,6 +102,33 @@ fn stop(slot: u8) -> Option<Command> {
     Some(Command::Stop {
         slot: SlotNo::new(slot)?,
     })
+}
+
+// The slots of a client are those below its share.
+#[test]
+fn slots_are_those_of_the_share(rt: HostRuntime) {
+    for (share, text, answer) in [
+        (1, "0 state 0", asked(0, state(0))),
+        (1, "0 state 1", refused(0, 8)),
+        (2, "0 hold 1 3 0 0", asked(0, hold(1, 3, 0, 0))),
+        (2, "0 hold 2 3 0 0", refused(0, 8)),
+        (3, "0 track 2 3 0 0", asked(0, track(2, 3, 0, 0))),
+        (3, "0 track 3 3 0 0", refused(0, 8)),
+        (
+            5,
+            "0 acquire 4 3 0 0 1 20",
+            asked(0, acquire(4, 3, 0, 0, 1, 20)),
+        ),
+        (5, "0 acquire 5 3 0 0 1 20", refused(0, 8)),
+        (7, "0 counts 6 1", asked(0, counts(6, 1))),
+        (7, "0 counts 7 1", refused(0, 8)),
+        (8, "0 stop 7", asked(0, stop(7))),
+        (8, "0 stop 8", refused(0, 8)),
+        (8, "0 stop -1", refused(0, 8)),
+    ] {
+        let answers = answers_with(share, text.as_bytes());
+        assert_eq!(rt; answers, [answer, None, None], "{text}");
+    }
 }
 
 #[test]

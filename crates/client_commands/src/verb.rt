@@ -6,6 +6,7 @@ ghost use Rattle.definitions.specs.Lines.{words_of};
 ghost use Rattle.client_commands.specs.Entries.{result_in};
 ghost use Rattle.client_commands.specs.Reading.{verb_in};
 ghost use Rattle.client_commands.specs.declared.words.TheConstants.{MOST_WORDS};
+ghost use Rattle.channel_slots.specs.declared.command.TheConstants.{MOST_SLOTS};
 
 use crate::plan::read_plan;
 use crate::refusal::Refusal;
@@ -59,28 +60,27 @@ impl Verb {
         }
     }
 
-    /// The command that the words behind it ask for.
-    pub(crate) fn command(self, line: &[u8]) -> Result<Command, Refusal>
-        ensures { result_in result ≡ command_with 4 (Some (verb_in self)) (words_of line.now) }
+    /// The command that the words behind it ask for, of a client with a share of the slots.
+    pub(crate) fn command(self, line: &[u8], share: u8) -> Result<Command, Refusal>
+        requires some { 1 ≤ share }
+        requires most { share ≤ MOST_SLOTS }
+        ensures { result_in result ≡ command_with share (Some (verb_in self)) (words_of line.now) }
     {
         let mut words = Words::split(line, self.word_count())?;
+        let slot = words.slot(share)?;
         match self {
-            Verb::Hold => Ok(Start::read(&mut words)?.hold()),
-            Verb::Track => Ok(Start::read(&mut words)?.track()),
+            Verb::Hold => Ok(Start::read(&mut words)?.hold(slot)),
+            Verb::Track => Ok(Start::read(&mut words)?.track(slot)),
             Verb::Acquire => Ok(Command::Acquire {
-                slot: words.slot()?,
+                slot,
                 plan: read_plan(&mut words)?,
             }),
             Verb::Counts => Ok(Command::Counts {
-                slot: words.slot()?,
+                slot,
                 n: words.dumps()?,
             }),
-            Verb::State => Ok(Command::State {
-                slot: words.slot()?,
-            }),
-            Verb::Stop => Ok(Command::Stop {
-                slot: words.slot()?,
-            }),
+            Verb::State => Ok(Command::State { slot }),
+            Verb::Stop => Ok(Command::Stop { slot }),
         }
     }
 }

@@ -89,6 +89,8 @@ impl<'a> Words<'a> {
     ghost use Rattle.client_commands.specs.Reading.{number_alone, integer_alone};
     ghost use Rattle.client_commands.specs.declared.words.TheConstants.{MOST_WORDS, MOST_DUMPS};
     ghost use Rattle.acquisition.specs.declared.plan.TheConstants.{MOST_CENTRE};
+    ghost use Rattle.channel_slots.specs.declared.command.TheConstants.{MOST_SLOTS};
+    ghost use Rattle.std.specs.Prelude.{◌-◌};
 
     /// The words of a line, of which there are to be `count`. They are split before the first of
     /// them is judged, since a wrong number of words is refused before any value.
@@ -138,14 +140,16 @@ impl<'a> Words<'a> {
             .ok_or(Refusal::OutOfRange)
     }
 
-    /// The slot that the next word names, 0 to 3.
-    pub(crate) fn slot(&mut self) -> Result<SlotNo, Refusal>
-        requires { 0 < length self.old }
-        ensures value { number_alone result ≡ values_in (up_to 0 3 ∷ []) self.old }
+    /// The slot that the next word names, of a client with a share of the slots.
+    pub(crate) fn slot(&mut self, share: u8) -> Result<SlotNo, Refusal>
+        requires word { 0 < length self.old }
+        requires some { 1 ≤ share }
+        requires most { share ≤ MOST_SLOTS }
+        ensures value { number_alone result ≡ values_in (up_to 0 (share - 1) ∷ []) self.old }
         ensures left { self.new ≡ drop 1 self.old }
     {
-        let number = u8::try_from(self.number()?).ok();
-        number.and_then(SlotNo::new).ok_or(Refusal::OutOfRange)
+        let number = self.number_between(0, u32::from(share) - 1)?;
+        SlotNo::new(number as u8).ok_or(Refusal::OutOfRange)
     }
 
     /// The satellite that the next word names, 1 to 32.

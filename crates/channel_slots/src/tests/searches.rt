@@ -1,9 +1,9 @@
 //! Searches of a bank, over its one history of samples.
 
-ghost use Rattle.std.specs.Prelude.{◌≡◌, ◌<◌, ◌≤◌, IfOk};
-ghost use Rattle.channel_slots.specs.BankStates.{settings_of, clients_of};
+ghost use Rattle.std.specs.Prelude.{◌≡◌, ◌<◌, ◌≤◌, ◌∷◌, [], IfOk, replicate};
+ghost use Rattle.channel_slots.specs.BankStates.{settings_of, shares_of};
 ghost use Rattle.definitions.specs.Samples.{real1};
-ghost use Rattle.sample_planes.TheConstants.{MAX_SAMPLES};
+ghost use Rattle.sample_planes.specs.declared.planes.TheConstants.{MAX_SAMPLES};
 
 use super::{acquire, hold, plain_settings, slot_zero, sums, track};
 use crate::{Answer, Bank, Command, Event, Phase, Refusal, SlotEvent, SlotNo, SlotState};
@@ -26,9 +26,9 @@ const LONGEST: u64 = 100_000;
 /// A bank of one client over a plain recording.
 fn bank_of_one(alloc: Global) -> Result<Bank, Fail>
     ensures packing { IfOk result (λ bank. (settings_of bank).packing ≡ real1) }
-    ensures clients { IfOk result (λ bank. clients_of bank ≡ 1) }
+    ensures shares { IfOk result (λ bank. shares_of bank ≡ 4 ∷ []) }
 {
-    Ok(Bank::open(alloc, plain_settings()?, 1)?)
+    Ok(Bank::open(alloc, plain_settings()?, &[4])?)
 }
 
 /// Feeds a bank the samples of a recording up to a time, in pieces, and gives what it tells.
@@ -42,7 +42,7 @@ fn feed_to(
     requires some { 0 < piece }
     requires short { piece ≤ MAX_SAMPLES }
     ensures settings { settings_of bank.new ≡ settings_of bank.old }
-    ensures clients { clients_of bank.new ≡ clients_of bank.old }
+    ensures shares { shares_of bank.new ≡ shares_of bank.old }
 {
     if (recording.len() as u64) < until {
         return Err(Fail::new("samples are missing"));
@@ -78,7 +78,7 @@ fn hear(
     requires some { 0 < piece }
     requires short { piece ≤ MAX_SAMPLES }
     ensures settings { settings_of bank.new ≡ settings_of bank.old }
-    ensures clients { clients_of bank.new ≡ clients_of bank.old }
+    ensures shares { shares_of bank.new ≡ shares_of bank.old }
 {
     let told = feed_to(bank, recording, piece, until)?;
     assert_eq!(rt;
@@ -213,9 +213,9 @@ fn cells_come_with_samples(rt: HostRuntime) -> Result<(), Fail> {
 /// time 4 (k - 1) + s.
 fn ask_in_turn(bank: &mut Bank, recording: &PackedSamples) -> Result<(), Fail>
     requires packing { recording.now.packing ≡ (settings_of bank.old).packing }
-    requires clients { clients_of bank.old ≡ 8 }
+    requires shares { shares_of bank.old ≡ replicate 8 4 }
     ensures settings { settings_of bank.new ≡ settings_of bank.old }
-    ensures clients { clients_of bank.new ≡ clients_of bank.old }
+    ensures shares { shares_of bank.new ≡ shares_of bank.old }
 {
     let prn = Prn::new(1).ok_or("a satellite")?;
     for turn in 0..32u8 {
@@ -250,7 +250,7 @@ fn cells_among_strangers(rt: HostRuntime) -> Result<(), Fail> {
     let first = slot_zero()?;
     let second = SlotNo::new(1).ok_or("a slot")?;
     let last = SlotNo::new(3).ok_or("a slot")?;
-    let mut bank = Bank::open(rt.alloc(), plain_settings()?, 8)?;
+    let mut bank = Bank::open(rt.alloc(), plain_settings()?, &[4; 8])?;
     assert_eq!(rt; bank.cells_done(1, first), None);
     ask_in_turn(&mut bank, &recording)?;
     assert_eq!(rt; bank.cells_done(8, last), Some(0));

@@ -27,7 +27,7 @@ fn any_bytes(alloc: Global) -> Result<Vec<u8>, AllocError> {
 #[test]
 fn any_bytes_end(rt: HostRuntime) -> Result<(), Fail> {
     let text = any_bytes(rt.alloc())?;
-    let mut script = Script::new(&text);
+    let mut script = Script::new(&text, 4);
     let mut refused = [0u32; 256];
     let mut time = 0;
     while let Some(timed) = script.next() {

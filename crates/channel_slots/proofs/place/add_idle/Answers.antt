@@ -9,11 +9,11 @@ use Rattle.channel_slots.proofs.place.add_idle.Goals as goal
 pub loop-number-init : goal.loop-number-init
 loop-number-init c = record {
   adds = record {
-      added = [];
-      behind = sym (append-nil c.args.places.now.items);
-      keys = refl;
-      idle = tt;
-    };
+    added = [];
+    behind = sym (append-nil c.args.places.now.items);
+    keys = refl;
+    idle = tt;
+  };
 }
 
 pub loop-number-preserved : goal.loop-number-preserved
@@ -26,11 +26,11 @@ loop-number-preserved c =
     } in
     record {
       adds = record {
-          added = a.added ++ p ∷ [];
-          behind =
-              c.in_ok-push.ensures.items ∙ ap (λ (l : List Place). l ++ p ∷ []) a.behind
-              ∙ append_assoc c.args.places.now.items a.added (p ∷ []);
-          keys = keys-push a.added p c.args.client c.loop-number.number a.keys refl refl;
-          idle = all_push (λ (q : Place). q.slot ≡ Idle) a.added p a.idle c.new.ensures.idle;
-        };
+        added = a.added ++ p ∷ [];
+        behind =
+            c.in_ok-push.ensures.items ∙ ap (λ (l : List Place). l ++ p ∷ []) a.behind
+            ∙ append_assoc c.args.places.now.items a.added (p ∷ []);
+        keys = keys-push a.added p c.args.client c.loop-number.number a.keys refl refl;
+        idle = all_push (λ (q : Place). q.slot ≡ Idle) a.added p a.idle c.new.ensures.idle;
+      };
     }

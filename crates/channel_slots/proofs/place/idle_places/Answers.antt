@@ -1,6 +1,5 @@
-use Rattle.std.proofs.Common.{◌≡◌, ◌+◌, ℕ, List, take, get_or, length, arith, ap, ◌∙◌, sym}
+use Rattle.std.proofs.Common.{◌+◌, ℕ, List, get_or, arith, ap, ◌∙◌, sym}
 use Rattle.std.proofs.lemmas.List.{take_more, length-take-le}
-
 use Rattle.definitions.specs.Banks.{layout}
 use Rattle.channel_slots.proofs.ShareLemmas.{keys-more, idle-more}
 use Rattle.channel_slots.proofs.place.idle_places.Goals as goal

@@ -1,4 +1,4 @@
-use Rattle.std.proofs.Common.{◌≡◌, ◌≤◌, ◌+◌, List, ℕ, [], drop, arith, ap, slice_index_or}
+use Rattle.std.proofs.Common.{◌≡◌, ◌≤◌, ◌+◌, ℕ, drop, arith, ap, slice_index_or}
 use Rattle.std.proofs.lemmas.List.{drop_all, at_drop_more}
 use Rattle.channel_slots.specs.declared.command.TheConstants.{MOST_SLOTS}
 use Rattle.channel_slots.specs.Banks.{total}
@@ -18,8 +18,8 @@ loop-share-preserved c =
     each-at (λ (share : ℕ). share ≤ MOST_SLOTS) c.args.shares.now c.loop-share.share-index 0
     c.loop-share-test.true c.requires.few in
     let more : total (drop c.loop-share.share-index c.args.shares.now)
-        ≡ slice_index_or c.args.shares.now c.loop-share.share-index 0
-        + total (drop (c.loop-share.share-index + 1) c.args.shares.now) =
+    ≡ slice_index_or c.args.shares.now c.loop-share.share-index 0
+    + total (drop (c.loop-share.share-index + 1) c.args.shares.now) =
     at_drop_more total c.args.shares.now c.loop-share.share-index 0 c.loop-share-test.true in
     record {
       rest = omega (arith, more, c.loop-share.invariant.rest);

@@ -1,4 +1,4 @@
-use Rattle.std.proofs.Common.{◌≡◌, ◌<◌, ◌+◌, ◌-◌, ◌*◌, arith, ℕ, List, length, refl, sym, ap}
+use Rattle.std.proofs.Common.{◌≡◌, ◌<◌, arith, ℕ, List, length, refl, sym, ap}
 use Rattle.std.proofs.Common.{subst, ◌∙◌, slice_set, length-set}
 use Rattle.definitions.specs.Oscillators.{Settings}
 use Rattle.channel_slots.specs.declared.place.Place.{Place}

@@ -1,4 +1,4 @@
-use Rattle.std.proofs.Common.{refl, ◌∙◌, ◌≡◌, arith, sym, ap, List, ℕ}
+use Rattle.std.proofs.Common.{refl, ◌∙◌, ◌≡◌, arith, sym, ap}
 use Rattle.std.specs.Prelude.{true}
 use Rattle.std.specs.List.{list_all}
 use Rattle.definitions.specs.Banks.{layout}

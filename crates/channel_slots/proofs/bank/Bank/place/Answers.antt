@@ -1,8 +1,6 @@
-use Rattle.std.proofs.Common.{◌≡◌, ◌≤◌, ◌<◌, ◌-◌, ◌+◌, ◌*◌, ℕ, List, take, length, arith, ap, ◌∙◌}
-use Rattle.std.proofs.Common.{sym}
-use Rattle.std.specs.List.{AllByRecursion}
+use Rattle.std.proofs.Common.{◌≡◌, ◌≤◌, ◌-◌, ◌+◌, ◌*◌, ℕ, List, take, length, arith, ap, ◌∙◌}
 use Rattle.std.proofs.lemmas.Option.{slice_get_within}
-use Rattle.std.proofs.lemmas.List.{length-map, length-take-le, length-take}
+use Rattle.std.proofs.lemmas.List.{length-map, length-take}
 use Rattle.channel_slots.specs.declared.place.Place.{Place}
 use Rattle.channel_slots.specs.declared.command.TheConstants.{MOST_SLOTS}
 use Rattle.channel_slots.specs.Banks.{keys_of, IsAt, total}
@@ -23,7 +21,7 @@ overflow_add-result c =
     let shares : List ℕ = c.args.self.now.shares.items in
     let few = few-take (c.args.client - 1) shares (few-each shares c.args.self.now.shared) in
     let most : total (take (c.args.client - 1) shares)
-        ≤ MOST_SLOTS * length (take (c.args.client - 1) shares) =
+    ≤ MOST_SLOTS * length (take (c.args.client - 1) shares) =
     total-few (take (c.args.client - 1) shares) few in
     let long = length-take (c.args.client - 1) shares in
     let is = before c.args.client shares c.deref.result.now c.slots_in.result c.slots_in.ensures
@@ -33,8 +31,11 @@ overflow_add-result c =
 pub returns-clause-there : goal.returns-clause-there
 returns-clause-there c =
     let shares : List ℕ = c.args.self.now.shares.items in
-    rw (before c.args.client shares c.deref.result.now c.slots_in.result c.slots_in.ensures
-        c.deref.ensures.0, c.args.self.now.keys)
+    rw (
+      before c.args.client shares c.deref.result.now c.slots_in.result c.slots_in.ensures
+          c.deref.ensures.0,
+      c.args.self.now.keys,
+    )
     (its-place shares c.args.client c.args.slot c.requires.first c.requires.slot)
 
 pub returns-clause-within : goal.returns-clause-within
@@ -42,9 +43,9 @@ returns-clause-within c =
     let shares : List ℕ = c.args.self.now.shares.items in
     let ps : List Place = c.args.self.now.places.items in
     let there : IsAt (keys_of ps) (total (take (c.args.client - 1) shares) + c.args.slot)
-        c.args.client c.args.slot =
+    c.args.client c.args.slot =
     rw c.args.self.now.keys (its-place shares c.args.client c.args.slot c.requires.first
-        c.requires.slot) in
+    c.requires.slot) in
     let h = slice_get_within (keys_of ps) (total (take (c.args.client - 1) shares) + c.args.slot)
     (c.args.client, c.args.slot) there in
     let is = before c.args.client shares c.deref.result.now c.slots_in.result c.slots_in.ensures
