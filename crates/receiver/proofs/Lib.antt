@@ -7,6 +7,7 @@ pub mod RunLemmas
 pub mod TableLemmas
 pub mod QueueLemmas
 pub mod SessionLemmas
+pub mod ShareLemmas
 pub mod TellingLemmas
 pub mod EntryAnswers
 pub mod OpeningLemmas

@@ -16,7 +16,6 @@ use Rattle.definitions.specs.Receiver.{slot_event_texts, event_lines, answer_tex
 use Rattle.definitions.specs.Receiver.{for_each_client, body_lines, lines_at, at_each_time}
 use Rattle.definitions.specs.Receiver.{timed_texts, end_lines, end_line}
 use Rattle.definitions.proofs.EntryLemmas.{NoneBefore, answers_left, answered-left}
-use Rattle.receiver.specs.Clients.{client_with}
 use Rattle.receiver.specs.LastLines.{ends}
 use Rattle.receiver.specs.declared.queue.Queue.{Queue}
 use Rattle.receiver.specs.Queues.{left_of}
@@ -71,71 +70,53 @@ from-start : (left : List Entry) → NoneBefore 0 left
 from-start [] = tt
 from-start (e ∷ left) = (omega arith, from-start left)
 
-module _ {A : Type 0} (text : A → List ℕ) where
-  entries_in_text : A → List Entry
-  entries_in_text script = entries_of (client_with (text script))
+first-left : (client : Client) (clients : List Client) (q : Queue) (qs : List Queue)
+    → map left_of (q ∷ qs) ≡ map entries_of (client ∷ clients) → left_of q ≡ entries_of client
+first-left client clients q qs e = ap (λ (l : List (List Entry)). get_or l 0 []) e
 
-  client_in_text : A → Client
-  client_in_text script = client_with (text script)
+pub queues-open : (b : ℕ) (clients : List Client) (qs : List Queue)
+    → map left_of qs ≡ map entries_of clients → AreQueues [] (λ client. []) b clients qs
+queues-open b [] [] e = tt
+queues-open b [] (q ∷ qs) e =
+    let one : suc (length (map left_of qs)) ≡ 0 = ap length e in absurd (omega (arith, one))
+queues-open b (client ∷ clients) [] e =
+    let one : 0 ≡ suc (length (map entries_of clients)) = ap length e in absurd (omega (arith, one))
+queues-open b (client ∷ clients) (q ∷ qs) e = (
+  record {
+    all = sym (first-left client clients q qs e);
+    past = tt;
+    to_come = from-start (left_of q);
+  },
+  queues-open (b + 1) clients qs (ap (λ (l : List (List Entry)). drop 1 l) e),
+)
 
-  first-left : (script : A) (scripts : List A) (q : Queue) (qs : List Queue)
-      → map left_of (q ∷ qs) ≡ map entries_in_text (script ∷ scripts)
-      → left_of q ≡ entries_in_text script
-  first-left script scripts q qs e = ap (λ (l : List (List Entry)). get_or l 0 []) e
+waiting-from : (settings : Settings) (b : ℕ) (clients : List Client) (qs : List Queue)
+    → map left_of qs ≡ map entries_of clients
+    → flat_map (λ (p : ℕ × Client). map (for_client p.0)
+    (timed_texts [] (answer_texts settings p.1 []))) (enumerate_from b clients)
+    ≡ answers_waiting settings [] (λ client. []) b qs
+waiting-from settings b [] [] e = refl
+waiting-from settings b [] (q ∷ qs) e =
+    let one : suc (length (map left_of qs)) ≡ 0 = ap length e in absurd (omega (arith, one))
+waiting-from settings b (client ∷ clients) [] e =
+    let one : 0 ≡ suc (length (map entries_of clients)) = ap length e in absurd (omega (arith, one))
+waiting-from settings b (client ∷ clients) (q ∷ qs) e =
+    let own : answer_texts settings client [] ≡ answers_left settings [] [] (left_of q) =
+    answered-left settings client []
+    ∙ ap (answers_left settings [] []) (sym (first-left client clients q qs e)) in
+    let others : List (List ℕ) =
+    flat_map (λ (p : ℕ × Client). map (for_client p.0)
+    (timed_texts [] (answer_texts settings p.1 []))) (enumerate_from (b + 1) clients) in
+    ap (λ (l : List (List ℕ)). map (for_client b) (timed_texts [] l) ++ others) own
+    ∙ ap (λ (r : List (List ℕ)). map (for_client b)
+    (timed_texts [] (answers_left settings [] [] (left_of q))) ++ r)
+    (waiting-from settings (b + 1) clients qs (ap (λ (l : List (List Entry)). drop 1 l) e))
 
-  pub queues-open : (b : ℕ) (scripts : List A) (qs : List Queue)
-      → map left_of qs ≡ map (λ script. entries_of (client_with (text script))) scripts
-      → AreQueues [] (λ client. []) b (map (λ script. client_with (text script)) scripts) qs
-  unfolding entries_in_text
-  queues-open b [] [] e = tt
-  queues-open b [] (q ∷ qs) e =
-      let one : suc (length (map left_of qs)) ≡ 0 = ap length e in absurd (omega (arith, one))
-  queues-open b (script ∷ scripts) [] e =
-      let one : 0 ≡ suc (length (map entries_in_text scripts)) = ap length e in
-      absurd (omega (arith, one))
-  queues-open b (script ∷ scripts) (q ∷ qs) e = (
-    record {
-      slots = refl;
-      all = sym (first-left script scripts q qs e);
-      past = tt;
-      to_come = from-start (left_of q);
-    },
-    queues-open (b + 1) scripts qs (ap (λ (l : List (List Entry)). drop 1 l) e),
-  )
-
-  waiting-from : (settings : Settings) (b : ℕ) (scripts : List A) (qs : List Queue)
-      → map left_of qs ≡ map (λ script. entries_of (client_with (text script))) scripts
-      → flat_map (λ (p : ℕ × Client). map (for_client p.0)
-      (timed_texts [] (answer_texts settings p.1 [])))
-      (enumerate_from b (map (λ script. client_with (text script)) scripts))
-      ≡ answers_waiting settings [] (λ client. []) b qs
-  unfolding entries_in_text
-  waiting-from settings b [] [] e = refl
-  waiting-from settings b [] (q ∷ qs) e =
-      let one : suc (length (map left_of qs)) ≡ 0 = ap length e in absurd (omega (arith, one))
-  waiting-from settings b (script ∷ scripts) [] e =
-      let one : 0 ≡ suc (length (map entries_in_text scripts)) = ap length e in
-      absurd (omega (arith, one))
-  waiting-from settings b (script ∷ scripts) (q ∷ qs) e =
-      let own : answer_texts settings (client_with (text script)) []
-      ≡ answers_left settings [] [] (left_of q) =
-      answered-left settings (client_with (text script)) []
-      ∙ ap (answers_left settings [] []) (sym (first-left script scripts q qs e)) in
-      let others : List (List ℕ) =
-      flat_map (λ (p : ℕ × Client). map (for_client p.0)
-      (timed_texts [] (answer_texts settings p.1 [])))
-      (enumerate_from (b + 1) (map (λ script. client_with (text script)) scripts)) in
-      ap (λ (l : List (List ℕ)). map (for_client b) (timed_texts [] l) ++ others) own
-      ∙ ap (λ (r : List (List ℕ)). map (for_client b)
-      (timed_texts [] (answers_left settings [] [] (left_of q))) ++ r)
-      (waiting-from settings (b + 1) scripts qs (ap (λ (l : List (List Entry)). drop 1 l) e))
-
-  pub waiting-open : (settings : Settings) (scripts : List A) (qs : List Queue)
-      → map left_of qs ≡ map (λ script. entries_of (client_with (text script))) scripts
-      → answer_lines settings (map (λ script. client_with (text script)) scripts) []
-      ≡ answers_waiting settings [] (λ client. []) 1 qs
-  unfolding answer_lines for_each_client
-  waiting-open settings scripts qs e = waiting-from settings 1 scripts qs e
+pub waiting-open : (settings : Settings) (clients : List Client) (qs : List Queue)
+    → map left_of qs ≡ map entries_of clients
+    → answer_lines settings clients [] ≡ answers_waiting settings [] (λ client. []) 1 qs
+unfolding answer_lines for_each_client
+waiting-open settings clients qs e = waiting-from settings 1 clients qs e
 
 -- ---- behind the last sample
 

@@ -79,7 +79,6 @@ module _ (settings : Settings) (client : Client) (xs : List Sample) (done left :
       ap (λ (l : List Entry). done ++ l) is ∙ sym (append_assoc done (e ∷ []) rest) in
       let come : NoneBefore (length xs) (e ∷ rest) = rw is at q.to_come in
       record {
-        slots = q.slots;
         all = q.all ∙ whole;
         past = past-one (length xs) done e h q.past;
         to_come = come.1;
@@ -99,7 +98,6 @@ module _ (settings : Settings) (client : Client) (xs : List Sample) (done left :
 
     pub later : IsQueue (xs ++ ys) client done left
     later = record {
-      slots = q.slots;
       all = q.all;
       past = past-more (length xs) (length (xs ++ ys)) done (omega (arith, both ys)) q.past;
       to_come = rw (both ys) to_come;

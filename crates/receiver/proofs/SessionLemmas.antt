@@ -326,13 +326,6 @@ module _ (settings : Settings) (xs ys : List Sample) (done : ℕ → List Entry)
         ap (λ (j : ℕ). commands_to s (done j)) e
         ∙ asked-each within (b + 1) cs qs all.1 f.1 k client found s
 
-pub slots-each : (xs : List Sample) (done : ℕ → List Entry) (b : ℕ) (cs : List Client)
-    (qs : List Queue) → AreQueues xs done b cs qs
-    → AllByRecursion (λ (client : Client). client.slots ≡ 4) cs
-slots-each xs done b [] qs all = tt
-slots-each xs done b (c ∷ cs) [] all = absurd all
-slots-each xs done b (c ∷ cs) (q ∷ qs) all = (all.0.slots, slots-each xs done (b + 1) cs qs all.1)
-
 pub same-number : (xs : List Sample) (done : ℕ → List Entry) (b : ℕ) (cs : List Client)
     (qs : List Queue) → AreQueues xs done b cs qs → length cs ≡ length qs
 same-number xs done b [] [] all = refl

@@ -2,11 +2,12 @@
 use Rattle.std.proofs.Common.{◌≡◌, ◌≤◌, ◌<◌, ℕ, zero, suc, Bool, true, false, List, [], ◌∷◌, length}
 use Rattle.std.proofs.Common.{refl, sym, ap, ◌∙◌, subst, arith, ◌⊎◌, inl, inr}
 use Rattle.std.specs.Prelude.{◌↔◌, Result, Ok, Err, if◌then◌else◌, map, zip, replicate, nat_lt}
-use Rattle.std.specs.Prelude.{nat_le, nat_eq}
+use Rattle.std.specs.Prelude.{nat_le, nat_eq, ◌==◌}
 use Rattle.std.specs.List.{list_all}
 use Rattle.std.specs.Io.KnownBytes.{Consumes}
 use Rattle.std.proofs.KnownBytes.{Appends-nil, Consumes-nil}
-use Rattle.std.proofs.lemmas.Bool.{cases_lt, le-leb, le-ltb, lt-leb, lt-ltb, eq-eqb}
+use Rattle.std.proofs.lemmas.Bool.{cases_lt, le-leb, le-ltb, lt-leb, lt-ltb, eq-eqb, ne_eqb}
+use Rattle.std.proofs.lemmas.Bool.{eqb-true}
 use Rattle.std.proofs.Math.Bool.{and-false}
 use Rattle.std.proofs.lemmas.List.{length-replicate, length-map}
 use Rattle.std.proofs.lemmas.Simd.{map-map}
@@ -15,10 +16,10 @@ use Rattle.definitions.specs.Samples.{sample_count, samples}
 use Rattle.definitions.specs.Receiver.{Client, answer_lines, body}
 use Rattle.definitions.specs.Runs.{Task, Input, InputEnd, clients_of, is_share, are_clients}
 use Rattle.definitions.specs.Runs.{AreRight, taken_samples, is_too_long, body_text, full_text}
-use Rattle.definitions.specs.Runs.{due_text, IsAnswer}
+use Rattle.definitions.specs.Runs.{due_text, IsAnswer, are_shares}
 use Rattle.definitions.specs.Runs as runs
 use Rattle.definitions.proofs.SampleLemmas.{samples-length}
-use Rattle.receiver.specs.Clients.{client_with}
+use Rattle.receiver.specs.Clients.{clients_with}
 use Rattle.receiver.specs.Texts.{AppendsPart}
 use Rattle.receiver.specs.Sessions.{StandsFor, time_of}
 use Rattle.channel_slots.specs.declared.open_fault.OpenFault.{OpenFault}
@@ -26,60 +27,15 @@ use Rattle.channel_slots.specs.declared.open_fault.OpenFault.TheVariants as Faul
 use Rattle.receiver.specs.declared.session.Session.{Session}
 use Rattle.receiver.specs.declared.faults.RunFault.{RunFault}
 use Rattle.receiver.specs.declared.faults.RunFault.TheVariants.{NoMemory, Clients, Read, Write}
-use Rattle.receiver.specs.declared.faults.RunFault.TheVariants.{TooLong}
+use Rattle.receiver.specs.declared.faults.RunFault.TheVariants.{TooLong, Share}
 use Rattle.receiver.specs.declared.faults.Stop.{Stop}
 use Rattle.receiver.specs.declared.faults.Stop.TheVariants.{AtEnd, ReadFailed, PastLimit}
 use Rattle.receiver.proofs.OpeningLemmas.{first-lines}
-use Rattle.receiver.proofs.RunLemmas.{few-clients, not-both}
+use Rattle.receiver.proofs.ShareLemmas.{clients-number}
 use Rattle.receiver.specs.Runs.{Devices, IsOpen, IsRun, Ran, BrokeOff, StopsFor, EndedAs}
 use Rattle.receiver.specs.Runs.{WriterTells, answer_of, task_of, samples_read, text_for}
 
--- ---- the clients of a task
-
-four-each : (scripts : List (List ℕ))
-    → map (λ (p : ℕ × List ℕ). record { slots = p.0; script = p.1 })
-    (zip (replicate (length scripts) 4) scripts) ≡ map client_with scripts
-four-each [] = refl
-four-each (script ∷ scripts) = ap (λ (l : List Client). client_with script ∷ l) (four-each scripts)
-
--- each script is that of a client with four slots
-pub clients-are : (settings : Settings) (scripts : List (List ℕ)) (limit : ℕ)
-    → clients_of (task_of settings scripts limit) ≡ map client_with scripts
-clients-are settings scripts limit = four-each scripts
-
--- of scripts that are handed in
-pub same-clients : {A : Type 0} (text : A → List ℕ) (settings : Settings) (handed : List A)
-    (limit : ℕ) → clients_of (task_of settings (map text handed) limit)
-    ≡ map (λ a. client_with (text a)) handed
-same-clients text settings handed limit =
-    clients-are settings (map text handed) limit ∙ map-map client_with text handed
-
--- a session that was opened for scripts
-opens : {A : Type 0} (text : A → List ℕ) (settings : Settings) (handed : List A) (limit : ℕ)
-    (session : Session)
-    → StandsFor settings (map (λ a. client_with (text a)) handed) session []
-    (answer_lines settings (map (λ a. client_with (text a)) handed) [])
-    → IsOpen settings (clients_of (task_of settings (map text handed) limit)) session
-opens text settings handed limit session stands =
-    subst (λ (l : List Client). IsOpen settings l session)
-    (sym (same-clients text settings handed limit))
-    (record {
-      stands = stands;
-      first = first-lines settings (map (λ a. client_with (text a)) handed);
-    })
-
--- and a run of it
-pub ran-them : {A : Type 0} (text : A → List ℕ) (settings : Settings) (handed : List A) (limit : ℕ)
-    (session : Session) (old new : Devices) (stop : Stop)
-    → Ran settings (clients_of (task_of settings (map text handed) limit)) limit session old new
-    stop → Ran settings (map (λ a. client_with (text a)) handed) limit session old new stop
-ran-them text settings handed limit session old new stop r =
-    subst (λ (l : List Client). Ran settings l limit session old new stop)
-    (same-clients text settings handed limit) r
-
-all-shares : (n : ℕ) → list_all is_share (replicate n 4) ≡ true
-all-shares zero = refl
-all-shares (suc n) = all-shares n
+-- ---- scripts and shares
 
 -- there are no scripts, or more than eight
 abbrev pub AreWrong : ℕ → Type 0
@@ -90,9 +46,13 @@ are-wrong scripts (inl none) = rw none refl
 are-wrong scripts (inr many) =
     rw (lt-leb (length scripts) 8 many) (and-false (nat_le 1 (length scripts)))
 
-pub are-right : (settings : Settings) (scripts : List (List ℕ)) (limit : ℕ)
-    → (AreWrong (length scripts) → ⊥) → AreRight (task_of settings scripts limit)
-are-right settings scripts limit right =
+pub no-fault : (n : ℕ) → 0 < n → n ≤ 8 → AreWrong n → ⊥
+no-fault n some few (inl none) = omega (arith, some, none)
+no-fault n some few (inr many) = omega (arith, few, many)
+
+some-clients : (scripts : List (List ℕ)) → (AreWrong (length scripts) → ⊥)
+    → are_clients scripts ≡ true
+some-clients scripts right =
     let some : nat_le 1 (length scripts) ≡ true = elim (cases_lt 0 (length scripts)) [
       | inl more ↦ le-leb 1 (length scripts) (omega (arith, more))
       | inr none ↦ absurd (right (inl (omega (arith, none))))
@@ -101,15 +61,23 @@ are-right settings scripts limit right =
       | inl many ↦ absurd (right (inr many))
       | inr le ↦ le-leb (length scripts) 8 le
     ] in
-    let as_many : nat_eq (length (replicate {A = ℕ} (length scripts) 4)) (length scripts) ≡ true =
-    eq-eqb _ (length scripts) (length-replicate {A = ℕ} (length scripts) 4) in
-    (rw (some, few) refl, rw (as_many, all-shares (length scripts)) refl)
+    rw (some, few) refl
 
-right-scripts : {A : Type 0} (text : A → List ℕ) (settings : Settings) (handed : List A) (limit : ℕ)
-    → (AreWrong (length handed) → ⊥) → AreRight (task_of settings (map text handed) limit)
-right-scripts text settings handed limit right =
-    are-right settings (map text handed) limit
-    (λ w. right (subst AreWrong (length-map handed text) w))
+-- there are as many shares as scripts, and each is one
+pub right-shares : (shares : List ℕ) (scripts : List (List ℕ)) → length shares ≡ length scripts
+    → list_all is_share shares ≡ true → are_shares shares scripts ≡ true
+right-shares shares scripts each right =
+    rw (eq-eqb (length shares) (length scripts) each, right) refl
+
+-- there are more or fewer, or one is none
+pub wrong-number : (shares : List ℕ) (scripts : List (List ℕ))
+    → (length shares ≡ length scripts → ⊥) → are_shares shares scripts ≡ false
+wrong-number shares scripts other = rw (ne_eqb (length shares) (length scripts) other) refl
+
+pub wrong-share : (shares : List ℕ) (scripts : List (List ℕ)) → list_all is_share shares ≡ false
+    → are_shares shares scripts ≡ false
+wrong-share shares scripts wrong =
+    rw wrong (and-false (nat_eq (length shares) (length scripts)))
 
 -- ---- the text that is due
 
@@ -145,9 +113,9 @@ beyond settings limit read more =
     lt-ltb limit (sample_count settings.packing read)
     (subst (λ n. limit < n) (samples-length settings.packing read) more)
 
-module _ (settings : Settings) (scripts : List (List ℕ)) (limit : ℕ) where
+module _ (settings : Settings) (shares : List ℕ) (scripts : List (List ℕ)) (limit : ℕ) where
   task : Task
-  task = task_of settings scripts limit
+  task = task_of settings shares scripts limit
 
   -- a write failed among the lines, before reading came to its end
   pub breaks-in-body : (read : List ℕ) (old new : Devices)
@@ -155,8 +123,8 @@ module _ (settings : Settings) (scripts : List (List ℕ)) (limit : ℕ) where
       → new.write_failed ≡ true
       → AppendsPart old.contents new.contents
       (body settings (samples_read settings limit read)
-      (clients_of (task_of settings scripts limit)))
-      → BrokeOff (task_of settings scripts limit) old new
+      (clients_of (task_of settings shares scripts limit)))
+      → BrokeOff (task_of settings shares scripts limit) old new
   unfolding taken_samples task
   breaks-in-body read old new consumed same failed p = record {
     input = record { bytes = read; end = runs.unfinished };
@@ -173,8 +141,8 @@ module _ (settings : Settings) (scripts : List (List ℕ)) (limit : ℕ) where
       new.remaining stop
       → AppendsPart old.contents new.contents
       (text_for stop settings (samples_read settings limit read)
-      (clients_of (task_of settings scripts limit)))
-      → BrokeOff (task_of settings scripts limit) old new
+      (clients_of (task_of settings shares scripts limit)))
+      → BrokeOff (task_of settings shares scripts limit) old new
   unfolding taken_samples task
   breaks-in-end read old new PastLimit consumed broke why p =
       breaks-in-body read old new consumed why.1 broke p
@@ -195,9 +163,9 @@ module _ (settings : Settings) (scripts : List (List ℕ)) (limit : ℕ) where
 
   -- ---- runs by their results
 
-  pub broke-off : (old new : Devices) → AreRight (task_of settings scripts limit)
-      → BrokeOff (task_of settings scripts limit) old new
-      → IsRun (task_of settings scripts limit) old new (Err Write)
+  pub broke-off : (old new : Devices) → AreRight (task_of settings shares scripts limit)
+      → BrokeOff (task_of settings shares scripts limit) old new
+      → IsRun (task_of settings shares scripts limit) old new (Err Write)
   unfolding IsAnswer
   broke-off old new right b = record {
     input = b.input;
@@ -212,16 +180,16 @@ module _ (settings : Settings) (scripts : List (List ℕ)) (limit : ℕ) where
   -- a run that came to a stop, by what the table has for it
   ran-to : (end : InputEnd) (stop : Stop) (session : Session) (old new : Devices)
       (result : Result ℕ RunFault)
-      → (r : Ran settings (clients_of (task_of settings scripts limit)) limit session old new stop)
+      → (r : Ran settings (clients_of (task_of settings shares scripts limit)) limit session old new stop)
       → EndedAs end old new → WriterTells result old new
-      → IsAnswer (task_of settings scripts limit) (record { bytes = r.read; end = end })
+      → IsAnswer (task_of settings shares scripts limit) (record { bytes = r.read; end = end })
       (text_for stop settings (samples_read settings limit r.read)
-      (clients_of (task_of settings scripts limit))) (answer_of result)
-      → IsRun (task_of settings scripts limit) old new result
+      (clients_of (task_of settings shares scripts limit))) (answer_of result)
+      → IsRun (task_of settings shares scripts limit) old new result
   ran-to end stop session old new result r ended writer answer = record {
     input = record { bytes = r.read; end = end };
     text = text_for stop settings (samples_read settings limit r.read)
-        (clients_of (task_of settings scripts limit));
+        (clients_of (task_of settings shares scripts limit));
     consumed = r.consumed;
     ended = ended;
     written = r.completes.written;
@@ -230,9 +198,9 @@ module _ (settings : Settings) (scripts : List (List ℕ)) (limit : ℕ) where
   }
 
   pub ran-to-end : (n : ℕ) (session : Session) (old new : Devices)
-      → AreRight (task_of settings scripts limit)
-      → Ran settings (clients_of (task_of settings scripts limit)) limit session old new AtEnd
-      → n ≡ time_of session → IsRun (task_of settings scripts limit) old new (Ok n)
+      → AreRight (task_of settings shares scripts limit)
+      → Ran settings (clients_of (task_of settings shares scripts limit)) limit session old new AtEnd
+      → n ≡ time_of session → IsRun (task_of settings shares scripts limit) old new (Ok n)
   unfolding IsAnswer taken_samples task
   ran-to-end n session old new right r is =
       ran-to runs.exhausted AtEnd session old new (Ok n) r
@@ -240,9 +208,9 @@ module _ (settings : Settings) (scripts : List (List ℕ)) (limit : ℕ) where
       (right, within settings limit r.read r.completes.why.1, refl, is ∙ r.stands.bank.now, refl)
 
   pub ran-to-fault : (session : Session) (old new : Devices)
-      → AreRight (task_of settings scripts limit)
-      → Ran settings (clients_of (task_of settings scripts limit)) limit session old new ReadFailed
-      → IsRun (task_of settings scripts limit) old new (Err Read)
+      → AreRight (task_of settings shares scripts limit)
+      → Ran settings (clients_of (task_of settings shares scripts limit)) limit session old new ReadFailed
+      → IsRun (task_of settings shares scripts limit) old new (Err Read)
   unfolding IsAnswer taken_samples task
   ran-to-fault session old new right r =
       ran-to runs.failed ReadFailed session old new (Err Read) r
@@ -250,9 +218,9 @@ module _ (settings : Settings) (scripts : List (List ℕ)) (limit : ℕ) where
       (right, within settings limit r.read r.completes.why.1, refl, refl)
 
   pub ran-to-limit : (session : Session) (old new : Devices)
-      → AreRight (task_of settings scripts limit)
-      → Ran settings (clients_of (task_of settings scripts limit)) limit session old new PastLimit
-      → IsRun (task_of settings scripts limit) old new (Err TooLong)
+      → AreRight (task_of settings shares scripts limit)
+      → Ran settings (clients_of (task_of settings shares scripts limit)) limit session old new PastLimit
+      → IsRun (task_of settings shares scripts limit) old new (Err TooLong)
   unfolding IsAnswer taken_samples task
   ran-to-limit session old new right r =
       ran-to runs.unfinished PastLimit session old new (Err TooLong) r
@@ -276,51 +244,132 @@ refused asked old result writer answer = record {
   answer = answer;
 }
 
-pub without-memory : {A : Type 0} (text : A → List ℕ) (settings : Settings) (handed : List A)
-    (limit : ℕ) (old : Devices) → (AreWrong (length handed) → ⊥)
-    → IsRun (task_of settings (map text handed) limit) old old (Err NoMemory)
-unfolding IsAnswer
-without-memory text settings handed limit old right =
-    refused (task_of settings (map text handed) limit) old (Err NoMemory) refl
-    (right-scripts text settings handed limit right, (refl, refl, refl))
+module _ (settings : Settings) (shares : List ℕ) (scripts : List (List ℕ)) (limit : ℕ)
+    (old : Devices) where
+  asked : Task
+  asked = task_of settings shares scripts limit
 
-pub without-clients : {A : Type 0} (text : A → List ℕ) (settings : Settings) (handed : List A)
-    (limit : ℕ) (old : Devices) → AreWrong (length handed)
-    → IsRun (task_of settings (map text handed) limit) old old (Err Clients)
-unfolding IsAnswer
-without-clients text settings handed limit old wrong =
-    refused (task_of settings (map text handed) limit) old (Err Clients) refl (
-      are-wrong (map text handed) (subst AreWrong (sym (length-map handed text)) wrong),
-      (refl, refl, refl),
-    )
+  pub without-clients : AreWrong (length scripts)
+      → IsRun (task_of settings shares scripts limit) old old (Err Clients)
+  unfolding IsAnswer asked
+  without-clients wrong =
+      refused asked old (Err Clients) refl (are-wrong scripts wrong, (refl, refl, refl))
+
+  pub without-shares : (AreWrong (length scripts) → ⊥) → are_shares shares scripts ≡ false
+      → IsRun (task_of settings shares scripts limit) old old (Err Share)
+  unfolding IsAnswer asked
+  without-shares right wrong =
+      refused asked old (Err Share) refl (some-clients scripts right, wrong, (refl, refl, refl))
+
+  pub without-memory : (AreWrong (length scripts) → ⊥) → are_shares shares scripts ≡ true
+      → IsRun (task_of settings shares scripts limit) old old (Err NoMemory)
+  unfolding IsAnswer asked
+  without-memory right shared =
+      refused asked old (Err NoMemory) refl ((some-clients scripts right, shared), (refl, refl, refl))
 
 -- what opening a session for them gives
-pub record IsOpened {A : Type 0} (text : A → List ℕ) (settings : Settings) (handed : List A)
-    (limit : ℕ) (session : Session) : Type 0 where
-  pub is_open : IsOpen settings (clients_of (task_of settings (map text handed) limit)) session
-  pub right : AreRight (task_of settings (map text handed) limit)
-  pub few : length (map (λ a. client_with (text a)) handed) ≤ 8
+pub record IsOpened (settings : Settings) (shares : List ℕ) (scripts : List (List ℕ)) (limit : ℕ)
+    (session : Session) : Type 0 where
+  pub is_open : IsOpen settings (clients_of (task_of settings shares scripts limit)) session
+  pub right : AreRight (task_of settings shares scripts limit)
+  pub few : length (clients_with shares scripts) ≤ 8
 
-pub was-opened : {A : Type 0} (text : A → List ℕ) (settings : Settings) (handed : List A)
-    (limit : ℕ) (session : Session)
-    → StandsFor settings (map (λ a. client_with (text a)) handed) session []
-    (answer_lines settings (map (λ a. client_with (text a)) handed) [])
-    → (Ok session ≡ Err Faults.Clients) ↔ AreWrong (length handed)
-    → IsOpened text settings handed limit session
-was-opened text settings handed limit session stands when = record {
-  is_open = opens text settings handed limit session stands;
-  right = right-scripts text settings handed limit (not-both session _ when);
-  few = rw (length-map handed (λ a. client_with (text a)))
-      (few-clients session _ (length handed) when);
+-- what was opened wasn't refused
+shares-are-right : {A : Type 0} (opened : Result A OpenFault) (n : ℕ) (shares : List ℕ) → 0 < n
+    → n ≤ 8 → (opened ≡ Err Faults.Share → ⊥)
+    → (opened ≡ Err Faults.Share) ↔ ((0 < n) × (n ≤ 8) × (list_all is_share shares ≡ false))
+    → list_all is_share shares ≡ true
+shares-are-right opened n shares some few other when = by_test (list_all is_share shares) refl
+  where
+    by_test : (b : Bool) → list_all is_share shares ≡ b → list_all is_share shares ≡ true
+    by_test true is = is
+    by_test false is = absurd (other (when.1 (some, few, is)))
+
+abbrev number-of : {A : Type 0} → Result A OpenFault → ℕ
+number-of (Ok x) = 0
+number-of (Err Faults.NoMemory) = 1
+number-of (Err Faults.Clients) = 2
+number-of (Err Faults.Share) = 3
+
+shares-of-opened : {A : Type 0} (x : A) (n : ℕ) (shares : List ℕ) → 0 < n → n ≤ 8
+    → (Ok x ≡ Err Faults.Share) ↔ ((0 < n) × (n ≤ 8) × (list_all is_share shares ≡ false))
+    → list_all is_share shares ≡ true
+shares-of-opened {A} x n shares some few when =
+    shares-are-right (Ok x) n shares some few
+    (λ e. let no : 0 ≡ 3 = ap (number-of {A = A}) e in omega (arith, no)) when
+
+-- and what was refused for memory wasn't for its shares
+shares-without-memory : {A : Type 0} (opened : Result A OpenFault) (n : ℕ) (shares : List ℕ)
+    → 0 < n → n ≤ 8 → opened ≡ Err Faults.NoMemory
+    → (opened ≡ Err Faults.Share) ↔ ((0 < n) × (n ≤ 8) × (list_all is_share shares ≡ false))
+    → list_all is_share shares ≡ true
+shares-without-memory {A} opened n shares some few memory when =
+    shares-are-right opened n shares some few
+    (λ e. let no : 1 ≡ 3 = ap (number-of {A = A}) (sym memory ∙ e) in omega (arith, no)) when
+
+pub none-of : (n : ℕ) → true ≡ (n == 0) → n ≡ 0
+none-of n none = eqb-true n 0 (sym none)
+
+pub some-of : (n : ℕ) → false ≡ (n == 0) → 0 < n
+some-of zero none = cc
+some-of (suc n) none = omega arith
+
+was-opened : (settings : Settings) (shares : List ℕ) (scripts : List (List ℕ)) (limit : ℕ)
+    (session : Session) → 0 < length scripts → length scripts ≤ 8 → length shares ≡ length scripts
+    → list_all is_share shares ≡ true
+    → StandsFor settings (clients_with shares scripts) session []
+    (answer_lines settings (clients_with shares scripts) [])
+    → IsOpened settings shares scripts limit session
+was-opened settings shares scripts limit session some few each right stands = record {
+  is_open = record {
+    stands = stands;
+    first = first-lines settings (clients_with shares scripts);
+  };
+  right = (
+    some-clients scripts (no-fault (length scripts) some few),
+    right-shares shares scripts each right,
+  );
+  few = omega (arith, few, clients-number shares scripts each);
 }
 
--- a bank that was refused for memory wasn't for its clients
-pub for-memory : {A : Type 0} (opened : Result A OpenFault) → opened ≡ Err Faults.NoMemory
-    → opened ≡ Err Faults.Clients → ⊥
-for-memory {A} opened memory clients =
-    let no : 1 ≡ 0 = ap how (sym clients ∙ memory) in omega (arith, no)
-  where
-    how : Result A OpenFault → ℕ
-    how (Ok x) = 0
-    how (Err Faults.NoMemory) = 0
-    how (Err Faults.Clients) = 1
+-- scripts and shares that are handed in, of which there are some, few, and as many
+module _ {A : Type 0} (text : A → List ℕ) (settings : Settings) (shares : List ℕ)
+    (handed : List A) (limit : ℕ) (some : false ≡ (length handed == 0))
+    (few : length handed ≤ 8) (each : length shares ≡ length handed) where
+  number : length (map text handed) ≡ length handed
+  number = length-map handed text
+
+  right-number : AreWrong (length (map text handed)) → ⊥
+  right-number =
+      no-fault (length (map text handed))
+      (omega (arith, number, some-of (length handed) some)) (omega (arith, number, few))
+
+  pub opened-for : (session : Session)
+      → (Ok session ≡ Err Faults.Share) ↔ ((0 < length handed) × (length handed ≤ 8)
+      × (list_all is_share shares ≡ false))
+      → StandsFor settings (clients_with shares (map text handed)) session []
+      (answer_lines settings (clients_with shares (map text handed)) [])
+      → IsOpened settings shares (map text handed) limit session
+  opened-for session when stands =
+      was-opened settings shares (map text handed) limit session
+      (omega (arith, number, some-of (length handed) some)) (omega (arith, number, few))
+      (each ∙ sym number)
+      (shares-of-opened session (length handed) shares (some-of (length handed) some) few when)
+      stands
+
+  pub refused-memory : {S : Type 0} (opened : Result S OpenFault) (old : Devices)
+      → opened ≡ Err Faults.NoMemory
+      → (opened ≡ Err Faults.Share) ↔ ((0 < length handed) × (length handed ≤ 8)
+      × (list_all is_share shares ≡ false))
+      → IsRun (task_of settings shares (map text handed) limit) old old (Err NoMemory)
+  refused-memory opened old memory when =
+      without-memory settings shares (map text handed) limit old right-number
+      (right-shares shares (map text handed) (each ∙ sym number)
+      (shares-without-memory opened (length handed) shares (some-of (length handed) some) few
+      memory when))
+
+  pub refused-share : (old : Devices) → list_all is_share shares ≡ false
+      → IsRun (task_of settings shares (map text handed) limit) old old (Err Share)
+  refused-share old wrong =
+      without-shares settings shares (map text handed) limit old right-number
+      (wrong-share shares (map text handed) wrong)

@@ -1,5 +1,8 @@
 -- What is left of the clients' scripts.
 use Rattle.std.specs.Prelude.{◌≡◌, ◌≤◌, ◌<◌, ◌+◌, ◌-◌, ◌⊎◌, ℕ, List, [], ◌∷◌, ◌++◌, length, min}
+use Rattle.std.specs.Prelude.{Bool, true, false, nat_lt, ◌&&◌, Result, Ok, Err}
+use Rattle.std.specs.List.{list_all}
+use Rattle.definitions.specs.Commands.{Command}
 use Rattle.definitions.specs.Scripts.{Entry}
 use Rattle.client_commands.specs.Entries.{entries_in, result_in}
 use Rattle.receiver.specs.declared.queue.Queue.{Queue}
@@ -8,6 +11,19 @@ use Rattle.receiver.specs.declared.due.Due.{Due}
 -- the entries to come
 abbrev pub left_of : Queue → List Entry
 left_of queue = entries_in queue.next ++ queue.rest
+
+-- a command asks a slot of a share; a refused line asks none
+abbrev pub asks_in_share : ℕ → Result Command ℕ → Bool
+asks_in_share share (Ok command) = nat_lt command.slot share
+asks_in_share share (Err refusal) = true
+
+-- so for the entries that are left of each queue, with the share of its client
+abbrev pub are_in_shares : List ℕ → List Queue → Bool
+are_in_shares [] [] = true
+are_in_shares [] (q ∷ qs) = false
+are_in_shares (s ∷ ss) [] = false
+are_in_shares (s ∷ ss) (q ∷ qs) =
+    list_all (λ (e : Entry). asks_in_share s e.what) (left_of q) && are_in_shares ss qs
 
 -- the first of these entries stands after a time
 abbrev pub NoneDue : ℕ → List Entry → Type 0

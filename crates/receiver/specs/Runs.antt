@@ -1,5 +1,5 @@
 -- What a run reads and writes, by its answer.
-use Rattle.std.specs.Prelude.{◌≡◌, ◌≤◌, ◌<◌, ℕ, Bool, true, List, [], length, take, replicate}
+use Rattle.std.specs.Prelude.{◌≡◌, ◌≤◌, ◌<◌, ℕ, Bool, true, List, [], length, take}
 use Rattle.std.specs.Prelude.{slice_get, ◌++◌, ◌+◌, Option, Some, Result, Ok, Err}
 use Rattle.std.specs.Io.KnownBytes.{Appends, Consumes, IsAtEnd}
 use Rattle.definitions.specs.Oscillators.{Settings}
@@ -18,7 +18,7 @@ use Rattle.receiver.specs.declared.devices.Source.{Ghosts as Source}
 use Rattle.receiver.specs.declared.devices.Sink.{Ghosts as Sink}
 use Rattle.receiver.specs.declared.session.Session.{Session}
 use Rattle.receiver.specs.declared.faults.RunFault.{RunFault}
-use Rattle.receiver.specs.declared.faults.RunFault.TheVariants.{NoMemory, Clients}
+use Rattle.receiver.specs.declared.faults.RunFault.TheVariants.{NoMemory, Clients, Share}
 use Rattle.receiver.specs.declared.faults.RunFault.TheVariants.{Read, Write, TooLong}
 use Rattle.receiver.specs.declared.faults.Stop.{Stop}
 use Rattle.receiver.specs.declared.faults.Stop.TheVariants.{AtEnd, ReadFailed, PastLimit}
@@ -67,11 +67,11 @@ text_for AtEnd settings xs clients = full settings xs clients
 text_for ReadFailed settings xs clients = body settings xs clients
 text_for PastLimit settings xs clients = body settings xs clients
 
--- what a run is asked for: scripts of clients that have four slots each
-abbrev pub task_of : Settings → List (List ℕ) → ℕ → Task
-task_of settings scripts limit = record {
+-- what a run is asked for
+abbrev pub task_of : Settings → List ℕ → List (List ℕ) → ℕ → Task
+task_of settings shares scripts limit = record {
   settings = settings;
-  shares = replicate (length scripts) 4;
+  shares = shares;
   scripts = scripts;
   limit = limit;
 }
@@ -81,6 +81,7 @@ abbrev pub answer_of : Result ℕ RunFault → RunAnswer
 answer_of (Ok n) = runs.finished n
 answer_of (Err NoMemory) = runs.no_memory
 answer_of (Err Clients) = runs.wrong_clients
+answer_of (Err Share) = runs.wrong_shares
 answer_of (Err Read) = runs.read_failed
 answer_of (Err Write) = runs.write_failed
 answer_of (Err TooLong) = runs.too_long
@@ -96,6 +97,7 @@ abbrev pub WriterTells : Result ℕ RunFault → Devices → Devices → Type 0
 WriterTells (Ok n) old new = new.write_failed ≡ old.write_failed
 WriterTells (Err NoMemory) old new = new.write_failed ≡ old.write_failed
 WriterTells (Err Clients) old new = new.write_failed ≡ old.write_failed
+WriterTells (Err Share) old new = new.write_failed ≡ old.write_failed
 WriterTells (Err Read) old new = new.write_failed ≡ old.write_failed
 WriterTells (Err Write) old new = new.write_failed ≡ true
 WriterTells (Err TooLong) old new = new.write_failed ≡ old.write_failed

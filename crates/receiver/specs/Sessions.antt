@@ -9,7 +9,7 @@ use Rattle.definitions.specs.Receiver.{Client, entries_of, commands_to, reply_te
 use Rattle.definitions.specs.Texts.{for_client, at_time}
 use Rattle.definitions.specs.Lines.{ended_line}
 use Rattle.definitions.proofs.EntryLemmas.{NoneBefore, answers_left}
-use Rattle.channel_slots.specs.BankStates.{StandsFor as BankStandsFor, settings_of, clients_of}
+use Rattle.channel_slots.specs.BankStates.{StandsFor as BankStandsFor, settings_of, shares_of}
 use Rattle.channel_slots.specs.BankStates.{time_of as time_of_bank}
 use Rattle.channel_slots.specs.declared.bank.Bank.{Bank}
 use Rattle.client_commands.specs.Entries.{result_in}
@@ -38,7 +38,6 @@ lines_left session = all_left session.queues.items
 -- a client's entries are those that were answered and those that are left, which stand at the time
 -- of the last sample or after it
 pub record IsQueue (xs : List Sample) (client : Client) (done left : List Entry) : Type 0 where
-  pub slots : client.slots ≡ 4
   pub all : entries_of client ≡ done ++ left
   pub past : AllByRecursion (λ (e : Entry). e.time ≤ length xs) done
   pub to_come : NoneBefore (length xs) left
@@ -74,7 +73,7 @@ entry_now xs due = record { time = length xs; what = result_in due.what }
 -- a bank answers an entry by a line with its end, and then it has been answered
 pub record Answers (old new : Bank) (due : Due) (printed : List ℕ) : Type 0 where
   pub settings : settings_of new ≡ settings_of old
-  pub clients : clients_of new ≡ clients_of old
+  pub shares : shares_of new ≡ shares_of old
   pub time : time_of_bank new ≡ time_of_bank old
   pub line : (settings : Settings) (xs : List Sample) (done : ℕ → List Entry)
       → BankStandsFor settings xs (asked_of done) old
@@ -89,6 +88,7 @@ pub record StandsFor (settings : Settings) (clients : List Client) (session : Se
     (xs : List Sample) (waiting : List (List ℕ)) : Type 0 where
   pub done : ℕ → List Entry
   pub bank : BankStandsFor settings xs (asked_of done) session.bank
+  pub shares : map (λ (client : Client). client.slots) clients ≡ shares_of session.bank
   pub queues : AreQueues xs done 1 clients session.queues.items
   pub waits : waiting ≡ answers_waiting settings xs done 1 session.queues.items
 

@@ -1,7 +1,8 @@
 //! An entry of a script whose time has come.
 
-ghost use Rattle.std.specs.Prelude.{◌≤◌};
-ghost use Rattle.channel_slots.specs.BankStates.{clients_of};
+ghost use Rattle.std.specs.Prelude.{◌≤◌, ◌<◌, IfOk};
+ghost use Rattle.channel_slots.specs.BankStates.{share_of};
+ghost use Rattle.channel_slots.specs.Commands.{slot_of};
 ghost use Rattle.receiver.specs.Sessions.{Answers};
 
 use channel_slots::{Bank, Command};
@@ -19,7 +20,8 @@ impl Due {
     /// Answers it, by the line of the answer with its end. A refused line never reaches the bank.
     pub fn answer(self, bank: &mut Bank) -> Line
         requires first { 1 ≤ self.client }
-        requires last { self.client ≤ clients_of bank.old }
+        requires slot { IfOk self.what (λ command.
+            slot_of command < share_of bank.old self.client) }
         ensures { Answers bank.old bank.new self result }
     {
         let Due { client, what } = self;

@@ -9,6 +9,10 @@ pub enum RunFault {
     /// There is no script, or more than eight: nothing was read or written.
     #[error("clients")]
     Clients,
+    /// There are more or fewer shares than scripts, or a share is outside 1 to 8: nothing was read
+    /// or written.
+    #[error("share")]
+    Share,
     /// A read failed: the lines up to there are written, without the ends.
     #[error("read")]
     Read,

@@ -28,4 +28,4 @@ mod writing;
 
 pub use devices::{DeviceFault, Plain, Sink, Source};
 pub use faults::RunFault;
-pub use running::{run, run_to};
+pub use running::{run, run_shares, run_to};

@@ -15,15 +15,18 @@ pub struct Queue<'a> {
 impl<'a> Queue<'a> {
     ghost use Rattle.std.specs.Prelude.{◌≤◌, ◌∷◌, IfSome};
     ghost use Rattle.client_commands.specs.Entries.{entry_in};
+    ghost use Rattle.channel_slots.specs.declared.command.TheConstants.{MOST_SLOTS};
     ghost use Rattle.definitions.specs.Receiver.{entries_of};
     ghost use Rattle.receiver.specs.Clients.{client_with};
     ghost use Rattle.receiver.specs.Queues.{left_of, NoneDue, gap};
 
-    /// All entries of a script.
-    pub fn new(script: &'a [u8]) -> Queue<'a>
-        ensures { left_of result ≡ entries_of (client_with script.now) }
+    /// All entries of the script of a client with a share of the slots.
+    pub fn new(script: &'a [u8], share: u8) -> Queue<'a>
+        requires some { 1 ≤ share }
+        requires most { share ≤ MOST_SLOTS }
+        ensures { left_of result ≡ entries_of (client_with share script.now) }
     {
-        let mut rest = Script::new(script);
+        let mut rest = Script::new(script, share);
         let next = rest.next();
         Queue { next, rest }
     }
@@ -56,6 +59,6 @@ impl<'a> Queue<'a> {
 // The rooms of an array that no script was put into.
 impl Default for Queue<'_> {
     fn default() -> Self {
-        Queue::new(&[])
+        Queue::new(&[], 1)
     }
 }

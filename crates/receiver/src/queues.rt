@@ -1,9 +1,10 @@
 //! The scripts of all clients, side by side.
 
-ghost use Rattle.std.specs.Prelude.{◌≡◌, ◌≤◌, length, map, IfSome, IsNone};
-ghost use Rattle.std.specs.List.{AllByRecursion};
+ghost use Rattle.std.specs.Prelude.{◌≡◌, ◌≤◌, length, map, true, IfSome, IsNone};
+ghost use Rattle.std.specs.List.{AllByRecursion, list_all};
 ghost use Rattle.definitions.specs.Receiver.{entries_of};
-ghost use Rattle.receiver.specs.Clients.{client_with};
+ghost use Rattle.definitions.specs.Runs.{is_share};
+ghost use Rattle.receiver.specs.Clients.{clients_with};
 ghost use Rattle.receiver.specs.declared.session.TheConstants.{QUEUES};
 ghost use Rattle.receiver.specs.Queues.{TakesDue, NoneDue, left_of, least_gap_of};
 
@@ -12,15 +13,17 @@ use crate::queue::Queue;
 use crate::session::QUEUES;
 use arrayvec::ArrayVec;
 
-/// All entries of each script.
-pub fn queues_of<'a>(scripts: &'a [&'a [u8]]) -> ArrayVec<Queue<'a>, QUEUES>
-    requires { length scripts.now ≤ QUEUES }
+/// All entries of each script, whose client has the share at its place.
+pub fn queues_of<'a>(scripts: &'a [&'a [u8]], shares: &[u8]) -> ArrayVec<Queue<'a>, QUEUES>
+    requires few { length scripts.now ≤ QUEUES }
+    requires each { length shares.now ≡ length scripts.now }
+    requires right { list_all is_share shares.now ≡ true }
     ensures { map left_of result.items
-        ≡ map (λ script. entries_of (client_with script.now)) scripts.now }
+        ≡ map entries_of (clients_with shares.now (map (λ script. script.now) scripts.now)) }
 {
     let mut queues = ArrayVec::new();
-    for script in scripts {
-        queues.push(Queue::new(script));
+    for index in 0..scripts.len() {
+        queues.push(Queue::new(scripts[index], shares[index]));
     }
     queues
 }

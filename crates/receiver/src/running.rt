@@ -5,8 +5,8 @@ ghost use Rattle.std.specs.Prelude.{false, OnErr, IfOk, Err, IsErrOf};
 ghost use Rattle.definitions.specs.Oscillators.{Settings as DefinedSettings};
 ghost use Rattle.channel_slots.specs.declared.bank.TheConstants.{MOST_TIME};
 ghost use Rattle.channel_slots.specs.declared.place.TheConstants.{MOST_CLIENTS};
-ghost use Rattle.definitions.specs.Runs.{clients_of};
-ghost use Rattle.receiver.specs.Clients.{client_with};
+ghost use Rattle.definitions.specs.Runs.{clients_of, are_shares};
+ghost use Rattle.receiver.specs.Clients.{clients_with, four_each};
 ghost use Rattle.receiver.specs.Printed.{LinesAreRight};
 ghost use Rattle.receiver.specs.Runs.{devices_at, task_of, IsOpen, Ran, BrokeOff, IsRun};
 ghost use Rattle.receiver.specs.Sessions.{time_of};
@@ -17,7 +17,7 @@ use crate::held_text::HeldText;
 use crate::reading::read_all;
 use crate::session::Session;
 use crate::writing::{finish, put_answers};
-use channel_slots::{MOST_TIME, OpenFault};
+use channel_slots::{MOST_CLIENTS, MOST_TIME, OpenFault};
 use oscillators::Settings;
 use std::alloc::Global;
 
@@ -33,14 +33,16 @@ fn run_session<R: Source, W: Sink>(
     requires start { time_of session.old ≡ 0 }
     ensures once { R.has_failed reader.old ≡ false
         → R.was_asked_again reader.new ≡ R.was_asked_again reader.old }
-    ensures ran { IfOk result (λ stop. (settings : DefinedSettings) (scripts : List (List ℕ))
-        → IsOpen settings (clients_of (task_of settings scripts limit)) session.old
-        → Ran settings (clients_of (task_of settings scripts limit)) limit session.new
+    ensures ran { IfOk result (λ stop. (settings : DefinedSettings) (shares : List ℕ)
+        (scripts : List (List ℕ))
+        → IsOpen settings (clients_of (task_of settings shares scripts limit)) session.old
+        → Ran settings (clients_of (task_of settings shares scripts limit)) limit session.new
         (devices_at R.Source W.Sink reader.old writer.old)
         (devices_at R.Source W.Sink reader.new writer.new) stop) }
-    ensures broken { OnErr result ((settings : DefinedSettings) (scripts : List (List ℕ))
-        → IsOpen settings (clients_of (task_of settings scripts limit)) session.old
-        → BrokeOff (task_of settings scripts limit)
+    ensures broken { OnErr result ((settings : DefinedSettings) (shares : List ℕ)
+        (scripts : List (List ℕ))
+        → IsOpen settings (clients_of (task_of settings shares scripts limit)) session.old
+        → BrokeOff (task_of settings shares scripts limit)
         (devices_at R.Source W.Sink reader.old writer.old)
         (devices_at R.Source W.Sink reader.new writer.new)) }
 {
@@ -51,12 +53,15 @@ fn run_session<R: Source, W: Sink>(
     Ok(stop)
 }
 
+/// The shares of clients that have four slots each.
+const FOUR_EACH: [u8; MOST_CLIENTS] = [4; MOST_CLIENTS];
+
 /// Runs one to eight scripts over all samples that a reader gives, at most `MOST_TIME` of them:
 /// writes the lines of all clients, time by time, with an `end` for each behind the last, and
 /// answers the number of samples. However reads cut the bytes, and whatever the other clients ask,
 /// each client's lines are those of a receiver with that client alone. Each count is the plain sum
 /// over its samples, each acquisition names a greatest cell, and each data word that is shown
-/// passes the parity of IS-GPS-200, section 20.3.5.
+/// passes the parity of IS-GPS-200, section 20.3.5. Each client has four slots.
 pub fn run<R: Source, W: Sink>(
     alloc: Global,
     settings: Settings,
@@ -70,11 +75,13 @@ pub fn run<R: Source, W: Sink>(
         → (reader.new ≡ reader.old) × (writer.new ≡ writer.old) }
     ensures once { R.has_failed reader.old ≡ false
         → R.was_asked_again reader.new ≡ R.was_asked_again reader.old }
-    ensures run { IsRun (task_of settings (map (λ script. script.now) scripts.now) MOST_TIME)
+    ensures run { IsRun (task_of settings (four_each (map (λ script. script.now) scripts.now))
+        (map (λ script. script.now) scripts.now) MOST_TIME)
         (devices_at R.Source W.Sink reader.old writer.old)
         (devices_at R.Source W.Sink reader.new writer.new) result }
     ensures lines { IfOk result (λ _. LinesAreRight settings
-        (map (λ script. client_with script.now) scripts.now)
+        (clients_with (four_each (map (λ script. script.now) scripts.now))
+        (map (λ script. script.now) scripts.now))
         (devices_at R.Source W.Sink reader.old writer.old)
         (devices_at R.Source W.Sink reader.new writer.new)) }
 {
@@ -98,18 +105,65 @@ pub fn run_to<R: Source, W: Sink>(
         → (reader.new ≡ reader.old) × (writer.new ≡ writer.old) }
     ensures once { R.has_failed reader.old ≡ false
         → R.was_asked_again reader.new ≡ R.was_asked_again reader.old }
-    ensures run { IsRun (task_of settings (map (λ script. script.now) scripts.now) limit)
+    ensures run { IsRun (task_of settings (four_each (map (λ script. script.now) scripts.now))
+        (map (λ script. script.now) scripts.now) limit)
         (devices_at R.Source W.Sink reader.old writer.old)
         (devices_at R.Source W.Sink reader.new writer.new) result }
     ensures lines { IfOk result (λ _. LinesAreRight settings
-        (map (λ script. client_with script.now) scripts.now)
+        (clients_with (four_each (map (λ script. script.now) scripts.now))
+        (map (λ script. script.now) scripts.now))
         (devices_at R.Source W.Sink reader.old writer.old)
         (devices_at R.Source W.Sink reader.new writer.new)) }
 {
-    let mut session = match Session::open(alloc, settings, scripts) {
+    let Some(shares) = FOUR_EACH.get(..scripts.len()) else {
+        return Err(RunFault::Clients);
+    };
+    run_shares(alloc, settings, scripts, shares, limit, reader, writer)
+}
+
+/// The same for clients with these shares of the slots, one for each script, of 1 to `MOST_SLOTS`
+/// slots. The scripts are looked at first, then the shares, and then memory is taken.
+pub fn run_shares<R: Source, W: Sink>(
+    alloc: Global,
+    settings: Settings,
+    scripts: &[&[u8]],
+    shares: &[u8],
+    limit: u64,
+    reader: &mut R,
+    writer: &mut W,
+) -> Result<u64, RunFault>
+    requires limit { limit ≤ MOST_TIME }
+    requires whole { limit % 8 ≡ 0 }
+    ensures clients { (result ≡ Err RunFault.Clients)
+        ↔ ((length scripts.now ≡ 0) ⊎ (MOST_CLIENTS < length scripts.now)) }
+    ensures share { (result ≡ Err RunFault.Share) ↔ ((0 < length scripts.now)
+        × (length scripts.now ≤ MOST_CLIENTS)
+        × (are_shares shares.now (map (λ script. script.now) scripts.now) ≡ false)) }
+    ensures untouched { IsErrOf result RunFault.Clients ⊎ IsErrOf result RunFault.Share
+        ⊎ IsErrOf result RunFault.NoMemory
+        → (reader.new ≡ reader.old) × (writer.new ≡ writer.old) }
+    ensures once { R.has_failed reader.old ≡ false
+        → R.was_asked_again reader.new ≡ R.was_asked_again reader.old }
+    ensures run { IsRun
+        (task_of settings shares.now (map (λ script. script.now) scripts.now) limit)
+        (devices_at R.Source W.Sink reader.old writer.old)
+        (devices_at R.Source W.Sink reader.new writer.new) result }
+    ensures lines { IfOk result (λ _. LinesAreRight settings
+        (clients_with shares.now (map (λ script. script.now) scripts.now))
+        (devices_at R.Source W.Sink reader.old writer.old)
+        (devices_at R.Source W.Sink reader.new writer.new)) }
+{
+    if scripts.is_empty() || MOST_CLIENTS < scripts.len() {
+        return Err(RunFault::Clients);
+    }
+    if shares.len() != scripts.len() {
+        return Err(RunFault::Share);
+    }
+    let mut session = match Session::open(alloc, settings, scripts, shares) {
         Ok(session) => session,
         Err(OpenFault::NoMemory) => return Err(RunFault::NoMemory),
         Err(OpenFault::Clients) => return Err(RunFault::Clients),
+        Err(OpenFault::Share) => return Err(RunFault::Share),
     };
     match run_session(&mut session, limit, reader, writer) {
         Ok(Stop::AtEnd) => Ok(session.time()),

@@ -1,10 +1,11 @@
 //! The slots of all clients, with what is left of their scripts.
 
-ghost use Rattle.std.specs.Prelude.{◌≡◌, length};
-ghost use Rattle.channel_slots.specs.BankStates.{clients_of};
+ghost use Rattle.std.specs.Prelude.{◌≡◌, true, length};
+ghost use Rattle.channel_slots.specs.BankStates.{shares_of};
 ghost use Rattle.channel_slots.specs.declared.bank.TheConstants.{MOST_TIME};
 ghost use Rattle.channel_slots.specs.declared.place.TheConstants.{MOST_CLIENTS};
 ghost use Rattle.sample_planes.specs.Packings.{packing_of};
+ghost use Rattle.receiver.specs.Queues.{are_in_shares};
 ghost use Rattle.sample_planes.specs.declared.planes.TheConstants.{MAX_SAMPLES};
 
 use crate::queue::Queue;
@@ -17,14 +18,15 @@ use sample_planes::{Format, PackedSamples};
 use std::alloc::Global;
 
 /// Room for the script of each client.
-pub const QUEUES: usize = MOST_CLIENTS as usize;
+pub const QUEUES: usize = MOST_CLIENTS;
 
 /// The slots of all clients, and beside them what is left of the clients' scripts.
 #[derive(Drop)]
 pub struct Session<'a> {
     bank: Bank,
     queues: ArrayVec<Queue<'a>, QUEUES>,
-    ghost clients: { length queues.items ≡ clients_of bank },
+    ghost clients: { length queues.items ≡ length (shares_of bank) },
+    ghost in_shares: { are_in_shares (shares_of bank) queues.items ≡ true },
 }
 
 impl<'a> Session<'a> {
@@ -34,7 +36,10 @@ impl<'a> Session<'a> {
     ghost use Rattle.definitions.specs.Samples.{Sample};
     ghost use Rattle.definitions.specs.Receiver.{Client, body_lines, answer_lines};
     ghost use Rattle.channel_slots.specs.Events.{line_of};
-    ghost use Rattle.receiver.specs.Clients.{client_with};
+    ghost use Rattle.std.specs.Prelude.{false};
+    ghost use Rattle.std.specs.List.{list_all};
+    ghost use Rattle.definitions.specs.Runs.{is_share};
+    ghost use Rattle.receiver.specs.Clients.{clients_with};
     ghost use Rattle.receiver.specs.Sessions.{StandsFor, Gives, packing_in, time_of};
     ghost use Rattle.receiver.specs.Sessions.{until_next, lines_left};
 
@@ -43,21 +48,24 @@ impl<'a> Session<'a> {
         alloc: Global,
         settings: Settings,
         scripts: &'a [&'a [u8]],
+        shares: &[u8],
     ) -> Result<Session<'a>, OpenFault>
+        requires each { length shares.now ≡ length scripts.now }
         ensures clients { (result ≡ Err OpenFault.Clients) ↔ ((length scripts.now
             ≡ 0) ⊎ (MOST_CLIENTS < length scripts.now)) }
+        ensures share { (result ≡ Err OpenFault.Share) ↔ ((0 < length scripts.now)
+            × (length scripts.now ≤ MOST_CLIENTS) × (list_all is_share shares.now ≡ false)) }
         ensures packing { IfOk result (λ session. packing_in session ≡ settings.packing) }
         ensures time { IfOk result (λ session. time_of session ≡ 0) }
-        ensures stands { IfOk result (λ session. StandsFor settings (map
-            (λ script. client_with script.now) scripts.now) session []
+        ensures stands { IfOk result (λ session. StandsFor settings
+            (clients_with shares.now (map (λ script. script.now) scripts.now)) session []
             (answer_lines settings
-            (map (λ script. client_with script.now) scripts.now) [])) }
+            (clients_with shares.now (map (λ script. script.now) scripts.now)) [])) }
     {
-        let clients = scripts.len().min(QUEUES + 1);
-        let bank = Bank::open(alloc, settings, clients as u8)?;
+        let bank = Bank::open(alloc, settings, shares)?;
         Ok(Session {
             bank,
-            queues: queues_of(scripts),
+            queues: queues_of(scripts, shares),
         })
     }
 
@@ -70,7 +78,7 @@ impl<'a> Session<'a> {
 
     /// How many clients it has.
     pub fn clients(&self) -> u8
-        ensures number { result ≡ clients_of self.now.bank }
+        ensures number { result ≡ length (shares_of self.now.bank) }
         ensures few { result ≤ MOST_CLIENTS }
     {
         self.queues.len() as u8

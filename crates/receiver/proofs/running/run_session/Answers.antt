@@ -18,8 +18,8 @@ use Rattle.receiver.proofs.running.run_session.Goals as goal
 pub returns-in_err-put_answers-clause-broken : goal.returns-in_err-put_answers-clause-broken
 unfolding body
 returns-in_err-put_answers-clause-broken g c =
-    let s = g.W.Sink in on_err c.from_residual.result _ (λ settings scripts open_is.
-    let clients = clients_of (task_of settings scripts c.args.limit) in
+    let s = g.W.Sink in on_err c.from_residual.result _ (λ settings shares scripts open_is.
+    let clients = clients_of (task_of settings shares scripts c.args.limit) in
     let start = s.contents c.args.writer.now in
     let now = s.contents c.put_answers.new.writer in
     let none : promise start c.new-text.result ≡ start =
@@ -29,7 +29,7 @@ returns-in_err-put_answers-clause-broken g c =
     (rw none at (c.in_err-put_answers.ensures.err settings clients []
     (answer_lines settings clients []) open_is.stands)) in
     let Q : List Sample → Type 0 = λ ys. AppendsPart start now (body settings ys clients) in
-    breaks-in-body settings scripts c.args.limit []
+    breaks-in-body settings shares scripts c.args.limit []
     _ _ (Consumes-nil (g.R.Source.remaining c.args.reader.now)) refl
     c.in_err-put_answers.ensures.failure
     (subst Q (none-read settings c.args.limit)
@@ -37,8 +37,8 @@ returns-in_err-put_answers-clause-broken g c =
 
 pub returns-in_err-stop-clause-broken : goal.returns-in_err-stop-clause-broken
 returns-in_err-stop-clause-broken g c =
-    let s = g.W.Sink in on_err c.from_residual-in_err-stop.result _ (λ settings scripts open_is.
-    let clients = clients_of (task_of settings scripts c.args.limit) in
+    let s = g.W.Sink in on_err c.from_residual-in_err-stop.result _ (λ settings shares scripts open_is.
+    let clients = clients_of (task_of settings shares scripts c.args.limit) in
     let start = s.contents c.args.writer.now in
     let first = opened settings clients c.args.session.now c.put_answers.new.session start
     (s.contents c.put_answers.new.writer) c.new-text.result c.put_answers.new.text
@@ -49,15 +49,15 @@ returns-in_err-stop-clause-broken g c =
     let grown =
     grows-on start (s.contents c.put_answers.new.writer) (s.contents c.read_all.new.writer)
     c.put_answers.ensures.grows c.read_all.ensures.grows in
-    breaks-in-body settings scripts c.args.limit broke.read _ _ broke.consumed broke.read_failed
+    breaks-in-body settings shares scripts c.args.limit broke.read _ _ broke.consumed broke.read_failed
     c.in_err-stop.ensures.failure
     (unheld start (s.contents c.read_all.new.writer) (held_text c.read_all.new.text) _ grown
     broke.written))
 
 pub returns-in_err-finish-clause-broken : goal.returns-in_err-finish-clause-broken
 returns-in_err-finish-clause-broken g c =
-    let s = g.W.Sink in on_err c.from_residual-in_err-finish.result _ (λ settings scripts open_is.
-    let clients = clients_of (task_of settings scripts c.args.limit) in
+    let s = g.W.Sink in on_err c.from_residual-in_err-finish.result _ (λ settings shares scripts open_is.
+    let clients = clients_of (task_of settings shares scripts c.args.limit) in
     let start = s.contents c.args.writer.now in
     let first = opened settings clients c.args.session.now c.put_answers.new.session start
     (s.contents c.put_answers.new.writer) c.new-text.result c.put_answers.new.text
@@ -68,15 +68,15 @@ returns-in_err-finish-clause-broken g c =
     let grown = grows-on start (s.contents c.read_all.new.writer) (s.contents c.finish.new.writer)
     (grows-on start (s.contents c.put_answers.new.writer) (s.contents c.read_all.new.writer)
     c.put_answers.ensures.grows c.read_all.ensures.grows) c.finish.ensures.grows in
-    breaks-in-end settings scripts c.args.limit has.read _ _ c.in_ok-stop.stop has.consumed
+    breaks-in-end settings shares scripts c.args.limit has.read _ _ c.in_ok-stop.stop has.consumed
     c.in_err-finish.ensures.failure has.why
     (unheld start (s.contents c.finish.new.writer) (held_text c.finish.new.text) _ grown
     (c.in_err-finish.ensures.err settings clients start
     (samples_read settings c.args.limit has.read) has.at)))
 
 pub returns-clause-ran : goal.returns-clause-ran
-returns-clause-ran g c = let s = g.W.Sink in λ settings scripts open_is.
-    let clients = clients_of (task_of settings scripts c.args.limit) in
+returns-clause-ran g c = let s = g.W.Sink in λ settings shares scripts open_is.
+    let clients = clients_of (task_of settings shares scripts c.args.limit) in
     let start = s.contents c.args.writer.now in
     let first = opened settings clients c.args.session.now c.put_answers.new.session start
     (s.contents c.put_answers.new.writer) c.new-text.result c.put_answers.new.text

@@ -1,75 +1,52 @@
-use Rattle.std.proofs.Common.{◌∙◌, ap}
-use Rattle.std.specs.Prelude.{map, Err}
-use Rattle.channel_slots.specs.declared.open_fault.OpenFault.{OpenFault}
-use Rattle.receiver.specs.Clients.{client_with}
-use Rattle.receiver.proofs.TableLemmas.{was-opened, ran-them, for-memory, without-memory}
-use Rattle.receiver.proofs.TableLemmas.{without-clients, broke-off, ran-to-end, ran-to-fault}
-use Rattle.receiver.proofs.TableLemmas.{ran-to-limit}
-use Rattle.receiver.proofs.PrintedLemmas.{lines-are-right}
+use Rattle.std.proofs.Common.{◌≡◌, ◌≤◌, ◌-◌, ℕ, List, length, map, take, ap, sym, ◌∙◌, subst, arith}
+use Rattle.std.proofs.Common.{inl, inr}
+use Rattle.std.specs.Prelude.{replicate, IfOk}
+use Rattle.std.specs.List.{slice_range}
+use Rattle.std.proofs.lemmas.List.{length-map, take-replicate}
+use Rattle.receiver.specs.Clients.{clients_with, four_each}
+use Rattle.receiver.specs.Printed.{LinesAreRight}
+use Rattle.receiver.specs.Runs.{IsRun, task_of, devices_at}
+use Rattle.receiver.proofs.TableLemmas.{without-clients}
 use Rattle.receiver.proofs.running.run_to.Goals as goal
 
-pub returns-in-Ok-AtEnd-clause-run : goal.returns-in-Ok-AtEnd-clause-run
-returns-in-Ok-AtEnd-clause-run g c =
-    let a = c.args in
-    let texts = map (λ script. script.now) a.scripts.now in
-    let is = was-opened (λ script. script.now) a.settings a.scripts.now a.limit c.in-Ok.session
-    c.in-Ok.ensures.stands c.in-Ok.ensures.clients in
-    ran-to-end a.settings texts a.limit c.time.result c.run_session.new.session _ _ is.right
-    (rw c.in-Ok-AtEnd.field-0-is at (c.in-Ok-AtEnd.ensures.ran a.settings texts is.is_open))
-    c.time.ensures
+-- the first of eight shares of four
+first-fours : (n : ℕ) → n ≤ 8 → slice_range {X = ℕ} (replicate 8 4) 0 n ≡ replicate n 4
+first-fours n few =
+    let e : n - 0 ≡ n = omega arith in
+    ap (λ m. take m (replicate 8 4)) e ∙ take-replicate n 8 4 few
 
-pub returns-in-Ok-ReadFailed-clause-run : goal.returns-in-Ok-ReadFailed-clause-run
-returns-in-Ok-ReadFailed-clause-run g c =
-    let a = c.args in
-    let texts = map (λ script. script.now) a.scripts.now in
-    let is = was-opened (λ script. script.now) a.settings a.scripts.now a.limit c.in-Ok.session
-    c.in-Ok.ensures.stands c.in-Ok.ensures.clients in
-    ran-to-fault a.settings texts a.limit c.run_session.new.session _ _ is.right
-    (rw c.in-Ok-ReadFailed.field-0-is at (c.in-Ok-ReadFailed.ensures.ran a.settings texts
-    is.is_open))
-
-pub returns-in-Ok-PastLimit-clause-run : goal.returns-in-Ok-PastLimit-clause-run
-returns-in-Ok-PastLimit-clause-run g c =
-    let a = c.args in
-    let texts = map (λ script. script.now) a.scripts.now in
-    let is = was-opened (λ script. script.now) a.settings a.scripts.now a.limit c.in-Ok.session
-    c.in-Ok.ensures.stands c.in-Ok.ensures.clients in
-    ran-to-limit a.settings texts a.limit c.run_session.new.session _ _ is.right
-    (rw c.in-Ok-PastLimit.field-0-is at (c.in-Ok-PastLimit.ensures.ran a.settings texts
-    is.is_open))
-
-pub returns-in-Ok-AtEnd-clause-lines : goal.returns-in-Ok-AtEnd-clause-lines
-returns-in-Ok-AtEnd-clause-lines g c =
-    let a = c.args in
-    let texts = map (λ script. script.now) a.scripts.now in
-    let is = was-opened (λ script. script.now) a.settings a.scripts.now a.limit c.in-Ok.session
-    c.in-Ok.ensures.stands c.in-Ok.ensures.clients in
-    lines-are-right a.settings (map (λ script. client_with script.now) a.scripts.now) a.limit
-    c.run_session.new.session _ _
-    (ran-them (λ script. script.now) a.settings a.scripts.now a.limit
-    c.run_session.new.session _ _ _
-    (rw c.in-Ok-AtEnd.field-0-is at (c.in-Ok-AtEnd.ensures.ran a.settings texts is.is_open)))
-    is.few
+pub returns-in_default-clause-run : goal.returns-in_default-clause-run
+returns-in_default-clause-run g c =
+    let texts : List (List ℕ) = map (λ script. script.now) c.args.scripts.now in
+    let number : length texts ≡ length c.args.scripts.now = length-map c.args.scripts.now _ in
+    without-clients c.args.settings (four_each texts) texts c.args.limit _
+    (elim c.in_default.ensures.lookup.0 [
+      | inl none ↦ absurd (omega (arith, none))
+      | inr many ↦ inr (omega (arith, number, many))
+    ])
 
 pub returns-clause-run : goal.returns-clause-run
 returns-clause-run g c =
-    let a = c.args in
-    let texts = map (λ script. script.now) a.scripts.now in
-    let is = was-opened (λ script. script.now) a.settings a.scripts.now a.limit c.in-Ok.session
-    c.in-Ok.ensures.stands c.in-Ok.ensures.clients in
-    broke-off a.settings texts a.limit _ _ is.right
-    (c.in-Err.ensures.broken a.settings texts is.is_open)
+    let texts : List (List ℕ) = map (λ script. script.now) c.args.scripts.now in
+    let number : length texts ≡ length c.args.scripts.now = length-map c.args.scripts.now _ in
+    let shares : c.in-Some.shares.now ≡ four_each texts =
+    c.in-Some.ensures.lookup.0.2
+    ∙ first-fours (length c.args.scripts.now) c.in-Some.ensures.lookup.0.1
+    ∙ ap (λ n. replicate n 4) (sym number) in
+    let before = devices_at g.R.Source g.W.Sink c.args.reader.now c.args.writer.now in
+    let after = devices_at g.R.Source g.W.Sink c.run_shares.new.reader c.run_shares.new.writer in
+    subst (λ (l : List ℕ). IsRun (task_of c.args.settings l texts c.args.limit) before after
+    c.run_shares.result) shares c.run_shares.ensures.run
 
-pub returns-in-Err-NoMemory-clause-run : goal.returns-in-Err-NoMemory-clause-run
-returns-in-Err-NoMemory-clause-run g c =
-    let refused = c.in-Err-NoMemory.is
-    ∙ ap (λ (fault : OpenFault). Err fault) c.in-Err-NoMemory.field-0-is in
-    without-memory (λ script. script.now) c.args.settings c.args.scripts.now c.args.limit _
-    (λ wrong. for-memory c.open.result refused (c.open.ensures.clients.1 wrong))
-
-pub returns-in-Err-Clients-clause-run : goal.returns-in-Err-Clients-clause-run
-returns-in-Err-Clients-clause-run g c =
-    let refused = c.in-Err-Clients.is
-    ∙ ap (λ (fault : OpenFault). Err fault) c.in-Err-Clients.field-0-is in
-    without-clients (λ script. script.now) c.args.settings c.args.scripts.now c.args.limit _
-    (c.open.ensures.clients.0 refused)
+pub returns-clause-lines : goal.returns-clause-lines
+returns-clause-lines g c =
+    let texts : List (List ℕ) = map (λ script. script.now) c.args.scripts.now in
+    let number : length texts ≡ length c.args.scripts.now = length-map c.args.scripts.now _ in
+    let shares : c.in-Some.shares.now ≡ four_each texts =
+    c.in-Some.ensures.lookup.0.2
+    ∙ first-fours (length c.args.scripts.now) c.in-Some.ensures.lookup.0.1
+    ∙ ap (λ n. replicate n 4) (sym number) in
+    let before = devices_at g.R.Source g.W.Sink c.args.reader.now c.args.writer.now in
+    let after = devices_at g.R.Source g.W.Sink c.run_shares.new.reader c.run_shares.new.writer in
+    subst (λ (l : List ℕ). IfOk c.run_shares.result (λ _. LinesAreRight c.args.settings
+    (clients_with l texts) before after)) shares c.run_shares.ensures.lines

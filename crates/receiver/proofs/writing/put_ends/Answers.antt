@@ -21,7 +21,7 @@ use Rattle.receiver.proofs.writing.put_ends.Goals as goal
 
 -- the ends of all clients
 all-ends : (settings : Settings) (clients : List Client) (session : Session) (xs : List Sample)
-    (n : ℕ) → StandsFor settings clients session xs [] → n ≡ session.bank.clients
+    (n : ℕ) → StandsFor settings clients session xs [] → n ≡ length session.bank.shares.items
     → full settings xs clients
     ≡ body settings xs clients ++ as_bytes (ends (time_of session) 1 n)
 all-ends settings clients session xs n s is =

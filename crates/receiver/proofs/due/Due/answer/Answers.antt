@@ -23,7 +23,7 @@ same-line client time now text other t e =
 pub returns-in-Ok : goal.returns-in-Ok
 returns-in-Ok c = record {
   settings = c.command-answer.ensures.settings;
-  clients = c.command-answer.ensures.clients;
+  shares = c.command-answer.ensures.shares;
   time = c.command-answer.ensures.time;
   line = λ settings xs done s.
       let command : DefinedCommand = command_in c.in-Ok.command in
@@ -53,7 +53,7 @@ returns-in-Ok c = record {
 pub returns-in-Err : goal.returns-in-Err
 returns-in-Err c = record {
   settings = refl;
-  clients = refl;
+  shares = refl;
   time = refl;
   line = λ settings xs done s.
       let client = c.args.self.client in

@@ -3,8 +3,12 @@ use Rattle.std.specs.List.{AllByRecursion}
 use Rattle.receiver.specs.declared.queue.Queue.{Queue}
 use Rattle.receiver.specs.Queues.{NoneDue, TakesDue, left_of}
 use Rattle.receiver.specs.Sessions.{until_next, lines_left, answers_waiting, with_entry, entry_now}
-use Rattle.receiver.proofs.SessionLemmas.{none-waiting, none-due-gap, at-least, at-most, as-many}
+use Rattle.receiver.proofs.SessionLemmas.{none-waiting, none-due-gap, at-least, as-many}
 use Rattle.receiver.proofs.SessionLemmas.{fewer-left, queues-then, waiting-then, written-back}
+use Rattle.receiver.proofs.ShareLemmas.{due-in-share, still-in-shares}
+use Rattle.receiver.specs.Queues.{are_in_shares}
+use Rattle.channel_slots.specs.BankStates.{shares_of}
+use Rattle.arrayvec.specs.ArrayVec.{with_items}
 use Rattle.receiver.proofs.session.Session.answer.Goals as goal
 
 pub returns-in_err-due-clause-ready : goal.returns-in_err-due-clause-ready
@@ -35,6 +39,7 @@ returns-in_err-due-clause-none c none settings clients xs waiting s =
       record {
         done = s.done;
         bank = s.bank;
+        shares = s.shares;
         queues = rw whole s.queues;
         waits = rw whole (sym nothing);
       },
@@ -45,15 +50,13 @@ answer-requires-clause-first c =
     at-least c.time-now.result 1 c.deref_mut.result.now c.take_due.new.queues c.in_ok-due.due
     c.in_ok-due.ensures.some
 
-pub answer-requires-clause-last : goal.answer-requires-clause-last
-answer-requires-clause-last c =
-    omega (
-      arith,
-      at-most c.time-now.result 1 c.deref_mut.result.now c.take_due.new.queues
-          c.in_ok-due.due c.in_ok-due.ensures.some,
-      ap length c.deref_mut.ensures.value,
-      c.args.self.now.clients,
-    )
+pub answer-requires-clause-slot : goal.answer-requires-clause-slot
+answer-requires-clause-slot c =
+    let taken = rw c.deref_mut.ensures.value at c.in_ok-due.ensures.some in
+    let old : List Queue = c.args.self.now.queues.items in
+    due-in-share c.time-now.result 1 (shares_of c.args.self.now.bank) old c.take_due.new.queues
+    c.in_ok-due.due c.args.self.now.in_shares taken
+    (at-least c.time-now.result 1 old c.take_due.new.queues c.in_ok-due.due taken)
 
 pub returns-clause-fewer : goal.returns-clause-fewer
 unfolding lines_left
@@ -84,7 +87,30 @@ returns-clause-some c settings clients xs waiting s =
       stands = record {
         done = then;
         bank = c.answer.ensures.stands settings xs s.done s.bank;
+        shares = s.shares ∙ sym c.answer.ensures.shares;
         queues = rw whole (queues-then settings xs s.done due 1 clients old new s.queues taken);
         waits = rw whole refl;
       };
     }
+
+pub invariant_of-self-2-clause-in_shares : goal.invariant_of-self-2-clause-in_shares
+invariant_of-self-2-clause-in_shares c =
+    let taken = rw c.deref_mut.ensures.value at c.in_ok-due.ensures.some in
+    let old : List Queue = c.args.self.now.queues.items in
+    let new : List Queue = c.take_due.new.queues in
+    let many = as-many c.time-now.result 1 old new c.in_ok-due.due taken in
+    ap (λ (l : List ℕ). are_in_shares l (with_items c.args.self.now.queues new).items)
+    c.answer.ensures.shares
+    ∙ ap (are_in_shares (shares_of c.args.self.now.bank))
+    (written-back c.args.self.now.queues new many)
+    ∙ still-in-shares c.time-now.result 1 (shares_of c.args.self.now.bank) old new c.in_ok-due.due
+    c.args.self.now.in_shares taken
+
+pub invariant_of-self-2-clause-clients : goal.invariant_of-self-2-clause-clients
+invariant_of-self-2-clause-clients c =
+    let taken = rw c.deref_mut.ensures.value at c.in_ok-due.ensures.some in
+    let old : List Queue = c.args.self.now.queues.items in
+    let new : List Queue = c.take_due.new.queues in
+    let many = as-many c.time-now.result 1 old new c.in_ok-due.due taken in
+    ap length (written-back c.args.self.now.queues new many) ∙ many
+    ∙ c.args.self.now.clients ∙ ap length (sym c.answer.ensures.shares)

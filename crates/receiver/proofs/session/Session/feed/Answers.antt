@@ -1,14 +1,12 @@
 use Rattle.std.proofs.Common.{◌≡◌, ◌≤◌, ℕ, List, length, subst, sym, ap, ◌∙◌, arith}
-use Rattle.std.specs.Prelude.{replicate}
 use Rattle.definitions.specs.Samples.{Sample}
 use Rattle.definitions.specs.Banks.{bank_events_at_end, layout}
 use Rattle.definitions.specs.Receiver.{at_each_sample}
-use Rattle.definitions.proofs.TellLemmas.{shares_of, shares-equal}
 use Rattle.channel_slots.specs.Events.{AreTold}
 use Rattle.receiver.specs.declared.queue.Queue.{Queue}
 use Rattle.receiver.specs.Queues.{least_gap_of}
 use Rattle.receiver.specs.Sessions.{until_next, asked_of}
-use Rattle.receiver.proofs.SessionLemmas.{queues-later, waiting-later, same-number, slots-each}
+use Rattle.receiver.proofs.SessionLemmas.{queues-later, waiting-later}
 use Rattle.receiver.proofs.TellingLemmas.{told-stretch}
 use Rattle.receiver.proofs.session.Session.feed.Goals as goal
 
@@ -27,6 +25,7 @@ returns-clause-stands c settings clients xs s =
     record {
       done = s.done;
       bank = c.feed_into.ensures.stands settings xs (asked_of s.done) s.bank;
+      shares = s.shares ∙ sym c.feed_into.ensures.shares;
       queues = queues-later settings xs ys s.done c.requires.some 1 clients queues s.queues free;
       waits = waiting-later settings xs ys s.done c.requires.some clients queues s.queues free;
     }
@@ -38,13 +37,8 @@ returns-clause-told c settings clients xs s =
     let queues : List Queue = c.args.self.now.queues.items in
     let free = before-next queues c.args.self.now.bank.time (length xs) (length ys) c.requires.quiet
     s.bank.now in
-    let number : c.args.self.now.bank.clients ≡ length clients =
-    omega (arith, same-number xs s.done 1 clients queues s.queues, c.args.self.now.clients) in
-    let shares : replicate c.args.self.now.bank.clients 4 ≡ shares_of clients =
-    ap (λ n. replicate n 4) number
-    ∙ sym (shares-equal 4 clients (slots-each xs s.done 1 clients queues s.queues)) in
     told-stretch settings clients queues s.done xs ys c.feed_into.new.events.items c.requires.some
     s.queues free
     (subst (λ (l : List ℕ). AreTold c.feed_into.new.events.items
-    (at_each_sample (bank_events_at_end settings (layout l) (asked_of s.done)) xs ys)) shares
+    (at_each_sample (bank_events_at_end settings (layout l) (asked_of s.done)) xs ys)) (sym s.shares)
     (c.feed_into.ensures.told settings xs (asked_of s.done) s.bank))

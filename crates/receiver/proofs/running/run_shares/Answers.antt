@@ -1,0 +1,107 @@
+use Rattle.std.proofs.Common.{◌≡◌, ℕ, List, length, map, ap, sym, ◌∙◌, arith, inl, inr}
+use Rattle.std.specs.Prelude.{Err}
+use Rattle.std.proofs.lemmas.List.{length-map}
+use Rattle.channel_slots.specs.declared.open_fault.OpenFault.{OpenFault}
+use Rattle.receiver.specs.Clients.{clients_with}
+use Rattle.receiver.proofs.TableLemmas.{opened-for, refused-memory, refused-share}
+use Rattle.receiver.proofs.TableLemmas.{without-clients, without-shares, wrong-number, no-fault}
+use Rattle.receiver.proofs.TableLemmas.{some-of, none-of, broke-off, ran-to-end, ran-to-fault}
+use Rattle.receiver.proofs.TableLemmas.{ran-to-limit}
+use Rattle.receiver.proofs.PrintedLemmas.{lines-are-right}
+use Rattle.receiver.proofs.running.run_shares.Goals as goal
+
+pub returns-then-is_empty-clause-run : goal.returns-then-is_empty-clause-run
+returns-then-is_empty-clause-run g c =
+    let texts : List (List ℕ) = map (λ script. script.now) c.args.scripts.now in
+    let number : length texts ≡ length c.args.scripts.now = length-map c.args.scripts.now _ in
+    without-clients c.args.settings c.args.shares.now texts c.args.limit _
+    (elim c.then-is_empty.either [
+      | inl none ↦ inl (number ∙ none-of (length c.args.scripts.now)
+      (sym none ∙ c.is_empty.ensures))
+      | inr many ↦ inr (omega (arith, number, many.1))
+    ])
+
+pub returns-then-shares-scripts-clause-run : goal.returns-then-shares-scripts-clause-run
+returns-then-shares-scripts-clause-run g c =
+    let texts : List (List ℕ) = map (λ script. script.now) c.args.scripts.now in
+    let number : length texts ≡ length c.args.scripts.now = length-map c.args.scripts.now _ in
+    let some = some-of (length c.args.scripts.now) c.if-is_empty.ensures in
+    without-shares c.args.settings c.args.shares.now texts c.args.limit _
+    (no-fault (length texts) (omega (arith, number, some))
+    (omega (arith, number, c.if-scripts-gt-MOST_CLIENTS.false)))
+    (wrong-number c.args.shares.now texts (λ same. c.if-shares-scripts.true (same ∙ number)))
+
+pub returns-in-Err-NoMemory-clause-run : goal.returns-in-Err-NoMemory-clause-run
+returns-in-Err-NoMemory-clause-run g c =
+    let a = c.args in
+    refused-memory (λ script. script.now) a.settings a.shares.now a.scripts.now a.limit
+    c.if-is_empty.ensures c.if-scripts-gt-MOST_CLIENTS.false c.if-shares-scripts.false c.open.result
+    _
+    (c.in-Err-NoMemory.is ∙ ap (λ (fault : OpenFault). Err fault) c.in-Err-NoMemory.field-0-is)
+    c.open.ensures.share
+
+pub returns-in-Err-Share-clause-run : goal.returns-in-Err-Share-clause-run
+returns-in-Err-Share-clause-run g c =
+    let a = c.args in
+    refused-share (λ script. script.now) a.settings a.shares.now a.scripts.now a.limit
+    c.if-is_empty.ensures c.if-scripts-gt-MOST_CLIENTS.false c.if-shares-scripts.false _
+    (c.open.ensures.share.0 (c.in-Err-Share.is
+    ∙ ap (λ (fault : OpenFault). Err fault) c.in-Err-Share.field-0-is)).2
+
+pub returns-in-Ok-AtEnd-clause-run : goal.returns-in-Ok-AtEnd-clause-run
+returns-in-Ok-AtEnd-clause-run g c =
+    let a = c.args in
+    let texts : List (List ℕ) = map (λ script. script.now) a.scripts.now in
+    let is = opened-for (λ script. script.now) a.settings a.shares.now a.scripts.now a.limit
+    c.if-is_empty.ensures c.if-scripts-gt-MOST_CLIENTS.false c.if-shares-scripts.false
+    c.in-Ok.session c.in-Ok.ensures.share c.in-Ok.ensures.stands in
+    ran-to-end a.settings a.shares.now texts a.limit c.time.result c.run_session.new.session _ _
+    is.right
+    (rw c.in-Ok-AtEnd.field-0-is at (c.in-Ok-AtEnd.ensures.ran a.settings a.shares.now texts
+    is.is_open))
+    c.time.ensures
+
+pub returns-in-Ok-AtEnd-clause-lines : goal.returns-in-Ok-AtEnd-clause-lines
+returns-in-Ok-AtEnd-clause-lines g c =
+    let a = c.args in
+    let texts : List (List ℕ) = map (λ script. script.now) a.scripts.now in
+    let is = opened-for (λ script. script.now) a.settings a.shares.now a.scripts.now a.limit
+    c.if-is_empty.ensures c.if-scripts-gt-MOST_CLIENTS.false c.if-shares-scripts.false
+    c.in-Ok.session c.in-Ok.ensures.share c.in-Ok.ensures.stands in
+    lines-are-right a.settings (clients_with a.shares.now texts) a.limit
+    c.run_session.new.session _ _
+    (rw c.in-Ok-AtEnd.field-0-is at (c.in-Ok-AtEnd.ensures.ran a.settings a.shares.now texts
+    is.is_open))
+    is.few
+
+pub returns-in-Ok-ReadFailed-clause-run : goal.returns-in-Ok-ReadFailed-clause-run
+returns-in-Ok-ReadFailed-clause-run g c =
+    let a = c.args in
+    let texts : List (List ℕ) = map (λ script. script.now) a.scripts.now in
+    let is = opened-for (λ script. script.now) a.settings a.shares.now a.scripts.now a.limit
+    c.if-is_empty.ensures c.if-scripts-gt-MOST_CLIENTS.false c.if-shares-scripts.false
+    c.in-Ok.session c.in-Ok.ensures.share c.in-Ok.ensures.stands in
+    ran-to-fault a.settings a.shares.now texts a.limit c.run_session.new.session _ _ is.right
+    (rw c.in-Ok-ReadFailed.field-0-is at (c.in-Ok-ReadFailed.ensures.ran a.settings a.shares.now
+    texts is.is_open))
+
+pub returns-in-Ok-PastLimit-clause-run : goal.returns-in-Ok-PastLimit-clause-run
+returns-in-Ok-PastLimit-clause-run g c =
+    let a = c.args in
+    let texts : List (List ℕ) = map (λ script. script.now) a.scripts.now in
+    let is = opened-for (λ script. script.now) a.settings a.shares.now a.scripts.now a.limit
+    c.if-is_empty.ensures c.if-scripts-gt-MOST_CLIENTS.false c.if-shares-scripts.false
+    c.in-Ok.session c.in-Ok.ensures.share c.in-Ok.ensures.stands in
+    ran-to-limit a.settings a.shares.now texts a.limit c.run_session.new.session _ _ is.right
+    (rw c.in-Ok-PastLimit.field-0-is at (c.in-Ok-PastLimit.ensures.ran a.settings a.shares.now
+    texts is.is_open))
+
+pub returns-clause-run : goal.returns-clause-run
+returns-clause-run g c =
+    let a = c.args in
+    let texts : List (List ℕ) = map (λ script. script.now) a.scripts.now in
+    let is = opened-for (λ script. script.now) a.settings a.shares.now a.scripts.now a.limit
+    c.if-is_empty.ensures c.if-scripts-gt-MOST_CLIENTS.false c.if-shares-scripts.false
+    c.in-Ok.session c.in-Ok.ensures.share c.in-Ok.ensures.stands in
+    broke-off a.settings a.shares.now texts a.limit _ _ is.right
+    (c.in-Err.ensures.broken a.settings a.shares.now texts is.is_open)
