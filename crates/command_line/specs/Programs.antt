@@ -1,7 +1,9 @@
 -- What a command line asks for, and how the program ends.
 use Rattle.std.specs.Prelude.{◌≡◌, ◌≤◌, ◌<◌, ◌*◌, ◌^◌, ◌⊎◌, ℕ, pos, neg_ℤ, Bool, true, false}
 use Rattle.std.specs.Prelude.{if◌then◌else◌, List, [], ◌∷◌, length, map, Option, Some, None, IfSome}
-use Rattle.std.specs.Prelude.{option_map, unwrap_or, Result, Ok, Err, codes, nat_lt, ◌&&◌}
+use Rattle.std.specs.Prelude.{option_map, unwrap_or, Result, Ok, Err, codes, nat_lt, nat_le, ◌&&◌}
+use Rattle.std.specs.Prelude.{◌==◌, ◌-◌, replicate, max, IsSome}
+use Rattle.std.specs.List.{list_all}
 use Rattle.std.specs.Str.{bytes_eq}
 use Rattle.std.specs.Str.Parse.{digits_value, without_leading_plus}
 use Rattle.std.specs.Char.{digit_value}
@@ -15,7 +17,8 @@ use Rattle.channel_slots.specs.declared.bank.TheConstants.{MOST_TIME}
 use Rattle.receiver.specs.declared.faults.RunFault.{RunFault}
 use Rattle.receiver.specs.Runs.{Devices, IsRun, task_of}
 use Rattle.command_line.specs.declared.failure.Failure.{Failure}
-use Rattle.command_line.specs.declared.failure.Failure.TheVariants.{NoMemory, Script, Settings, Run}
+use Rattle.command_line.specs.declared.failure.Failure.TheVariants.{NoMemory, Shares, Script}
+use Rattle.command_line.specs.declared.failure.Failure.TheVariants.{Settings, Run}
 
 -- ---- what the options say
 
@@ -49,12 +52,13 @@ format_in (Some name) =
     else if bytes_eq name (codes "iq1") then iq1
     else if bytes_eq name (codes "iq2") then iq2 else real1
 
--- what the options of a command line say of the recording
+-- what the options of a command line say of the recording and of the slots
 pub record Asked : Type 0 where
   pub rate : ℕ
   pub offset : ℕ
   pub is_minus : Bool
   pub packing : Packing
+  pub shares : Option (List ℕ)
 
 abbrev pub asked_in : Found → Asked
 asked_in found = record {
@@ -62,6 +66,7 @@ asked_in found = record {
   offset = number_in (one_text found (codes "offset")) 0;
   is_minus = flag_in (one_text found (codes "minus"));
   packing = format_in (first_value found (codes "format"));
+  shares = first_value found (codes "shares");
 }
 
 -- the recording that they describe
@@ -71,6 +76,18 @@ recording_of asked = record {
   offset = if asked.is_minus then neg_ℤ (pos asked.offset) else pos asked.offset;
   packing = asked.packing;
 }
+
+-- a digit from 1 to 8
+abbrev pub is_share_digit : ℕ → Bool
+is_share_digit c = nat_le 0x31 c && nat_le c 0x38
+
+-- the shares of some clients that a text asks for, a digit for each: none where there are more or
+-- fewer digits, or another character; without a text each client has four slots
+abbrev pub shares_by : ℕ → Option (List ℕ) → Option (List ℕ)
+shares_by clients None = Some (replicate clients 4)
+shares_by clients (Some text) =
+    if length text == clients && list_all is_share_digit text
+    then Some (map (λ c. c - 0x30) text) else None
 
 abbrev pub IsAllowed : Asked → Type 0
 IsAllowed asked = IsRate asked.rate × (2 * asked.offset ≤ asked.rate)
@@ -107,25 +124,33 @@ abbrev pub one_or_more : List (List ℕ) → List (List ℕ)
 one_or_more [] = [] ∷ []
 one_or_more (text ∷ texts) = text ∷ texts
 
--- a run of these scripts, one for each client, or no run for want of memory, with nothing read or
--- written
-abbrev pub RunsTexts : DefinedSettings → List (List ℕ) → Devices → Devices → Result ℕ Failure
-    → Type 0
-RunsTexts settings texts old new (Ok n) =
-    IsRun (task_of settings (one_or_more texts) MOST_TIME) old new (Ok n)
-RunsTexts settings texts old new (Err (Run fault)) =
-    IsRun (task_of settings (one_or_more texts) MOST_TIME) old new (Err fault)
-RunsTexts settings texts old new (Err NoMemory) = new ≡ old
-RunsTexts settings texts old new (Err Script) = ⊥
-RunsTexts settings texts old new (Err (Settings fault)) = ⊥
+-- a run of these scripts, one for each client, with these shares, or no run for want of memory,
+-- with nothing read or written
+abbrev pub RunsTexts : DefinedSettings → List ℕ → List (List ℕ) → Devices → Devices
+    → Result ℕ Failure → Type 0
+RunsTexts settings shares texts old new (Ok n) =
+    IsRun (task_of settings shares (one_or_more texts) MOST_TIME) old new (Ok n)
+RunsTexts settings shares texts old new (Err (Run fault)) =
+    IsRun (task_of settings shares (one_or_more texts) MOST_TIME) old new (Err fault)
+RunsTexts settings shares texts old new (Err NoMemory) = new ≡ old
+RunsTexts settings shares texts old new (Err Script) = ⊥
+RunsTexts settings shares texts old new (Err Shares) = ⊥
+RunsTexts settings shares texts old new (Err (Settings fault)) = ⊥
+
+-- how many clients these files make
+abbrev pub clients_of : {A : Type 0} → List A → ℕ
+clients_of files = max (length files) 1
 
 -- a run of the scripts in these files, in their order, over the recording that was asked for
 pub record RunsFiles (asked : Asked) (files : List (Option (List ℕ))) (old new : Devices)
     (answer : Result ℕ RunFault) : Type 0 where
   pub allowed : IsAllowed asked
+  pub shares : List ℕ
+  pub shared : shares_by (clients_of files) asked.shares ≡ Some shares
   pub scripts : List (List ℕ)
   pub texts : AreTextsOf files scripts
-  pub is_run : IsRun (task_of (recording_of asked) (one_or_more scripts) MOST_TIME) old new answer
+  pub is_run : IsRun (task_of (recording_of asked) shares (one_or_more scripts) MOST_TIME)
+      old new answer
 
 -- by its answer: such a run, to its end or to a fault; or the first failure before it, with nothing
 -- read or written
@@ -133,7 +158,11 @@ abbrev pub Receives : Asked → List (Option (List ℕ)) → Devices → Devices
 Receives asked files old new (Ok n) = RunsFiles asked files old new (Ok n)
 Receives asked files old new (Err (Run fault)) = RunsFiles asked files old new (Err fault)
 Receives asked files old new (Err NoMemory) = IsAllowed asked × (new ≡ old)
-Receives asked files old new (Err Script) = IsAllowed asked × SomeMayBeRefused files × (new ≡ old)
+Receives asked files old new (Err Shares) =
+    IsAllowed asked × (shares_by (clients_of files) asked.shares ≡ None) × (new ≡ old)
+Receives asked files old new (Err Script) =
+    IsAllowed asked × IsSome (shares_by (clients_of files) asked.shares) × SomeMayBeRefused files
+    × (new ≡ old)
 Receives asked files old new (Err (Settings Rate)) = ¬ IsRate asked.rate × (new ≡ old)
 Receives asked files old new (Err (Settings Offset)) =
     IsRate asked.rate × (asked.rate < 2 * asked.offset) × (new ≡ old)
@@ -141,6 +170,7 @@ Receives asked files old new (Err (Settings Offset)) =
 -- the program didn't come to its run
 abbrev pub IsBeforeRun : Failure → Type 0
 IsBeforeRun NoMemory = Unit {0}
+IsBeforeRun Shares = Unit {0}
 IsBeforeRun Script = Unit {0}
 IsBeforeRun (Settings fault) = Unit {0}
 IsBeforeRun (Run fault) = ⊥
@@ -149,6 +179,7 @@ IsBeforeRun (Run fault) = ⊥
 abbrev pub status_of : Result ℕ Failure → ℕ
 status_of (Ok n) = 0
 status_of (Err NoMemory) = 1
+status_of (Err Shares) = 2
 status_of (Err Script) = 2
 status_of (Err (Settings fault)) = 2
 status_of (Err (Run fault)) = 1

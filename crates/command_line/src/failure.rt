@@ -15,6 +15,9 @@ pub enum Failure {
     /// There was no memory for the command line or a script.
     #[error("no memory")]
     NoMemory,
+    /// The shares of the slots aren't a digit from 1 to 8 for each script.
+    #[error("shares")]
+    Shares,
     /// A script couldn't be read, or is longer than 16 MiB.
     #[error("script")]
     Script,
@@ -32,7 +35,7 @@ pub fn status(ended: Result<u64, Failure>) -> u8
     match ended {
         Ok(_) => 0,
         Err(Failure::NoMemory | Failure::Run(_)) => 1,
-        Err(Failure::Script | Failure::Settings(_)) => 2,
+        Err(Failure::Shares | Failure::Script | Failure::Settings(_)) => 2,
     }
 }
 

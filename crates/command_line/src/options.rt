@@ -1,13 +1,14 @@
 //! The program's command line.
 
 ghost use Rattle.std.specs.Prelude.{◌≡◌, ◌<◌, ◌≤◌, ◌*◌, ◌↔◌, pos, neg_ℤ, if◌then◌else◌};
-ghost use Rattle.std.specs.Prelude.{Err, IfOk, codes, map};
+ghost use Rattle.std.specs.Prelude.{Err, IfOk, IfErr, Some, None, ◌⊎◌, codes, map, replicate};
 ghost use Rattle.clap.specs.Matches.{found_of, first_value, one_text};
 ghost use Rattle.sample_planes.specs.Packings.{packing_of};
 ghost use Rattle.oscillators.specs.Limits.{IsRate};
 ghost use Rattle.command_line.specs.Programs.{IsAllowed, asked_in, recording_of};
-ghost use Rattle.command_line.specs.Programs.{number_in, format_in, paths_in};
+ghost use Rattle.command_line.specs.Programs.{number_in, format_in, paths_in, shares_by};
 
+use crate::failure::Failure;
 use clap::{Arg, ArgAction, ArgMatches, Command, Error, value_parser};
 use oscillators::{Settings, SettingsFault};
 use sample_planes::Format;
@@ -23,7 +24,7 @@ static FORMATS: [&str; 4] = ["real1", "real2", "iq1", "iq2"];
 /// The help after the options: scripts, printed lines, refusals and statuses.
 const MORE: &str = "\
 A script is lines of `T VERB WORDS`. T is a time in samples, and never falls from line to line.
-Each script is a client with the slots 0 to 3.
+Each script is a client with the slots 0 to 3, or with as many slots as --shares gives it.
   T hold S PRN DOPPLER HALF  follow satellite PRN (1 to 32) in slot S, at a Doppler shift of DOPPLER
                              Hz (-16000 to 16000), its code beginning at half chip HALF (0 to 2045)
   T track S PRN DOPPLER HALF follow it from there on with closed loops, and read its message
@@ -70,7 +71,7 @@ A printed line is `CLIENT T TEXT`:
 Statuses:
   0  the samples came to their end, or help was asked for
   1  no memory, more than eight scripts, a failed read or write, more than 2^40 samples
-  2  an option, the rate, the offset or a script file was refused
+  2  an option, the rate, the offset, the shares or a script file was refused
 
 Example, with the lines `0 hold 0 5 1250 700` and `0 counts 0 5` in the file hold.script:
   receiver --offset 511500 hold.script < three_satellites.real1";
@@ -100,6 +101,13 @@ pub fn matches<'a>(alloc: Global, words: &'a [String]) -> Result<ArgMatches<'a>,
                 .help("Makes the intermediate frequency of --offset negative"),
         )?
         .arg(format(alloc))?
+        .arg(
+            Arg::new(alloc, "shares")
+                .long("shares")
+                .value_name("DIGITS")
+                .action(ArgAction::Set)
+                .help("Slots of each script's client, a digit 1 to 8 for each; else 4 each"),
+        )?
         .arg(
             Arg::new(alloc, "script")
                 .value_name("SCRIPT")
@@ -187,6 +195,54 @@ fn packing(matches: &ArgMatches) -> Format
         Some("iq2") => Format::Iq2,
         _ => Format::Real1,
     }
+}
+
+/// The share of the slots of each client: a digit from 1 to 8 for each, or four slots each where the
+/// option isn't there.
+pub fn shares(alloc: Global, matches: &ArgMatches, clients: usize) -> Result<Vec<u8>, Failure>
+    ensures given { IfOk result (λ shares.
+        shares_by clients (asked_in (found_of matches.now)).shares ≡ Some shares.items) }
+    ensures fault { IfErr result (λ failure. (failure ≡ Failure.NoMemory)
+        ⊎ ((failure ≡ Failure.Shares)
+        × (shares_by clients (asked_in (found_of matches.now)).shares ≡ None))) }
+{
+    match matches.get_str("shares") {
+        Some(digits) => shares_of(alloc, digits.as_bytes(), clients),
+        None => four_each(alloc, clients),
+    }
+}
+
+/// Shares by their digits.
+fn shares_of(alloc: Global, digits: &[u8], clients: usize) -> Result<Vec<u8>, Failure>
+    ensures given { IfOk result (λ shares.
+        shares_by clients (Some digits.now) ≡ Some shares.items) }
+    ensures fault { IfErr result (λ failure. (failure ≡ Failure.NoMemory)
+        ⊎ ((failure ≡ Failure.Shares) × (shares_by clients (Some digits.now) ≡ None))) }
+{
+    let mut shares = Vec::new(alloc);
+    for digit in digits {
+        if !(b'1'..=b'8').contains(digit) {
+            return Err(Failure::Shares);
+        }
+        shares.push(*digit - b'0')?;
+    }
+    if shares.len() == clients {
+        Ok(shares)
+    } else {
+        Err(Failure::Shares)
+    }
+}
+
+/// Shares of four slots.
+fn four_each(alloc: Global, clients: usize) -> Result<Vec<u8>, Failure>
+    ensures given { IfOk result (λ shares. replicate clients 4 ≡ shares.items) }
+    ensures fault { IfErr result (λ failure. failure ≡ Failure.NoMemory) }
+{
+    let mut shares = Vec::new(alloc);
+    for _ in 0..clients {
+        shares.push(4)?;
+    }
+    Ok(shares)
 }
 
 /// The names of the script files, in the order of the command line.

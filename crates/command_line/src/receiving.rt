@@ -9,9 +9,10 @@ ghost use Rattle.command_line.specs.Programs.{one_or_more};
 use crate::failure::Failure;
 use crate::options;
 use crate::script_files::{ScriptFiles, read_scripts};
+use channel_slots::MOST_TIME;
 use clap::ArgMatches;
 use oscillators::Settings;
-use receiver::{Sink, Source, run};
+use receiver::{Sink, Source, run_shares};
 use std::alloc::Global;
 
 /// Runs the scripts that the options name, in their order, or an empty one where they name none,
@@ -35,26 +36,29 @@ pub fn receive<S: ScriptFiles, R: Source, W: Sink>(
         Ok(settings) => settings,
         Err(fault) => return Err(Failure::Settings(fault)),
     };
-    let texts = read_scripts(alloc, files, options::scripts(matches))?;
-    run_texts(alloc, settings, &texts, reader, writer)
+    let paths = options::scripts(matches);
+    let shares = options::shares(alloc, matches, paths.len().max(1))?;
+    let texts = read_scripts(alloc, files, paths)?;
+    run_texts(alloc, settings, &shares, &texts, reader, writer)
 }
 
-/// Runs these scripts, or an empty one where there are none.
+/// Runs these scripts, or an empty one where there are none, with these shares of the slots.
 fn run_texts<R: Source, W: Sink>(
     alloc: Global,
     settings: Settings,
+    shares: &[u8],
     texts: &[Vec<u8>],
     reader: &mut R,
     writer: &mut W,
 ) -> Result<u64, Failure>
     ensures untouched { IfErr result (λ failure. IsBeforeRun failure
         → (reader.new ≡ reader.old) × (writer.new ≡ writer.old)) }
-    ensures runs { RunsTexts settings (map (λ text. text.items) texts.now)
+    ensures runs { RunsTexts settings shares.now (map (λ text. text.items) texts.now)
         (devices_at R.Source W.Sink reader.old writer.old)
         (devices_at R.Source W.Sink reader.new writer.new) result }
 {
     let scripts = one_or_more(alloc, texts)?;
-    match run(alloc, settings, &scripts, reader, writer) {
+    match run_shares(alloc, settings, &scripts, shares, MOST_TIME, reader, writer) {
         Ok(samples) => Ok(samples),
         Err(fault) => Err(Failure::Run(fault)),
     }

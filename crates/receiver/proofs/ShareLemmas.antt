@@ -1,7 +1,7 @@
 -- A script asks nothing of a slot past its client's share.
 use Rattle.std.proofs.Common.{◌≡◌, ◌≤◌, ◌<◌, ℕ, zero, suc, ◌+◌, ◌-◌, List, [], ◌∷◌, ◌++◌}
-use Rattle.std.proofs.Common.{length, take, drop, get_or, refl, sym, ap, ◌∙◌, subst, arith, rules}
-use Rattle.std.proofs.Common.{Bool, true, false, ◌⊎◌, inl, inr}
+use Rattle.std.proofs.Common.{length, take, drop, get_or, refl, sym, ap, ◌∙◌, arith, rules}
+use Rattle.std.proofs.Common.{Bool, true, false, inl, inr}
 use Rattle.std.specs.Prelude.{ℤ, pos, negsuc, int_le, ◌&&◌, if◌then◌else◌, Option, Some, None}
 use Rattle.std.specs.Prelude.{Result, Ok, Err, IfOk, nat_lt, nat_le, not, map, ◌==◌}
 use Rattle.std.specs.List.{AllByRecursion, list_all}

@@ -1,7 +1,7 @@
 -- A run's parts, and the answer that the definitions' table has for them.
-use Rattle.std.proofs.Common.{◌≡◌, ◌≤◌, ◌<◌, ℕ, zero, suc, Bool, true, false, List, [], ◌∷◌, length}
+use Rattle.std.proofs.Common.{◌≡◌, ◌≤◌, ◌<◌, ℕ, zero, suc, Bool, true, false, List, [], length}
 use Rattle.std.proofs.Common.{refl, sym, ap, ◌∙◌, subst, arith, ◌⊎◌, inl, inr}
-use Rattle.std.specs.Prelude.{◌↔◌, Result, Ok, Err, if◌then◌else◌, map, zip, replicate, nat_lt}
+use Rattle.std.specs.Prelude.{◌↔◌, Result, Ok, Err, if◌then◌else◌, map, nat_lt}
 use Rattle.std.specs.Prelude.{nat_le, nat_eq, ◌==◌}
 use Rattle.std.specs.List.{list_all}
 use Rattle.std.specs.Io.KnownBytes.{Consumes}
@@ -9,11 +9,10 @@ use Rattle.std.proofs.KnownBytes.{Appends-nil, Consumes-nil}
 use Rattle.std.proofs.lemmas.Bool.{cases_lt, le-leb, le-ltb, lt-leb, lt-ltb, eq-eqb, ne_eqb}
 use Rattle.std.proofs.lemmas.Bool.{eqb-true}
 use Rattle.std.proofs.Math.Bool.{and-false}
-use Rattle.std.proofs.lemmas.List.{length-replicate, length-map}
-use Rattle.std.proofs.lemmas.Simd.{map-map}
+use Rattle.std.proofs.lemmas.List.{length-map}
 use Rattle.definitions.specs.Oscillators.{Settings}
 use Rattle.definitions.specs.Samples.{sample_count, samples}
-use Rattle.definitions.specs.Receiver.{Client, answer_lines, body}
+use Rattle.definitions.specs.Receiver.{answer_lines, body}
 use Rattle.definitions.specs.Runs.{Task, Input, InputEnd, clients_of, is_share, are_clients}
 use Rattle.definitions.specs.Runs.{AreRight, taken_samples, is_too_long, body_text, full_text}
 use Rattle.definitions.specs.Runs.{due_text, IsAnswer, are_shares}

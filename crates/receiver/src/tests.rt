@@ -13,6 +13,7 @@ mod recording;
 mod reference;
 mod runs;
 mod scripts;
+mod shares;
 mod signals;
 mod std_devices;
 mod tracking;

@@ -92,6 +92,7 @@ fn options_not_understood(rt: HostRuntime) -> Result<(), Fail> {
         "count S IE QE IP QP IL QL",
         "T track S PRN DOPPLER HALF",
         "T acquire S PRN CENTRE BINS MS THRESHOLD",
+        "--shares <DIGITS>",
         "covers the rest of\nthe code only, which is (2046 - HALF)/2 chips.",
         "half the rate; see --minus",
         "0  the samples came to their end",
@@ -142,6 +143,63 @@ fn one_to_eight_scripts(rt: HostRuntime) -> Result<(), Fail> {
     refuses(&rt, &["state"; 9], 1, "receiver: clients\n");
     fs::remove_file(&rt, "state")?;
     Ok(())
+}
+
+#[test]
+fn shares_of_the_slots(rt: HostRuntime) -> Result<(), Fail> {
+    fs::write(&rt, "last_slot", b"0 state 7\n")?;
+    fs::write(&rt, "second_slot", b"0 state 1\n")?;
+    prints(
+        &rt,
+        &["--shares", "81", "last_slot", "second_slot"],
+        &[],
+        "1 0 state 7 idle\n2 0 err 8\n1 0 end\n2 0 end\n",
+    )?;
+    prints(&rt, &["--shares", "1"], &[], "1 0 end\n")?;
+    let nine = ["last_slot"; 9];
+    refuses(&rt, &nine, 1, "receiver: clients\n");
+    fs::remove_file(&rt, "last_slot")?;
+    fs::remove_file(&rt, "second_slot")?;
+    Ok(())
+}
+
+// There is a digit from 1 to 8 for each script, and one where there is none. The offset is looked
+// at before the shares, and the scripts behind them.
+#[test]
+fn shares_that_are_none(rt: HostRuntime) {
+    for digits in ["0", "9", "44", "4x", "+4", " 4", "x"] {
+        refuses(&rt, &["--shares", digits], 2, "receiver: shares\n");
+    }
+    refuses(
+        &rt,
+        &["--shares", "4", "one", "two"],
+        2,
+        "receiver: shares\n",
+    );
+    refuses(
+        &rt,
+        &["--shares", "49", "one", "two"],
+        2,
+        "receiver: shares\n",
+    );
+    refuses(
+        &rt,
+        &["--shares", "444444444", "none"],
+        2,
+        "receiver: shares\n",
+    );
+    refuses(
+        &rt,
+        &["--shares", "48", "one", "two"],
+        2,
+        "receiver: script\n",
+    );
+    refuses(
+        &rt,
+        &["--offset", "1023001", "--shares", "9"],
+        2,
+        "receiver: offset\n",
+    );
 }
 
 // Client 1 has the script that is named first, and client 2 the other; the one with slot 1 idle is

@@ -10,8 +10,9 @@ use std::test::Fail;
 
 #[test]
 fn stated_limits(rt: HostRuntime) -> Result<(), Fail> {
-    for clients in [0, 9] {
-        let bank = Bank::open(rt.alloc(), plain_settings()?, clients);
+    let wrong: [&[u8]; 2] = [&[], &[4; 9]];
+    for shares in wrong {
+        let bank = Bank::open(rt.alloc(), plain_settings()?, shares);
         assert_eq!(rt; bank.err(), Some(OpenFault::Clients));
     }
     let scripts = [FIRST_COUNT; 9];

@@ -136,6 +136,7 @@ fn faults_have_texts(rt: HostRuntime) -> Result<(), Fail> {
         (RunFault::Read, "read"),
         (RunFault::Write, "write"),
         (RunFault::TooLong, "too long"),
+        (RunFault::Share, "share"),
     ] {
         assert_eq!(rt; fault.to_string(rt.alloc())?.as_str(), text);
     }

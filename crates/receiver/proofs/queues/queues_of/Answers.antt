@@ -1,4 +1,4 @@
-use Rattle.std.proofs.Common.{◌≡◌, length, map, take, ◌+◌, ◌++◌, [], ◌∷◌, ap, sym, ◌∙◌, List, arith}
+use Rattle.std.proofs.Common.{◌≡◌, length, map, take, ◌++◌, [], ◌∷◌, ap, sym, ◌∙◌, List, arith}
 use Rattle.std.proofs.lemmas.List.{length-map, map-append, take_all}
 use Rattle.definitions.specs.Scripts.{Entry}
 use Rattle.definitions.specs.Receiver.{entries_of}

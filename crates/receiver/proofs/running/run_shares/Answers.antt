@@ -17,7 +17,7 @@ returns-then-is_empty-clause-run g c =
     without-clients c.args.settings c.args.shares.now texts c.args.limit _
     (elim c.then-is_empty.either [
       | inl none ↦ inl (number ∙ none-of (length c.args.scripts.now)
-      (sym none ∙ c.is_empty.ensures))
+          (sym none ∙ c.is_empty.ensures))
       | inr many ↦ inr (omega (arith, number, many.1))
     ])
 
