@@ -1,6 +1,7 @@
 -- Where each slot of clients stands, whatever shares they have.
 use Rattle.std.proofs.Common.{◌≡◌, ℕ, zero, suc, ◌+◌, ◌-◌, ◌*◌, ◌<◌, ◌≤◌, List, [], ◌∷◌, ◌++◌}
-use Rattle.std.proofs.Common.{length, take, get_or, subst, refl, sym, ap, ◌∙◌, arith, map, ◌⊎◌, inl, inr}
+use Rattle.std.proofs.Common.{length, take, get_or, subst, refl, sym, ap, ◌∙◌, arith, map, ◌⊎◌, inl}
+use Rattle.std.proofs.Common.{inr}
 use Rattle.std.specs.Prelude.{Bool, true, false, nat_lt, flat_map, slice_get, Option, Some}
 use Rattle.std.specs.Prelude.{unwrap_or}
 use Rattle.std.specs.List.{range_with_len, enumerate_from, AllByRecursion}
@@ -36,7 +37,8 @@ range-at : (a n i : ℕ) → i < n → slice_get (range_with_len a n) i ≡ Some
 range-at a zero i h = absurd (omega arith)
 range-at a (suc n) zero h = let e : a + 0 ≡ a = omega arith in rw e refl
 range-at a (suc n) (suc i) h =
-    let e : a + suc i ≡ a + 1 + i = omega arith in range-at (a + 1) n i (omega arith) ∙ ap Some (sym e)
+    let e : a + suc i ≡ a + 1 + i = omega arith in
+    range-at (a + 1) n i (omega arith) ∙ ap Some (sym e)
 
 row-length : (client share : ℕ) → length (row client share) ≡ share
 row-length client share = length-map-range_with_len (λ slot. (client, slot)) 0 share
@@ -180,7 +182,8 @@ one-share-more shares share = more 1 shares
     more first (s ∷ ss) =
         let e : length ss + (first + 1) ≡ suc (length ss) + first = omega arith in
         ap (λ (l : List (ℕ × ℕ)). row first s ++ l) (more (first + 1) ss)
-        ∙ sym (append_assoc (row first s) (rows (first + 1) ss) (row (length ss + (first + 1)) share))
+        ∙ sym (append_assoc (row first s) (rows (first + 1) ss)
+        (row (length ss + (first + 1)) share))
         ∙ ap (λ n. (row first s ++ rows (first + 1) ss) ++ row n share) e
 
 -- one slot of a client more
@@ -268,4 +271,6 @@ once-of shares ps keys = rw keys (only-once shares)
 pub nowhere : (shares : List ℕ) (ps : List Place) (client slot : ℕ) → keys_of ps ≡ layout shares
     → (client ≡ 0) ⊎ (get_or shares (client - 1) 0 ≤ slot)
     → (j : ℕ) → IsAt (keys_of ps) j client slot → ⊥
-nowhere shares ps client slot keys other j at = not-there shares j client slot other (subst (λ (l : List (ℕ × ℕ)). IsAt l j client slot) keys at)
+nowhere shares ps client slot keys other j at =
+    not-there shares j client slot other
+    (subst (λ (l : List (ℕ × ℕ)). IsAt l j client slot) keys at)

@@ -1,5 +1,6 @@
 -- The value of the word that is next.
-use Rattle.std.proofs.Common.{◌≡◌, ◌<◌, ◌≤◌, ◌≤ℤ◌, ◌↔◌, ◌+◌, ◌-◌, ◌^◌, ℕ, List, [], ◌∷◌, length, get_or}
+use Rattle.std.proofs.Common.{◌≡◌, ◌<◌, ◌≤◌, ◌≤ℤ◌, ◌↔◌, ◌+◌, ◌-◌, ◌^◌, ℕ, List, [], ◌∷◌, length}
+use Rattle.std.proofs.Common.{get_or}
 use Rattle.std.proofs.Common.{drop, Bool, true, false, FitsSigned, refl, ap, sym, ◌∙◌, rules, arith}
 use Rattle.std.specs.Prelude.{ℤ, pos, negsuc, unsigned_abs, int_le, ◌&&◌, if◌then◌else◌, Result, Ok}
 use Rattle.std.specs.Prelude.{Err, Option, Some, None, ok_or, option_map, OkIff, MatchOption}
@@ -201,7 +202,8 @@ asked verb share count line words left slot values all is named next read =
     rw is.1 (omega (arith, whole)) in
     rw (eq-eqb (length line) (length verb.ranges + 1) whole, sym is.1)
     (ap (meant verb)
-    (taken_first (up_to 0 (share - 1)) verb.ranges words left (pos slot) values many named next read))
+    (taken_first (up_to 0 (share - 1)) verb.ranges words left (pos slot) values many named next
+    read))
 
 pub none_left : (words : List (List ℕ)) → Ok [] ≡ values_in [] words
 unfolding values_in

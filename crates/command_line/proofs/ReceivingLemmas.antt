@@ -20,7 +20,8 @@ pub ran-handed : {A : Type 0} (text : A → List ℕ) (settings : DefinedSetting
     → IsRun (task_of settings shares (map text handed) (2 ^ 40)) old new answer
     → IsRun (task_of settings shares texts (2 ^ 40)) old new answer
 ran-handed text settings shares handed texts old new answer e is_run =
-    subst (λ (l : List (List ℕ)). IsRun (task_of settings shares l (2 ^ 40)) old new answer) e is_run
+    subst (λ (l : List (List ℕ)). IsRun (task_of settings shares l (2 ^ 40)) old new answer) e
+    is_run
 
 -- an error that is passed on
 pub err-is : {T E : Type 0} (r : Result T E) (e : E) → IsErrAnd r (λ x. x ≡ e) → r ≡ Err e

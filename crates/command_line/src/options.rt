@@ -197,8 +197,8 @@ fn packing(matches: &ArgMatches) -> Format
     }
 }
 
-/// The share of the slots of each client: a digit from 1 to 8 for each, or four slots each where the
-/// option isn't there.
+/// The share of the slots of each client: a digit from 1 to 8 for each, or four slots each where
+/// the option isn't there.
 pub fn shares(alloc: Global, matches: &ArgMatches, clients: usize) -> Result<Vec<u8>, Failure>
     ensures given { IfOk result (λ shares.
         shares_by clients (asked_in (found_of matches.now)).shares ≡ Some shares.items) }

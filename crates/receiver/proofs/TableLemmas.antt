@@ -179,7 +179,8 @@ module _ (settings : Settings) (shares : List ℕ) (scripts : List (List ℕ)) (
   -- a run that came to a stop, by what the table has for it
   ran-to : (end : InputEnd) (stop : Stop) (session : Session) (old new : Devices)
       (result : Result ℕ RunFault)
-      → (r : Ran settings (clients_of (task_of settings shares scripts limit)) limit session old new stop)
+      → (r : Ran settings (clients_of (task_of settings shares scripts limit)) limit session old
+      new stop)
       → EndedAs end old new → WriterTells result old new
       → IsAnswer (task_of settings shares scripts limit) (record { bytes = r.read; end = end })
       (text_for stop settings (samples_read settings limit r.read)
@@ -198,7 +199,8 @@ module _ (settings : Settings) (shares : List ℕ) (scripts : List (List ℕ)) (
 
   pub ran-to-end : (n : ℕ) (session : Session) (old new : Devices)
       → AreRight (task_of settings shares scripts limit)
-      → Ran settings (clients_of (task_of settings shares scripts limit)) limit session old new AtEnd
+      → Ran settings (clients_of (task_of settings shares scripts limit)) limit session old new
+      AtEnd
       → n ≡ time_of session → IsRun (task_of settings shares scripts limit) old new (Ok n)
   unfolding IsAnswer taken_samples task
   ran-to-end n session old new right r is =
@@ -208,7 +210,8 @@ module _ (settings : Settings) (shares : List ℕ) (scripts : List (List ℕ)) (
 
   pub ran-to-fault : (session : Session) (old new : Devices)
       → AreRight (task_of settings shares scripts limit)
-      → Ran settings (clients_of (task_of settings shares scripts limit)) limit session old new ReadFailed
+      → Ran settings (clients_of (task_of settings shares scripts limit)) limit session old new
+      ReadFailed
       → IsRun (task_of settings shares scripts limit) old new (Err Read)
   unfolding IsAnswer taken_samples task
   ran-to-fault session old new right r =
@@ -218,7 +221,8 @@ module _ (settings : Settings) (shares : List ℕ) (scripts : List (List ℕ)) (
 
   pub ran-to-limit : (session : Session) (old new : Devices)
       → AreRight (task_of settings shares scripts limit)
-      → Ran settings (clients_of (task_of settings shares scripts limit)) limit session old new PastLimit
+      → Ran settings (clients_of (task_of settings shares scripts limit)) limit session old new
+      PastLimit
       → IsRun (task_of settings shares scripts limit) old new (Err TooLong)
   unfolding IsAnswer taken_samples task
   ran-to-limit session old new right r =
@@ -264,7 +268,8 @@ module _ (settings : Settings) (shares : List ℕ) (scripts : List (List ℕ)) (
       → IsRun (task_of settings shares scripts limit) old old (Err NoMemory)
   unfolding IsAnswer asked
   without-memory right shared =
-      refused asked old (Err NoMemory) refl ((some-clients scripts right, shared), (refl, refl, refl))
+      refused asked old (Err NoMemory) refl
+      ((some-clients scripts right, shared), (refl, refl, refl))
 
 -- what opening a session for them gives
 pub record IsOpened (settings : Settings) (shares : List ℕ) (scripts : List (List ℕ)) (limit : ℕ)

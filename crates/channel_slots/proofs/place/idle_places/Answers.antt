@@ -12,7 +12,8 @@ loop-index-preserved c =
     record {
       keys =
           keys-more shares (get_or shares i 0) i c.loop-index.places.items
-          c.add_idle.new.places.items (length-take-le i shares (omega (arith, c.loop-index-test.true)))
+          c.add_idle.new.places.items
+          (length-take-le i shares (omega (arith, c.loop-index-test.true)))
           c.loop-index.invariant.keys adds
           ∙ ap layout (sym (take_more shares i 0 c.loop-index-test.true));
       idle =

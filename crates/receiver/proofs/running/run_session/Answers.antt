@@ -37,7 +37,8 @@ returns-in_err-put_answers-clause-broken g c =
 
 pub returns-in_err-stop-clause-broken : goal.returns-in_err-stop-clause-broken
 returns-in_err-stop-clause-broken g c =
-    let s = g.W.Sink in on_err c.from_residual-in_err-stop.result _ (λ settings shares scripts open_is.
+    let s = g.W.Sink in
+    on_err c.from_residual-in_err-stop.result _ (λ settings shares scripts open_is.
     let clients = clients_of (task_of settings shares scripts c.args.limit) in
     let start = s.contents c.args.writer.now in
     let first = opened settings clients c.args.session.now c.put_answers.new.session start
@@ -49,14 +50,16 @@ returns-in_err-stop-clause-broken g c =
     let grown =
     grows-on start (s.contents c.put_answers.new.writer) (s.contents c.read_all.new.writer)
     c.put_answers.ensures.grows c.read_all.ensures.grows in
-    breaks-in-body settings shares scripts c.args.limit broke.read _ _ broke.consumed broke.read_failed
+    breaks-in-body settings shares scripts c.args.limit broke.read _ _ broke.consumed
+    broke.read_failed
     c.in_err-stop.ensures.failure
     (unheld start (s.contents c.read_all.new.writer) (held_text c.read_all.new.text) _ grown
     broke.written))
 
 pub returns-in_err-finish-clause-broken : goal.returns-in_err-finish-clause-broken
 returns-in_err-finish-clause-broken g c =
-    let s = g.W.Sink in on_err c.from_residual-in_err-finish.result _ (λ settings shares scripts open_is.
+    let s = g.W.Sink in
+    on_err c.from_residual-in_err-finish.result _ (λ settings shares scripts open_is.
     let clients = clients_of (task_of settings shares scripts c.args.limit) in
     let start = s.contents c.args.writer.now in
     let first = opened settings clients c.args.session.now c.put_answers.new.session start

@@ -32,7 +32,8 @@ returns-clause-done c =
     rw c.deref.ensures.value at c.cells_done_at.ensures in
     rw (← c.get-2.ensures.same) (d.done_is
     ∙ sym (cells-at ps c.place.result c.args.client c.get-2.result
-    d.place (once-of c.args.self.now.shares.items ps c.args.self.now.keys) c.place.ensures.there d.is))
+    d.place (once-of c.args.self.now.shares.items ps c.args.self.now.keys) c.place.ensures.there
+    d.is))
 
 pub returns-clause-shown : goal.returns-clause-shown
 returns-clause-shown c settings xs asked s first last =

@@ -73,7 +73,8 @@ returns-clause-answer c settings xs asked s =
     e.answers xs _ (sym s.now) (subst
     (λ (m : ℕ). StandsFor settings xs (asked c.args.client m) e.old.slot) n
     (stands-at settings xs asked ps at c.args.client c.get.result c.args.self.now.time e.old
-    e.old (once-of c.args.self.now.shares.items ps c.args.self.now.keys) c.place-place.ensures.there e.is
+    e.old (once-of c.args.self.now.shares.items ps c.args.self.now.keys) c.place-place.ensures.there
+    e.is
     s.slots))
 
 pub returns-clause-stands : goal.returns-clause-stands

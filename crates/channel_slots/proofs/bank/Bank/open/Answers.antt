@@ -5,7 +5,8 @@ use Rattle.definitions.specs.Banks.{layout}
 use Rattle.definitions.specs.Runs.{is_share}
 use Rattle.channel_slots.proofs.BankLemmas.{most-from_few}
 use Rattle.channel_slots.proofs.ReadyLemmas.{all-on-way}
-use Rattle.channel_slots.proofs.ShareLemmas.{idle-few, idle-ready, idle-within, idle-stand, few-each}
+use Rattle.channel_slots.proofs.ShareLemmas.{idle-few, idle-ready, idle-within, idle-stand}
+use Rattle.channel_slots.proofs.ShareLemmas.{few-each}
 use Rattle.channel_slots.proofs.bank.Bank.open.Goals as goal
 
 pub idle_places-requires-clause-few : goal.idle_places-requires-clause-few

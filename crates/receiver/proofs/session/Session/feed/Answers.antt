@@ -40,5 +40,6 @@ returns-clause-told c settings clients xs s =
     told-stretch settings clients queues s.done xs ys c.feed_into.new.events.items c.requires.some
     s.queues free
     (subst (λ (l : List ℕ). AreTold c.feed_into.new.events.items
-    (at_each_sample (bank_events_at_end settings (layout l) (asked_of s.done)) xs ys)) (sym s.shares)
+    (at_each_sample (bank_events_at_end settings (layout l) (asked_of s.done)) xs ys))
+    (sym s.shares)
     (c.feed_into.ensures.told settings xs (asked_of s.done) s.bank))
