@@ -1,0 +1,57 @@
+//! The last items of a stream, as far as the sources use it.
+
+use std::alloc::{AllocError, Global};
+
+/// The last items that were added, as many as it has room for.
+#[derive(Debug)]
+pub struct HeapCircularBuffer<T> {
+    items: Vec<T>,
+    /// Where the oldest item stands.
+    start: usize,
+    len: usize,
+}
+
+impl<T: Copy + Default> HeapCircularBuffer<T> {
+    /// Takes its memory at once.
+    pub fn with_capacity(alloc: Global, capacity: usize) -> Result<Self, AllocError> {
+        Ok(HeapCircularBuffer {
+            items: vec![in alloc; T::default(); capacity]?,
+            start: 0,
+            len: 0,
+        })
+    }
+
+    pub fn len(&self) -> usize {
+        self.len
+    }
+
+    /// Adds an item. Where there is no room, the oldest one goes.
+    pub fn push_back(&mut self, item: T) {
+        self.extend_from_slice(&[item]);
+    }
+
+    /// Adds items. Where there is no room, the oldest ones go.
+    pub fn extend_from_slice(&mut self, items: &[T]) {
+        let room = self.items.len();
+        let items = &items[items.len().saturating_sub(room)..];
+        if room == 0 {
+            return;
+        }
+        let end = (self.start + self.len) % room;
+        let cut = items.len().min(room - end);
+        self.items[end..end + cut].copy_from_slice(&items[..cut]);
+        self.items[..items.len() - cut].copy_from_slice(&items[cut..]);
+        let gone = (self.len + items.len()).saturating_sub(room);
+        self.start = (self.start + gone) % room;
+        self.len += items.len() - gone;
+    }
+
+    /// All items, the oldest first, in two pieces.
+    pub fn as_slices(&self) -> (&[T], &[T]) {
+        let front = self.len.min(self.items.len() - self.start);
+        (
+            &self.items[self.start..self.start + front],
+            &self.items[..self.len - front],
+        )
+    }
+}

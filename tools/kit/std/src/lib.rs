@@ -1,0 +1,34 @@
+//! The real std, but for what the sources call in another way: memory is asked of an allocator and
+//! may be refused, and what touches the world takes a runtime. A crate that depends on this one
+//! under the name `std` sees it in the place of the real one.
+pub use ::std as real;
+pub use ::std::*;
+
+pub mod alloc;
+pub mod env;
+pub mod fs;
+pub mod io;
+mod macros;
+pub mod process;
+mod runtime;
+pub mod string;
+pub mod test;
+pub mod vec;
+
+pub use runtime::HostRuntime;
+
+/// What each module sees with no `use`.
+pub mod prelude {
+    pub mod rust_2024 {
+        pub use crate::alloc::AllocGlobal;
+        pub use crate::string::{String, ToString};
+        pub use crate::vec::Vec;
+        pub use crate::{AnyDrop as Drop, HostRuntime};
+        pub use crate::{assert, assert_eq, eprintln, format, panic, println, vec};
+        pub use ::std::prelude::rust_2024::*;
+    }
+}
+
+/// In the kit a type that may be dropped says so; here each may.
+pub trait AnyDrop {}
+impl<T: ?Sized> AnyDrop for T {}

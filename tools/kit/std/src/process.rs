@@ -1,0 +1,6 @@
+//! Only tests may end the process.
+
+pub use ::std::process::*;
+
+/// What may end the process.
+pub trait Abort {}

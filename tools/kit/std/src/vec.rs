@@ -1,0 +1,79 @@
+//! Lists whose memory is asked of an allocator.
+
+use crate::alloc::{AllocError, AllocFailed, Global};
+use ::std::ops::{Deref, DerefMut};
+pub use ::std::vec::{Drain, IntoIter};
+
+/// A list, whose memory may be refused.
+#[derive(Debug, PartialEq, Eq)]
+pub struct Vec<T>(::std::vec::Vec<T>);
+
+impl<T> Vec<T> {
+    pub fn new(_: Global) -> Vec<T> {
+        Vec(::std::vec::Vec::new())
+    }
+
+    pub fn with_capacity(_: Global, count: usize) -> Result<Vec<T>, AllocError> {
+        let mut items = ::std::vec::Vec::new();
+        items.try_reserve_exact(count).map_err(|_| AllocError)?;
+        Ok(Vec(items))
+    }
+
+    pub fn from_array<const N: usize>(alloc: Global, items: [T; N]) -> Result<Vec<T>, AllocError> {
+        let mut list = Vec::with_capacity(alloc, N)?;
+        list.0.extend(items);
+        Ok(list)
+    }
+
+    pub fn push(&mut self, item: T) -> Result<(), AllocFailed<T>> {
+        if self.0.try_reserve(1).is_err() {
+            return Err(AllocFailed(item));
+        }
+        self.0.push(item);
+        Ok(())
+    }
+}
+
+impl<T: Clone> Vec<T> {
+    /// What `vec!` gives of a number of equal items.
+    pub fn filled(alloc: Global, item: T, count: usize) -> Result<Vec<T>, AllocError> {
+        let mut list = Vec::with_capacity(alloc, count)?;
+        list.0.resize(count, item);
+        Ok(list)
+    }
+
+    pub fn clone(&self) -> Result<Vec<T>, AllocError> {
+        let mut list = Vec::with_capacity(Global, self.0.len())?;
+        list.0.extend_from_slice(&self.0);
+        Ok(list)
+    }
+
+    pub fn extend_from_slice(&mut self, items: &[T]) -> Result<(), AllocError> {
+        self.0.try_reserve(items.len()).map_err(|_| AllocError)?;
+        self.0.extend_from_slice(items);
+        Ok(())
+    }
+}
+
+impl<T> Deref for Vec<T> {
+    type Target = ::std::vec::Vec<T>;
+
+    fn deref(&self) -> &Self::Target {
+        &self.0
+    }
+}
+
+impl<T> DerefMut for Vec<T> {
+    fn deref_mut(&mut self) -> &mut Self::Target {
+        &mut self.0
+    }
+}
+
+impl<'a, T> IntoIterator for &'a Vec<T> {
+    type Item = &'a T;
+    type IntoIter = ::std::slice::Iter<'a, T>;
+
+    fn into_iter(self) -> Self::IntoIter {
+        self.0.iter()
+    }
+}
