@@ -74,6 +74,12 @@ impl<T: Copy, const N: usize> ArrayVec<T, N> {
     }
 }
 
+impl<T: Default, const N: usize> Default for ArrayVec<T, N> {
+    fn default() -> Self {
+        ArrayVec::new()
+    }
+}
+
 impl<T, const N: usize> Deref for ArrayVec<T, N> {
     type Target = [T];
 

@@ -25,6 +25,10 @@ impl<T: Copy + Default> HeapCircularBuffer<T> {
         self.len
     }
 
+    pub fn is_empty(&self) -> bool {
+        self.len == 0
+    }
+
     /// Adds an item. Where there is no room, the oldest one goes.
     pub fn push_back(&mut self, item: T) {
         self.extend_from_slice(&[item]);
