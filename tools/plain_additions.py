@@ -1,0 +1,105 @@
+"""What Rust wants beside a source that was made plain: premises that a debug build checks, the
+usual traits, and leave for names that only the prover uses."""
+import re
+
+from plain_text import block_end, code_of
+
+# A function with the comments of its clauses: its head, these lines, and its brace's indentation.
+FUNCTION = re.compile(
+    r'^( *(?:pub(?:\([a-z]+\))? )?fn (?:[^{;/\[]|\[[^\]]*\])*)\n((?: *// .*\n)+)( *)\{$', re.M)
+
+# A term of a clause that Rust can say: a power, a list's length, a size, a number or a name.
+TERM = re.compile(r'2 \^ (\d+)|length (\w+)\.(?:now|old|entry)|unsigned_abs (\w+)(?![.\w])'
+                  r'|(\w+)(?![.\w])')
+
+
+def premises(clauses):
+    """What the clauses of a function require."""
+    joined = re.sub(r'\n *// (?!requires|ensures)', ' ', clauses)
+    joined = re.sub('[«»]', '', joined)
+    return re.findall(r'// requires(?: \w+)? \{ (.*) \}', joined)
+
+
+def condition(premise, head, code):
+    """A premise as `place + 16 ≤ length table.now` as a condition of Rust; others are None."""
+    numbers = re.findall(r'(\w+): (?:[ui]\d+|usize)\b', head)
+    lists = re.findall(r"(\w+): &(?:mut )?(?:'\w+ )?\[", head)
+
+    def is_constant(name):
+        return re.search(rf'\bconst {name}:|^use [^;]*\b{name}\b', code, re.M)
+
+    def term(found):
+        power, of_list, of_size, word = found.groups()
+        if power:
+            return f'(1 << {power})'
+        if word:
+            is_known = word in numbers or is_constant(word)
+            return word if word.isdigit() else f'({word} as i128)' if is_known else '?'
+        if of_list:
+            return f'({of_list}.len() as i128)' if of_list in lists else '?'
+        return f'({of_size}.unsigned_abs() as i128)' if of_size in numbers else '?'
+
+    text = TERM.sub(term, premise).replace('≤', '<=')
+    is_simple = re.fullmatch(r'[\w.() +*]+ (<=|<) [\w.() +*<]+', text)
+    return text if is_simple and ' as i128' in text else None
+
+
+def checked_text(text):
+    """A source whose functions say what they require, and see to the simple ones by themselves."""
+    code = code_of(text)
+
+    def checked(found):
+        head, clauses, indent = found.groups()
+        required = premises(clauses)
+        docs = ''
+        if required and head.lstrip().startswith('pub fn'):
+            rows = ['///', '/// # Requires', *(f'/// - `{premise}`' for premise in required)]
+            docs = ''.join(f'{indent}{row}\n' for row in rows)
+        holds = filter(None, (condition(premise, head, code) for premise in required))
+        return docs + found[0] + ''.join(f'\n    {indent}debug_assert!({hold});' for hold in holds)
+
+    return FUNCTION.sub(checked, text)
+
+
+def allow(found, is_unused):
+    """An item or a field, with leave to be used by clauses alone."""
+    return f'{found[1]}#[allow(dead_code)]\n' * is_unused + found[0]
+
+
+def quiet_text(text, constants):
+    """A source in which no name makes a warning since only the prover uses it."""
+    def loop(found):
+        body = code_of(text[found.end():block_end(text, found.end() - 1)])
+        is_unused = not re.search(rf'\b{found[2]}\b', body)
+        return f'{found[1]}_{found[3]}' if is_unused else found[0]
+
+    def fields(found):
+        code = code_of(text)
+        return re.sub(r'^( +)(\w+): ', lambda field: allow(field, f'.{field[2]}' not in code),
+                      found[0], flags=re.M)
+
+    # Constants that clauses name, private fields that only an invariant does, and loops.
+    text = re.sub(r'^()(?:pub(?:\(crate\))? )?const (\w+)',
+                  lambda found: allow(found, found[2] in constants), text, flags=re.M)
+    text = re.sub(r'\bstruct \w+ \{\n(?:    .*\n)*?    // ghost', fields, text)
+    return re.sub(r'^([ \t]*for )([a-z]\w*)( in .*\{)$', loop, text, flags=re.M)
+
+
+def full_text(text):
+    """A source with what a user of Rust awaits beside `new`, `len` and `next`."""
+    at = 0
+    while found := re.compile(r'^impl(<.*>)? (\w+(?:<.*>)?) \{$', re.M).search(text, at):
+        at = block_end(text, found.end() - 1)
+        methods, head = text[found.end():at], f'impl{found[1] or ""} '
+        if 'pub fn len(&self)' in methods and 'fn is_empty' not in methods:
+            added = ('\n    /// Whether there is nothing.\n    pub fn is_empty(&self) -> bool {\n'
+                     '        self.len() == 0\n    }\n')
+            text, at = text[:at - 1] + added + text[at - 1:], at + len(added)
+        if 'pub fn new()' in methods and 'Default' not in text:
+            text += (f'\n{head}Default for {found[2]} {{\n    fn default() -> Self {{\n'
+                     '        Self::new()\n    }\n}\n')
+        if item := re.search(r'pub fn next\(&mut self\) -> Option<(.*)>$', methods, re.M):
+            text += (f'\n{head}Iterator for {found[2]} {{\n    type Item = {item[1]};\n\n'
+                     f'    fn next(&mut self) -> Option<{item[1]}> {{\n'
+                     f'        {found[2].split("<")[0]}::next(self)\n    }}\n}}\n')
+    return text
