@@ -2,7 +2,6 @@
 
 ghost use Rattle.std.specs.Prelude.{◌<◌};
 
-use super::Subframe;
 use std::alloc::{AllocError, Global};
 use std::process::Abort;
 
