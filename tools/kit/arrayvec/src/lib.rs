@@ -74,6 +74,16 @@ impl<T: Copy, const N: usize> ArrayVec<T, N> {
     }
 }
 
+impl<T: Copy + Default, const N: usize> TryFrom<&[T]> for ArrayVec<T, N> {
+    type Error = CapacityError;
+
+    fn try_from(items: &[T]) -> Result<Self, CapacityError> {
+        let mut list = ArrayVec::new();
+        list.try_extend_from_slice(items)?;
+        Ok(list)
+    }
+}
+
 impl<T: Default, const N: usize> Default for ArrayVec<T, N> {
     fn default() -> Self {
         ArrayVec::new()

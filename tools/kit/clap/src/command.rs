@@ -1,131 +1,16 @@
-//! A command with its arguments, and how its words are read.
+//! A command, and how its words are read.
 
+use crate::arg::{Arg, ArgAction};
 use crate::error::Error;
 use crate::help::help;
 use crate::matches::ArgMatches;
 use kit_std::alloc::{AllocError, Global};
-use std::ops::RangeFrom;
-
-/// Whether an option takes a value or is a flag.
-#[derive(Clone, Copy, Debug, PartialEq, Eq)]
-pub enum ArgAction {
-    Set,
-    SetTrue,
-}
-
-/// Which values an argument takes.
-#[derive(Clone, Copy, Debug)]
-pub enum ValueParser {
-    Any,
-    Number,
-    OneOf(&'static [&'static str]),
-}
-
-impl From<&'static [&'static str]> for ValueParser {
-    fn from(texts: &'static [&'static str]) -> ValueParser {
-        ValueParser::OneOf(texts)
-    }
-}
-
-/// An option, a flag, or the words that are no options.
-#[derive(Clone, Copy, Debug)]
-pub struct Arg<'a> {
-    pub(crate) id: &'a str,
-    pub(crate) long: Option<&'a str>,
-    pub(crate) value_name: Option<&'a str>,
-    pub(crate) action: ArgAction,
-    pub(crate) parser: ValueParser,
-    pub(crate) default: Option<&'a str>,
-    pub(crate) help: &'a str,
-}
-
-impl<'a> Arg<'a> {
-    pub fn new(_: Global, id: &'a str) -> Arg<'a> {
-        Arg {
-            id,
-            long: None,
-            value_name: None,
-            action: ArgAction::Set,
-            parser: ValueParser::Any,
-            default: None,
-            help: "",
-        }
-    }
-
-    pub fn long(self, name: &'a str) -> Arg<'a> {
-        Arg {
-            long: Some(name),
-            ..self
-        }
-    }
-
-    pub fn value_name(self, name: &'a str) -> Arg<'a> {
-        Arg {
-            value_name: Some(name),
-            ..self
-        }
-    }
-
-    pub fn action(self, action: ArgAction) -> Arg<'a> {
-        Arg { action, ..self }
-    }
-
-    pub fn value_parser(self, parser: impl Into<ValueParser>) -> Arg<'a> {
-        Arg {
-            parser: parser.into(),
-            ..self
-        }
-    }
-
-    pub fn default_value(self, text: &'a str) -> Arg<'a> {
-        Arg {
-            default: Some(text),
-            ..self
-        }
-    }
-
-    pub fn help(self, help: &'a str) -> Arg<'a> {
-        Arg { help, ..self }
-    }
-
-    /// Only the words that are no options have more than one value, and they have any number.
-    pub fn num_args(self, _: RangeFrom<usize>) -> Arg<'a> {
-        self
-    }
-
-    /// Sees whether a value may stand here.
-    fn check(&self, value: &str) -> Result<(), Error> {
-        let name = self.shown();
-        let invalid = |why: String| {
-            Err(Error::refused(
-                format!("invalid value '{value}' for '{name}'{why}"),
-                None,
-            ))
-        };
-        match self.parser {
-            ValueParser::Number => match value.parse::<i64>() {
-                Ok(number) if u32::try_from(number).is_ok() => Ok(()),
-                Ok(_) => invalid(format!(": {value} is not in 0..={}", u32::MAX)),
-                Err(error) => invalid(format!(": {error}")),
-            },
-            ValueParser::OneOf(_) if value.is_empty() => Err(self.without_value()),
-            ValueParser::OneOf(texts) if !texts.contains(&value) => {
-                invalid(self.possible_values("\n  "))
-            }
-            _ => Ok(()),
-        }
-    }
-
-    fn without_value(&self) -> Error {
-        let (name, values) = (self.shown(), self.possible_values("\n  "));
-        let why = format!("a value is required for '{name}' but none was supplied{values}");
-        Error::refused(why, None)
-    }
-}
 
 /// A program's command line.
 #[derive(Debug)]
 pub struct Command<'a> {
+    pub(crate) name: &'a str,
+    pub(crate) version: Option<&'a str>,
     pub(crate) about: &'a str,
     pub(crate) usage: &'a str,
     pub(crate) after_help: &'a str,
@@ -135,10 +20,19 @@ pub struct Command<'a> {
 impl<'a> Command<'a> {
     pub fn new(_: Global, name: &'a str) -> Command<'a> {
         Command {
+            name,
+            version: None,
             about: "",
             usage: name,
             after_help: "",
             args: Vec::new(),
+        }
+    }
+
+    pub fn version(self, version: &'a str) -> Command<'a> {
+        Command {
+            version: Some(version),
+            ..self
         }
     }
 
@@ -177,19 +71,32 @@ impl<'a> Command<'a> {
                 self.add_option(&mut found, word, next)?;
             }
         }
-        for arg in &self.args {
-            if let (None, Some(text)) = (found.get_strs(arg.id), arg.default) {
-                found.values.push((arg.id, vec![text]));
-            }
-        }
+        self.complete(&mut found)?;
         Ok(found)
+    }
+
+    /// Adds the defaults, and sees that what is required is there.
+    fn complete(&self, found: &mut ArgMatches<'a>) -> Result<(), Error> {
+        let is_missing = |arg: &&Arg| found.get_strs(arg.id).is_none();
+        let missing: Vec<_> = self.args.iter().filter(is_missing).collect();
+        let wanted = missing.iter().filter(|arg| arg.is_required);
+        let wanted: String = wanted.map(|arg| format!("\n  {}", arg.shown())).collect();
+        if !wanted.is_empty() {
+            let why = format!("the following required arguments were not provided:{wanted}");
+            return Err(Error::refused(why, Some(self.usage)));
+        }
+        let defaults = missing
+            .iter()
+            .filter_map(|arg| Some((arg.id, vec![arg.default?])));
+        found.values.extend(defaults);
+        Ok(())
     }
 
     /// Whether the word behind an option is its value.
     fn is_value_behind(&self, word: &str, next: &str) -> bool {
-        let takes_one = |arg: &&Arg| arg.action == ArgAction::Set;
         let is_word = !next.starts_with('-') || next == "-";
-        is_word && !word.contains('=') && self.named(word).is_some_and(|arg| takes_one(&arg))
+        self.named(word)
+            .is_some_and(|arg| arg.action == ArgAction::Set && (is_word || arg.takes_hyphens))
     }
 
     /// The option or flag of a name with its two dashes.
@@ -221,8 +128,12 @@ impl<'a> Command<'a> {
             Some((name, value)) => (name, Some(value)),
             None => (word, next),
         };
-        if matches!(word, "-h" | "--help") {
-            return Err(Error::help(help(self)));
+        match (word, self.version) {
+            ("-h" | "--help", _) => return Err(Error::help(help(self))),
+            ("-V" | "--version", Some(version)) => {
+                return Err(Error::help(format!("{} {version}\n", self.name)));
+            }
+            _ => {}
         }
         let arg = self.named(name).ok_or_else(|| self.unexpected(name))?;
         let shown = arg.shown();

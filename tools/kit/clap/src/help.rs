@@ -1,6 +1,7 @@
 //! The text of the help.
 
-use crate::command::{Arg, ArgAction, Command, ValueParser};
+use crate::arg::{Arg, ArgAction, ValueParser};
+use crate::command::Command;
 
 impl Arg<'_> {
     /// How it is named in texts.
@@ -42,21 +43,26 @@ pub(crate) fn help(command: &Command) -> String {
         .map(|arg| (format!("    {}", arg.shown()), arg.about()))
         .collect();
     options.push(("-h, --help".into(), "Print help".into()));
+    if command.version.is_some() {
+        options.push(("-V, --version".into(), "Print version".into()));
+    }
     format!(
-        "{}\n\nUsage: {}\n\nArguments:\n{}\nOptions:\n{}\n{}\n",
+        "{}\n\nUsage: {}\n\n{}{}{}\n",
         command.about,
         command.usage,
-        table(&words),
-        table(&options),
+        table("Arguments", &words),
+        table("Options", &options),
         command.after_help
     )
 }
 
-/// Rows of two columns.
-fn table(rows: &[(String, String)]) -> String {
-    let width = rows.iter().map(|(name, _)| name.len()).max().unwrap_or(0);
+/// Rows of two columns below a head, or nothing where there are none.
+fn table(head: &str, rows: &[(String, String)]) -> String {
+    let Some(width) = rows.iter().map(|(name, _)| name.len()).max() else {
+        return String::new();
+    };
     let lines = rows
         .iter()
         .map(|(name, about)| format!("  {name:width$}  {about}\n"));
-    lines.collect()
+    format!("{head}:\n{}\n", lines.collect::<String>())
 }

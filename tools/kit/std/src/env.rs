@@ -1,6 +1,9 @@
 //! The words of the command line, as bytes into a buffer.
 
+use crate::alloc::Global;
+use crate::string::String;
 pub use ::std::env::*;
+use ::std::io::{self, ErrorKind};
 
 /// Why a buffer wasn't filled.
 #[derive(Clone, Copy, Debug, PartialEq, Eq)]
@@ -20,5 +23,22 @@ pub trait Env {
 
     fn var_at(&self, _i: usize, _buffer: &mut [u8]) -> Result<usize, FillError> {
         Err(FillError::NotPresent)
+    }
+}
+
+/// The words as texts, the program's name first. An error is a word that is no UTF-8, or too long.
+pub fn args<E: Env>(env: &E) -> io::Result<::std::vec::IntoIter<String>> {
+    let mut buffer = ::std::vec![0; 128 << 10];
+    let mut words = ::std::vec::Vec::new();
+    loop {
+        match env.arg(words.len(), &mut buffer) {
+            Ok(len) => {
+                let word = ::std::str::from_utf8(&buffer[..len]);
+                let word = word.map_err(|_| ErrorKind::InvalidData)?;
+                words.push(String::from_str(Global, word)?);
+            }
+            Err(FillError::NotPresent) => return Ok(words.into_iter()),
+            Err(FillError::TooLong) => return Err(ErrorKind::OutOfMemory.into()),
+        }
     }
 }
