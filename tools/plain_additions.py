@@ -61,9 +61,9 @@ def checked_text(text):
     return FUNCTION.sub(checked, text)
 
 
-def allow(found, is_unused):
+def allow(found, is_unused, lint='dead_code'):
     """An item or a field, with leave to be used by clauses alone."""
-    return f'{found[1]}#[allow(dead_code)]\n' * is_unused + found[0]
+    return f'{found[1]}#[allow({lint})]\n' * is_unused + found[0]
 
 
 def quiet_text(text, constants):
@@ -78,7 +78,14 @@ def quiet_text(text, constants):
         return re.sub(r'^( +)(\w+): ', lambda field: allow(field, f'.{field[2]}' not in code),
                       found[0], flags=re.M)
 
+    def imports(found):
+        imported = constants.intersection(re.findall(r'\w+', found[0]))
+        code = code_of(text)
+        is_unused = any(len(re.findall(rf'\b{name}\b', code)) == 1 for name in imported)
+        return allow(found, is_unused, 'unused_imports')
+
     # Constants that clauses name, private fields that only an invariant does, and loops.
+    text = re.sub(r'^()use [^;]*;', imports, text, flags=re.M)
     text = re.sub(r'^()(?:pub(?:\(crate\))? )?const (\w+)',
                   lambda found: allow(found, found[2] in constants), text, flags=re.M)
     text = re.sub(r'\bstruct \w+ \{\n(?:    .*\n)*?    // ghost', fields, text)

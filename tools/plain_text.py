@@ -31,6 +31,8 @@ REWRITTEN = [(re.compile(pattern, re.M), new) for pattern, new in [
     (r'\bstd::ops::DerefSlice\b', 'core::ops::Deref'),
     (r'\bDerefSlice for\b', 'Deref for'),
     (r'\btype Elem = (\w+);', r'type Target = [\1];'),
+    # No part of Rust before 1.87.
+    (r'\.cast_unsigned\(\)', ' as u64'),
     # No gaps where lines fell away.
     (r'\n{3,}', r'\n\n'),
     (r'\{\n\n', r'{\n'),
