@@ -1,0 +1,44 @@
+-- Readings by what the code computes of the bytes.
+use Rattle.std.proofs.Common.{◌≡◌, ℕ, ◌+◌, ◌-◌, ◌*◌, ◌<◌, ◌≤◌, ◌^◌, refl, sym, ap, ◌∙◌, arith}
+use Rattle.std.specs.Prelude.{ℤ, pos, ◌+ℤ◌, ◌-ℤ◌, ◌*ℤ◌, neg_ℤ, unsigned_abs}
+use Rattle.std.specs.Int.RustNames.{FitsSigned}
+use mir.Syntax.{w64}
+use mir.Val.{to_z, of_z}
+use Rattle.std.proofs.lemmas.Int.{ints}
+use Rattle.std.proofs.lemmas.Bool.Decides.{nat_tests}
+use Rattle.recordings.specs.Readings.{signed, float_order}
+
+pub doubled : (r : ℤ) → unsigned_abs r < 2 ^ 31
+    → to_z w64 (of_z w64 (pos 2 *ℤ to_z w64 (of_z w64 r))) ≡ pos 2 *ℤ r
+doubled r small = omega (arith, ints)
+
+pub odd : (r : ℤ) → unsigned_abs r < 2 ^ 30
+    → to_z w64 (of_z w64 (pos 2 *ℤ to_z w64 (of_z w64 (to_z w64 (of_z w64 (pos 2 *ℤ to_z w64
+    (of_z w64 r))) +ℤ pos 1))))
+    ≡ pos 2 *ℤ (pos 2 *ℤ r +ℤ pos 1)
+odd r small = omega (arith, ints)
+
+pub kept : (r : ℤ) → unsigned_abs r < 2 ^ 31 → to_z w64 (of_z w64 r) ≡ r
+kept r small = omega (arith, ints)
+
+pub lowered : (half n : ℕ) (h m : ℤ) → half ≤ 32768 → n < 2 * half → h ≡ pos half → m ≡ pos n
+    → to_z w64 (of_z w64 (to_z w64 (of_z w64 m) -ℤ to_z w64 (of_z w64 (pos 2 *ℤ to_z w64
+    (of_z w64 h)))))
+    ≡ pos n -ℤ pos (2 * half)
+lowered half n h m short below eh em = rw (eh, em) (omega (arith, ints))
+
+pub signed-high : (half n : ℕ) → half ≤ n → signed half n ≡ pos n -ℤ pos (2 * half)
+unfolding signed
+signed-high half n h = grind (arith, nat_tests)
+
+pub signed-low : (half n : ℕ) → n < half → signed half n ≡ pos n
+unfolding signed
+signed-low half n h = grind (arith, nat_tests)
+
+pub float_order-low : (bits : ℕ) → bits < 2 ^ 31 → float_order bits ≡ pos bits
+unfolding float_order
+float_order-low bits h = grind (arith, nat_tests)
+
+pub float_order-high : (bits : ℕ) → 2 ^ 31 ≤ bits → float_order bits ≡ neg_ℤ (pos (bits - 2 ^ 31))
+unfolding float_order
+float_order-high bits h = grind (arith, nat_tests)

@@ -1,0 +1,74 @@
+-- What the samples of a recording become, and the bytes that they are packed into.
+use Rattle.std.specs.Prelude.{◌≡◌, ℕ, ◌+◌, ◌-◌, ◌*◌, ◌/◌, ℤ, pos, ◌*ℤ◌, ◌-ℤ◌, unsigned_abs}
+use Rattle.std.specs.Prelude.{Bool, true, false, if◌then◌else◌, nat_lt, int_lt, List, length, map}
+use Rattle.std.specs.List.{range_with_len}
+use Rattle.definitions.specs.Samples.{Sample, Packing, real1, real2, iq1, iq2, real, sign_of}
+use Rattle.definitions.specs.Samples.{samples, samples_per_byte, sample_count}
+use Rattle.sample_planes.specs.Packings.{packing_of}
+use Rattle.recordings.specs.Readings.{bits_of, reading}
+use Rattle.recordings.specs.declared.part.Part.{Part}
+use Rattle.recordings.specs.declared.recipe.Recipe.{Recipe}
+
+-- 1 for a value below the centre, or where the sign is turned for any other
+abbrev pub sign_bit : Part → ℤ → ℕ
+sign_bit part value =
+    if part.is_turned then (if int_lt value part.centre then 0 else 1)
+    else (if int_lt value part.centre then 1 else 0)
+
+-- 1 for a value farther from the centre than the threshold
+abbrev pub size_bit : Part → ℕ → ℤ → ℕ
+size_bit part threshold value =
+    if nat_lt threshold (unsigned_abs (value -ℤ part.centre)) then 1 else 0
+
+-- how many values each sample of the recording has: one, or one in phase and one in quadrature
+abbrev pub parts_of : Recipe → ℕ
+parts_of recipe = if recipe.is_paired then 2 else 1
+
+-- the value from which a part of sample n is made
+abbrev pub value_of : Recipe → Part → List ℕ → ℕ → ℤ
+value_of recipe part bytes n = reading recipe.kind bytes (parts_of recipe * n + part.place)
+
+-- that part as a sign alone, and as a sign and a size of 1 or 3
+abbrev pub one_bit : Recipe → Part → List ℕ → ℕ → ℤ
+one_bit recipe part bytes n = sign_of (sign_bit part (value_of recipe part bytes n))
+
+abbrev pub two_bits : Recipe → Part → List ℕ → ℕ → ℤ
+two_bits recipe part bytes n =
+    one_bit recipe part bytes n
+    *ℤ pos (1 + 2 * size_bit part recipe.threshold (value_of recipe part bytes n))
+
+-- sample n, as it is written in a packing
+abbrev pub sample_in : Packing → Recipe → List ℕ → ℕ → Sample
+sample_in real1 recipe bytes n = real (one_bit recipe recipe.in_phase bytes n)
+sample_in real2 recipe bytes n = real (two_bits recipe recipe.in_phase bytes n)
+sample_in iq1 recipe bytes n = record {
+  in_phase = one_bit recipe recipe.in_phase bytes n;
+  quadrature = one_bit recipe recipe.quadrature bytes n;
+}
+sample_in iq2 recipe bytes n = record {
+  in_phase = two_bits recipe recipe.in_phase bytes n;
+  quadrature = two_bits recipe recipe.quadrature bytes n;
+}
+
+abbrev pub packing_in : Recipe → Packing
+packing_in recipe = packing_of recipe.format
+
+unfoldable pub sample_of : Recipe → List ℕ → ℕ → Sample
+sample_of recipe bytes n = sample_in (packing_in recipe) recipe bytes n
+
+-- the first samples of a recording, as they are written
+unfoldable pub samples_of : Recipe → List ℕ → ℕ → List Sample
+samples_of recipe bytes count = map (sample_of recipe bytes) (range_with_len 0 count)
+
+-- how many bits of the recording a sample has, and how many bytes one written byte is made of
+abbrev pub sample_bits : Recipe → ℕ
+sample_bits recipe = parts_of recipe * bits_of recipe.kind
+
+abbrev pub group_of : Recipe → ℕ
+group_of recipe = samples_per_byte (packing_in recipe) * sample_bits recipe / 8
+
+-- bytes are the packing of a recording: as many as its samples fill, and they unpack to its samples
+pub record IsPacked (recipe : Recipe) (bytes written : List ℕ) : Type 0 where
+  pub whole : length written ≡ length bytes / group_of recipe
+  pub same : samples (packing_in recipe) written
+      ≡ samples_of recipe bytes (sample_count (packing_in recipe) written)

@@ -1,0 +1,66 @@
+//! The kinds of values that recordings have.
+
+ghost use Rattle.std.specs.Prelude.{◌≡◌, ◌+◌, ◌*◌, ◌<◌, ◌≤◌, ◌^◌, length, unsigned_abs};
+ghost use Rattle.recordings.specs.Readings.{bits_of, reading};
+
+use crate::numbers::{float_order, four_bytes, sign_of, signed, two_bytes};
+
+/// The kind of the values of a recording.
+#[derive(Clone, Copy, Debug, PartialEq, Eq)]
+pub enum Kind {
+    /// Bytes without a sign, 0 to 255.
+    U8,
+    /// Bytes of two's complement.
+    I8,
+    /// Numbers of 16 bits and two's complement, the low byte first.
+    I16,
+    /// The same, the high byte first.
+    I16Be,
+    /// Floats of 32 bits of IEEE 754, the low byte first.
+    F32,
+    /// Two bits of two's complement t for the value 2t + 1, the earliest in a byte's low bits.
+    Bits2Low,
+    /// One bit, 0 for 1 and 1 for -1, the earliest in a byte's low bit.
+    Bits1Low,
+    /// The same, the earliest in a byte's high bit.
+    Bits1High,
+}
+
+impl Kind {
+    /// How many bits a value has: 1, 2, 8, 16 or 32.
+    pub fn bits(self) -> usize
+        ensures { result ≡ bits_of self }
+    {
+        match self {
+            Kind::U8 => 8,
+            Kind::I8 => 8,
+            Kind::I16 => 16,
+            Kind::I16Be => 16,
+            Kind::F32 => 32,
+            Kind::Bits2Low => 2,
+            Kind::Bits1Low => 1,
+            Kind::Bits1High => 1,
+        }
+    }
+
+    /// Value number `i` of bytes as an integer: twice the value, or for a float an integer that
+    /// grows with it.
+    pub fn reading(self, bytes: &[u8], i: usize) -> i64
+        requires { bits_of self * (i + 1) ≤ 8 * length bytes.now }
+        ensures value { result ≡ reading self bytes.now i }
+        ensures small { unsigned_abs result < 2 ^ 31 }
+    {
+        match self {
+            Kind::U8 => 2 * i64::from(bytes[i]),
+            Kind::I8 => 2 * signed(128, u32::from(bytes[i])),
+            Kind::I16 => 2 * signed(32768, two_bytes(bytes[2 * i], bytes[2 * i + 1])),
+            Kind::I16Be => 2 * signed(32768, two_bytes(bytes[2 * i + 1], bytes[2 * i])),
+            Kind::F32 => float_order(four_bytes(bytes, 4 * i)),
+            Kind::Bits2Low => {
+                2 * (2 * signed(2, u32::from((bytes[i / 4] >> (2 * (i % 4))) % 4)) + 1)
+            }
+            Kind::Bits1Low => 2 * sign_of((bytes[i / 8] >> (i % 8)) % 2),
+            Kind::Bits1High => 2 * sign_of((bytes[i / 8] >> (7 - i % 8)) % 2),
+        }
+    }
+}

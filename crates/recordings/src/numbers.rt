@@ -1,0 +1,58 @@
+//! Numbers by their bytes and bits.
+
+ghost use Rattle.std.specs.Prelude.{◌≡◌, ◌+◌, ◌*◌, ◌<◌, ◌≤◌, ◌^◌, length, unsigned_abs};
+ghost use Rattle.definitions.specs.Samples.{sign_of};
+ghost use Rattle.recordings.specs.Readings.{signed, float_order, two_bytes, four_bytes};
+
+/// 1 for a bit 0, and -1 for 1.
+pub fn sign_of(bit: u8) -> i64
+    requires { bit < 2 }
+    ensures value { result ≡ sign_of bit }
+    ensures small { unsigned_abs result ≤ 1 }
+{
+    if bit == 0 { 1 } else { -1 }
+}
+
+/// A number of two's complement, of which `half` is the half of the range.
+pub fn signed(half: u32, n: u32) -> i64
+    requires range { n < 2 * half }
+    requires half { half ≤ 32768 }
+    ensures value { result ≡ signed half n }
+    ensures small { unsigned_abs result ≤ half }
+{
+    let value = i64::from(n);
+    if n < half {
+        value
+    } else {
+        value - 2 * i64::from(half)
+    }
+}
+
+/// The number of two bytes.
+pub fn two_bytes(low: u8, high: u8) -> u32
+    ensures value { result ≡ two_bytes low high }
+    ensures small { result < 65536 }
+{
+    u32::from(low) + 256 * u32::from(high)
+}
+
+/// The number of four bytes from a place on, the lowest of them first.
+pub fn four_bytes(bytes: &[u8], at: usize) -> u32
+    requires { at + 4 ≤ length bytes.now }
+    ensures value { result ≡ four_bytes bytes.now at }
+{
+    two_bytes(bytes[at], bytes[at + 1]) + 65536 * two_bytes(bytes[at + 2], bytes[at + 3])
+}
+
+/// The bits of a float as an integer that grows with it.
+pub fn float_order(bits: u32) -> i64
+    ensures value { result ≡ float_order bits }
+    ensures small { unsigned_abs result < 2 ^ 31 }
+{
+    const HALF: u32 = 1 << 31;
+    if bits < HALF {
+        i64::from(bits)
+    } else {
+        -i64::from(bits - HALF)
+    }
+}
