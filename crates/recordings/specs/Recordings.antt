@@ -28,14 +28,23 @@ parts_of recipe = if recipe.is_paired then 2 else 1
 abbrev pub value_of : Recipe → Part → List ℕ → ℕ → ℤ
 value_of recipe part bytes n = reading recipe.kind bytes (parts_of recipe * n + part.place)
 
+-- the bits of its sign and of its size
+abbrev pub sign_in : Recipe → Part → List ℕ → ℕ → ℕ
+sign_in recipe part bytes n = sign_bit part (value_of recipe part bytes n)
+
+abbrev pub size_in : Recipe → Part → List ℕ → ℕ → ℕ
+size_in recipe part bytes n = size_bit part recipe.threshold (value_of recipe part bytes n)
+
+abbrev pub sign_and_size : Recipe → Part → List ℕ → ℕ → ℕ
+sign_and_size recipe part bytes n = 2 * sign_in recipe part bytes n + size_in recipe part bytes n
+
 -- that part as a sign alone, and as a sign and a size of 1 or 3
 abbrev pub one_bit : Recipe → Part → List ℕ → ℕ → ℤ
-one_bit recipe part bytes n = sign_of (sign_bit part (value_of recipe part bytes n))
+one_bit recipe part bytes n = sign_of (sign_in recipe part bytes n)
 
 abbrev pub two_bits : Recipe → Part → List ℕ → ℕ → ℤ
 two_bits recipe part bytes n =
-    one_bit recipe part bytes n
-    *ℤ pos (1 + 2 * size_bit part recipe.threshold (value_of recipe part bytes n))
+    sign_of (sign_in recipe part bytes n) *ℤ pos (1 + 2 * size_in recipe part bytes n)
 
 -- sample n, as it is written in a packing
 abbrev pub sample_in : Packing → Recipe → List ℕ → ℕ → Sample
@@ -55,6 +64,19 @@ packing_in recipe = packing_of recipe.format
 
 unfoldable pub sample_of : Recipe → List ℕ → ℕ → Sample
 sample_of recipe bytes n = sample_in (packing_in recipe) recipe bytes n
+
+-- the bits of that sample as a number, of which the first bit is the highest
+abbrev pub code_in : Packing → Recipe → List ℕ → ℕ → ℕ
+code_in real1 recipe bytes n = sign_in recipe recipe.in_phase bytes n
+code_in real2 recipe bytes n = sign_and_size recipe recipe.in_phase bytes n
+code_in iq1 recipe bytes n =
+    2 * sign_in recipe recipe.in_phase bytes n + sign_in recipe recipe.quadrature bytes n
+code_in iq2 recipe bytes n =
+    4 * sign_and_size recipe recipe.in_phase bytes n
+    + sign_and_size recipe recipe.quadrature bytes n
+
+unfoldable pub code_of : Recipe → List ℕ → ℕ → ℕ
+code_of recipe bytes n = code_in (packing_in recipe) recipe bytes n
 
 -- the first samples of a recording, as they are written
 unfoldable pub samples_of : Recipe → List ℕ → ℕ → List Sample

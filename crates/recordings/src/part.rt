@@ -1,7 +1,6 @@
 //! How one part of a sample is made of a recording's values.
 
 ghost use Rattle.std.specs.Prelude.{◌≡◌, ◌<◌, ◌≤◌, ◌^◌, unsigned_abs};
-ghost use Rattle.recordings.specs.Recordings.{sign_bit, size_bit};
 
 /// How a part of a sample is made: of which value, and about which centre.
 #[derive(Clone, Copy, Debug, PartialEq, Eq)]
@@ -12,9 +11,12 @@ pub struct Part {
     pub centre: i64,
     /// Whether the sign is turned, as that of the part in quadrature of a conjugate.
     pub is_turned: bool,
+    ghost near: { unsigned_abs centre ≤ 2 ^ 32 },
 }
 
 impl Part {
+    ghost use Rattle.recordings.specs.Recordings.{sign_bit, size_bit};
+
     /// The bit of the sign.
     pub(crate) fn sign(&self, value: i64) -> u8
         ensures value { result ≡ sign_bit self.now value }
@@ -29,8 +31,7 @@ impl Part {
 
     /// The bit of the size.
     pub(crate) fn size(&self, threshold: u64, value: i64) -> u8
-        requires centre { unsigned_abs self.now.centre ≤ 2 ^ 32 }
-        requires value { unsigned_abs value < 2 ^ 31 }
+        requires { unsigned_abs value < 2 ^ 31 }
         ensures value { result ≡ size_bit self.now threshold value }
         ensures bit { result < 2 }
     {

@@ -1,11 +1,13 @@
 //! How a recording's samples are packed.
 
-ghost use Rattle.std.specs.Prelude.{◌≡◌, ◌+◌, ◌*◌, ◌<◌, ◌≤◌, ◌^◌, unsigned_abs};
-ghost use Rattle.recordings.specs.Recordings.{parts_of};
+ghost use Rattle.std.specs.Prelude.{◌≡◌, ◌+◌, ◌*◌, ◌<◌, ◌≤◌, ◌^◌, if◌then◌else◌};
 
 use crate::kind::Kind;
 use crate::part::Part;
 use sample_planes::Format;
+
+/// The most bytes that samples are read from at once.
+pub const MOST_BYTES: usize = 1 << 20;
 
 /// How a recording's samples are packed.
 #[derive(Clone, Copy, Debug, PartialEq, Eq)]
@@ -22,13 +24,93 @@ pub struct Recipe {
     pub in_phase: Part,
     /// The part in quadrature. Where the packing is real it isn't looked at.
     pub quadrature: Part,
+    ghost in_phase_is_there: { in_phase.place < (if is_paired then 2 else 1) },
+    ghost quadrature_is_there: { quadrature.place < (if is_paired then 2 else 1) },
 }
 
 impl Recipe {
+    ghost use Rattle.std.specs.Prelude.{ℕ, [], ◌∷◌, length, unsigned_abs};
+    ghost use Rattle.definitions.specs.Samples.{sample, samples_per_byte};
+    ghost use Rattle.sample_planes.specs.Packings.{width_of};
+    ghost use Rattle.recordings.specs.Recordings.{parts_of, sample_bits, packing_in, value_of};
+    ghost use Rattle.recordings.specs.declared.recipe.TheConstants.{MOST_BYTES};
+    ghost use Rattle.recordings.specs.Recordings.{sign_in, sign_and_size, code_of, sample_of};
+
     /// How many values a sample has.
     pub(crate) fn parts(&self) -> usize
         ensures { result ≡ parts_of self.now }
     {
         if self.is_paired { 2 } else { 1 }
+    }
+    /// The byte of the samples from sample `first` on.
+    pub fn byte(&self, bytes: &[u8], first: usize) -> u8
+        requires few { length bytes.now ≤ MOST_BYTES }
+        requires within { sample_bits self.now * (first + samples_per_byte (packing_in self.now))
+            ≤ 8 * length bytes.now }
+        ensures { (k : ℕ) → k < samples_per_byte (packing_in self.now)
+            → sample (packing_in self.now) (result ∷ []) k
+            ≡ sample_of self.now bytes.now (first + k) }
+    {
+        let per_byte = self.format.per_byte();
+        let width = 8 / per_byte;
+        let mut byte = 0;
+        for n in 0..per_byte {
+            byte = (byte << width) | self.bits(bytes, first + n);
+        }
+        byte
+    }
+
+    /// The bits of sample `n` of some bytes, as a number: the sample's first bit is the highest.
+    fn bits(&self, bytes: &[u8], n: usize) -> u8
+        requires few { length bytes.now ≤ MOST_BYTES }
+        requires within { sample_bits self.now * (n + 1) ≤ 8 * length bytes.now }
+        ensures value { result ≡ code_of self.now bytes.now n }
+        ensures few { result < 2 ^ width_of (packing_in self.now) }
+    {
+        match self.format {
+            Format::Real1 => self.sign(&self.in_phase, bytes, n),
+            Format::Real2 => self.sign_and_size(&self.in_phase, bytes, n),
+            Format::Iq1 => {
+                2 * self.sign(&self.in_phase, bytes, n) + self.sign(&self.quadrature, bytes, n)
+            }
+            Format::Iq2 => {
+                4 * self.sign_and_size(&self.in_phase, bytes, n)
+                    + self.sign_and_size(&self.quadrature, bytes, n)
+            }
+        }
+    }
+
+    /// The bit of the sign of a part of sample `n`.
+    fn sign(&self, part: &Part, bytes: &[u8], n: usize) -> u8
+        requires place { part.now.place < parts_of self.now }
+        requires few { length bytes.now ≤ MOST_BYTES }
+        requires within { sample_bits self.now * (n + 1) ≤ 8 * length bytes.now }
+        ensures value { result ≡ sign_in self.now part.now bytes.now n }
+        ensures bit { result < 2 }
+    {
+        part.sign(self.value(part, bytes, n))
+    }
+
+    /// The bits of its sign and its size.
+    fn sign_and_size(&self, part: &Part, bytes: &[u8], n: usize) -> u8
+        requires place { part.now.place < parts_of self.now }
+        requires few { length bytes.now ≤ MOST_BYTES }
+        requires within { sample_bits self.now * (n + 1) ≤ 8 * length bytes.now }
+        ensures value { result ≡ sign_and_size self.now part.now bytes.now n }
+        ensures bits { result < 4 }
+    {
+        let value = self.value(part, bytes, n);
+        2 * part.sign(value) + part.size(self.threshold, value)
+    }
+
+    /// The value that it is made of.
+    fn value(&self, part: &Part, bytes: &[u8], n: usize) -> i64
+        requires place { part.now.place < parts_of self.now }
+        requires few { length bytes.now ≤ MOST_BYTES }
+        requires within { sample_bits self.now * (n + 1) ≤ 8 * length bytes.now }
+        ensures value { result ≡ value_of self.now part.now bytes.now n }
+        ensures small { unsigned_abs result < 2 ^ 31 }
+    {
+        self.kind.reading(bytes, self.parts() * n + part.place)
     }
 }
