@@ -1,3 +1,4 @@
 pub mod ReadingLemmas
 pub mod DigitLemmas
 pub mod RecipeLemmas
+pub mod StreamLemmas

@@ -186,3 +186,9 @@ pub byte_of_samples : (recipe : Recipe) (bytes : List ℕ) (first byte k : ℕ)
 unfolding code_of sample_of
 byte_of_samples recipe bytes first byte k d h =
     byte_in (packing_in recipe) recipe bytes first byte k d h
+
+-- the bits of a sample, where the packing is known by another name
+pub code_by : (packing : Packing) (recipe : Recipe) (bytes : List ℕ) (n : ℕ)
+    → packing_in recipe ≡ packing → code_of recipe bytes n ≡ code_in packing recipe bytes n
+unfolding code_of
+code_by packing recipe bytes n e = ap (λ (p : Packing). code_in p recipe bytes n) e

@@ -3,9 +3,11 @@
 
 mod kind;
 mod numbers;
+mod packer;
 mod part;
 mod recipe;
 
 pub use kind::Kind;
+pub use packer::{MOST_PIECE, Packer};
 pub use part::Part;
-pub use recipe::Recipe;
+pub use recipe::{MOST_BYTES, Recipe};

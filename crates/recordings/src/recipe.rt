@@ -1,10 +1,14 @@
 //! How a recording's samples are packed.
 
-ghost use Rattle.std.specs.Prelude.{◌≡◌, ◌+◌, ◌*◌, ◌<◌, ◌≤◌, ◌^◌, if◌then◌else◌};
+ghost use Rattle.std.specs.Prelude.{◌≡◌, ◌+◌, ◌*◌, ◌%◌, ◌<◌, ◌≤◌, ◌^◌, if◌then◌else◌};
+ghost use Rattle.definitions.specs.Samples.{samples_per_byte};
+ghost use Rattle.sample_planes.specs.Packings.{packing_of};
+ghost use Rattle.recordings.specs.Readings.{bits_of};
 
 use crate::kind::Kind;
 use crate::part::Part;
 use sample_planes::Format;
+use std::alloc::AllocError;
 
 /// The most bytes that samples are read from at once.
 pub const MOST_BYTES: usize = 1 << 20;
@@ -26,15 +30,18 @@ pub struct Recipe {
     pub quadrature: Part,
     ghost in_phase_is_there: { in_phase.place < (if is_paired then 2 else 1) },
     ghost quadrature_is_there: { quadrature.place < (if is_paired then 2 else 1) },
+    ghost whole: { samples_per_byte (packing_of format)
+        * ((if is_paired then 2 else 1) * bits_of kind) % 8 ≡ 0 },
 }
 
 impl Recipe {
-    ghost use Rattle.std.specs.Prelude.{ℕ, [], ◌∷◌, length, unsigned_abs};
-    ghost use Rattle.definitions.specs.Samples.{sample, samples_per_byte};
+    ghost use Rattle.std.specs.Prelude.{ℕ, [], ◌∷◌, length, unsigned_abs, OnOk};
+    ghost use Rattle.definitions.specs.Samples.{sample};
     ghost use Rattle.sample_planes.specs.Packings.{width_of};
     ghost use Rattle.recordings.specs.Recordings.{parts_of, sample_bits, packing_in, value_of};
     ghost use Rattle.recordings.specs.declared.recipe.TheConstants.{MOST_BYTES};
     ghost use Rattle.recordings.specs.Recordings.{sign_in, sign_and_size, code_of, sample_of};
+    ghost use Rattle.recordings.specs.Recordings.{group_of, IsPacked};
 
     /// How many values a sample has.
     pub(crate) fn parts(&self) -> usize
@@ -42,8 +49,31 @@ impl Recipe {
     {
         if self.is_paired { 2 } else { 1 }
     }
+    /// How many bytes of a recording each written byte is made of, 1 to 64.
+    pub fn group(&self) -> usize
+        ensures value { result ≡ group_of self.now }
+        ensures some { 0 < result }
+        ensures few { result ≤ 64 }
+    {
+        self.format.per_byte() * (self.parts() * self.kind.bits()) / 8
+    }
+
+    /// Packs the bytes of a recording from its beginning on, at most `MOST_BYTES`, as far as they
+    /// fill bytes, in place of what was written. An error is memory that it was refused.
+    pub fn pack(&self, bytes: &[u8], written: &mut Vec<u8>) -> Result<(), AllocError>
+        requires { length bytes.now ≤ MOST_BYTES }
+        ensures { OnOk result (IsPacked self.now bytes.now written.new.items) }
+    {
+        let per_byte = self.format.per_byte();
+        written.clear();
+        for i in 0..bytes.len() / self.group() {
+            written.push(self.byte(bytes, per_byte * i))?;
+        }
+        Ok(())
+    }
+
     /// The byte of the samples from sample `first` on.
-    pub fn byte(&self, bytes: &[u8], first: usize) -> u8
+    fn byte(&self, bytes: &[u8], first: usize) -> u8
         requires few { length bytes.now ≤ MOST_BYTES }
         requires within { sample_bits self.now * (first + samples_per_byte (packing_in self.now))
             ≤ 8 * length bytes.now }

@@ -1,0 +1,71 @@
+//! Packing piece by piece.
+
+ghost use Rattle.std.specs.Prelude.{◌≡◌, ◌<◌, ◌≤◌, length, drop};
+
+use crate::recipe::Recipe;
+use std::alloc::{AllocError, Global};
+
+/// The most bytes of a piece.
+pub const MOST_PIECE: usize = 1 << 16;
+
+/// Packs a recording that comes in pieces, and holds the bytes that don't fill a byte yet.
+#[derive(Drop)]
+pub struct Packer {
+    recipe: Recipe,
+    held: Vec<u8>,
+    ghost few: { length held.items < 64 },
+}
+
+impl Packer {
+    ghost use Rattle.std.specs.Prelude.{ℕ, List, [], ◌++◌, IfOk, OnOk};
+    ghost use Rattle.recordings.specs.Packers.{StandsFor, recipe_in, held_in};
+    ghost use Rattle.recordings.specs.declared.packer.TheConstants.{MOST_PIECE};
+
+    /// The packer of a recording of which nothing came yet. It takes its memory at once. An error
+    /// is memory that it was refused.
+    pub fn new(alloc: Global, recipe: Recipe) -> Result<Packer, AllocError>
+        ensures recipe { IfOk result (λ packer. recipe_in packer ≡ recipe) }
+        ensures stands { IfOk result (λ packer. StandsFor [] [] packer) }
+    {
+        let held = Vec::with_capacity(alloc, MOST_PIECE + 64)?;
+        Ok(Packer { recipe, held })
+    }
+
+    /// Takes the next piece of the recording, and writes the bytes that this fills, in place of
+    /// what was written. An error is memory that it was refused: then what it held is gone.
+    pub fn take(&mut self, piece: &[u8], written: &mut Vec<u8>) -> Result<(), AllocError>
+        requires { length piece.now ≤ MOST_PIECE }
+        ensures recipe { recipe_in self.new ≡ recipe_in self.old }
+        ensures stands { OnOk result ((bytes before : List ℕ) → StandsFor bytes before self.old
+            → StandsFor (bytes ++ piece.now) (before ++ written.new.items) self.new) }
+    {
+        self.held.extend_from_slice(piece)?;
+        match self.recipe.pack(&self.held, written) {
+            Ok(()) => {
+                drop_front(&mut self.held, written.len() * self.recipe.group());
+                Ok(())
+            }
+            Err(error) => {
+                self.held.clear();
+                Err(error)
+            }
+        }
+    }
+
+    /// How many bytes at the end so far don't fill a byte.
+    pub fn held(&self) -> usize
+        ensures { result ≡ length (held_in self.now) }
+    {
+        self.held.len()
+    }
+}
+
+/// Takes bytes away from the front.
+fn drop_front(bytes: &mut Vec<u8>, count: usize)
+    requires { count ≤ length bytes.old.items }
+    ensures { bytes.new.items ≡ drop count bytes.old.items }
+{
+    let left = bytes.len() - count;
+    bytes.copy_within(count.., 0);
+    bytes.truncate(left);
+}
