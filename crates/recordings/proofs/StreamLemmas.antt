@@ -110,11 +110,15 @@ same_values real1 recipe a b m n same =
 same_values real2 recipe a b m n same =
     rw (same recipe.in_phase.place recipe.in_phase_is_there) refl
 same_values iq1 recipe a b m n same =
-    rw (same recipe.in_phase.place recipe.in_phase_is_there,
-    same recipe.quadrature.place recipe.quadrature_is_there) refl
+    rw (
+      same recipe.in_phase.place recipe.in_phase_is_there,
+      same recipe.quadrature.place recipe.quadrature_is_there,
+    ) refl
 same_values iq2 recipe a b m n same =
-    rw (same recipe.in_phase.place recipe.in_phase_is_there,
-    same recipe.quadrature.place recipe.quadrature_is_there) refl
+    rw (
+      same recipe.in_phase.place recipe.in_phase_is_there,
+      same recipe.quadrature.place recipe.quadrature_is_there,
+    ) refl
 
 pub sample-front : (recipe : Recipe) (front back : List ℕ) (n : ℕ)
     → sample_bits recipe * (n + 1) ≤ 8 * length front
@@ -160,10 +164,13 @@ matched f g a b (suc n) same =
     let here : f a ≡ g b =
     let x : a + 0 ≡ a = omega arith in let y : b + 0 ≡ b = omega arith in
     rw (x, y) at (same 0 (omega arith)) in
-    rw (here, matched f g (a + 1) (b + 1) n (λ i h.
-    let x : a + 1 + i ≡ a + (i + 1) = omega arith in
-    let y : b + 1 + i ≡ b + (i + 1) = omega arith in
-    rw (x, y) (same (i + 1) (omega (arith, h))))) refl
+    rw (
+      here,
+      matched f g (a + 1) (b + 1) n (λ i h.
+          let x : a + 1 + i ≡ a + (i + 1) = omega arith in
+          let y : b + 1 + i ≡ b + (i + 1) = omega arith in
+          rw (x, y) (same (i + 1) (omega (arith, h)))),
+    ) refl
 
 -- the samples of bytes behind others
 samples_of-split : (recipe : Recipe) (bytes : List ℕ) (m n : ℕ)

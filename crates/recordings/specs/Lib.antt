@@ -1,3 +1,4 @@
 pub mod Readings
 pub mod Recordings
 pub mod Packers
+pub mod Choices

@@ -1,12 +1,14 @@
 //! Recordings as people have them, packed as the receiver reads them.
 #![tactic(auto)]
 
+mod choice;
 mod kind;
 mod numbers;
 mod packer;
 mod part;
 mod recipe;
 
+pub use choice::{Choice, ChoiceFault};
 pub use kind::Kind;
 pub use packer::{MOST_PIECE, Packer};
 pub use part::Part;

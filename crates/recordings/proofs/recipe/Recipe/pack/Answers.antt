@@ -14,6 +14,6 @@ pub loop-i-preserved : goal.loop-i-preserved
 loop-i-preserved c = record {
   count = rw (c.in_ok-push.ensures.items, length-append, c.loop-i.invariant.count) refl;
   same = rw c.in_ok-push.ensures.items (one_more c.args.self.now c.args.bytes.now
-  c.loop-i.written.items c.byte.result c.loop-i.i c.loop-i.invariant.same
-  (λ k h. rw c.per_byte-per_byte.ensures at (c.byte.ensures k h)));
+      c.loop-i.written.items c.byte.result c.loop-i.i c.loop-i.invariant.same
+      (λ k h. rw c.per_byte-per_byte.ensures at (c.byte.ensures k h)));
 }
