@@ -2,3 +2,4 @@ pub mod ReadingLemmas
 pub mod DigitLemmas
 pub mod RecipeLemmas
 pub mod StreamLemmas
+pub mod WindowLemmas

@@ -7,9 +7,11 @@ mod numbers;
 mod packer;
 mod part;
 mod recipe;
+mod window;
 
 pub use choice::{Choice, ChoiceFault};
 pub use kind::Kind;
 pub use packer::{MOST_PIECE, Packer};
 pub use part::Part;
 pub use recipe::{MOST_BYTES, Recipe};
+pub use window::Window;

@@ -1,0 +1,46 @@
+//! A stretch of a recording.
+
+ghost use Rattle.std.specs.Prelude.{◌≡◌, ◌↔◌, true};
+
+/// Which bytes of a recording that comes in pieces are wanted: those behind some bytes, and at most
+/// so many.
+#[derive(Clone, Copy, Debug, PartialEq, Eq)]
+pub struct Window {
+    /// How many bytes are still to come before the first that is wanted.
+    skip: u64,
+    /// How many are still wanted at most.
+    left: u64,
+}
+
+impl Window {
+    ghost use Rattle.std.specs.Prelude.{ℕ, List, [], ◌++◌};
+    ghost use Rattle.recordings.specs.Windows.{Shows, left_in};
+
+    /// The bytes behind `skip` bytes, at most `most` of them, of a recording of which nothing came
+    /// yet.
+    pub fn new(skip: u64, most: u64) -> Window
+        ensures shows { Shows skip most [] [] result }
+    {
+        Window { skip, left: most }
+    }
+
+    /// What is wanted of the next piece.
+    pub fn part<'a>(&mut self, piece: &'a [u8]) -> &'a [u8]
+        ensures shows { (skip most : ℕ) (bytes shown : List ℕ) → Shows skip most bytes shown self.old
+            → Shows skip most (bytes ++ piece.now) (shown ++ result.now) self.new }
+    {
+        let skipped = self.skip.min(piece.len() as u64) as usize;
+        let behind = &piece[skipped..];
+        let wanted = self.left.min(behind.len() as u64) as usize;
+        self.skip -= skipped as u64;
+        self.left -= wanted as u64;
+        &behind[..wanted]
+    }
+
+    /// Whether all that is wanted came.
+    pub fn is_over(&self) -> bool
+        ensures { (result ≡ true) ↔ (left_in self.now ≡ 0) }
+    {
+        self.left == 0
+    }
+}
