@@ -1,6 +1,6 @@
 //! Packing piece by piece.
 
-ghost use Rattle.std.specs.Prelude.{◌≡◌, ◌<◌, ◌≤◌, length, drop};
+ghost use Rattle.std.specs.Prelude.{◌≡◌, ◌<◌, ◌≤◌, ◌*◌, ◌/◌, ◌%◌, ◌↔◌, true, length, drop};
 
 use crate::recipe::Recipe;
 use std::alloc::{AllocError, Global};
@@ -19,6 +19,7 @@ pub struct Packer {
 impl Packer {
     ghost use Rattle.std.specs.Prelude.{ℕ, List, [], ◌++◌, IfOk, OnOk};
     ghost use Rattle.recordings.specs.Packers.{StandsFor, recipe_in, held_in};
+    ghost use Rattle.recordings.specs.Recordings.{sample_bits};
     ghost use Rattle.recordings.specs.declared.packer.TheConstants.{MOST_PIECE};
 
     /// The packer of a recording of which nothing came yet. It takes its memory at once. An error
@@ -52,11 +53,19 @@ impl Packer {
         }
     }
 
-    /// How many bytes at the end so far don't fill a byte.
-    pub fn held(&self) -> usize
-        ensures { result ≡ length (held_in self.now) }
+    /// How many samples at the end so far don't fill a byte.
+    pub fn samples_held(&self) -> usize
+        ensures { result ≡ 8 * length (held_in self.now) / sample_bits (recipe_in self.now) }
     {
-        self.held.len()
+        8 * self.held.len() / self.recipe.sample_bits()
+    }
+
+    /// Whether the bytes so far end inside a sample.
+    pub fn ends_inside(&self) -> bool
+        ensures { (result ≡ true)
+            ↔ (0 < 8 * length (held_in self.now) % sample_bits (recipe_in self.now)) }
+    {
+        8 * self.held.len() % self.recipe.sample_bits() > 0
     }
 }
 

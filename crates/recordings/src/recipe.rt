@@ -49,13 +49,22 @@ impl Recipe {
     {
         if self.is_paired { 2 } else { 1 }
     }
+    /// How many bits of a recording a sample has, 1 to 64.
+    pub fn sample_bits(&self) -> usize
+        ensures value { result ≡ sample_bits self.now }
+        ensures some { 0 < result }
+        ensures few { result ≤ 64 }
+    {
+        self.parts() * self.kind.bits()
+    }
+
     /// How many bytes of a recording each written byte is made of, 1 to 64.
     pub fn group(&self) -> usize
         ensures value { result ≡ group_of self.now }
         ensures some { 0 < result }
         ensures few { result ≤ 64 }
     {
-        self.format.per_byte() * (self.parts() * self.kind.bits()) / 8
+        self.format.per_byte() * self.sample_bits() / 8
     }
 
     /// Packs the bytes of a recording from its beginning on, at most `MOST_BYTES`, as far as they

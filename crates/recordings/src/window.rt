@@ -1,6 +1,6 @@
 //! A stretch of a recording.
 
-ghost use Rattle.std.specs.Prelude.{◌≡◌, ◌↔◌, true};
+ghost use Rattle.std.specs.Prelude.{◌≡◌, ◌≤◌, ◌↔◌, true, length};
 
 /// Which bytes of a recording that comes in pieces are wanted: those behind some bytes, and at most
 /// so many.
@@ -28,6 +28,7 @@ impl Window {
     pub fn part<'a>(&mut self, piece: &'a [u8]) -> &'a [u8]
         ensures shows { (skip most : ℕ) (bytes shown : List ℕ) → Shows skip most bytes shown self.old
             → Shows skip most (bytes ++ piece.now) (shown ++ result.now) self.new }
+        ensures within { length result.now ≤ length piece.now }
     {
         let skipped = self.skip.min(piece.len() as u64) as usize;
         let behind = &piece[skipped..];

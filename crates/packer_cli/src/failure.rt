@@ -1,0 +1,66 @@
+//! Why the program ends early, and with which status.
+
+ghost use Rattle.std.specs.Prelude.{◌≡◌};
+ghost use Rattle.packer_cli.specs.Statuses.{status_of};
+ghost use Rattle.packer_cli.specs.declared.failure.Failure.TheVariants.{NoMemory};
+
+use recordings::ChoiceFault;
+use std::alloc::{AllocError, AllocFailed};
+use thiserror::Error;
+
+/// Why the program ends early, but for a command line that the option parser refuses.
+#[derive(Clone, Copy, Debug, PartialEq, Eq, Error)]
+pub enum Failure {
+    /// There was no memory.
+    #[error("no memory")]
+    NoMemory,
+    /// Standard input couldn't be read.
+    #[error("standard input couldn't be read")]
+    Input,
+    /// Standard output couldn't be written.
+    #[error("standard output couldn't be written")]
+    Output,
+    /// A word of the command line isn't text.
+    #[error("a word of the command line isn't UTF-8")]
+    Words,
+    /// The packing has sizes, and no threshold was given.
+    #[error("--to: two bits a part need --threshold")]
+    NoThreshold,
+    /// A centre or a threshold isn't a number of halves, or is out of range.
+    #[error("--{0}: it takes N or N.5, at most 1000000")]
+    Number(&'static str),
+    /// A number of samples is too great, or isn't one of whole bytes.
+    #[error("--{0}: it takes whole bytes of samples, at most 2^40 samples")]
+    Samples(&'static str),
+    /// What is asked for can't be had of the recording.
+    #[error("--from: {0}")]
+    Choice(ChoiceFault),
+}
+
+/// The status of the program: 0, or 1 where a device or memory is at fault, or 2 where the options
+/// are.
+pub fn status(ended: Result<(), Failure>) -> u8
+    ensures { result ≡ status_of ended }
+{
+    match ended {
+        Ok(()) => 0,
+        Err(Failure::NoMemory | Failure::Input | Failure::Output) => 1,
+        Err(_) => 2,
+    }
+}
+
+impl From<AllocError> for Failure {
+    ghost from_gives = { λ _ failure. failure ≡ NoMemory };
+
+    fn from(_: AllocError) -> Failure {
+        Failure::NoMemory
+    }
+}
+
+impl<T: Drop> From<AllocFailed<T>> for Failure {
+    ghost from_gives = { λ _ failure. failure ≡ NoMemory };
+
+    fn from(_: AllocFailed<T>) -> Failure {
+        Failure::NoMemory
+    }
+}

@@ -1,0 +1,263 @@
+//! The program's command line.
+
+use crate::failure::Failure;
+use crate::halves::halves;
+use clap::{Arg, ArgAction, ArgMatches, Command, Error, value_parser};
+use recordings::{Choice, Kind, Recipe, Window};
+use sample_planes::Format;
+use std::alloc::Global;
+
+const ABOUT: &str = "\
+Packs a recording of samples as the receiver reads them: standard input to standard output.";
+
+/// The kinds that `--from` takes.
+static KINDS: [&str; 14] = [
+    "u8",
+    "i8",
+    "i16",
+    "i16be",
+    "bits2-low",
+    "bits1-low",
+    "bits1-high",
+    "iq-u8",
+    "iq-i8",
+    "iq-i16",
+    "iq-i16be",
+    "iq-bits2-low",
+    "iq-bits1-low",
+    "iq-bits1-high",
+];
+
+/// The formats that `--to` takes.
+static FORMATS: [&str; 4] = ["real1", "real2", "iq1", "iq2"];
+
+/// The parts that `--part` takes: in phase, and in quadrature.
+static PARTS: [&str; 2] = ["i", "q"];
+
+/// The help after the options.
+const MORE: &str = "\
+KIND is how the recording has its values. With `iq-` before it they are pairs, in phase and in
+quadrature.
+  u8          bytes without a sign; their centre is 127.5 where none is given
+  i8          bytes of two's complement
+  i16, i16be  16 bits of two's complement, the low byte first, or the high one
+  bits2-low   two bits t of two's complement for 2t + 1, the earliest in a byte's low bits
+  bits1-low   one bit, 0 for 1 and 1 for -1, the earliest in a byte's low bit; or in its high bit,
+  bits1-high  as in real1
+
+A value below the centre gets the sign -1, any other 1. With two bits a part, a value farther from
+its centre than the threshold gets the size 3, any other 1. One standard deviation is a good
+threshold.
+
+Statuses:
+  0  the recording came to its end, or all that was wanted is written, or help was asked for
+  1  no memory, a failed read or write
+  2  an option was refused
+
+Examples:
+  rtl_sdr -f 1575420000 -s 2048000 - | pack --from iq-u8 --to iq1 > rtl.iq1
+  hackrf_transfer -f 1575420000 -s 4000000 -r - | pack --from iq-i8 --to iq2 --threshold 12 > h.iq2
+  pack --from iq-i16 --to iq2 --threshold 300 < usrp.i16 > usrp.iq2
+  pack --from bits2-low --to real2 --threshold 2 < max2769.bits > max2769.real2";
+
+/// Reads the words of a command line, the program's name first.
+pub fn matches<'a>(alloc: Global, words: &'a [String]) -> Result<ArgMatches<'a>, Error> {
+    Command::new(alloc, "pack")
+        .version("1")
+        .about(ABOUT)
+        .override_usage("pack --from <KIND> --to <FORMAT> [OPTIONS]")
+        .after_help(MORE)
+        .arg(
+            named(alloc, "from", "KIND", "The kind of the recording's values")
+                .value_parser(KINDS.as_slice())
+                .required(true),
+        )?
+        .arg(
+            named(alloc, "to", "FORMAT", "The packing to write")
+                .value_parser(FORMATS.as_slice())
+                .required(true),
+        )?
+        .arg(number(
+            alloc,
+            "threshold",
+            "Size 3 begins farther than N from the centre",
+        ))?
+        .arg(number(
+            alloc,
+            "centre",
+            "The centre, 0 or N; 127.5 for unsigned bytes",
+        ))?
+        .arg(number(
+            alloc,
+            "centre-q",
+            "That of the part in quadrature, where it is another",
+        ))?
+        .arg(flag(
+            alloc,
+            "swap",
+            "The part in quadrature stands first in each pair",
+        ))?
+        .arg(flag(
+            alloc,
+            "conjugate",
+            "Turns the sign of the part in quadrature",
+        ))?
+        .arg(
+            named(
+                alloc,
+                "part",
+                "PART",
+                "The part that real samples are made of",
+            )
+            .value_parser(PARTS.as_slice())
+            .default_value("i"),
+        )?
+        .arg(samples(
+            alloc,
+            "skip",
+            "0",
+            "Leaves out so many samples at the beginning",
+        ))?
+        .arg(samples(
+            alloc,
+            "count",
+            "1099511627776",
+            "Takes so many samples at most",
+        ))?
+        .try_get_matches_from(words)
+}
+
+/// An option that takes a word.
+fn named<'a>(alloc: Global, name: &'a str, value: &'a str, help: &'a str) -> Arg<'a> {
+    Arg::new(alloc, name)
+        .long(name)
+        .value_name(value)
+        .action(ArgAction::Set)
+        .help(help)
+}
+
+/// An option with a number, which may end with a half.
+fn number<'a>(alloc: Global, name: &'a str, help: &'a str) -> Arg<'a> {
+    Arg::new(alloc, name)
+        .long(name)
+        .value_name("N")
+        .action(ArgAction::Set)
+        .allow_hyphen_values(true)
+        .help(help)
+}
+
+/// An option with a number of samples.
+fn samples<'a>(alloc: Global, name: &'a str, default: &'a str, help: &'a str) -> Arg<'a> {
+    Arg::new(alloc, name)
+        .long(name)
+        .value_name("SAMPLES")
+        .action(ArgAction::Set)
+        .value_parser(value_parser!(u64))
+        .default_value(default)
+        .help(help)
+}
+
+/// An option without a value.
+fn flag<'a>(alloc: Global, name: &'a str, help: &'a str) -> Arg<'a> {
+    Arg::new(alloc, name)
+        .long(name)
+        .action(ArgAction::SetTrue)
+        .help(help)
+}
+
+/// The recipe that the options ask for.
+pub fn recipe(matches: &ArgMatches) -> Result<Recipe, Failure> {
+    let (is_paired, kind) = kind(matches.get_str("from").unwrap_or("u8"));
+    let format = format(matches);
+    let default = if kind == Kind::U8 { 255 } else { 0 };
+    let centre = twice(matches, "centre", default)?;
+    let centre_q = twice(matches, "centre-q", centre)?;
+    let choice = Choice {
+        kind,
+        is_paired,
+        format,
+        threshold: threshold(matches, format)?,
+        centre,
+        centre_q,
+        is_swapped: is_set(matches, "swap"),
+        is_conjugate: is_set(matches, "conjugate"),
+        takes_quadrature: matches.get_str("part") == Some("q"),
+    };
+    choice.recipe().map_err(Failure::Choice)
+}
+
+/// Whether the values are pairs, and their kind.
+fn kind(name: &str) -> (bool, Kind) {
+    let (is_paired, rest) = match name.strip_prefix("iq-") {
+        Some(rest) => (true, rest),
+        None => (false, name),
+    };
+    let kind = match rest {
+        "i8" => Kind::I8,
+        "i16" => Kind::I16,
+        "i16be" => Kind::I16Be,
+        "bits2-low" => Kind::Bits2Low,
+        "bits1-low" => Kind::Bits1Low,
+        "bits1-high" => Kind::Bits1High,
+        _ => Kind::U8,
+    };
+    (is_paired, kind)
+}
+
+/// The packing to write.
+fn format(matches: &ArgMatches) -> Format {
+    match matches.get_str("to") {
+        Some("real2") => Format::Real2,
+        Some("iq1") => Format::Iq1,
+        Some("iq2") => Format::Iq2,
+        _ => Format::Real1,
+    }
+}
+
+/// Twice the threshold. A packing of one bit needs none.
+fn threshold(matches: &ArgMatches, format: Format) -> Result<u32, Failure> {
+    match matches.get_str("threshold") {
+        Some(text) => match halves(text) {
+            Some(number) if number >= 0 => Ok(number as u32),
+            _ => Err(Failure::Number("threshold")),
+        },
+        None if matches!(format, Format::Real1 | Format::Iq1) => Ok(0),
+        None => Err(Failure::NoThreshold),
+    }
+}
+
+/// Twice the number of an option, or a default.
+fn twice(matches: &ArgMatches, name: &'static str, default: i32) -> Result<i32, Failure> {
+    match matches.get_str(name) {
+        Some(text) => halves(text).ok_or(Failure::Number(name)),
+        None => Ok(default),
+    }
+}
+
+/// Whether an option without a value is there.
+fn is_set(matches: &ArgMatches, name: &str) -> bool {
+    matches.get_one(name).unwrap_or(false)
+}
+
+/// The stretch of the recording that the options ask for.
+pub fn window(matches: &ArgMatches, recipe: &Recipe) -> Result<Window, Failure> {
+    let skip = bytes(matches, recipe, "skip")?;
+    Ok(Window::new(skip, bytes(matches, recipe, "count")?))
+}
+
+/// The bytes of a number of samples.
+fn bytes(matches: &ArgMatches, recipe: &Recipe, name: &'static str) -> Result<u64, Failure> {
+    let count: u64 = matches.get_one(name).unwrap_or(0);
+    if count > MOST_SAMPLES {
+        return Err(Failure::Samples(name));
+    }
+    let bits = count * recipe.sample_bits() as u64;
+    if bits % 8 == 0 {
+        Ok(bits / 8)
+    } else {
+        Err(Failure::Samples(name))
+    }
+}
+
+/// The most samples of a recording.
+const MOST_SAMPLES: u64 = 1 << 40;
