@@ -7,6 +7,8 @@ mod numbers;
 mod packer;
 mod part;
 mod recipe;
+#[cfg(test)]
+mod tests;
 mod window;
 
 pub use choice::{Choice, ChoiceFault};
