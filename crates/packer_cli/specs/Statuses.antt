@@ -1,12 +1,14 @@
 -- The statuses of the program.
 use Rattle.std.specs.Prelude.{ℕ, Result, Ok, Err}
 use Rattle.packer_cli.specs.declared.failure.Failure.{Failure}
-use Rattle.packer_cli.specs.declared.failure.Failure.TheVariants.{NoMemory, Input, Output}
+use Rattle.packer_cli.specs.declared.failure.Failure.TheVariants.{NoMemory, Input, NotANumber}
+use Rattle.packer_cli.specs.declared.failure.Failure.TheVariants.{Output}
 
--- 1 where a device or memory is at fault, and 2 where the options are
+-- 1 where a device, its bytes or memory are at fault, and 2 where the options are
 abbrev pub status_of : Result (Unit {0}) Failure → ℕ
 status_of (Ok nothing) = 0
 status_of (Err NoMemory) = 1
 status_of (Err Input) = 1
+status_of (Err NotANumber) = 1
 status_of (Err Output) = 1
 status_of (Err _) = 2

@@ -4,7 +4,7 @@ ghost use Rattle.std.specs.Prelude.{◌≡◌};
 ghost use Rattle.packer_cli.specs.Statuses.{status_of};
 ghost use Rattle.packer_cli.specs.declared.failure.Failure.TheVariants.{NoMemory};
 
-use recordings::ChoiceFault;
+use recordings::{ChoiceFault, PackFault};
 use std::alloc::{AllocError, AllocFailed};
 use thiserror::Error;
 
@@ -17,6 +17,9 @@ pub enum Failure {
     /// Standard input couldn't be read.
     #[error("standard input couldn't be read")]
     Input,
+    /// Standard input has a float that is no number.
+    #[error("standard input has a float that is no number")]
+    NotANumber,
     /// Standard output couldn't be written.
     #[error("standard output couldn't be written")]
     Output,
@@ -29,6 +32,12 @@ pub enum Failure {
     /// A centre or a threshold isn't a number of halves, or is out of range.
     #[error("--{0}: it takes N or N.5, at most 1000000")]
     Number(&'static str),
+    /// A threshold of floats isn't a float of at least 0, or is infinite.
+    #[error("--threshold: it takes a number of at least 0")]
+    Float,
+    /// Floats have the centre 0.
+    #[error("--centre: floats have the centre 0")]
+    Centre,
     /// A number of samples is too great, or isn't one of whole bytes.
     #[error("--{0}: it takes whole bytes of samples, at most 2^40 samples")]
     Samples(&'static str),
@@ -44,7 +53,7 @@ pub fn status(ended: Result<(), Failure>) -> u8
 {
     match ended {
         Ok(()) => 0,
-        Err(Failure::NoMemory | Failure::Input | Failure::Output) => 1,
+        Err(Failure::NoMemory | Failure::Input | Failure::NotANumber | Failure::Output) => 1,
         Err(_) => 2,
     }
 }
@@ -62,5 +71,14 @@ impl<T: Drop> From<AllocFailed<T>> for Failure {
 
     fn from(_: AllocFailed<T>) -> Failure {
         Failure::NoMemory
+    }
+}
+
+impl From<PackFault> for Failure {
+    fn from(fault: PackFault) -> Failure {
+        match fault {
+            PackFault::NoMemory => Failure::NoMemory,
+            PackFault::NotANumber => Failure::NotANumber,
+        }
     }
 }

@@ -11,11 +11,12 @@ const ABOUT: &str = "\
 Packs a recording of samples as the receiver reads them: standard input to standard output.";
 
 /// The kinds that `--from` takes.
-static KINDS: [&str; 14] = [
+static KINDS: [&str; 16] = [
     "u8",
     "i8",
     "i16",
     "i16be",
+    "f32",
     "bits2-low",
     "bits1-low",
     "bits1-high",
@@ -23,6 +24,7 @@ static KINDS: [&str; 14] = [
     "iq-i8",
     "iq-i16",
     "iq-i16be",
+    "iq-f32",
     "iq-bits2-low",
     "iq-bits1-low",
     "iq-bits1-high",
@@ -41,6 +43,7 @@ quadrature.
   u8          bytes without a sign; their centre is 127.5 where none is given
   i8          bytes of two's complement
   i16, i16be  16 bits of two's complement, the low byte first, or the high one
+  f32         floats of 32 bits, the low byte first; their centre is 0
   bits2-low   two bits t of two's complement for 2t + 1, the earliest in a byte's low bits
   bits1-low   one bit, 0 for 1 and 1 for -1, the earliest in a byte's low bit; or in its high bit,
   bits1-high  as in real1
@@ -51,13 +54,14 @@ threshold.
 
 Statuses:
   0  the recording came to its end, or all that was wanted is written, or help was asked for
-  1  no memory, a failed read or write
+  1  no memory, a failed read or write, a float that is no number
   2  an option was refused
 
 Examples:
   rtl_sdr -f 1575420000 -s 2048000 - | pack --from iq-u8 --to iq1 > rtl.iq1
   hackrf_transfer -f 1575420000 -s 4000000 -r - | pack --from iq-i8 --to iq2 --threshold 12 > h.iq2
   pack --from iq-i16 --to iq2 --threshold 300 < usrp.i16 > usrp.iq2
+  pack --from iq-f32 --to iq2 --threshold 0.35 < gnuradio.c64 > gnuradio.iq2
   pack --from bits2-low --to real2 --threshold 2 < max2769.bits > max2769.real2";
 
 /// Reads the words of a command line, the program's name first.
@@ -172,11 +176,14 @@ pub fn recipe(matches: &ArgMatches) -> Result<Recipe, Failure> {
     let default = if kind == Kind::U8 { 255 } else { 0 };
     let centre = twice(matches, "centre", default)?;
     let centre_q = twice(matches, "centre-q", centre)?;
+    if kind == Kind::F32 && (centre, centre_q) != (0, 0) {
+        return Err(Failure::Centre);
+    }
     let choice = Choice {
         kind,
         is_paired,
         format,
-        threshold: threshold(matches, format)?,
+        threshold: threshold(matches, kind, format)?,
         centre,
         centre_q,
         is_swapped: is_set(matches, "swap"),
@@ -196,6 +203,7 @@ fn kind(name: &str) -> (bool, Kind) {
         "i8" => Kind::I8,
         "i16" => Kind::I16,
         "i16be" => Kind::I16Be,
+        "f32" => Kind::F32,
         "bits2-low" => Kind::Bits2Low,
         "bits1-low" => Kind::Bits1Low,
         "bits1-high" => Kind::Bits1High,
@@ -214,15 +222,31 @@ fn format(matches: &ArgMatches) -> Format {
     }
 }
 
-/// Twice the threshold. A packing of one bit needs none.
-fn threshold(matches: &ArgMatches, format: Format) -> Result<u32, Failure> {
+/// Twice the threshold, or of floats its bits. A packing of one bit needs none.
+fn threshold(matches: &ArgMatches, kind: Kind, format: Format) -> Result<u32, Failure> {
     match matches.get_str("threshold") {
+        Some(text) if kind == Kind::F32 => float(text),
         Some(text) => match halves(text) {
             Some(number) if number >= 0 => Ok(number as u32),
             _ => Err(Failure::Number("threshold")),
         },
         None if matches!(format, Format::Real1 | Format::Iq1) => Ok(0),
         None => Err(Failure::NoThreshold),
+    }
+}
+
+/// The bits of the float of a text, which is neither below 0 nor infinite.
+fn float(text: &str) -> Result<u32, Failure> {
+    const INFINITY: u32 = 0x7f80_0000;
+    let number = text.parse::<f32>().map_err(|_| Failure::Float)?;
+    if number.is_nan() {
+        return Err(Failure::Float);
+    }
+    let bits = number.to_bits();
+    if bits < INFINITY {
+        Ok(bits)
+    } else {
+        Err(Failure::Float)
     }
 }
 

@@ -1,6 +1,6 @@
 -- The values of a recording, by the kinds in which people have them, as integers.
 use Rattle.std.specs.Prelude.{ℕ, ◌+◌, ◌-◌, ◌*◌, ◌/◌, ◌%◌, ◌^◌, ℤ, pos, ◌*ℤ◌, ◌+ℤ◌, ◌-ℤ◌, neg_ℤ}
-use Rattle.std.specs.Prelude.{List, slice_index, nat_lt, if◌then◌else◌}
+use Rattle.std.specs.Prelude.{◌≡◌, ◌≤◌, Bool, true, false, List, length, slice_index, nat_lt, if◌then◌else◌}
 use Rattle.std.specs.Int.{bit_at}
 use Rattle.definitions.specs.Samples.{sign_of, bit_in}
 use Rattle.recordings.specs.declared.kind.Kind.{Kind}
@@ -51,3 +51,23 @@ reading Bits2Low bytes i =
     pos 2 *ℤ (pos 2 *ℤ signed 2 (slice_index bytes (i / 4) / 2 ^ (2 * (i % 4)) % 4) +ℤ pos 1)
 reading Bits1Low bytes i = pos 2 *ℤ sign_of (bit_at (slice_index bytes (i / 8)) (i % 8))
 reading Bits1High bytes i = pos 2 *ℤ sign_of (bit_in bytes i)
+
+-- a float is a number unless all bits of its exponent are set and one behind them
+abbrev pub IsNumber : ℕ → Type 0
+IsNumber bits = bits % 2 ^ 31 ≤ 0x7f80_0000
+
+-- whether the values of a kind may be none
+abbrev pub has_nans : Kind → Bool
+has_nans U8 = false
+has_nans I8 = false
+has_nans I16 = false
+has_nans I16Be = false
+has_nans F32 = true
+has_nans Bits2Low = false
+has_nans Bits1Low = false
+has_nans Bits1High = false
+
+-- each whole float of bytes is a number
+abbrev pub AreNumbers : Kind → List ℕ → Type 0
+AreNumbers kind bytes =
+    has_nans kind ≡ true → (i : ℕ) → 4 * (i + 1) ≤ length bytes → IsNumber (four_bytes bytes (4 * i))

@@ -1,9 +1,9 @@
 //! The kinds of values that recordings have.
 
-ghost use Rattle.std.specs.Prelude.{◌≡◌, ◌+◌, ◌*◌, ◌<◌, ◌≤◌, ◌^◌, length, unsigned_abs};
-ghost use Rattle.recordings.specs.Readings.{bits_of, reading};
+ghost use Rattle.std.specs.Prelude.{true, false, ◌≡◌, ◌+◌, ◌*◌, ◌<◌, ◌≤◌, ◌^◌, length, unsigned_abs};
+ghost use Rattle.recordings.specs.Readings.{bits_of, reading, AreNumbers};
 
-use crate::numbers::{float_order, four_bytes, sign_of, signed, two_bytes};
+use crate::numbers::{are_numbers, float_order, four_bytes, sign_of, signed, two_bytes};
 
 /// The kind of the values of a recording.
 #[derive(Clone, Copy, Debug, PartialEq, Eq)]
@@ -40,6 +40,17 @@ impl Kind {
             Kind::Bits2Low => 2,
             Kind::Bits1Low => 1,
             Kind::Bits1High => 1,
+        }
+    }
+
+    /// Whether each whole value of some bytes is a number: a float may be none.
+    pub(crate) fn are_numbers(self, bytes: &[u8]) -> bool
+        ensures all { result ≡ true → AreNumbers self bytes.now }
+        ensures some { result ≡ false → ¬ AreNumbers self bytes.now }
+    {
+        match self {
+            Kind::F32 => are_numbers(bytes),
+            _ => true,
         }
     }
 

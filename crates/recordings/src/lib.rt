@@ -2,6 +2,7 @@
 #![tactic(auto)]
 
 mod choice;
+mod fault;
 mod kind;
 mod numbers;
 mod packer;
@@ -12,6 +13,7 @@ mod tests;
 mod window;
 
 pub use choice::{Choice, ChoiceFault};
+pub use fault::PackFault;
 pub use kind::Kind;
 pub use packer::{MOST_PIECE, Packer};
 pub use part::Part;

@@ -1,8 +1,14 @@
 //! Numbers by their bytes and bits.
 
-ghost use Rattle.std.specs.Prelude.{◌≡◌, ◌+◌, ◌*◌, ◌<◌, ◌≤◌, ◌^◌, length, unsigned_abs};
+ghost use Rattle.std.specs.Prelude.{ℕ, true, false, ◌≡◌, ◌+◌, ◌*◌, ◌<◌, ◌≤◌, ◌^◌, length, unsigned_abs};
 ghost use Rattle.definitions.specs.Samples.{sign_of};
-ghost use Rattle.recordings.specs.Readings.{signed, float_order, two_bytes, four_bytes};
+ghost use Rattle.recordings.specs.Readings.{signed, float_order, two_bytes, four_bytes, IsNumber};
+
+/// The highest bit of 32.
+const HALF: u32 = 1 << 31;
+
+/// The bits of the greatest float that is a number.
+const INFINITY: u32 = 0x7f80_0000;
 
 /// 1 for a bit 0, and -1 for 1.
 pub fn sign_of(bit: u8) -> i64
@@ -49,10 +55,24 @@ pub fn float_order(bits: u32) -> i64
     ensures value { result ≡ float_order bits }
     ensures small { unsigned_abs result < 2 ^ 31 }
 {
-    const HALF: u32 = 1 << 31;
     if bits < HALF {
         i64::from(bits)
     } else {
         -i64::from(bits - HALF)
     }
+}
+
+/// Whether each whole float of bytes is a number.
+pub fn are_numbers(bytes: &[u8]) -> bool
+    ensures all { result ≡ true → (i : ℕ) → 4 * (i + 1) ≤ length bytes.now
+        → IsNumber (four_bytes bytes.now (4 * i)) }
+    ensures some { result ≡ false → (i : ℕ) × (4 * (i + 1) ≤ length bytes.now)
+        × (¬ IsNumber (four_bytes bytes.now (4 * i))) }
+{
+    for i in 0..bytes.len() / 4 {
+        if four_bytes(bytes, 4 * i) % HALF > INFINITY {
+            return false;
+        }
+    }
+    true
 }

@@ -2,6 +2,7 @@
 
 ghost use Rattle.std.specs.Prelude.{◌≡◌, ◌<◌, ◌≤◌, ◌*◌, ◌/◌, ◌%◌, ◌↔◌, true, length, drop};
 
+use crate::fault::PackFault;
 use crate::recipe::Recipe;
 use std::alloc::{AllocError, Global};
 
@@ -17,7 +18,8 @@ pub struct Packer {
 }
 
 impl Packer {
-    ghost use Rattle.std.specs.Prelude.{ℕ, List, [], ◌++◌, IfOk, OnOk};
+    ghost use Rattle.std.specs.Prelude.{ℕ, List, [], ◌++◌, IfOk, OnOk, Err};
+    ghost use Rattle.recordings.specs.Readings.{AreNumbers};
     ghost use Rattle.recordings.specs.Packers.{StandsFor, recipe_in, held_in};
     ghost use Rattle.recordings.specs.Recordings.{sample_bits};
     ghost use Rattle.recordings.specs.declared.packer.TheConstants.{MOST_PIECE};
@@ -33,12 +35,17 @@ impl Packer {
     }
 
     /// Takes the next piece of the recording, and writes the bytes that this fills, in place of
-    /// what was written. An error is memory that it was refused: then what it held is gone.
-    pub fn take(&mut self, piece: &[u8], written: &mut Vec<u8>) -> Result<(), AllocError>
+    /// what was written. An error is memory that it was refused, or a float that is no number: then
+    /// what it held may be gone.
+    pub fn take(&mut self, piece: &[u8], written: &mut Vec<u8>) -> Result<(), PackFault>
         requires { length piece.now ≤ MOST_PIECE }
         ensures recipe { recipe_in self.new ≡ recipe_in self.old }
         ensures stands { OnOk result ((bytes before : List ℕ) → StandsFor bytes before self.old
             → StandsFor (bytes ++ piece.now) (before ++ written.new.items) self.new) }
+        ensures numbers { OnOk result
+            (AreNumbers (recipe_in self.old).kind (held_in self.old ++ piece.now)) }
+        ensures fault { (result ≡ Err PackFault.NotANumber)
+            → ¬ AreNumbers (recipe_in self.old).kind (held_in self.old ++ piece.now) }
     {
         self.held.extend_from_slice(piece)?;
         match self.recipe.pack(&self.held, written) {

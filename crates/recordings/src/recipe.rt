@@ -5,10 +5,10 @@ ghost use Rattle.definitions.specs.Samples.{samples_per_byte};
 ghost use Rattle.sample_planes.specs.Packings.{packing_of};
 ghost use Rattle.recordings.specs.Readings.{bits_of};
 
+use crate::fault::PackFault;
 use crate::kind::Kind;
 use crate::part::Part;
 use sample_planes::Format;
-use std::alloc::AllocError;
 
 /// The most bytes that samples are read from at once.
 pub const MOST_BYTES: usize = 1 << 20;
@@ -35,7 +35,8 @@ pub struct Recipe {
 }
 
 impl Recipe {
-    ghost use Rattle.std.specs.Prelude.{ℕ, [], ◌∷◌, length, unsigned_abs, OnOk};
+    ghost use Rattle.std.specs.Prelude.{ℕ, [], ◌∷◌, length, unsigned_abs, OnOk, Err};
+    ghost use Rattle.recordings.specs.Readings.{AreNumbers};
     ghost use Rattle.definitions.specs.Samples.{sample};
     ghost use Rattle.sample_planes.specs.Packings.{width_of};
     ghost use Rattle.recordings.specs.Recordings.{parts_of, sample_bits, packing_in, value_of};
@@ -68,11 +69,17 @@ impl Recipe {
     }
 
     /// Packs the bytes of a recording from its beginning on, at most `MOST_BYTES`, as far as they
-    /// fill bytes, in place of what was written. An error is memory that it was refused.
-    pub fn pack(&self, bytes: &[u8], written: &mut Vec<u8>) -> Result<(), AllocError>
+    /// fill bytes, in place of what was written. An error is memory that it was refused, or a
+    /// float that is no number.
+    pub fn pack(&self, bytes: &[u8], written: &mut Vec<u8>) -> Result<(), PackFault>
         requires { length bytes.now ≤ MOST_BYTES }
-        ensures { OnOk result (IsPacked self.now bytes.now written.new.items) }
+        ensures packed { OnOk result (IsPacked self.now bytes.now written.new.items) }
+        ensures numbers { OnOk result (AreNumbers self.now.kind bytes.now) }
+        ensures fault { (result ≡ Err PackFault.NotANumber) → ¬ AreNumbers self.now.kind bytes.now }
     {
+        if !self.kind.are_numbers(bytes) {
+            return Err(PackFault::NotANumber);
+        }
         let per_byte = self.format.per_byte();
         written.clear();
         for i in 0..bytes.len() / self.group() {

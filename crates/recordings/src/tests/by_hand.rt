@@ -1,7 +1,7 @@
 //! Values and options worked out by hand.
 
 use crate::tests::{choice, in_pieces};
-use crate::{Choice, ChoiceFault, Kind, Packer, Window};
+use crate::{Choice, ChoiceFault, Kind, PackFault, Packer, Window};
 use sample_planes::Format;
 use std::alloc::Global;
 use std::test::Fail;
@@ -123,6 +123,45 @@ fn what_is_left(rt: HostRuntime) -> Result<(), Fail> {
         assert_eq!(rt; (packer.samples_held(), packer.ends_inside()), (2, true));
         packer.take(&[0; 3], &mut written)?;
         assert_eq!(rt; (packer.samples_held(), packer.ends_inside()), (3, false));
+    }
+    Ok(())
+}
+
+// -1, -0.25, 0.5 and the float behind 0.5; then -0, 0, minus infinity and the greatest float below
+// 0; about 0, with the threshold 0.5.
+#[test]
+fn floats(rt: HostRuntime) -> Result<(), Fail> {
+    let words: [u32; 8] = [
+        0xbf80_0000,
+        0xbe80_0000,
+        0x3f00_0000,
+        0x3f00_0001,
+        0x8000_0000,
+        0,
+        0xff80_0000,
+        0x8000_0001,
+    ];
+    let mut bytes = Vec::new(rt.alloc());
+    for word in &words {
+        bytes.extend_from_slice(&word.to_le_bytes())?;
+    }
+    let mut asked = choice(Kind::F32, false, Format::Real2);
+    asked.threshold = 0x3f00_0000;
+    assert_eq!(rt;
+        byte_of(rt.alloc(), &asked, &bytes)?.as_slice(),
+        [0xe1, 0x0e].as_slice()
+    );
+    Ok(())
+}
+
+#[test]
+fn a_float_that_is_no_number(rt: HostRuntime) -> Result<(), Fail> {
+    if let Ok(recipe) = choice(Kind::F32, false, Format::Real1).recipe() {
+        let mut packer = Packer::new(rt.alloc(), recipe)?;
+        let mut written = Vec::new(rt.alloc());
+        assert!(rt; packer.take(&[0, 0, 0x80, 0x7f, 1], &mut written).is_ok());
+        let refused = packer.take(&[0, 0x80, 0xff], &mut written).err();
+        assert_eq!(rt; refused, Some(PackFault::NotANumber));
     }
     Ok(())
 }
