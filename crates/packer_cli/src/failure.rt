@@ -26,9 +26,18 @@ pub enum Failure {
     /// A word of the command line isn't text.
     #[error("a word of the command line isn't UTF-8")]
     Words,
+    /// No packing was given.
+    #[error("--to: it is missing, and so is --measure")]
+    NoFormat,
     /// The packing has sizes, and no threshold was given.
-    #[error("--to: two bits a part need --threshold")]
+    #[error("--to: two bits a part need --threshold; --measure suggests one")]
     NoThreshold,
+    /// Floats can't be measured.
+    #[error("--measure: it takes no floats")]
+    Floats,
+    /// There is no sample to measure.
+    #[error("--measure: there is no whole sample")]
+    Nothing,
     /// A centre or a threshold isn't a number of halves, or is out of range.
     #[error("--{0}: it takes N or N.5, at most 1000000")]
     Number(&'static str),

@@ -52,6 +52,11 @@ A value below the centre gets the sign -1, any other 1. With two bits a part, a 
 its centre than the threshold gets the size 3, any other 1. One standard deviation is a good
 threshold.
 
+With --measure nothing is packed. It measures the first 1048576 bytes, or fewer by --count, and
+prints: how many samples there are; of each part (`-q` for the one in quadrature) its mean, its root
+mean square about the centre, the share at the ends of the range, and the shares of 1, 3, -1 and -3
+that the options below them would give.
+
 Statuses:
   0  the recording came to its end, or all that was wanted is written, or help was asked for
   1  no memory, a failed read or write, a float that is no number
@@ -69,18 +74,14 @@ pub fn matches<'a>(alloc: Global, words: &'a [String]) -> Result<ArgMatches<'a>,
     Command::new(alloc, "pack")
         .version("1")
         .about(ABOUT)
-        .override_usage("pack --from <KIND> --to <FORMAT> [OPTIONS]")
+        .override_usage("pack --from <KIND> <--to <FORMAT>|--measure> [OPTIONS]")
         .after_help(MORE)
         .arg(
             named(alloc, "from", "KIND", "The kind of the recording's values")
                 .value_parser(KINDS.as_slice())
                 .required(true),
         )?
-        .arg(
-            named(alloc, "to", "FORMAT", "The packing to write")
-                .value_parser(FORMATS.as_slice())
-                .required(true),
-        )?
+        .arg(named(alloc, "to", "FORMAT", "The packing to write").value_parser(FORMATS.as_slice()))?
         .arg(number(
             alloc,
             "threshold",
@@ -116,6 +117,11 @@ pub fn matches<'a>(alloc: Global, words: &'a [String]) -> Result<ArgMatches<'a>,
             .value_parser(PARTS.as_slice())
             .default_value("i"),
         )?
+        .arg(flag(
+            alloc,
+            "measure",
+            "Tells what the values are like, and suggests a centre and a threshold",
+        ))?
         .arg(samples(
             alloc,
             "skip",
@@ -172,10 +178,13 @@ fn flag<'a>(alloc: Global, name: &'a str, help: &'a str) -> Arg<'a> {
 /// The recipe that the options ask for.
 pub fn recipe(matches: &ArgMatches) -> Result<Recipe, Failure> {
     let (is_paired, kind) = kind(matches.get_str("from").unwrap_or("u8"));
-    let format = format(matches);
+    let format = format(matches, is_paired)?;
     let default = if kind == Kind::U8 { 255 } else { 0 };
     let centre = twice(matches, "centre", default)?;
     let centre_q = twice(matches, "centre-q", centre)?;
+    if kind == Kind::F32 && is_measured(matches) {
+        return Err(Failure::Floats);
+    }
     if kind == Kind::F32 && (centre, centre_q) != (0, 0) {
         return Err(Failure::Centre);
     }
@@ -212,13 +221,19 @@ fn kind(name: &str) -> (bool, Kind) {
     (is_paired, kind)
 }
 
-/// The packing to write.
-fn format(matches: &ArgMatches) -> Format {
+/// The packing to write. What is measured gets one of signs alone.
+fn format(matches: &ArgMatches, is_paired: bool) -> Result<Format, Failure> {
     match matches.get_str("to") {
-        Some("real2") => Format::Real2,
-        Some("iq1") => Format::Iq1,
-        Some("iq2") => Format::Iq2,
-        _ => Format::Real1,
+        _ if is_measured(matches) => Ok(if is_paired {
+            Format::Iq1
+        } else {
+            Format::Real1
+        }),
+        Some("real1") => Ok(Format::Real1),
+        Some("real2") => Ok(Format::Real2),
+        Some("iq1") => Ok(Format::Iq1),
+        Some("iq2") => Ok(Format::Iq2),
+        _ => Err(Failure::NoFormat),
     }
 }
 
@@ -256,6 +271,11 @@ fn twice(matches: &ArgMatches, name: &'static str, default: i32) -> Result<i32, 
         Some(text) => halves(text).ok_or(Failure::Number(name)),
         None => Ok(default),
     }
+}
+
+/// Whether the recording is to be measured.
+pub fn is_measured(matches: &ArgMatches) -> bool {
+    is_set(matches, "measure")
 }
 
 /// Whether an option without a value is there.

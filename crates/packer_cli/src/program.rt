@@ -1,6 +1,7 @@
 //! The program, from its words to its status.
 
 use crate::failure::{Failure, status};
+use crate::measuring::measure;
 use crate::options;
 use crate::running::run;
 use clap::error::ErrorKind;
@@ -38,16 +39,19 @@ fn words<T: AllocGlobal + Env>(rt: &T) -> Result<Vec<String>, Failure> {
     Ok(words)
 }
 
-/// Packs as the options ask.
+/// Packs or measures as the options ask.
 fn pack<T, R, W>(rt: &T, matches: &ArgMatches, reader: R, writer: W) -> Result<(), Failure>
 where
-    T: AllocGlobal + Eprint,
+    T: AllocGlobal + Print + Eprint,
     R: Read + Drop,
     W: Write + Drop,
 {
     let (mut reader, mut writer) = (reader, writer);
     let recipe = options::recipe(matches)?;
     let mut window = options::window(matches, &recipe)?;
+    if options::is_measured(matches) {
+        return measure(rt, &recipe, &mut window, &mut reader);
+    }
     let mut packer = Packer::new(rt.alloc(), recipe)?;
     run(
         rt.alloc(),

@@ -32,14 +32,14 @@ pub fn run<R: Read, W: Write>(
 }
 
 /// Reads some bytes, and answers how many: 0 only at the end.
-fn read<R: Read>(reader: &mut R, buffer: &mut [u8]) -> Result<usize, Failure>
+pub fn read<R: Read>(reader: &mut R, buffer: &mut [u8]) -> Result<usize, Failure>
     ensures { IfOk result (λ count. count ≤ length buffer.new) }
 {
     reader.read(buffer).map_err(|_| Failure::Input)
 }
 
 /// So many bytes of memory.
-fn zeros(alloc: Global, count: usize) -> Result<Vec<u8>, AllocError>
+pub fn zeros(alloc: Global, count: usize) -> Result<Vec<u8>, AllocError>
     ensures { IfOk result (λ bytes. length bytes.items ≡ count) }
 {
     vec![in alloc; 0u8; count]

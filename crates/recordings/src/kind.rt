@@ -43,6 +43,20 @@ impl Kind {
         }
     }
 
+    /// The least and the greatest reading, but for floats.
+    pub(crate) fn ends(self) -> (i64, i64) {
+        match self {
+            Kind::U8 => (0, 510),
+            Kind::I8 => (-256, 254),
+            Kind::I16 => (-65536, 65534),
+            Kind::I16Be => (-65536, 65534),
+            Kind::F32 => (-0x7f80_0000, 0x7f80_0000),
+            Kind::Bits2Low => (-6, 6),
+            Kind::Bits1Low => (-2, 2),
+            Kind::Bits1High => (-2, 2),
+        }
+    }
+
     /// Whether each whole value of some bytes is a number: a float may be none.
     pub(crate) fn are_numbers(self, bytes: &[u8]) -> bool
         ensures all { result ≡ true → AreNumbers self bytes.now }

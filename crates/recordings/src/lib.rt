@@ -4,6 +4,7 @@
 mod choice;
 mod fault;
 mod kind;
+mod measure;
 mod numbers;
 mod packer;
 mod part;
@@ -15,6 +16,7 @@ mod window;
 pub use choice::{Choice, ChoiceFault};
 pub use fault::PackFault;
 pub use kind::Kind;
+pub use measure::Measure;
 pub use packer::{MOST_PIECE, Packer};
 pub use part::Part;
 pub use recipe::{MOST_BYTES, Recipe};

@@ -150,7 +150,7 @@ impl Recipe {
     }
 
     /// The value that it is made of.
-    fn value(&self, part: &Part, bytes: &[u8], n: usize) -> i64
+    pub(crate) fn value(&self, part: &Part, bytes: &[u8], n: usize) -> i64
         requires place { part.now.place < parts_of self.now }
         requires few { length bytes.now ≤ MOST_BYTES }
         requires within { sample_bits self.now * (n + 1) ≤ 8 * length bytes.now }

@@ -1,0 +1,139 @@
+//! What a recording is like, as text.
+
+ghost use Rattle.std.specs.Prelude.{◌≡◌, ◌<◌, ◌≤◌, length, IfOk};
+ghost use Rattle.recordings.specs.Recordings.{parts_of};
+ghost use Rattle.recordings.specs.declared.recipe.TheConstants.{MOST_BYTES};
+
+use crate::decimals::{Halves, Hundredths};
+use crate::failure::Failure;
+use crate::running::{read, zeros};
+use recordings::{MOST_BYTES, MOST_PIECE, Measure, Part, Recipe, Window};
+use std::alloc::{AllocGlobal, Global};
+use std::io::{self, Print, Read};
+
+/// Twice the greatest centre or threshold that the options take.
+const MOST_HALVES: i64 = 2_000_001;
+
+/// Measures the stretch of a recording that is wanted, at most its first `MOST_BYTES`, and prints
+/// what was found and the options that it suggests.
+pub fn measure<T: AllocGlobal + Print, R: Read>(
+    rt: &T,
+    recipe: &Recipe,
+    window: &mut Window,
+    reader: &mut R,
+) -> Result<(), Failure> {
+    let bytes = gather(rt.alloc(), window, reader)?;
+    let i = centred(recipe, &recipe.in_phase, &bytes);
+    let q = centred(recipe, &recipe.quadrature, &bytes);
+    // Where there is one part, both are that one.
+    let squares = (square(recipe, &i, &bytes) / 2) + (square(recipe, &q, &bytes) / 2);
+    let threshold = squares.isqrt().min(2_000_001);
+    let of_i = recipe.measure(&i, threshold, &bytes);
+    let of_q = recipe.measure(&q, threshold, &bytes);
+    if of_i.count == 0 {
+        return Err(Failure::Nothing);
+    }
+    tell(rt, recipe.is_paired, (&i, &of_i), (&q, &of_q), threshold).map_err(|_| Failure::Output)
+}
+
+/// Prints what was found, and the options.
+fn tell<P: Print>(
+    rt: &P,
+    is_paired: bool,
+    i: (&Part, &Measure),
+    q: (&Part, &Measure),
+    threshold: u64,
+) -> io::Result<()> {
+    println!(rt; "samples {}", i.1.count)?;
+    tell_part(rt, "", i.0, i.1)?;
+    if is_paired {
+        tell_part(rt, "-q", q.0, q.1)?;
+    }
+    println!(rt; "--threshold {}", Halves(signed(threshold)))
+}
+
+/// Prints what was found of a part.
+fn tell_part<P: Print>(rt: &P, name: &str, part: &Part, measure: &Measure) -> io::Result<()> {
+    let count = measure.count;
+    let [plus, far_plus, minus, far_minus] = measure.shares;
+    println!(rt;
+        "mean{name} {}",
+        Hundredths(nearest(measure.sum.saturating_mul(50), count))
+    )?;
+    println!(rt; "rms{name} {}", rms(measure))?;
+    println!(rt; "at-the-ends{name} {}%", share(measure.at_ends, count))?;
+    println!(rt;
+        "shares{name} {}% {}% {}% {}%",
+        share(plus, count),
+        share(far_plus, count),
+        share(minus, count),
+        share(far_minus, count)
+    )?;
+    println!(rt; "--centre{name} {}", Halves(part.centre))
+}
+
+/// The part about the centre of its values, which is their mean to the nearest half.
+fn centred(recipe: &Recipe, part: &Part, bytes: &[u8]) -> Part
+    requires place { part.now.place < parts_of recipe.now }
+    requires few { length bytes.now ≤ MOST_BYTES }
+    ensures { result.place ≡ part.now.place }
+{
+    let measure = recipe.measure(part, 0, bytes);
+    Part {
+        place: part.place,
+        centre: nearest(measure.sum, measure.count).clamp(-MOST_HALVES, MOST_HALVES),
+        is_turned: false,
+    }
+}
+
+/// The mean of the squares of the distances from a part's centre.
+fn square(recipe: &Recipe, part: &Part, bytes: &[u8]) -> u64
+    requires place { part.now.place < parts_of recipe.now }
+    requires few { length bytes.now ≤ MOST_BYTES }
+{
+    let measure = recipe.measure(part, 0, bytes);
+    measure.squares / measure.count.max(1)
+}
+
+/// A quotient to the nearest number.
+fn nearest(sum: i64, count: u64) -> i64 {
+    sum.saturating_add(signed(count / 2))
+        .div_euclid(signed(count).max(1))
+}
+
+/// A number as one with a sign. None here is too great.
+fn signed(number: u64) -> i64 {
+    i64::try_from(number).unwrap_or(i64::MAX)
+}
+
+/// The root of the mean square in hundredths of a value: squares are of twice the values.
+fn rms(measure: &Measure) -> Hundredths {
+    let square = measure.squares / measure.count.max(1);
+    Hundredths(signed(square.saturating_mul(2500).isqrt()))
+}
+
+/// A share in hundredths of a percent.
+fn share(part: u64, count: u64) -> Hundredths {
+    Hundredths(signed(part.saturating_mul(10_000) / count.max(1)))
+}
+
+/// The bytes of the stretch that is wanted, at most `MOST_BYTES`.
+fn gather<R: Read>(alloc: Global, window: &mut Window, reader: &mut R) -> Result<Vec<u8>, Failure>
+    ensures { IfOk result (λ bytes. length bytes.items ≤ MOST_BYTES) }
+{
+    let mut buffer = zeros(alloc, MOST_PIECE)?;
+    let mut bytes = Vec::new(alloc);
+    for _ in 0..u64::MAX {
+        if window.is_over() || bytes.len() == MOST_BYTES {
+            break;
+        }
+        let count = read(reader, &mut buffer)?;
+        if count == 0 {
+            break;
+        }
+        let part = window.part(&buffer[..count]);
+        let room = part.len().min(MOST_BYTES - bytes.len());
+        bytes.extend_from_slice(&part[..room])?;
+    }
+    Ok(bytes)
+}
