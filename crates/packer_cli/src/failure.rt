@@ -36,7 +36,7 @@ pub enum Failure {
     #[error("--measure: it takes no floats")]
     Floats,
     /// There is no sample to measure.
-    #[error("--measure: there is no whole sample")]
+    #[error("standard input has no whole sample")]
     Nothing,
     /// A centre or a threshold isn't a number of halves, or is out of range.
     #[error("--{0}: it takes N or N.5, at most 1000000")]
@@ -55,14 +55,15 @@ pub enum Failure {
     Choice(ChoiceFault),
 }
 
-/// The status of the program: 0, or 1 where a device or memory is at fault, or 2 where the options
-/// are.
+/// The status of the program: 0, or 1 where a device, its bytes or memory are at fault, or 2 where
+/// the options are.
 pub fn status(ended: Result<(), Failure>) -> u8
     ensures { result ≡ status_of ended }
 {
     match ended {
         Ok(()) => 0,
-        Err(Failure::NoMemory | Failure::Input | Failure::NotANumber | Failure::Output) => 1,
+        Err(Failure::NoMemory | Failure::Input | Failure::Output) => 1,
+        Err(Failure::NotANumber | Failure::Nothing) => 1,
         Err(_) => 2,
     }
 }

@@ -108,8 +108,10 @@ fn signed(number: u64) -> i64 {
 
 /// The root of the mean square in hundredths of a value: squares are of twice the values.
 fn rms(measure: &Measure) -> Hundredths {
-    let square = measure.squares / measure.count.max(1);
-    Hundredths(signed(square.saturating_mul(2500).isqrt()))
+    let count = measure.count.max(1);
+    let whole = (measure.squares / count).saturating_mul(2500);
+    let rest = (measure.squares % count).saturating_mul(2500) / count;
+    Hundredths(signed(whole.saturating_add(rest).isqrt()))
 }
 
 /// A share in hundredths of a percent.
