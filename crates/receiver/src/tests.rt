@@ -8,6 +8,7 @@ mod devices;
 mod fakes;
 mod held_text;
 mod limits;
+mod long_scripts;
 mod messages;
 mod recording;
 mod reference;
