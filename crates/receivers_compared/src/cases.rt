@@ -8,9 +8,6 @@ use made_signals::{MadeSignal, SampleStream};
 use plain_receiver::Packing;
 use std::alloc::{AllocError, Global};
 
-/// The slots of each client.
-pub const SHARE: u8 = 4;
-
 /// Everything that both receivers are given.
 #[derive(Drop)]
 pub struct Case {
@@ -19,6 +16,8 @@ pub struct Case {
     pub packing: Packing,
     pub bytes: Vec<u8>,
     pub scripts: Vec<Vec<u8>>,
+    /// How many slots the client of each script has.
+    pub shares: Vec<u8>,
 }
 
 const PACKINGS: [Packing; 4] = [Packing::Real1, Packing::Real2, Packing::Iq1, Packing::Iq2];
@@ -37,19 +36,21 @@ pub fn noise_case(alloc: Global, random: &mut Random) -> Result<Case, AllocError
     let bytes = random_bytes(alloc, random, count)?;
     let aim = Aim {
         samples: count.wrapping_mul(8),
-        slots: u64::from(SHARE),
+        slots: 4,
         satellite: 7,
         doppler: random.within(-5_000, 5_000),
         half_chip: random.within(0, 2_045),
         most_bins: 0,
     };
     let clients = random.below(8).wrapping_add(1);
+    let shares = random_shares(alloc, random, clients)?;
     Ok(Case {
         rate,
         offset,
         packing,
         bytes,
-        scripts: random_scripts(alloc, random, &aim, clients)?,
+        scripts: random_scripts(alloc, random, &aim, shares.as_slice())?,
+        shares,
     })
 }
 
@@ -94,7 +95,7 @@ fn followed(
     let packing = random.one_of(&PACKINGS, Packing::Real2);
     let aim = Aim {
         samples,
-        slots: u64::from(SHARE),
+        slots: 4,
         satellite: i64::from(signal.satellite),
         doppler: i64::from(signal.doppler),
         half_chip: i64::from(signal.half_chip),
@@ -108,27 +109,45 @@ fn followed(
         first.extend_from_slice(more.as_slice())?;
     }
     let clients = random.below(others.wrapping_add(1));
-    let mut scripts = random_scripts(alloc, random, &aim, clients)?;
+    let mut shares = random_shares(alloc, random, clients)?;
+    let mut scripts = random_scripts(alloc, random, &aim, shares.as_slice())?;
     scripts.push(first)?;
+    shares.push(4)?;
     Ok(Case {
         rate: signal.rate,
         offset: signal.offset,
         packing,
         bytes: packed_stream(alloc, random, stream, packing)?,
         scripts,
+        shares,
     })
 }
 
-/// A script for each of so many clients.
+/// Shares for so many clients: four slots each in half of the cases, and else one to eight.
+fn random_shares(alloc: Global, random: &mut Random, clients: u64) -> Result<Vec<u8>, AllocError> {
+    let are_equal = random.is_one_in(2);
+    let mut shares = Vec::new(alloc);
+    for _ in 0..clients {
+        let share = random.one_of(&[1, 2, 3, 4, 5, 6, 7, 8], 4);
+        shares.push(if are_equal { 4 } else { share })?;
+    }
+    Ok(shares)
+}
+
+/// A script for each of the clients with these shares.
 fn random_scripts(
     alloc: Global,
     random: &mut Random,
     aim: &Aim,
-    clients: u64,
+    shares: &[u8],
 ) -> Result<Vec<Vec<u8>>, AllocError> {
     let mut scripts = Vec::new(alloc);
-    for _ in 0..clients {
-        scripts.push(random_script(alloc, random, aim)?)?;
+    for share in shares {
+        let own = Aim {
+            slots: u64::from(*share),
+            ..*aim
+        };
+        scripts.push(random_script(alloc, random, &own)?)?;
     }
     Ok(scripts)
 }

@@ -1,12 +1,13 @@
 //! One case through both receivers.
 
-use crate::cases::{Case, SHARE, message_case, noise_case, signal_case};
+use crate::cases::{Case, message_case, noise_case, signal_case};
 use crate::devices::{Cutting, Held};
 use crate::kinds::add_kinds;
 use crate::random::Random;
+use channel_slots::MOST_TIME;
 use oscillators::{Settings, SettingsFault};
 use plain_receiver::{Packing, Recording, text_of};
-use receiver::run;
+use receiver::run_shares;
 use sample_planes::Format;
 use std::alloc::{AllocError, Global};
 
@@ -62,7 +63,7 @@ fn plain_text(alloc: Global, case: &Case, scripts: &[&[u8]]) -> Result<String, A
         packing: case.packing,
         bytes: case.bytes.as_slice(),
     };
-    text_of(alloc, &recording, scripts, &[SHARE; 8])
+    text_of(alloc, &recording, scripts, case.shares.as_slice())
 }
 
 /// The text by the receiver, which reads in random pieces. There is none where the run doesn't come
@@ -73,7 +74,17 @@ fn product_text(alloc: Global, case: &Case, scripts: &[&[u8]], random: Random) -
     let most = random.one_of(&[1, 3, 100, 5_000, 100_000], 1);
     let mut reader = Cutting::new(case.bytes.as_slice(), most, random);
     let mut writer = Held::new(alloc);
-    run(alloc, settings, scripts, &mut reader, &mut writer).ok()?;
+    let shares = case.shares.as_slice();
+    run_shares(
+        alloc,
+        settings,
+        scripts,
+        shares,
+        MOST_TIME,
+        &mut reader,
+        &mut writer,
+    )
+    .ok()?;
     Some(writer.bytes)
 }
 

@@ -18,7 +18,8 @@ mod streams;
 
 use crate::comparing::{Tally, compare};
 use crate::random::Random;
-use std::{env, io};
+use std::env::{self, Env};
+use std::io;
 
 /// The seed, the runs and the runs of messages without arguments.
 const NUMBERS: [u64; 3] = [3, 120, 4];
