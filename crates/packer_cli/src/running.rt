@@ -1,41 +1,102 @@
 //! A recording through the packer, from a reader to a writer.
 
-ghost use Rattle.std.specs.Prelude.{◌≡◌, ◌≤◌, length, IfOk};
+ghost use Rattle.std.specs.Prelude.{◌≡◌, ◌<◌, ◌≤◌, ℕ, List, [], Option, Some, Ok, true, false};
+ghost use Rattle.std.specs.Prelude.{length, take, drop, IfOk, OnOk};
+ghost use Rattle.std.specs.Io.{ReadsAtMost};
+ghost use Rattle.std.specs.Io.KnownBytes.{Keeps, ReadConsumes};
+ghost use Rattle.recordings.specs.Packers.{StandsFor, recipe_in};
+ghost use Rattle.recordings.specs.Windows.{Shows};
+ghost use Rattle.recordings.specs.declared.packer.TheConstants.{MOST_PIECE};
+ghost use Rattle.recordings.specs.declared.recipe.Recipe.{Recipe};
+ghost use Rattle.packer_cli.specs.Runs.{HasPacked, IsCourse};
 
 use crate::failure::Failure;
 use recordings::{MOST_PIECE, Packer, Window};
 use std::alloc::{AllocError, Global};
 use std::io::{Read, Write};
 
-/// Packs the stretch of a recording that is wanted, piece by piece as reads give it.
+/// Packs the stretch of a recording that is wanted, piece by piece as reads give it. However they
+/// cut it, what is written is the packing of that stretch.
 pub fn run<R: Read, W: Write>(
     alloc: Global,
     packer: &mut Packer,
     window: &mut Window,
     reader: &mut R,
     writer: &mut W,
-) -> Result<(), Failure> {
+) -> Result<(), Failure>
+    ensures { OnOk result ((skip most : ℕ) (all : List ℕ) → R.remaining reader.old ≡ Some all
+        → Shows skip most [] [] window.old → StandsFor [] [] packer.old
+        → HasPacked (recipe_in packer.old) (take most (drop skip all)) (W.contents writer.old)
+        (W.contents writer.new)) }
+{
     let mut buffer = zeros(alloc, MOST_PIECE)?;
     let mut written = Vec::with_capacity(alloc, MOST_PIECE)?;
     for _ in 0..u64::MAX {
-        if window.is_over() {
-            break;
+        let goes_on = step(packer, window, reader, writer, &mut buffer, &mut written)?;
+        if !goes_on {
+            return flush(writer);
         }
-        let count = read(reader, &mut buffer)?;
-        if count == 0 {
-            break;
-        }
-        packer.take(window.part(&buffer[..count]), &mut written)?;
-        writer.write_all(&written).map_err(|_| Failure::Output)?;
     }
-    writer.flush().map_err(|_| Failure::Output)
+    // So many reads come to no end in the life of a machine.
+    Err(Failure::Input)
+}
+
+/// Passes on what the writer may hold back.
+fn flush<W: Write>(writer: &mut W) -> Result<(), Failure>
+    ensures { OnOk result (Keeps (W.contents writer.old) (W.contents writer.new)) }
+{
+    match writer.flush() {
+        Ok(()) => Ok(()),
+        Err(_) => Err(Failure::Output),
+    }
+}
+
+/// Packs one more piece, and answers whether there may be another.
+fn step<R: Read, W: Write>(
+    packer: &mut Packer,
+    window: &mut Window,
+    reader: &mut R,
+    writer: &mut W,
+    buffer: &mut [u8],
+    written: &mut Vec<u8>,
+) -> Result<bool, Failure>
+    requires some { 0 < length buffer.old }
+    requires short { length buffer.old ≤ MOST_PIECE }
+    ensures goes_on { result ≡ Ok true
+        → (recipe : Recipe) (skip most : ℕ) (all : List ℕ) (start : Option (List ℕ))
+        → IsCourse recipe skip most all start (R.remaining reader.old) (W.contents writer.old)
+        window.old packer.old
+        → IsCourse recipe skip most all start (R.remaining reader.new) (W.contents writer.new)
+        window.new packer.new }
+    ensures ends { result ≡ Ok false
+        → (recipe : Recipe) (skip most : ℕ) (all : List ℕ) (start : Option (List ℕ))
+        → IsCourse recipe skip most all start (R.remaining reader.old) (W.contents writer.old)
+        window.old packer.old
+        → HasPacked recipe (take most (drop skip all)) start (W.contents writer.new) }
+{
+    if window.is_over() {
+        return Ok(false);
+    }
+    let count = read(reader, buffer)?;
+    if count == 0 {
+        return Ok(false);
+    }
+    packer.take(window.part(&buffer[..count]), written)?;
+    match writer.write_all(written) {
+        Ok(()) => Ok(true),
+        Err(_) => Err(Failure::Output),
+    }
 }
 
 /// Reads some bytes, and answers how many: 0 only at the end.
 pub fn read<R: Read>(reader: &mut R, buffer: &mut [u8]) -> Result<usize, Failure>
-    ensures { IfOk result (λ count. count ≤ length buffer.new) }
+    ensures bound { ReadsAtMost result buffer.new }
+    ensures bytes { ReadConsumes (R.remaining reader.old) (R.remaining reader.new) result buffer.new }
 {
-    reader.read(buffer).map_err(|_| Failure::Input)
+    match reader.read(buffer) {
+        Ok(count) => Ok(count),
+        Err(_) => Err(Failure::Input),
+    }
 }
 
 /// So many bytes of memory.

@@ -4,13 +4,13 @@ use Rattle.std.proofs.Common.{refl, sym, ap, ◌∙◌, arith, length-append}
 use Rattle.std.specs.Prelude.{min}
 use Rattle.std.proofs.lemmas.List.{length-take, length-take-le, length-drop, take_rest}
 
-drop-two : (n : ℕ) (xs ys : List ℕ) → drop n (xs ++ ys) ≡ drop n xs ++ drop (n - length xs) ys
+pub drop-two : (n : ℕ) (xs ys : List ℕ) → drop n (xs ++ ys) ≡ drop n xs ++ drop (n - length xs) ys
 drop-two zero xs ys = let e : zero - length xs ≡ zero = omega arith in rw e refl
 drop-two (suc n) [] ys = let e : suc n - 0 ≡ suc n = omega arith in rw e refl
 drop-two (suc n) (x ∷ xs) ys =
     let e : suc n - suc (length xs) ≡ n - length xs = omega arith in rw e (drop-two n xs ys)
 
-take-two : (n : ℕ) (xs ys : List ℕ) → take n (xs ++ ys) ≡ take n xs ++ take (n - length xs) ys
+pub take-two : (n : ℕ) (xs ys : List ℕ) → take n (xs ++ ys) ≡ take n xs ++ take (n - length xs) ys
 take-two zero xs ys = let e : zero - length xs ≡ zero = omega arith in rw e refl
 take-two (suc n) [] ys = let e : suc n - 0 ≡ suc n = omega arith in rw e refl
 take-two (suc n) (x ∷ xs) ys =
