@@ -4,7 +4,6 @@ use Rattle.std.proofs.Common.{append_assoc, append-nil, subst}
 use Rattle.std.specs.Prelude.{Option, Some, None, Result, Ok, Err, OnOk, min}
 use Rattle.std.specs.Io.KnownBytes.{Appends, Consumes, IsAtEnd, Keeps}
 use Rattle.std.proofs.lemmas.List.{length-take}
-use Rattle.recordings.specs.Recordings.{IsPacked}
 use Rattle.recordings.specs.Packers.{StandsFor, recipe_in}
 use Rattle.recordings.specs.Windows.{Shows}
 use Rattle.recordings.specs.declared.recipe.Recipe.{Recipe}

@@ -1,9 +1,8 @@
 -- Recordings in pieces.
-use Rattle.std.proofs.Common.{◌≡◌, ℕ, zero, suc, ◌+◌, ◌-◌, ◌*◌, ◌/◌, ◌%◌, ◌^◌, ◌<◌, ◌≤◌, List, [], ◌∷◌}
+use Rattle.std.proofs.Common.{◌≡◌, ℕ, zero, suc, ◌+◌, ◌-◌, ◌*◌, ◌/◌, ◌%◌, ◌<◌, ◌≤◌, List, [], ◌∷◌}
 use Rattle.std.proofs.Common.{◌++◌, length, take, drop, refl, sym, ap, ◌∙◌, arith, append_assoc}
 use Rattle.std.proofs.Common.{length-append, length-drop}
-use Rattle.std.specs.Prelude.{ℤ, pos, ◌*ℤ◌, ◌+ℤ◌, map, slice_index}
-use Rattle.std.specs.Int.{bit_at}
+use Rattle.std.specs.Prelude.{map, slice_index}
 use Rattle.std.specs.List.{range_with_len}
 use Rattle.std.proofs.lemmas.List.{get_or_append_left, get_or-append-add, map-append}
 use Rattle.std.proofs.lemmas.List.{take-append-drop, length-take-le, take_rest}
@@ -14,12 +13,12 @@ use Rattle.std.specs.List.{copy_within}
 use Rattle.std.specs.Prelude.{Bool, true, false, if◌then◌else◌}
 use Rattle.recordings.proofs.RecipeLemmas.{some_bits}
 use Rattle.std.proofs.Math.Seq.{drop-append-add, take-append_seam}
-use Rattle.definitions.specs.Samples.{Sample, Packing, real1, real2, iq1, iq2, sign_of, bit_in}
+use Rattle.definitions.specs.Samples.{Sample, Packing, real1, real2, iq1, iq2}
 use Rattle.definitions.specs.Samples.{sample, samples, samples_from, samples_per_byte, sample_count}
 use Rattle.definitions.proofs.SampleLemmas.{samples-append, range-split}
-use Rattle.recordings.specs.Readings.{bits_of, reading, signed, float_order, two_bytes, four_bytes}
+use Rattle.recordings.specs.Readings.{bits_of, reading, two_bytes}
 use Rattle.recordings.specs.Recordings.{sample_of, samples_of, sample_in, packing_in, parts_of}
-use Rattle.recordings.specs.Recordings.{sample_bits, group_of, IsPacked, value_of}
+use Rattle.recordings.specs.Recordings.{sample_bits, group_of, IsPacked}
 use Rattle.recordings.specs.declared.kind.Kind.{Kind}
 use Rattle.recordings.specs.declared.kind.Kind.TheVariants.{U8, I8, I16, I16Be, F32}
 use Rattle.recordings.specs.declared.kind.Kind.TheVariants.{Bits2Low, Bits1Low, Bits1High}

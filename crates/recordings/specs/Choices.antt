@@ -1,6 +1,5 @@
 -- What is asked of a recording, and the recipe that does it.
-use Rattle.std.specs.Prelude.{◌≡◌, ℕ, ◌*◌, ◌%◌, ◌⊎◌, ℤ, Bool, true, false, if◌then◌else◌, ◌≢◌}
-use Rattle.definitions.specs.Samples.{Packing, real1, real2, iq1, iq2}
+use Rattle.std.specs.Prelude.{◌≡◌, ℕ, ◌⊎◌, ℤ, Bool, true, false, if◌then◌else◌}
 use Rattle.sample_planes.specs.Packings.{packing_of, has_quadrature, has_sizes}
 use Rattle.recordings.specs.Readings.{bits_of}
 use Rattle.recordings.specs.declared.part.Part.{Part}

@@ -1,6 +1,6 @@
 -- What the samples of a recording become, and the bytes that they are packed into.
-use Rattle.std.specs.Prelude.{◌≡◌, ℕ, ◌+◌, ◌-◌, ◌*◌, ◌/◌, ℤ, pos, ◌*ℤ◌, ◌-ℤ◌, unsigned_abs}
-use Rattle.std.specs.Prelude.{Bool, true, false, if◌then◌else◌, nat_lt, int_lt, List, length, map}
+use Rattle.std.specs.Prelude.{◌≡◌, ℕ, ◌+◌, ◌*◌, ◌/◌, ℤ, pos, ◌*ℤ◌, ◌-ℤ◌, unsigned_abs}
+use Rattle.std.specs.Prelude.{if◌then◌else◌, nat_lt, int_lt, List, length, map}
 use Rattle.std.specs.List.{range_with_len}
 use Rattle.definitions.specs.Samples.{Sample, Packing, real1, real2, iq1, iq2, real, sign_of}
 use Rattle.definitions.specs.Samples.{samples, samples_per_byte, sample_count}

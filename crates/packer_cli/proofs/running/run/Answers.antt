@@ -1,5 +1,5 @@
-use Rattle.std.proofs.Common.{◌≡◌, ap, take, drop, rules, arith}
-use Rattle.std.specs.Prelude.{Bool, true, false, Result, Ok}
+use Rattle.std.proofs.Common.{ap, take, drop, arith}
+use Rattle.std.specs.Prelude.{Bool, Result, Ok}
 use Rattle.std.proofs.lemmas.Grind.{common_steps}
 use Rattle.recordings.specs.Packers.{recipe_in}
 use Rattle.packer_cli.specs.declared.failure.Failure.{Failure}

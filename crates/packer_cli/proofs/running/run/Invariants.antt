@@ -1,4 +1,4 @@
-use Rattle.std.proofs.Common.{◌≡◌, ℕ, List, [], Option, Some, length}
+use Rattle.std.proofs.Common.{◌≡◌, ℕ, List, [], Some, length}
 use Rattle.recordings.specs.Packers.{StandsFor, recipe_in}
 use Rattle.recordings.specs.Windows.{Shows}
 use Rattle.recordings.specs.declared.packer.TheConstants.{MOST_PIECE}

@@ -1,5 +1,5 @@
-use Rattle.std.proofs.Common.{◌≡◌, ◌∙◌, ℕ, List, refl, sym, ap, length, take, drop, arith}
-use Rattle.packer_cli.proofs.RunLemmas.{ends-over, ends-empty, one_more}
+use Rattle.std.proofs.Common.{take}
+use Rattle.packer_cli.proofs.RunLemmas.{ends-over, one_more}
 use Rattle.packer_cli.proofs.running.step.Goals as goal
 
 pub returns-then-is_over-clause-ends : goal.returns-then-is_over-clause-ends

@@ -1,5 +1,5 @@
-use Rattle.std.proofs.Common.{◌≡◌, ◌∙◌, ◌<◌, ◌^◌, ap, arith}
-use Rattle.std.specs.Prelude.{ℤ, ℕ, pos, ◌*ℤ◌, ◌+ℤ◌, unsigned_abs}
+use Rattle.std.proofs.Common.{◌∙◌, ◌<◌, ◌^◌, ap, arith}
+use Rattle.std.specs.Prelude.{ℤ, pos, ◌*ℤ◌, ◌+ℤ◌, unsigned_abs}
 use Rattle.std.proofs.lemmas.Int.{ints}
 use Rattle.recordings.specs.Readings.{reading, signed, float_order}
 use Rattle.recordings.proofs.ReadingLemmas.{doubled, odd, kept}

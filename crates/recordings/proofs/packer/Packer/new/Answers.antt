@@ -1,4 +1,4 @@
-use Rattle.std.proofs.Common.{◌≡◌, ◌*◌, [], List, ℕ, drop, refl, arith}
+use Rattle.std.proofs.Common.{◌≡◌, ◌*◌, refl, arith}
 use Rattle.recordings.specs.Recordings.{group_of}
 use Rattle.recordings.proofs.StreamLemmas.{nothing, some_group}
 use Rattle.recordings.proofs.packer.Packer.new.Goals as goal

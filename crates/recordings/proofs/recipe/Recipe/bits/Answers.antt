@@ -1,4 +1,4 @@
-use Rattle.std.proofs.Common.{◌≡◌, ◌∙◌, ◌+◌, ◌*◌, ap, sym, refl}
+use Rattle.std.proofs.Common.{◌∙◌, ap, sym}
 use Rattle.definitions.specs.Samples.{real1, real2, iq1, iq2}
 use Rattle.sample_planes.specs.Packings.{packing_of}
 use Rattle.recordings.proofs.RecipeLemmas.{code_by}

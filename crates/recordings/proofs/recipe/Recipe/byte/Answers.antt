@@ -3,7 +3,7 @@ use Rattle.std.specs.Prelude.{bit_or}
 use Rattle.definitions.specs.Samples.{Packing, samples_per_byte}
 use Rattle.sample_planes.specs.Packings.{width_of}
 use Rattle.recordings.specs.Recordings.{packing_in}
-use Rattle.recordings.proofs.DigitLemmas.{HasDigits, no_digits, more_digits, joined}
+use Rattle.recordings.proofs.DigitLemmas.{more_digits, joined}
 use Rattle.recordings.proofs.RecipeLemmas.{width_is, fills, byte_of_samples}
 use Rattle.recordings.proofs.recipe.Recipe.byte.Goals as goal
 

@@ -1,6 +1,4 @@
-use Rattle.std.proofs.Common.{◌≡◌, ◌∙◌, ℕ, ◌+◌, ◌*◌, ◌<◌, List, length, length-append, refl, arith}
-use Rattle.definitions.specs.Samples.{samples_per_byte}
-use Rattle.recordings.specs.Recordings.{packing_in, group_of}
+use Rattle.std.proofs.Common.{length-append, refl}
 use Rattle.recordings.proofs.StreamLemmas.{none, one_more}
 use Rattle.recordings.proofs.recipe.Recipe.pack.Goals as goal
 

@@ -1,4 +1,4 @@
-use Rattle.std.proofs.Common.{◌≡◌, ◌+◌, ◌*◌, ◌<◌, ◌^◌, arith, Fits, w64}
+use Rattle.std.proofs.Common.{◌+◌, ◌*◌, ◌<◌, ◌^◌, arith}
 use Rattle.std.proofs.Common.{length}
 use Rattle.recordings.specs.Readings.{bits_of}
 use Rattle.recordings.specs.Recordings.{parts_of}

@@ -1,5 +1,4 @@
-use Rattle.std.proofs.Common.{◌≡◌, ◌-◌, ◌++◌, length}
-use Rattle.recordings.specs.Windows.{Shows}
+use Rattle.std.proofs.Common.{◌-◌}
 use Rattle.recordings.proofs.WindowLemmas.{next, IsNext, shown_of}
 use Rattle.recordings.proofs.window.Window.part.Goals as goal
 
