@@ -91,7 +91,8 @@ fn step<R: Read, W: Write>(
 /// Reads some bytes, and answers how many: 0 only at the end.
 pub fn read<R: Read>(reader: &mut R, buffer: &mut [u8]) -> Result<usize, Failure>
     ensures bound { ReadsAtMost result buffer.new }
-    ensures bytes { ReadConsumes (R.remaining reader.old) (R.remaining reader.new) result buffer.new }
+    ensures bytes { ReadConsumes (R.remaining reader.old) (R.remaining reader.new) result
+        buffer.new }
 {
     match reader.read(buffer) {
         Ok(count) => Ok(count),

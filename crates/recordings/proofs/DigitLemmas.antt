@@ -57,7 +57,8 @@ more_digits w n byte x digit d e small = record {
     low k r is l =
         let count : n + 1 - 1 - k ≡ 0 = omega arith in
         let place : w * 0 + r ≡ r = omega arith in
-        rw (count, place) (bit_at_cat_low byte w x r l ∙ ap (λ (y : ℕ). bit_at y r) (e ∙ ap digit (sym is)))
+        rw (count, place) (bit_at_cat_low byte w x r l ∙ ap (λ (y : ℕ). bit_at y r) (e ∙ ap digit
+        (sym is)))
 
 -- a byte shifted, and joined with the next digit, is that number
 pub joined : (w n per byte x : ℕ) → w * per ≡ 8 → n < per → byte < 2 ^ (w * n) → x < 2 ^ w

@@ -5,7 +5,8 @@ use Rattle.std.specs.Prelude.{Bool, true, false, if◌then◌else◌, ℤ, pos, 
 use Rattle.std.specs.Int.{bit_at}
 use Rattle.std.proofs.Math.Nat.{mul-le-mul_left, mul-le-mul_right}
 use Rattle.std.proofs.Math.Path.{ap₂}
-use Rattle.definitions.specs.Samples.{Packing, real1, real2, iq1, iq2, real, sign_of, sample, Sample}
+use Rattle.definitions.specs.Samples.{Packing, real1, real2, iq1}
+use Rattle.definitions.specs.Samples.{iq2, real, sign_of, sample, Sample}
 use Rattle.definitions.specs.Samples.{samples_per_byte, bit_in}
 use Rattle.sample_planes.specs.Packings.{width_of}
 use Rattle.recordings.specs.Readings.{bits_of}

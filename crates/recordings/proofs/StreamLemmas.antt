@@ -1,18 +1,17 @@
 -- Recordings in pieces.
-use Rattle.std.proofs.Common.{◌≡◌, ℕ, zero, suc, ◌+◌, ◌-◌, ◌*◌, ◌/◌, ◌%◌, ◌<◌, ◌≤◌, List, [], ◌∷◌}
+use Rattle.std.proofs.Common.{◌≡◌, ℕ, zero, suc, ◌+◌, ◌*◌, ◌/◌, ◌%◌, ◌<◌, ◌≤◌, List, [], ◌∷◌}
 use Rattle.std.proofs.Common.{◌++◌, length, take, drop, refl, sym, ap, ◌∙◌, arith, append_assoc}
-use Rattle.std.proofs.Common.{length-append, length-drop}
+use Rattle.std.proofs.Common.{length-append}
 use Rattle.std.specs.Prelude.{map, slice_index}
 use Rattle.std.specs.List.{range_with_len}
 use Rattle.std.proofs.lemmas.List.{get_or_append_left, get_or-append-add, map-append}
-use Rattle.std.proofs.lemmas.List.{take-append-drop, length-take-le, take_rest}
+use Rattle.std.proofs.lemmas.List.{take-append-drop, length-take-le}
 use Rattle.std.proofs.Math.Path.{ap₂}
 use Rattle.std.proofs.Math.Nat.{mul-le-mul_left, mul-le-mul_right, mul-add-div_right}
-use Rattle.std.proofs.Math.Nat.{div-mul-le_self, lt-div-mul-add}
-use Rattle.std.specs.List.{copy_within}
+use Rattle.std.proofs.Math.Nat.{div-mul-le_self}
 use Rattle.std.specs.Prelude.{Bool, true, false, if◌then◌else◌}
 use Rattle.recordings.proofs.RecipeLemmas.{some_bits}
-use Rattle.std.proofs.Math.Seq.{drop-append-add, take-append_seam}
+use Rattle.std.proofs.Math.Seq.{drop-append-add}
 use Rattle.definitions.specs.Samples.{Sample, Packing, real1, real2, iq1, iq2}
 use Rattle.definitions.specs.Samples.{sample, samples, samples_from, samples_per_byte, sample_count}
 use Rattle.definitions.proofs.SampleLemmas.{samples-append, range-split}
@@ -368,23 +367,3 @@ some_group recipe =
         let d : parts * 1 ≤ parts * bits = mul-le-mul_left parts c in
         let f : per * 1 ≤ per * (parts * bits) = mul-le-mul_left per (omega arith) in
         omega arith
-
--- the bytes that are left behind the packed ones, fewer than a group
-pub few_left : (recipe : Recipe) (bytes written : List ℕ) (group : ℕ) → group ≡ group_of recipe
-    → IsPacked recipe bytes written → length bytes - length written * group < group
-few_left recipe bytes written group e p =
-    let some = some_group recipe in
-    let a : length bytes < length bytes / group_of recipe * group_of recipe + group_of recipe =
-    lt-div-mul-add some in
-    let b : length written * group_of recipe ≡ length bytes / group_of recipe * group_of recipe =
-    ap (λ (n : ℕ). n * group_of recipe) p.whole in
-    rw e (omega arith)
-
--- what stands at the front when the end was copied there
-pub moved : (xs : List ℕ) (n : ℕ) → n ≤ length xs
-    → take (length xs - n) (copy_within xs n (length xs) 0) ≡ drop n xs
-moved xs n h =
-    let rest : List ℕ = drop (0 + (length xs - n)) xs in
-    ap (λ (front : List ℕ). take (length xs - n) (front ++ rest)) (take_rest xs n)
-    ∙ ap (λ (k : ℕ). take k (drop n xs ++ rest)) (sym (length-drop n xs))
-    ∙ take-append_seam (drop n xs) rest

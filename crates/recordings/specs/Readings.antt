@@ -1,6 +1,7 @@
 -- The values of a recording, by the kinds in which people have them, as integers.
 use Rattle.std.specs.Prelude.{ℕ, ◌+◌, ◌-◌, ◌*◌, ◌/◌, ◌%◌, ◌^◌, ℤ, pos, ◌*ℤ◌, ◌+ℤ◌, ◌-ℤ◌, neg_ℤ}
-use Rattle.std.specs.Prelude.{◌≡◌, ◌≤◌, Bool, true, false, List, length, slice_index, nat_lt, if◌then◌else◌}
+use Rattle.std.specs.Prelude.{◌≡◌, ◌≤◌, Bool, true, false}
+use Rattle.std.specs.Prelude.{List, length, slice_index, nat_lt, if◌then◌else◌}
 use Rattle.std.specs.Int.{bit_at}
 use Rattle.definitions.specs.Samples.{sign_of, bit_in}
 use Rattle.recordings.specs.declared.kind.Kind.{Kind}
@@ -70,4 +71,5 @@ has_nans Bits1High = false
 -- each whole float of bytes is a number
 abbrev pub AreNumbers : Kind → List ℕ → Type 0
 AreNumbers kind bytes =
-    has_nans kind ≡ true → (i : ℕ) → 4 * (i + 1) ≤ length bytes → IsNumber (four_bytes bytes (4 * i))
+    has_nans kind ≡ true → (i : ℕ) → 4 * (i + 1) ≤ length bytes → IsNumber (four_bytes bytes (4 *
+    i))

@@ -1,6 +1,7 @@
 //! The kinds of values that recordings have.
 
-ghost use Rattle.std.specs.Prelude.{true, false, ◌≡◌, ◌+◌, ◌*◌, ◌<◌, ◌≤◌, ◌^◌, length, unsigned_abs};
+ghost use Rattle.std.specs.Prelude.{true, false, ◌≡◌, ◌+◌, ◌*◌};
+ghost use Rattle.std.specs.Prelude.{◌<◌, ◌≤◌, ◌^◌, length, unsigned_abs};
 ghost use Rattle.recordings.specs.Readings.{bits_of, reading, AreNumbers};
 
 use crate::numbers::{are_numbers, float_order, four_bytes, sign_of, signed, two_bytes};

@@ -26,7 +26,8 @@ impl Window {
 
     /// What is wanted of the next piece.
     pub fn part<'a>(&mut self, piece: &'a [u8]) -> &'a [u8]
-        ensures shows { (skip most : ℕ) (bytes shown : List ℕ) → Shows skip most bytes shown self.old
+        ensures shows { (skip most : ℕ) (bytes shown : List ℕ) → Shows skip most bytes shown
+            self.old
             → Shows skip most (bytes ++ piece.now) (shown ++ result.now) self.new }
         ensures within { length result.now ≤ length piece.now }
     {

@@ -8,7 +8,8 @@ use Rattle.recordings.proofs.numbers.signed.Goals as goal
 
 pub returns-then-n-half-clause-value : goal.returns-then-n-half-clause-value
 returns-then-n-half-clause-value c =
-    rw c.from-value.ensures (let e : to_z w64 (of_z w64 (pos c.args.n)) ≡ pos c.args.n = omega (arith, ints) in e)
+    rw c.from-value.ensures (let e : to_z w64 (of_z w64 (pos c.args.n)) ≡ pos c.args.n = omega
+    (arith, ints) in e)
     ∙ sym (signed-low c.args.half c.args.n c.if-n-half.true)
 
 pub returns-else-n-half-clause-value : goal.returns-else-n-half-clause-value

@@ -11,7 +11,8 @@ returns-in-Ok-clause-stands c bytes before stands =
     let written : List ℕ = c.pack.new.written.items in
     let all : c.deref.result.now ≡ held ++ c.args.piece.now =
     c.deref.ensures.value ∙ c.in_ok-extend_from_slice.ensures.items in
-    let packed : IsPacked recipe (held ++ c.args.piece.now) written = rw all at c.in-Ok.ensures.packed in
+    let packed : IsPacked recipe (held ++ c.args.piece.now) written = rw all at
+    c.in-Ok.ensures.packed in
     let has : HasTaken recipe bytes c.args.piece.now held before written =
     taken recipe bytes c.args.piece.now held before written (some_group recipe) stands.packed
     stands.held packed in
