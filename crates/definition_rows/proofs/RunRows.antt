@@ -223,8 +223,13 @@ counts_and_lives = refl
 -- ---- the end of a run
 
 abbrev task : ℕ → List (List ℕ) → Task
-task limit lines = record { settings = usual; shares = 4 ∷ []; scripts = text lines ∷ []; limit =
-    limit }
+task limit lines = record {
+  settings = usual;
+  shares = 4 ∷ [];
+  scripts = text lines ∷ [];
+  limit =
+      limit;
+}
 
 abbrev input : List ℕ → InputEnd → Input
 input bytes end = record { bytes = bytes; end = end }
