@@ -31,8 +31,13 @@ REWRITTEN = [(re.compile(pattern, re.M), new) for pattern, new in [
     (r'\bstd::ops::DerefSlice\b', 'core::ops::Deref'),
     (r'\bDerefSlice for\b', 'Deref for'),
     (r'\btype Elem = (\w+);', r'type Target = [\1];'),
+    # In the kit a formatter says what it writes to.
+    (r'\bfn fmt<W: Write>\((.*)Formatter<W>\)', r'fn fmt(\1Formatter)'),
+    (r'^(use std::fmt::\{.*), Write\};', r'\1};'),
     # No part of Rust before 1.87.
     (r'\.cast_unsigned\(\)', ' as u64'),
+    (r'(\(\w+ as \w+\))\.cast_signed\(\)', r'(\1 as i64)'),
+    (r'\.cast_signed\(\)', ' as i64'),
     # No gaps where lines fell away.
     (r'\n{3,}', r'\n\n'),
     (r'\{\n\n', r'{\n'),

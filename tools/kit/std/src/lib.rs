@@ -20,7 +20,8 @@ pub use runtime::HostRuntime;
 /// What each module sees with no `use`.
 pub mod prelude {
     pub mod rust_2024 {
-        pub use crate::alloc::AllocGlobal;
+        pub use crate::alloc::{AllocGlobal, AllocGlobal as Alloc};
+        pub use crate::io::{Eprint, Print};
         pub use crate::string::{String, ToString};
         pub use crate::vec::Vec;
         pub use crate::{AnyDrop as Drop, HostRuntime};

@@ -1,6 +1,7 @@
 //! Lists whose memory is asked of an allocator.
 
 use crate::alloc::{AllocError, AllocFailed, Global};
+use ::std::io::{self, Write};
 use ::std::ops::{Deref, DerefMut};
 pub use ::std::vec::{Drain, IntoIter};
 
@@ -25,6 +26,11 @@ impl<T> Vec<T> {
         Ok(list)
     }
 
+    pub fn sort_by_key<K: Ord>(&mut self, key: impl FnMut(&T) -> K) -> Result<(), AllocError> {
+        self.0.sort_by_key(key);
+        Ok(())
+    }
+
     pub fn push(&mut self, item: T) -> Result<(), AllocFailed<T>> {
         if self.0.try_reserve(1).is_err() {
             return Err(AllocFailed(item));
@@ -42,10 +48,14 @@ impl<T: Clone> Vec<T> {
         Ok(list)
     }
 
-    pub fn clone(&self) -> Result<Vec<T>, AllocError> {
-        let mut list = Vec::with_capacity(Global, self.0.len())?;
-        list.0.extend_from_slice(&self.0);
+    pub fn from_slice(alloc: Global, items: &[T]) -> Result<Vec<T>, AllocError> {
+        let mut list = Vec::with_capacity(alloc, items.len())?;
+        list.0.extend_from_slice(items);
         Ok(list)
+    }
+
+    pub fn clone(&self) -> Result<Vec<T>, AllocError> {
+        Vec::from_slice(Global, &self.0)
     }
 
     pub fn extend_from_slice(&mut self, items: &[T]) -> Result<(), AllocError> {
@@ -66,6 +76,25 @@ impl<T> Deref for Vec<T> {
 impl<T> DerefMut for Vec<T> {
     fn deref_mut(&mut self) -> &mut Self::Target {
         &mut self.0
+    }
+}
+
+impl<T> IntoIterator for Vec<T> {
+    type Item = T;
+    type IntoIter = IntoIter<T>;
+
+    fn into_iter(self) -> IntoIter<T> {
+        self.0.into_iter()
+    }
+}
+
+impl Write for Vec<u8> {
+    fn write(&mut self, bytes: &[u8]) -> io::Result<usize> {
+        self.0.write(bytes)
+    }
+
+    fn flush(&mut self) -> io::Result<()> {
+        Ok(())
     }
 }
 
