@@ -3,6 +3,7 @@
 ghost use Rattle.std.specs.Prelude.{◌≡◌, ◌≤◌, ◌%◌, ◌^◌};
 
 mod acquisitions;
+mod almanacs;
 mod clients;
 mod devices;
 mod fakes;
