@@ -3,7 +3,6 @@
 ghost use Rattle.std.specs.Prelude.{◌≡◌, ◌≤◌, ◌%◌, ◌^◌};
 
 mod acquisitions;
-mod almanacs;
 mod clients;
 mod devices;
 mod fakes;
