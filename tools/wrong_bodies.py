@@ -1,0 +1,129 @@
+"""Wrong bodies that the prover must refuse, and where it refused them."""
+import os
+import re
+
+
+class BadEdit(Exception):
+    """An edit that says nothing, or that can't be applied."""
+
+
+class Function:
+    """A function of a source: its name, and the lines of its attributes, clauses and body."""
+
+    def __init__(self, name, first, body, last):
+        self.name, self.first, self.body, self.last = name, first, body, last
+
+
+HEAD = re.compile(r'( *)(?:pub(?:\([a-z]+\))? )?(?:const )?fn (\w+)')
+
+
+def functions(text):
+    """The functions of a source in rt fmt's layout that have a body of several lines."""
+    lines = text.split('\n')
+    for at, line in enumerate(lines):
+        head = HEAD.match(line)
+        if not head:
+            continue
+        indent = head[1]
+        first = at
+        while first and lines[first - 1].startswith((indent + '#[', indent + '//')):
+            first -= 1
+        ours = re.compile(rf'{indent}\S')
+        opens = (it for it in range(at, len(lines))
+                 if (it == at or ours.match(lines[it])) and lines[it].endswith('{'))
+        body = next(opens, len(lines))
+        last = next((it for it in range(body, len(lines)) if lines[it] == indent + '}'), None)
+        if last is not None:
+            # Lines are counted from 1.
+            yield Function(head[2], first + 1, body + 2, last)
+
+
+class Edit:
+    """A wrong body: the texts that it changes, the clause that it turns, and the words of the goal
+    that has to fail."""
+
+    def __init__(self, path):
+        self.path = path
+        self.name = os.path.basename(path)[:-len('.edit')]
+        self.pairs, self.turns, self.goal = [], '', []
+        file = old = ''
+        with open(path, encoding='utf-8') as lines:
+            for line in lines.read().split('\n'):
+                word, _, rest = line.partition(': ')
+                if word == '# turns':
+                    self.turns = rest
+                elif word == '# goal':
+                    self.goal = rest.split()
+                elif word == 'file':
+                    file = rest
+                elif word == 'old':
+                    old = rest
+                elif word.rstrip(':') == 'new':
+                    self.pairs.append((file, old, rest))
+        if not (self.turns and self.goal and self.pairs):
+            raise BadEdit(f'{path} names no clause, no goal or no text')
+
+    def texts(self, given):
+        """The texts that it makes of the given ones, by their files."""
+        made = {}
+        for file, old, new in self.pairs:
+            text = made.get(file, given(file))
+            if text.count(old) != 1:
+                raise BadEdit(f"{self.path}: an old text stands {text.count(old)} times in {file}")
+            made[file] = text.replace(old, new)
+        return made
+
+    def place(self, given):
+        """The file and the function whose body has all that it changes; else nothing."""
+        files = {file for file, _, _ in self.pairs}
+        if len(files) != 1 or not self.pairs[0][0].startswith('src/'):
+            return None
+        file = files.pop()
+        was, now = given(file).split('\n'), self.texts(given)[file].split('\n')
+        if len(was) != len(now):
+            return None
+        changed = [at for at, (a, b) in enumerate(zip(was, now), 1) if a != b]
+        around = [it for it in functions('\n'.join(was))
+                  if all(it.body <= at <= it.last for at in changed)]
+        return (file, around[-1]) if around else None
+
+
+# A refusal is an error in a proof, or a note of a goal that no proof was found for.
+REFUSAL = re.compile(r'(?:note: )?(?:\./)?((?:src|proofs)/\S+?):(\d+):\d+: ')
+
+# A proof that names what an edit took away, and what cites that proof: that shows no clause.
+LACKS = re.compile(r'(?:\./)?proofs/.*(has no field|is not in scope|has no `|was not admitted)')
+
+
+def refusals(said):
+    """The lines by which the prover refused a check."""
+    return [line for line in said.split('\n') if REFUSAL.match(line) and not LACKS.match(line)
+            and (line.startswith('note: ') or ': error: ' in line)]
+
+
+def path_of(file):
+    """The names of the modules of a source."""
+    parts = file[len('src/'):-len('.rt')].split('/')
+    return [] if parts[-1] in ('lib', 'main') else parts
+
+
+def is_at(line, place):
+    """Whether the prover refused a function by this line: in its own lines, or in its proof."""
+    file, function = place
+    at, number = REFUSAL.match(line).groups()
+    if at.startswith('src/'):
+        return at == file and function.first <= int(number) <= function.last + 1
+    parts, path = at.split('/')[1:-1], path_of(file)
+    return parts[:len(path)] == path and parts[-1:] == [function.name]
+
+
+def has_goal(line, edit):
+    """Whether a line of the prover names the goal of an edit."""
+    return all(word in line[:160] for word in edit.goal)
+
+
+def waits_for_callee(said, place):
+    """Whether the prover left a function, or goals of it, since one that it calls is refused."""
+    path = '::'.join([*path_of(place[0]), ''])
+    name = rf'`?\w+::{re.escape(path)}(?:\w+::)?{place[1].name}`?'
+    return bool(re.search(rf'^fn {name}: no.* it calls |goals of {name}, which wait', said, re.M))
