@@ -46,7 +46,7 @@ fn entry_of(
         return Ok(None);
     };
     let time = match number(first) {
-        Some(time) if time <= LAST_TIME => time.cast_unsigned(),
+        Some(time) if time <= LAST_TIME => time as u64,
         _ => return Ok(Some(refused(before, 3))),
     };
     if time < before {

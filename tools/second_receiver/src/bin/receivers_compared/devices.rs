@@ -1,13 +1,10 @@
 //! A reader that cuts, and a writer that holds.
 
-ghost use Rattle.std.specs.Prelude.{None, false};
-
 use crate::random::Random;
 use receiver::{DeviceFault, Sink, Source};
 use std::alloc::Global;
 
 /// Gives bytes in pieces of random lengths.
-#[derive(Drop)]
 pub struct Cutting<'a> {
     bytes: &'a [u8],
     most: u64,
@@ -26,12 +23,6 @@ impl<'a> Cutting<'a> {
 }
 
 impl Source for Cutting<'_> {
-    ghost remaining = { λ _. None };
-
-    ghost has_failed = { λ _. false };
-
-    ghost was_asked_again = { λ _. false };
-
     fn read(&mut self, buffer: &mut [u8]) -> Result<usize, DeviceFault> {
         let piece = self.random.below(self.most).wrapping_add(1);
         let piece = usize::try_from(piece).unwrap_or(1);
@@ -43,7 +34,6 @@ impl Source for Cutting<'_> {
 }
 
 /// Holds all that is written.
-#[derive(Drop)]
 pub struct Held {
     pub bytes: Vec<u8>,
     has_failed: bool,
@@ -59,10 +49,6 @@ impl Held {
 }
 
 impl Sink for Held {
-    ghost contents = { λ _. None };
-
-    ghost has_failed = { λ device. device.has_failed };
-
     fn write(&mut self, bytes: &[u8]) -> Result<usize, DeviceFault> {
         match self.bytes.extend_from_slice(bytes) {
             Ok(()) => Ok(bytes.len()),

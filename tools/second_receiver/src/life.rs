@@ -19,7 +19,6 @@ pub struct Order {
 
 /// A life as whole lists: what was found, and the dumps, good windows and stretches of pushes up to
 /// the end of the recording, or to the loss of the signal.
-#[derive(Drop)]
 pub struct Life {
     pub begun: usize,
     pub start: Start,

@@ -6,7 +6,8 @@ use std::test::Fail;
 
 // One real sample of two bits meets each chip; the sums are those of the four products.
 #[test]
-fn one_short_segment(rt: HostRuntime) -> Result<(), Fail> {
+fn one_short_segment() -> Result<(), Fail> {
+    let rt = HostRuntime;
     let recording = Recording {
         rate: 4_092_000,
         offset: 1_023_000,

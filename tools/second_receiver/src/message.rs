@@ -9,7 +9,6 @@ use crate::subframes::{SUBFRAME, Subframe, subframes_of};
 use std::alloc::{AllocError, Global};
 
 /// A text that a slot tells with a dump. Among those of one dump the rank puts them in order.
-#[derive(Drop)]
 pub struct Told {
     pub dump: usize,
     pub rank: usize,
@@ -17,7 +16,6 @@ pub struct Told {
 }
 
 /// The pages so far, and the values of the sets that were told last.
-#[derive(Drop)]
 struct Reading {
     pages: Vec<Subframe>,
     ephemeris: Vec<i64>,
@@ -87,9 +85,7 @@ fn add_page(
         }
     }
     match kind {
-        Kind::Clock | Kind::Second | Kind::Third => {
-            add_ephemeris(alloc, slot, dump, reading, told)
-        }
+        Kind::Clock | Kind::Second | Kind::Third => add_ephemeris(alloc, slot, dump, reading, told),
         Kind::Almanac => add_almanacs(alloc, slot, dump, reading, told),
         _ => Ok(()),
     }

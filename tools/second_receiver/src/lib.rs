@@ -5,13 +5,12 @@
 //! at a time. A slot is gone through command by command: each life is worked out to the end of the
 //! recording as whole lists (dumps, windows, pushes, bits, subframes, pages), and what a command
 //! cuts off isn't told. All lines are put in their order at the end. Sums go sample by sample, and
-//! searches cell by cell. It is proved to be safe and to end, and no more.
+//! searches cell by cell. It is plain Rust, and nothing of it is proved.
 //!
-//!     use plain_receiver::{Packing, Recording, text_of};
+//!     use second_receiver::{Packing, Recording, text_of};
 //!
 //!     let recording = Recording { rate: 2_046_000, offset: 0, packing: Packing::Real1, bytes };
 //!     let text = text_of(alloc, &recording, &[b"0 state 0"], &[4])?;
-#![tactic(auto)]
 
 mod bits;
 mod code;

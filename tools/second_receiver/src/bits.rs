@@ -23,9 +23,8 @@ pub fn stretches_of(
     let mut stretches = Vec::new(alloc);
     let mut first = 0usize;
     for place in 0..=dumps.len() {
-        let is_pushed = place < dumps.len()
-            && is_locked(good, place)
-            && is_locked(good, place.wrapping_add(1));
+        let is_pushed =
+            place < dumps.len() && is_locked(good, place) && is_locked(good, place.wrapping_add(1));
         if !is_pushed {
             if first < place {
                 stretches.push(stretch_of(dumps, first, place))?;

@@ -26,12 +26,10 @@ pub fn number(word: &[u8]) -> Option<i64> {
     if !is_number {
         return None;
     }
-    Some(
-        word.iter().fold(0i64, |number, byte| {
-            let digit = i64::from(byte.wrapping_sub(b'0'));
-            number.wrapping_mul(10).wrapping_add(digit)
-        }),
-    )
+    Some(word.iter().fold(0i64, |number, byte| {
+        let digit = i64::from(byte.wrapping_sub(b'0'));
+        number.wrapping_mul(10).wrapping_add(digit)
+    }))
 }
 
 /// The same, with `-` in front or not.

@@ -86,6 +86,6 @@ fn all_dumps(
 /// The least time behind the start by which the code has run through, if it is within the
 /// recording.
 fn end_of_segment(recording: &Recording, phases: &Phases, start: usize) -> Option<usize> {
-    (start.wrapping_add(1)..=recording.samples()).find(|end| CYCLE
-        <= phases.code_after(end.wrapping_sub(start)))
+    (start.wrapping_add(1)..=recording.samples())
+        .find(|end| CYCLE <= phases.code_after(end.wrapping_sub(start)))
 }

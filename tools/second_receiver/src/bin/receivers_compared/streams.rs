@@ -2,7 +2,7 @@
 
 use crate::random::Random;
 use made_signals::{MadeSignal, SampleStream};
-use plain_receiver::Packing;
+use second_receiver::Packing;
 use std::alloc::{AllocError, Global};
 
 /// Random bytes.

@@ -17,7 +17,9 @@ pub fn good_windows(alloc: Global, dumps: &[Dump]) -> Result<Vec<bool>, AllocErr
     let mut good = Vec::new(alloc);
     for window in 0..window_count(dumps.len()) {
         let first = window.wrapping_mul(20).wrapping_add(199);
-        good.push(is_good(dumps.get(first..first.wrapping_add(20)).unwrap_or(&[])))?;
+        good.push(is_good(
+            dumps.get(first..first.wrapping_add(20)).unwrap_or(&[]),
+        ))?;
     }
     Ok(good)
 }

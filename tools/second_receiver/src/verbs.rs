@@ -65,7 +65,7 @@ pub fn command_of(words: &[&[u8]], slots: usize) -> Result<Command, u8> {
     if words.len() != ranges.len().wrapping_add(1) {
         return Err(6);
     }
-    let most = (slots as u64).cast_signed().wrapping_sub(1);
+    let most = ((slots as u64) as i64).wrapping_sub(1);
     let mut values = [0i64; 6];
     for (place, value) in values.iter_mut().enumerate().take(words.len()) {
         let range = match place {
@@ -93,8 +93,8 @@ fn value_in((low, high): (i64, i64), word: &[u8]) -> Result<i64, u8> {
 /// What a verb with its slot and its values asks.
 fn meaning_of(verb: &[u8], [_, a, b, c, d, e]: [i64; 6]) -> Request {
     match verb {
-        b"hold" => Request::Begin(Start::Hold(size(a), b, c.cast_unsigned())),
-        b"track" => Request::Begin(Start::Track(size(a), b, c.cast_unsigned())),
+        b"hold" => Request::Begin(Start::Hold(size(a), b, c as u64)),
+        b"track" => Request::Begin(Start::Track(size(a), b, c as u64)),
         b"acquire" => Request::Begin(Start::Acquire(Plan {
             satellite: size(a),
             centre: b,
@@ -102,7 +102,7 @@ fn meaning_of(verb: &[u8], [_, a, b, c, d, e]: [i64; 6]) -> Request {
             periods: size(d),
             threshold: e,
         })),
-        b"counts" => Request::Counts(a.cast_unsigned()),
+        b"counts" => Request::Counts(a as u64),
         b"stop" => Request::Stop,
         _ => Request::State,
     }

@@ -5,11 +5,10 @@ use crate::messages::message_bits;
 use crate::random::Random;
 use crate::streams::{packed_stream, random_bytes, random_signal};
 use made_signals::{MadeSignal, SampleStream};
-use plain_receiver::Packing;
+use second_receiver::Packing;
 use std::alloc::{AllocError, Global};
 
 /// Everything that both receivers are given.
-#[derive(Drop)]
 pub struct Case {
     pub rate: u32,
     pub offset: i64,

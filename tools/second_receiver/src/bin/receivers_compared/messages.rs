@@ -6,7 +6,6 @@ use nav_parity::encode;
 use std::alloc::{AllocError, Global};
 
 /// What words of 24 bits are put into.
-#[derive(Drop)]
 struct Sending {
     bits: Vec<bool>,
     /// The last two bits of the word before.

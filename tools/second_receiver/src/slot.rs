@@ -74,9 +74,7 @@ impl Slot<'_> {
         let slot = self.number;
         let mut text = String::from_str(alloc, "ok")?;
         let life = match (request, on) {
-            (Request::Begin(start), None) => {
-                Some(Life::begin(alloc, self.recording, time, start)?)
-            }
+            (Request::Begin(start), None) => Some(Life::begin(alloc, self.recording, time, start)?),
             (Request::Begin(_), on) => {
                 text = String::from_str(alloc, "err 9")?;
                 on

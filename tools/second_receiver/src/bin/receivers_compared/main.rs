@@ -1,11 +1,11 @@
-//! Compares the receiver with the plain second receiver, byte for byte, over cases that a seed
-//! makes: random scripts of one to eight clients, over random samples, made signals and messages,
-//! read in random pieces. It prints how many runs and lines there were and how many runs differ,
-//! and behind that how many lines of each kind were compared.
+//! Compares the receiver, as the plain build of the proved sources has it, with the second
+//! receiver, byte for byte, over cases that a seed makes: random scripts of one to eight clients,
+//! over random samples, made signals and messages, read in random pieces. It prints how many runs
+//! and lines there were and how many runs differ, and behind that how many lines of each kind were
+//! compared.
 //!
 //! Without arguments it compares some runs. `receivers_compared SEED RUNS MESSAGES` compares more
 //! of them; those of messages are long.
-#![tactic(auto)]
 
 mod cases;
 mod comparing;
@@ -24,7 +24,8 @@ use std::io;
 /// The seed, the runs and the runs of messages without arguments.
 const NUMBERS: [u64; 3] = [3, 120, 4];
 
-fn main(rt: HostRuntime) -> io::Result<()> {
+fn main() -> io::Result<()> {
+    let rt = HostRuntime;
     let [seed, runs, messages] = numbers_of(&rt)?;
     let all = runs.saturating_add(messages);
     let mut tally = Tally::default();

@@ -6,9 +6,9 @@ use crate::kinds::add_kinds;
 use crate::random::Random;
 use channel_slots::MOST_TIME;
 use oscillators::{Settings, SettingsFault};
-use plain_receiver::{Packing, Recording, text_of};
 use receiver::run_shares;
 use sample_planes::Format;
+use second_receiver::{Packing, Recording, text_of};
 use std::alloc::{AllocError, Global};
 
 /// What was compared so far: the lines, and the runs whose texts differ.
