@@ -87,7 +87,7 @@ fn add_slots(
 ) -> Result<(), AllocError> {
     for number in 0..slots {
         let slot = Slot {
-            recording: &*recording,
+            recording,
             client,
             number,
         };

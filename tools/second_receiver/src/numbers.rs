@@ -20,8 +20,7 @@ pub fn pieces(alloc: Global, text: &[u8], end: u8) -> Result<Vec<&[u8]>, AllocEr
 
 /// The number of a word of 1 to 13 digits.
 pub fn number(word: &[u8]) -> Option<i64> {
-    let is_number = 1 <= word.len()
-        && word.len() <= 13
+    let is_number = (1..=13).contains(&word.len())
         && word.iter().all(|byte| b'0' <= *byte && *byte <= b'9');
     if !is_number {
         return None;

@@ -165,5 +165,5 @@ fn prompt_sums(
 
 /// A number that is far below 2^63.
 fn signed(number: usize) -> i64 {
-    ((number as u64) as i64)
+    number as i64
 }
