@@ -5,6 +5,7 @@ ghost use Rattle.std.specs.Prelude.{◌≡◌, ◌≤◌, ◌%◌, ◌^◌};
 mod acquisitions;
 mod clients;
 mod devices;
+mod expected;
 mod fakes;
 mod held_text;
 mod limits;

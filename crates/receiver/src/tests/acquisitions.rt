@@ -1,7 +1,6 @@
 //! Satellites that are searched for, and tracked where they are found.
 
-use super::run_plain;
-use crate::tests::fakes::{Giving, Holding};
+use crate::tests::expected::writes;
 use crate::tests::signals::written;
 use made_signals::{MadeSignal, SampleStream, long_code_file};
 use std::test::Fail;
@@ -22,11 +21,7 @@ fn acquire_code_file(rt: HostRuntime) -> Result<(), Fail> {
     let not_due = "1 2 ok\n1 10224 end\n";
     for (len, samples, text) in [(DUE_BYTES, 10_232, found), (DUE_BYTES - 1, 10_224, not_due)] {
         for bytes_a_read in [1, 3, 128, 2_000] {
-            let mut reader = Giving::pieces(&bytes[..len], bytes_a_read);
-            let mut writer = Holding::whole();
-            let answer = run_plain(rt.alloc(), &[script], &mut reader, &mut writer)?;
-            assert_eq!(rt; answer, Ok(samples));
-            assert_eq!(rt; writer.text()?, text);
+            writes(&rt, &[script], &bytes[..len], bytes_a_read, samples, text)?;
         }
     }
     Ok(())
@@ -37,19 +32,12 @@ fn acquire_code_file(rt: HostRuntime) -> Result<(), Fail> {
 // It reaches ten tenths of the mean, and not eleven.
 #[test]
 fn equal_cells(rt: HostRuntime) -> Result<(), Fail> {
-    let rows: [(&[u8], &str); 2] = [
-        (b"0 acquire 0 1 0 0 1 10\n", "found"),
-        (b"0 acquire 0 1 0 0 1 11\n", "none"),
-    ];
-    for (script, word) in rows {
-        let mut reader = Giving::whole(&[0; DUE_BYTES]);
-        let mut writer = Holding::whole();
-        let answer = run_plain(rt.alloc(), &[script], &mut reader, &mut writer)?;
-        assert_eq!(rt; answer, Ok(10_232));
-        let text = format!(in rt.alloc(); "1 0 ok\n1 10230 acq 0 1 {word} 0 0 20\n1 10232 end\n")?;
-        assert_eq!(rt; writer.text()?, text.as_str());
-    }
-    Ok(())
+    let found = "1 0 ok\n1 10230 acq 0 1 found 0 0 20\n1 10232 end\n";
+    let none = "1 0 ok\n1 10230 acq 0 1 none 0 0 20\n1 10232 end\n";
+    let script = b"0 acquire 0 1 0 0 1 10\n";
+    writes(&rt, &[script], &[0; DUE_BYTES], usize::MAX, 10_232, found)?;
+    let script = b"0 acquire 0 1 0 0 1 11\n";
+    writes(&rt, &[script], &[0; DUE_BYTES], usize::MAX, 10_232, none)
 }
 
 // One cell is done with every fourth sample behind the dwell.
@@ -62,14 +50,9 @@ fn waiting_state(rt: HostRuntime) -> Result<(), Fail> {
         1 2049 state 0 acquire 1 0 2046\n\
         1 2050 state 0 acquire 1 1 2046\n\
         1 2056 end\n";
-    for (len, bytes_a_read) in [(257, 1), (257, 257)] {
-        let mut reader = Giving::pieces(&bytes[..len], bytes_a_read);
-        let mut writer = Holding::whole();
-        let answer = run_plain(rt.alloc(), &[script], &mut reader, &mut writer)?;
-        assert_eq!(rt; answer, Ok(2_056));
-        assert_eq!(rt; writer.text()?, text);
-    }
-    Ok(())
+    let bytes = bytes.get(..257).ok_or("257 bytes")?;
+    writes(&rt, &[script], bytes, 1, 2_056, text)?;
+    writes(&rt, &[script], bytes, 257, 2_056, text)
 }
 
 // At the due time the answer of the search comes first. Where the signal is found the slot tracks
@@ -80,10 +63,6 @@ fn commands_at_the_due_time(rt: HostRuntime) -> Result<(), Fail> {
     let bytes = long_code_file();
     let found = b"2 acquire 0 1 0 0 1 10\n10232 state 0\n10232 stop 0\n10232 state 0\n";
     let missed = b"2 acquire 3 2 0 0 1 1000\n10232 state 3\n10232 stop 3\n";
-    let mut reader = Giving::whole(&bytes);
-    let mut writer = Holding::whole();
-    let answer = run_plain(rt.alloc(), &[found, missed], &mut reader, &mut writer)?;
-    assert_eq!(rt; answer, Ok(12_288));
     let text = "1 2 ok\n\
         2 2 ok\n\
         1 10232 acq 0 1 found 0 2 20930580\n\
@@ -95,8 +74,7 @@ fn commands_at_the_due_time(rt: HostRuntime) -> Result<(), Fail> {
         2 10232 err 10\n\
         1 12288 end\n\
         2 12288 end\n";
-    assert_eq!(rt; writer.text()?, text);
-    Ok(())
+    writes(&rt, &[found, missed], &bytes, usize::MAX, 12_288, text)
 }
 
 // While it searches, a slot takes `counts` and `stop`, and no other start.
@@ -111,10 +89,6 @@ fn commands_while_it_searches(rt: HostRuntime) -> Result<(), Fail> {
         3000 stop 0\n\
         3000 state 0\n\
         3000 stop 0\n";
-    let mut reader = Giving::whole(&bytes);
-    let mut writer = Holding::whole();
-    let answer = run_plain(rt.alloc(), &[script], &mut reader, &mut writer)?;
-    assert_eq!(rt; answer, Ok(12_288));
     let text = "1 0 ok\n\
         1 5 err 9\n\
         1 6 err 9\n\
@@ -124,8 +98,7 @@ fn commands_while_it_searches(rt: HostRuntime) -> Result<(), Fail> {
         1 3000 state 0 idle\n\
         1 3000 err 10\n\
         1 12288 end\n";
-    assert_eq!(rt; writer.text()?, text);
-    Ok(())
+    writes(&rt, &[script], &bytes, usize::MAX, 12_288, text)
 }
 
 // The power and the time of the lock are those that the specification's two references give.

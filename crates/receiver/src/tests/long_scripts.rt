@@ -8,7 +8,8 @@ use crate::devices::{DeviceFault, Sink};
 use crate::running::run;
 use crate::tests::fakes::Giving;
 use made_signals::long_code_file;
-use std::alloc::{AllocError, Global};
+use std::alloc::{Alloc, AllocError, Global};
+use std::process::Abort;
 use std::test::Fail;
 
 /// Keeps whatever is written.
@@ -56,6 +57,27 @@ fn repeated(alloc: Global, text: &[u8], times: u64) -> Result<Vec<u8>, AllocErro
     Ok(whole)
 }
 
+/// Sees that a run of a script comes to the end and writes this.
+fn writes(
+    rt: &(impl Abort + Alloc<A = Global>),
+    script: &[u8],
+    reader: &mut Giving,
+    samples: u64,
+    text: &[u8],
+) -> Result<(), Fail> {
+    let mut writer = Keeping::new(rt.alloc());
+    let answer = run(
+        rt.alloc(),
+        plain_settings()?,
+        &[script],
+        reader,
+        &mut writer,
+    );
+    assert_eq!(rt; answer, Ok(samples));
+    assert!(rt; writer.bytes.as_slice() == text);
+    Ok(())
+}
+
 // 16 MiB are 1,677,721 lines of ten bytes and six bytes more, which are a line of another verb and
 // too few words.
 #[test]
@@ -64,15 +86,9 @@ fn script_of_16_mebibytes(rt: HostRuntime) -> Result<(), Fail> {
     let mut script = repeated(rt.alloc(), b"0 state 3\n", lines)?;
     script.extend_from_slice(b"0 stop")?;
     assert_eq!(rt; script.len(), 16 << 20);
-    let mut reader = Giving::whole(&[]);
-    let mut writer = Keeping::new(rt.alloc());
-    let settings = plain_settings()?;
-    let answer = run(rt.alloc(), settings, &[&script], &mut reader, &mut writer);
-    assert_eq!(rt; answer, Ok(0));
     let mut text = repeated(rt.alloc(), b"1 0 state 3 idle\n", lines)?;
     text.extend_from_slice(b"1 0 err 6\n1 0 end\n")?;
-    assert!(rt; writer.bytes.as_slice() == text.as_slice());
-    Ok(())
+    writes(&rt, &script, &mut Giving::whole(&[]), 0, &text)
 }
 
 // Each start is accepted and each stop too. All come before the first sample, so nothing is ever
@@ -80,15 +96,9 @@ fn script_of_16_mebibytes(rt: HostRuntime) -> Result<(), Fail> {
 #[test]
 fn a_million_commands_at_one_time(rt: HostRuntime) -> Result<(), Fail> {
     let script = repeated(rt.alloc(), b"0 hold 0 1 0 0\n0 stop 0\n", 500_000)?;
-    let mut reader = Giving::whole(&[0; 512]);
-    let mut writer = Keeping::new(rt.alloc());
-    let settings = plain_settings()?;
-    let answer = run(rt.alloc(), settings, &[&script], &mut reader, &mut writer);
-    assert_eq!(rt; answer, Ok(4_096));
     let mut text = repeated(rt.alloc(), b"1 0 ok\n", 1_000_000)?;
     text.extend_from_slice(b"1 4096 end\n")?;
-    assert!(rt; writer.bytes.as_slice() == text.as_slice());
-    Ok(())
+    writes(&rt, &script, &mut Giving::whole(&[0; 512]), 4_096, &text)
 }
 
 /// A hold, and a state at each time of a run over 12,288 samples; and the lines for them. A period
@@ -112,12 +122,13 @@ fn a_command_at_every_sample(rt: HostRuntime) -> Result<(), Fail> {
     let (script, text) = states_at_each_time(rt.alloc())?;
     let code = long_code_file();
     for at_once in [1, 100, usize::MAX] {
-        let mut reader = Giving::pieces(&code, at_once);
-        let mut writer = Keeping::new(rt.alloc());
-        let settings = plain_settings()?;
-        let answer = run(rt.alloc(), settings, &[&script], &mut reader, &mut writer);
-        assert_eq!(rt; answer, Ok(12_288));
-        assert!(rt; writer.bytes.as_slice() == text.as_slice());
+        writes(
+            &rt,
+            &script,
+            &mut Giving::pieces(&code, at_once),
+            12_288,
+            &text,
+        )?;
     }
     Ok(())
 }

@@ -2,11 +2,11 @@
 //! (IS-GPS-200, section 20.3.5), and the times of the lines are those that the specification's two
 //! references give, or a program in another language, apart from this project.
 
-use crate::tests::fakes::Holding;
-use crate::tests::signals::written;
+use crate::tests::signals::writes;
 use arrayvec::ArrayVec;
 use made_signals::{MadeSignal, SampleStream};
-use std::alloc::Global;
+use std::alloc::{Alloc, Global};
+use std::process::Abort;
 use std::test::Fail;
 
 /// Tracks the satellite from the first sample on.
@@ -53,33 +53,35 @@ fn add_word(bits: &mut ArrayVec<bool, MOST_BITS>, word: u32) -> Result<(), Fail>
     Ok(())
 }
 
-/// The text of a run that tracks the satellite over so many samples of its signal. Its data bits
-/// are these, behind 40 that alternate.
-fn tracked(alloc: Global, bits: &[bool], samples: u64) -> Result<Holding, Fail> {
+/// Sees what a run writes that tracks the satellite over so many samples of its signal. Its data
+/// bits are these, behind 40 that alternate.
+fn tracks(
+    rt: &(impl Abort + Alloc<A = Global>),
+    bits: &[bool],
+    samples: u64,
+    text: &str,
+) -> Result<(), Fail> {
     let signal = MadeSignal::with_tail(bits);
-    written(alloc, &signal, SampleStream::new(signal, samples), TRACK)
+    writes(rt, &signal, SampleStream::new(signal, samples), TRACK, text)
 }
 
 // 6,860 periods of the code.
 #[test]
 fn subframe_of_a_made_signal(rt: HostRuntime) -> Result<(), Fail> {
     let bits = bits_of_subframes(&HANDOVERS[..1])?;
-    let writer = tracked(rt.alloc(), bits.as_slice(), 17_150_000)?;
     let text = "1 0 ok\n\
         1 547378 lock 0\n\
         1 1302377 bits 0\n\
         1 17099867 sub 0 1 1 8b0000 000084 000000 000000 000000 000000 \
         000000 000000 000000 000000\n\
         1 17150000 end\n";
-    assert_eq!(rt; writer.text()?, text);
-    Ok(())
+    tracks(&rt, bits.as_slice(), 17_150_000, text)
 }
 
 // 18,860 periods. The set is that of the three subframes' fields, which are all 0.
 #[test]
 fn set_of_a_made_signal(rt: HostRuntime) -> Result<(), Fail> {
     let bits = bits_of_subframes(&HANDOVERS)?;
-    let writer = tracked(rt.alloc(), bits.as_slice(), 47_150_000)?;
     let text = "1 0 ok\n\
         1 547378 lock 0\n\
         1 1302377 bits 0\n\
@@ -94,28 +96,31 @@ fn set_of_a_made_signal(rt: HostRuntime) -> Result<(), Fail> {
         cus=0:-29 sqrta=0:-19 toe=0:4 fit=0:0 aodo=0:0 cic=0:-29 om0=0:-31 cis=0:-29 i0=0:-31 \
         crc=0:-5 w=0:-31 omdot=0:-43 iode3=0:0 idot=0:-43\n\
         1 47150000 end\n";
-    assert_eq!(rt; writer.text()?, text);
-    Ok(())
+    tracks(&rt, bits.as_slice(), 47_150_000, text)
+}
+
+/// A subframe whose last five words are inverted.
+fn inverted_tail() -> Result<ArrayVec<bool, MOST_BITS>, Fail> {
+    let mut bits = ArrayVec::new();
+    bits.try_extend_from_slice(&[false; 2])?;
+    add_header(&mut bits, HANDOVERS[0])?;
+    bits.try_extend_from_slice(&[false; 90])?;
+    bits.try_extend_from_slice(&[true; 150])?;
+    Ok(bits)
 }
 
 // From word 6 on all bits are inverted. Word 6 has two bits 0 before it and doesn't pass. Those
 // behind it have two bits 1 before them, and pass with the data that were sent.
 #[test]
 fn inverted_tail_of_a_made_signal(rt: HostRuntime) -> Result<(), Fail> {
-    let mut bits = ArrayVec::new();
-    bits.try_extend_from_slice(&[false; 2])?;
-    add_header(&mut bits, HANDOVERS[0])?;
-    bits.try_extend_from_slice(&[false; 90])?;
-    bits.try_extend_from_slice(&[true; 150])?;
-    let writer = tracked(rt.alloc(), bits.as_slice(), 17_150_000)?;
+    let bits = inverted_tail()?;
     let text = "1 0 ok\n\
         1 547378 lock 0\n\
         1 1302377 bits 0\n\
         1 17099867 sub 0 1 1 8b0000 000084 000000 000000 000000 ------ \
         000000 000000 000000 000000\n\
         1 17150000 end\n";
-    assert_eq!(rt; writer.text()?, text);
-    Ok(())
+    tracks(&rt, bits.as_slice(), 17_150_000, text)
 }
 
 /// Three subframes and 70 bits of a fourth, 32 bits that alternate, and three subframes.
@@ -182,7 +187,5 @@ fn nothing_is_kept_over_an_unlock(rt: HostRuntime) -> Result<(), Fail> {
         41000000 state 0\n\
         41600000 state 0\n\
         42200000 state 0\n";
-    let writer = written(rt.alloc(), &signal, stream, script)?;
-    assert_eq!(rt; writer.text()?, LINES_AROUND_A_CUT);
-    Ok(())
+    writes(&rt, &signal, stream, script, LINES_AROUND_A_CUT)
 }

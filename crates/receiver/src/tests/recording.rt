@@ -6,7 +6,8 @@ use crate::tests::fakes::{Giving, Holding};
 use made_signals::RECORDING;
 use oscillators::Settings;
 use sample_planes::Format;
-use std::alloc::Global;
+use std::alloc::{Alloc, Global};
+use std::process::Abort;
 use std::test::Fail;
 
 /// For each client, a hold and its counts in each of its slots: 32 satellites in all.
@@ -90,7 +91,7 @@ fn written(alloc: Global, scripts: &[&[u8]]) -> Result<Holding, Fail> {
 }
 
 /// The lines of a client, without its number.
-fn lines_of(writer: &Holding, client: u8) -> Result<Holding, Fail> {
+pub fn lines_of(writer: &Holding, client: u8) -> Result<Holding, Fail> {
     let mut lines = Holding::whole();
     for line in writer.text()?.as_bytes().split(|byte| *byte == b'\n') {
         if let Some(line) = line.strip_prefix(&[client, b' ']) {
@@ -106,6 +107,21 @@ fn number_of_lines(writer: &Holding) -> Result<usize, Fail> {
     Ok(writer.text()?.lines().count())
 }
 
+/// Sees that the client at this place is told the same alone.
+fn is_told_alone(
+    rt: &(impl Abort + Alloc<A = Global>),
+    together: &Holding,
+    place: u8,
+) -> Result<(), Fail> {
+    let script = *SCRIPTS.get(usize::from(place)).ok_or("a script")?;
+    let dumps = *DUMPS.get(usize::from(place)).ok_or("a number")?;
+    let alone = written(rt.alloc(), &[script])?;
+    let lines = lines_of(together, b'1'.wrapping_add(place))?;
+    assert_eq!(rt; lines.text()?, lines_of(&alone, b'1')?.text()?);
+    assert_eq!(rt; number_of_lines(&alone)?, dumps.wrapping_add(9));
+    Ok(())
+}
+
 #[test]
 fn clients_do_not_touch_each_other(rt: HostRuntime) -> Result<(), Fail> {
     let together = written(rt.alloc(), &SCRIPTS)?;
@@ -114,11 +130,8 @@ fn clients_do_not_touch_each_other(rt: HostRuntime) -> Result<(), Fail> {
     // the two reads and at the end.
     assert_eq!(rt; number_of_lines(&together)?, 189);
     assert_eq!(rt; together.writes, 3);
-    for ((client, script), dumps) in (b'1'..=b'8').zip(SCRIPTS).zip(DUMPS) {
-        let alone = written(rt.alloc(), &[script])?;
-        let lines = lines_of(&alone, b'1')?;
-        assert_eq!(rt; lines_of(&together, client)?.text()?, lines.text()?);
-        assert_eq!(rt; number_of_lines(&alone)?, dumps.wrapping_add(9));
+    for place in 0..8 {
+        is_told_alone(&rt, &together, place)?;
     }
     Ok(())
 }

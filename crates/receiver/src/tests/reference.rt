@@ -41,7 +41,7 @@ impl<'a> Reference<'a> {
     }
 
     /// Takes the samples before a time, and adds the lines that they cause.
-    pub fn go_on(&mut self, alloc: Global, time: u64) -> Result<(), Fail> {
+    fn go_on(&mut self, alloc: Global, time: u64) -> Result<(), Fail> {
         for _ in self.time..time {
             self.time = self.time.wrapping_add(1);
             let value = self.stream.next_value().ok_or("a sample")?;
@@ -54,13 +54,25 @@ impl<'a> Reference<'a> {
     }
 
     /// Adds a line with the time of now.
-    pub fn add(&mut self, alloc: Global, text: &str) -> Result<(), Fail> {
+    fn add(&mut self, alloc: Global, text: &str) -> Result<(), Fail> {
         let line = format!(in alloc; "1 {} {text}\n", self.time)?;
         self.text.add(line.as_bytes())
     }
 
+    /// Goes on to each time, and adds this text there, or the line of the slot's state.
+    pub fn follow(&mut self, alloc: Global, steps: &[(u64, Option<&str>)]) -> Result<(), Fail> {
+        for (time, text) in steps {
+            self.go_on(alloc, *time)?;
+            match text {
+                Some(text) => self.add(alloc, text)?,
+                None => self.add_state(alloc)?,
+            }
+        }
+        Ok(())
+    }
+
     /// Adds the line of the slot's state, where it isn't lost.
-    pub fn add_state(&mut self, alloc: Global) -> Result<(), Fail> {
+    fn add_state(&mut self, alloc: Global) -> Result<(), Fail> {
         let (dumps, v, w, is_locked) = match &self.last {
             Some(dump) => (dump.number, dump.v, dump.w, dump.is_locked),
             None => (0, i64::from(self.doppler).wrapping_mul(65_536), 0, false),

@@ -1,40 +1,66 @@
 //! Runs of one client, and the texts of faults.
 
-use super::{FIRST_COUNT, FIRST_COUNT_LINES, run_plain};
+use super::{FIRST_COUNT, FIRST_COUNT_LINES};
 use crate::devices::DeviceFault;
 use crate::faults::RunFault;
 use crate::running::run;
+use crate::tests::expected::{has_told, tells, writes};
 use crate::tests::fakes::{Giving, Holding};
 use made_signals::code_file;
 use oscillators::Settings;
 use sample_planes::Format;
+use std::alloc::{Alloc, Global};
+use std::process::Abort;
 use std::test::Fail;
 
-#[test]
-fn empty_run(rt: HostRuntime) -> Result<(), Fail> {
-    let mut reader = Giving::whole(&[]);
-    let mut writer = Holding::whole();
-    let answer = run_plain(rt.alloc(), &[b""], &mut reader, &mut writer)?;
-    assert_eq!(rt; answer, Ok(0));
-    assert_eq!(rt; writer.text()?, "1 0 end\n");
-    assert_eq!(rt; reader.reads, 1);
+/// Sees that a run of a script, over a reader that gives at most so many bytes and a writer that
+/// takes at most so many at once, comes to its end behind so many reads.
+fn reads_and_writes(
+    rt: &(impl Abort + Alloc<A = Global>),
+    script: &[u8],
+    reader: &mut Giving,
+    bytes_a_write: usize,
+    reads: u64,
+    samples: u64,
+    text: &str,
+) -> Result<(), Fail> {
+    let mut writer = Holding::faulty(bytes_a_write, usize::MAX);
+    tells(rt, &[script], reader, &mut writer, Ok(samples), text)?;
+    assert_eq!(rt; reader.reads, reads);
     assert!(rt; writer.is_flushed);
     Ok(())
 }
 
 #[test]
+fn empty_run(rt: HostRuntime) -> Result<(), Fail> {
+    reads_and_writes(
+        &rt,
+        b"",
+        &mut Giving::whole(&[]),
+        usize::MAX,
+        1,
+        0,
+        "1 0 end\n",
+    )
+}
+
+#[test]
 fn first_count(rt: HostRuntime) -> Result<(), Fail> {
     let code = code_file();
+    let text = FIRST_COUNT_LINES;
     // The last read is the one that gives nothing.
     for (bytes_a_read, reads) in [(256, 2), (7, 38), (1, 257)] {
         for bytes_a_write in [usize::MAX, 1] {
             let mut reader = Giving::pieces(&code, bytes_a_read);
-            let mut writer = Holding::faulty(bytes_a_write, usize::MAX);
-            let answer = run_plain(rt.alloc(), &[FIRST_COUNT], &mut reader, &mut writer)?;
-            assert_eq!(rt; answer, Ok(2048));
-            assert_eq!(rt; writer.text()?, FIRST_COUNT_LINES);
-            assert_eq!(rt; reader.reads, reads);
-            assert!(rt; writer.is_flushed);
+            reads_and_writes(
+                &rt,
+                FIRST_COUNT,
+                &mut reader,
+                bytes_a_write,
+                reads,
+                2_048,
+                text,
+            )?;
         }
     }
     Ok(())
@@ -45,18 +71,28 @@ fn first_count(rt: HostRuntime) -> Result<(), Fail> {
 // the early chip is that of the next period, and of the other sign.
 #[test]
 fn early_wraps(rt: HostRuntime) -> Result<(), Fail> {
-    let code = code_file();
-    let mut reader = Giving::whole(&code);
-    let mut writer = Holding::whole();
     let script = b"2045 hold 0 1 0 2045\n2045 counts 0 1";
-    let answer = run_plain(rt.alloc(), &[script], &mut reader, &mut writer)?;
-    assert_eq!(rt; answer, Ok(2048));
     let text = "1 2045 ok\n\
         1 2045 ok\n\
         1 2046 count 0 -2 1 2 -1 2 -1\n\
         1 2048 end\n";
-    assert_eq!(rt; writer.text()?, text);
-    Ok(())
+    writes(&rt, &[script], &code_file(), usize::MAX, 2_048, text)
+}
+
+/// Sees what the first dump of four samples tells: at four samples a chip, with the carrier a
+/// quarter of a cycle a sample, and the slot at the last chip's begin.
+fn counts_four_samples(
+    rt: &(impl Abort + Alloc<A = Global>),
+    format: Format,
+    bytes: &[u8],
+    text: &str,
+) -> Result<(), Fail> {
+    let settings = Settings::new(4_092_000, 1_023_000, format)?;
+    let mut reader = Giving::whole(bytes);
+    let mut writer = Holding::whole();
+    let script = b"0 hold 0 1 0 2044\n0 counts 0 1\n";
+    let answer = run(rt.alloc(), settings, &[script], &mut reader, &mut writer);
+    has_told(rt, answer, &writer, Ok(4), text)
 }
 
 // The samples are 3, -3, 1, -1, a quarter of a cycle apart, where the carrier's pairs are (2, 1),
@@ -66,18 +102,11 @@ fn early_wraps(rt: HostRuntime) -> Result<(), Fail> {
 // are -3, 6, 1, -2 and -3, 6, -1, 2.
 #[test]
 fn two_bit_byte(rt: HostRuntime) -> Result<(), Fail> {
-    let settings = Settings::new(4_092_000, 1_023_000, Format::Real2)?;
-    let mut reader = Giving::whole(&[0x72]);
-    let mut writer = Holding::whole();
-    let script = b"0 hold 0 1 0 2044\n0 counts 0 1\n";
-    let answer = run(rt.alloc(), settings, &[script], &mut reader, &mut writer);
-    assert_eq!(rt; answer, Ok(4));
     let text = "1 0 ok\n\
         1 0 ok\n\
         1 4 count 0 12 4 6 2 6 2\n\
         1 4 end\n";
-    assert_eq!(rt; writer.text()?, text);
-    Ok(())
+    counts_four_samples(&rt, Format::Real2, &[0x72], text)
 }
 
 // Complex samples meet the same carrier and the same chips as the two-bit byte above. A sample
@@ -88,21 +117,10 @@ fn two_bit_byte(rt: HostRuntime) -> Result<(), Fail> {
 // are (7, -1), (-5, 5), (-1, 3), (-9, -3).
 #[test]
 fn complex_bytes(rt: HostRuntime) -> Result<(), Fail> {
-    let rows: [(Format, &[u8], &str); 2] = [
-        (Format::Iq1, &[0x1b], "-2 6 2 -6 2 -6"),
-        (Format::Iq2, &[0x4b, 0x2d], "12 4 -8 4 -8 4"),
-    ];
-    for (format, bytes, sums) in rows {
-        let settings = Settings::new(4_092_000, 1_023_000, format)?;
-        let mut reader = Giving::whole(bytes);
-        let mut writer = Holding::whole();
-        let script = b"0 hold 0 1 0 2044\n0 counts 0 1\n";
-        let answer = run(rt.alloc(), settings, &[script], &mut reader, &mut writer);
-        assert_eq!(rt; answer, Ok(4));
-        let text = format!(in rt.alloc(); "1 0 ok\n1 0 ok\n1 4 count 0 {sums}\n1 4 end\n")?;
-        assert_eq!(rt; writer.text()?, text.as_str());
-    }
-    Ok(())
+    let text = "1 0 ok\n1 0 ok\n1 4 count 0 -2 6 2 -6 2 -6\n1 4 end\n";
+    counts_four_samples(&rt, Format::Iq1, &[0x1b], text)?;
+    let text = "1 0 ok\n1 0 ok\n1 4 count 0 12 4 -8 4 -8 4\n1 4 end\n";
+    counts_four_samples(&rt, Format::Iq2, &[0x4b, 0x2d], text)
 }
 
 // Three lines come before the first read, three with the last of 256 bytes, and the end behind the
@@ -113,8 +131,6 @@ fn lines_are_written_before_the_next_read(rt: HostRuntime) -> Result<(), Fail> {
     let mut reader = Giving::pieces(&code, 1);
     let mut writer = Holding::whole();
     let script = b"x\n0 hold 0 1 0 0\n0 counts 0 1\n2046 state 0\n2047 stop 1\n";
-    let answer = run_plain(rt.alloc(), &[script], &mut reader, &mut writer)?;
-    assert_eq!(rt; answer, Ok(2048));
     let text = "1 0 err 3\n\
         1 0 ok\n\
         1 0 ok\n\
@@ -122,9 +138,19 @@ fn lines_are_written_before_the_next_read(rt: HostRuntime) -> Result<(), Fail> {
         1 2046 state 0 hold 1 1\n\
         1 2047 err 10\n\
         1 2048 end\n";
-    assert_eq!(rt; writer.text()?, text);
+    tells(&rt, &[script], &mut reader, &mut writer, Ok(2_048), text)?;
     assert_eq!(rt; (reader.reads, writer.writes), (257, 3));
     assert_eq!(rt; writer.flushes, 1);
+    Ok(())
+}
+
+/// Sees that a fault has this text.
+fn has_text(
+    rt: &(impl Abort + Alloc<A = Global>),
+    fault: RunFault,
+    text: &str,
+) -> Result<(), Fail> {
+    assert_eq!(rt; fault.to_string(rt.alloc())?.as_str(), text);
     Ok(())
 }
 
@@ -138,7 +164,7 @@ fn faults_have_texts(rt: HostRuntime) -> Result<(), Fail> {
         (RunFault::TooLong, "too long"),
         (RunFault::Share, "share"),
     ] {
-        assert_eq!(rt; fault.to_string(rt.alloc())?.as_str(), text);
+        has_text(&rt, fault, text)?;
     }
     assert_eq!(rt; DeviceFault.to_string(rt.alloc())?.as_str(), "device");
     Ok(())

@@ -1,7 +1,6 @@
 //! Scripts whose lines are refused.
 
-use super::run_plain;
-use crate::tests::fakes::{Giving, Holding};
+use crate::tests::expected::writes;
 use arrayvec::ArrayVec;
 use made_signals::code_file;
 use std::test::Fail;
@@ -21,10 +20,6 @@ fn every_refusal(rt: HostRuntime) -> Result<(), Fail> {
         6 hold 0 1 0 0\n\
         6 stop 1\n\
         9 stop 0\n";
-    let mut reader = Giving::whole(&[0]);
-    let mut writer = Holding::whole();
-    let answer = run_plain(rt.alloc(), &[script], &mut reader, &mut writer)?;
-    assert_eq!(rt; answer, Ok(8));
     let text = "1 5 ok\n\
         1 5 err 4\n\
         1 5 err 3\n\
@@ -36,36 +31,24 @@ fn every_refusal(rt: HostRuntime) -> Result<(), Fail> {
         1 6 err 9\n\
         1 6 err 10\n\
         1 8 end\n";
-    assert_eq!(rt; writer.text()?, text);
-    Ok(())
+    writes(&rt, &[script], &[0], usize::MAX, 8, text)
 }
 
 #[test]
 fn long_and_unprintable_lines(rt: HostRuntime) -> Result<(), Fail> {
     let long = [b'x'; 81];
     let scripts: [&[u8]; 2] = [&long, b"0 state 0\r\n0 state\x7f0\n0 state 0"];
-    let mut reader = Giving::whole(&[]);
-    let mut writer = Holding::whole();
-    let answer = run_plain(rt.alloc(), &scripts, &mut reader, &mut writer)?;
-    assert_eq!(rt; answer, Ok(0));
     let text = "1 0 err 1\n\
         2 0 err 2\n\
         2 0 err 2\n\
         2 0 state 0 idle\n\
         1 0 end\n\
         2 0 end\n";
-    assert_eq!(rt; writer.text()?, text);
-    Ok(())
+    writes(&rt, &scripts, &[], usize::MAX, 0, text)
 }
 
-// Line by line: 81 bytes are too many; 80 spaces and an empty line have no words and are skipped;
-// 14 digits, and a sign, make no time; `-0` and `00` are the slot 0; 14 digits and two signs make
-// no number; a verb has lower case; there has to be one; `state` takes one word; the shift is out
-// of range before `x` is looked at; so is the number of counts; the slot is idle; 2^40 + 1 is no
-// time; spaces at the ends and between words are allowed. The last two lines stand at 2^40, which
-// no run without samples comes to.
-#[test]
-fn hostile_script(rt: HostRuntime) -> Result<(), Fail> {
+/// The script below.
+fn hostile_lines() -> Result<ArrayVec<u8, 512>, Fail> {
     let mut script = ArrayVec::<u8, 512>::new();
     script.try_extend_from_slice(&[b' '; 81])?;
     script.try_extend_from_slice(b"\n")?;
@@ -88,10 +71,17 @@ fn hostile_script(rt: HostRuntime) -> Result<(), Fail> {
         1099511627776 state 0\n\
         0 stop 0\n",
     )?;
-    let mut reader = Giving::whole(&[]);
-    let mut writer = Holding::whole();
-    let answer = run_plain(rt.alloc(), &[script.as_slice()], &mut reader, &mut writer)?;
-    assert_eq!(rt; answer, Ok(0));
+    Ok(script)
+}
+
+// Line by line: 81 bytes are too many; 80 spaces and an empty line have no words and are skipped;
+// 14 digits, and a sign, make no time; `-0` and `00` are the slot 0; 14 digits and two signs make
+// no number; a verb has lower case; there has to be one; `state` takes one word; the shift is out
+// of range before `x` is looked at; so is the number of counts; the slot is idle; 2^40 + 1 is no
+// time; spaces at the ends and between words are allowed. The last two lines stand at 2^40, which
+// no run without samples comes to.
+#[test]
+fn hostile_script(rt: HostRuntime) -> Result<(), Fail> {
     let text = "1 0 err 1\n\
         1 0 err 3\n\
         1 0 err 3\n\
@@ -108,27 +98,26 @@ fn hostile_script(rt: HostRuntime) -> Result<(), Fail> {
         1 0 err 3\n\
         1 0 state 3 idle\n\
         1 0 end\n";
-    assert_eq!(rt; writer.text()?, text);
-    Ok(())
+    writes(
+        &rt,
+        &[hostile_lines()?.as_slice()],
+        &[],
+        usize::MAX,
+        0,
+        text,
+    )
 }
 
 // The refused track changes nothing: the dump is that of the hold before it.
 #[test]
 fn refused_restart(rt: HostRuntime) -> Result<(), Fail> {
-    let code = code_file();
-    let mut reader = Giving::whole(&code);
-    let mut writer = Holding::whole();
     let script = b"0 hold 0 1 0 0\n0 counts 0 1\n1000 track 0 1 0 0\n";
-    let answer = run_plain(rt.alloc(), &[script], &mut reader, &mut writer)?;
-    assert_eq!(rt; answer, Ok(2048));
     let text = "1 0 ok\n\
         1 0 ok\n\
         1 1000 err 9\n\
         1 2046 count 0 2044 -1022 4092 -2046 2044 -1022\n\
         1 2048 end\n";
-    assert_eq!(rt; writer.text()?, text);
-    let mut reader = Giving::whole(&[]);
-    let mut writer = Holding::whole();
+    writes(&rt, &[script], &code_file(), usize::MAX, 2_048, text)?;
     let script = b"0 track 0 1 0 0\n\
         0 state 0\n\
         0 stop 0\n\
@@ -136,8 +125,6 @@ fn refused_restart(rt: HostRuntime) -> Result<(), Fail> {
         0 hold 4 1 0 0\n\
         0 hold 0 33 0 0\n\
         0 hold 0 0 0 0\n";
-    let answer = run_plain(rt.alloc(), &[script], &mut reader, &mut writer)?;
-    assert_eq!(rt; answer, Ok(0));
     let text = "1 0 ok\n\
         1 0 state 0 track 1 0 0 0 open\n\
         1 0 ok\n\
@@ -146,6 +133,5 @@ fn refused_restart(rt: HostRuntime) -> Result<(), Fail> {
         1 0 err 8\n\
         1 0 err 8\n\
         1 0 end\n";
-    assert_eq!(rt; writer.text()?, text);
-    Ok(())
+    writes(&rt, &[script], &[], usize::MAX, 0, text)
 }

@@ -1,11 +1,12 @@
 //! Readers and writers of std, each of which is asked once.
 
 use super::{FIRST_COUNT, FIRST_COUNT_LINES, plain_settings};
-use crate::devices::Plain;
+use crate::devices::{Plain, Sink, Source};
 use crate::faults::RunFault;
 use crate::running::run;
 use crate::tests::fakes::{Giving, Holding};
 use made_signals::code_file;
+use std::alloc::Global;
 use std::io::{self, Read, Write};
 use std::test::Fail;
 
@@ -83,6 +84,16 @@ impl Write for IdleWriter {
     }
 }
 
+/// A run of one script over plain settings.
+fn run_over<R: Source, W: Sink>(
+    alloc: Global,
+    script: &[u8],
+    reader: &mut R,
+    writer: &mut W,
+) -> Result<Result<u64, RunFault>, Fail> {
+    Ok(run(alloc, plain_settings()?, &[script], reader, writer))
+}
+
 #[test]
 fn std_devices_run(rt: HostRuntime) -> Result<(), Fail> {
     let code = code_file();
@@ -90,14 +101,7 @@ fn std_devices_run(rt: HostRuntime) -> Result<(), Fail> {
     let mut room = [0u8; 100];
     let mut reader = Plain::new(&mut bytes);
     let mut writer = Plain::new(&mut room[..]);
-    let settings = plain_settings()?;
-    let answer = run(
-        rt.alloc(),
-        settings,
-        &[FIRST_COUNT],
-        &mut reader,
-        &mut writer,
-    );
+    let answer = run_over(rt.alloc(), FIRST_COUNT, &mut reader, &mut writer)?;
     assert_eq!(rt; answer, Ok(2048));
     let text = FIRST_COUNT_LINES.as_bytes();
     assert_eq!(rt; room.get(..text.len()), Some(text));
@@ -110,14 +114,7 @@ fn interrupted_reader(rt: HostRuntime) -> Result<(), Fail> {
     let mut inner = InterruptedReader { reads: 0 };
     let mut reader = Plain::new(&mut inner);
     let mut writer = Holding::whole();
-    let settings = plain_settings()?;
-    let answer = run(
-        rt.alloc(),
-        settings,
-        &[b"0 state 0"],
-        &mut reader,
-        &mut writer,
-    );
+    let answer = run_over(rt.alloc(), b"0 state 0", &mut reader, &mut writer)?;
     assert_eq!(rt; answer, Err(RunFault::Read));
     assert_eq!(rt; writer.text()?, "1 0 state 0 idle\n");
     assert_eq!(rt; inner.reads, 1);
@@ -132,14 +129,7 @@ fn interrupted_writer(rt: HostRuntime) -> Result<(), Fail> {
         let mut inner = InterruptedWriter::new(at_write, at_flush);
         let mut reader = Giving::whole(&[0]);
         let mut writer = Plain::new(&mut inner);
-        let settings = plain_settings()?;
-        let answer = run(
-            rt.alloc(),
-            settings,
-            &[b"0 state 0"],
-            &mut reader,
-            &mut writer,
-        );
+        let answer = run_over(rt.alloc(), b"0 state 0", &mut reader, &mut writer)?;
         assert_eq!(rt; answer, Err(RunFault::Write));
         assert_eq!(rt; (inner.writes, inner.flushes), (writes, flushes));
     }
@@ -154,28 +144,14 @@ fn writer_takes_nothing(rt: HostRuntime) -> Result<(), Fail> {
     let mut reader = Giving::faulty(&code, usize::MAX, 100);
     let mut inner = IdleWriter { writes: 0 };
     let mut writer = Plain::new(&mut inner);
-    let settings = plain_settings()?;
-    let answer = run(
-        rt.alloc(),
-        settings,
-        &[FIRST_COUNT],
-        &mut reader,
-        &mut writer,
-    );
+    let answer = run_over(rt.alloc(), FIRST_COUNT, &mut reader, &mut writer)?;
     assert_eq!(rt; answer, Err(RunFault::Write));
     assert_eq!(rt; inner.writes, 1);
     // A slice that is full takes nothing, either.
     let mut reader = Giving::faulty(&code, usize::MAX, 100);
     let mut room = [b'?'; 4];
     let mut writer = Plain::new(&mut room[..0]);
-    let settings = plain_settings()?;
-    let answer = run(
-        rt.alloc(),
-        settings,
-        &[FIRST_COUNT],
-        &mut reader,
-        &mut writer,
-    );
+    let answer = run_over(rt.alloc(), FIRST_COUNT, &mut reader, &mut writer)?;
     assert_eq!(rt; answer, Err(RunFault::Write));
     assert_eq!(rt; room, [b'?'; 4]);
     Ok(())

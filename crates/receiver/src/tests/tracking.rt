@@ -1,7 +1,7 @@
 //! A satellite that is tracked, beside the plain reference of tracking.
 
 use crate::tests::reference::Reference;
-use crate::tests::signals::written;
+use crate::tests::signals::writes;
 use made_signals::{MadeSignal, PlainNews, SampleStream};
 use std::test::Fail;
 
@@ -10,13 +10,11 @@ use std::test::Fail;
 fn made_signal_locks(rt: HostRuntime) -> Result<(), Fail> {
     let signal = MadeSignal::with_tail(&[]);
     let stream = SampleStream::new(signal, 2_000_000);
-    let writer = written(rt.alloc(), &signal, stream, b"0 track 0 7 1000 100\n")?;
     let text = "1 0 ok\n\
         1 547378 lock 0\n\
         1 1302377 bits 0\n\
         1 2000000 end\n";
-    assert_eq!(rt; writer.text()?, text);
-    Ok(())
+    writes(&rt, &signal, stream, b"0 track 0 7 1000 100\n", text)
 }
 
 // The loops' steps are those of the segment that begins with the dump, and not of a later one: else
@@ -26,14 +24,10 @@ fn tracked_counts(rt: HostRuntime) -> Result<(), Fail> {
     let signal = MadeSignal::with_tail(&[]);
     let stream = SampleStream::new(signal, 800_000);
     let mut reference = Reference::new(&signal, stream, 300);
-    reference.add(rt.alloc(), "ok")?;
-    reference.add(rt.alloc(), "ok")?;
-    reference.go_on(rt.alloc(), 800_000)?;
-    reference.add(rt.alloc(), "end")?;
+    let steps = [(0, Some("ok")), (0, Some("ok")), (800_000, Some("end"))];
+    reference.follow(rt.alloc(), &steps)?;
     let script = b"0 track 0 7 1000 100\n0 counts 0 300\n";
-    let writer = written(rt.alloc(), &signal, stream, script)?;
-    assert_eq!(rt; writer.text()?, reference.text()?);
-    Ok(())
+    writes(&rt, &signal, stream, script, reference.text()?)
 }
 
 // The first segment begins half a chip before the end of the code and has one sample. The carrier's
@@ -50,20 +44,19 @@ fn first_segment_of_one_sample(rt: HostRuntime) -> Result<(), Fail> {
     };
     let stream = SampleStream::new(signal, 20_000);
     let mut reference = Reference::new(&signal, stream, 4);
-    reference.add(rt.alloc(), "ok")?;
-    reference.add(rt.alloc(), "ok")?;
-    reference.go_on(rt.alloc(), 1)?;
+    let steps = [
+        (0, Some("ok")),
+        (0, Some("ok")),
+        (1, None),
+        (20_000, Some("end")),
+    ];
+    reference.follow(rt.alloc(), &steps)?;
     let first = "1 0 ok\n\
         1 0 ok\n\
         1 1 count 0 -6 3 6 -3 6 -3\n";
-    assert_eq!(rt; reference.text()?, first);
-    reference.add_state(rt.alloc())?;
-    reference.go_on(rt.alloc(), 20_000)?;
-    reference.add(rt.alloc(), "end")?;
+    assert!(rt; reference.text()?.starts_with(first));
     let script = b"0 track 0 5 1000 2045\n0 counts 0 4\n1 state 0\n";
-    let writer = written(rt.alloc(), &signal, stream, script)?;
-    assert_eq!(rt; writer.text()?, reference.text()?);
-    Ok(())
+    writes(&rt, &signal, stream, script, reference.text()?)
 }
 
 // A state at the time of a dump shows it, and one sample before doesn't.
@@ -72,14 +65,21 @@ fn states_of_a_tracked_slot(rt: HostRuntime) -> Result<(), Fail> {
     let signal = MadeSignal::with_tail(&[]);
     let stream = SampleStream::new(signal, 1_000_000);
     let mut reference = Reference::new(&signal, stream, 0);
-    reference.add(rt.alloc(), "ok")?;
-    for time in [
-        0, 2_377, 2_378, 4_878, 300_000, 497_378, 499_878, 547_377, 547_378, 1_000_000,
-    ] {
-        reference.go_on(rt.alloc(), time)?;
-        reference.add_state(rt.alloc())?;
-    }
-    reference.add(rt.alloc(), "end")?;
+    let steps = [
+        (0, Some("ok")),
+        (0, None),
+        (2_377, None),
+        (2_378, None),
+        (4_878, None),
+        (300_000, None),
+        (497_378, None),
+        (499_878, None),
+        (547_377, None),
+        (547_378, None),
+        (1_000_000, None),
+        (1_000_000, Some("end")),
+    ];
+    reference.follow(rt.alloc(), &steps)?;
     let script = b"0 track 0 7 1000 100\n\
         0 state 0\n\
         2377 state 0\n\
@@ -91,9 +91,7 @@ fn states_of_a_tracked_slot(rt: HostRuntime) -> Result<(), Fail> {
         547377 state 0\n\
         547378 state 0\n\
         1000000 state 0\n";
-    let writer = written(rt.alloc(), &signal, stream, script)?;
-    assert_eq!(rt; writer.text()?, reference.text()?);
-    Ok(())
+    writes(&rt, &signal, stream, script, reference.text()?)
 }
 
 // Noise hides the signal for 260 milliseconds, and later for good.
@@ -103,8 +101,14 @@ fn hidden_signal_is_lost(rt: HostRuntime) -> Result<(), Fail> {
     let noisy = [(750_000, 1_400_000), (2_150_000, 4_700_000)];
     let stream = SampleStream::with_noise(signal, 4_700_000, &noisy);
     let mut reference = Reference::new(&signal, stream, 0);
-    reference.add(rt.alloc(), "ok")?;
-    reference.go_on(rt.alloc(), 4_700_000)?;
+    let steps = [
+        (0, Some("ok")),
+        (4_700_000, Some("state 0 idle")),
+        (4_700_000, Some("err 10")),
+        (4_700_000, Some("ok")),
+        (4_700_000, Some("end")),
+    ];
+    reference.follow(rt.alloc(), &steps)?;
     let news = [
         PlainNews::Lock,
         PlainNews::Unlock,
@@ -113,17 +117,11 @@ fn hidden_signal_is_lost(rt: HostRuntime) -> Result<(), Fail> {
         PlainNews::Lost,
     ];
     assert_eq!(rt; reference.news(), news.as_slice());
-    reference.add(rt.alloc(), "state 0 idle")?;
-    reference.add(rt.alloc(), "err 10")?;
-    reference.add(rt.alloc(), "ok")?;
-    reference.add(rt.alloc(), "end")?;
     let script = b"0 track 0 7 1000 100\n\
         4700000 state 0\n\
         4700000 stop 0\n\
         4700000 track 0 7 1000 100\n";
-    let writer = written(rt.alloc(), &signal, stream, script)?;
-    assert_eq!(rt; writer.text()?, reference.text()?);
-    Ok(())
+    writes(&rt, &signal, stream, script, reference.text()?)
 }
 
 // The refused lines stand between two dumps and at the very time of the third one. Five dumps are
@@ -133,23 +131,21 @@ fn refused_track_changes_nothing(rt: HostRuntime) -> Result<(), Fail> {
     let signal = MadeSignal::with_tail(&[]);
     let stream = SampleStream::new(signal, 20_000);
     let mut reference = Reference::new(&signal, stream, 5);
-    reference.add(rt.alloc(), "ok")?;
-    reference.add(rt.alloc(), "ok")?;
-    reference.go_on(rt.alloc(), 5_000)?;
-    reference.add(rt.alloc(), "err 9")?;
-    reference.add(rt.alloc(), "err 9")?;
-    reference.go_on(rt.alloc(), 7_378)?;
-    reference.add(rt.alloc(), "err 9")?;
-    reference.add_state(rt.alloc())?;
-    reference.go_on(rt.alloc(), 20_000)?;
-    reference.add(rt.alloc(), "end")?;
+    let steps = [
+        (0, Some("ok")),
+        (0, Some("ok")),
+        (5_000, Some("err 9")),
+        (5_000, Some("err 9")),
+        (7_378, Some("err 9")),
+        (7_378, None),
+        (20_000, Some("end")),
+    ];
+    reference.follow(rt.alloc(), &steps)?;
     let script = b"0 track 0 7 1000 100\n\
         0 counts 0 5\n\
         5000 track 0 7 1000 100\n\
         5000 hold 0 5 0 0\n\
         7378 track 0 1 -2000 7\n\
         7378 state 0\n";
-    let writer = written(rt.alloc(), &signal, stream, script)?;
-    assert_eq!(rt; writer.text()?, reference.text()?);
-    Ok(())
+    writes(&rt, &signal, stream, script, reference.text()?)
 }
