@@ -83,12 +83,12 @@ fn flush_fails(
     Ok(())
 }
 
-/// The same of a run over two bytes and at most eight samples.
+/// The same of a run over two bytes and at most eight samples. Gives the number of writes.
 fn flush_fails_past_limit(
     rt: &(impl Abort + Alloc<A = Global>),
     script: &[u8],
     text: &str,
-) -> Result<(), Fail> {
+) -> Result<u64, Fail> {
     let mut writer = Holding::without_flush();
     let answer = run_one(
         rt.alloc(),
@@ -99,7 +99,7 @@ fn flush_fails_past_limit(
     )?;
     has_told(rt, answer, &writer, Err(RunFault::Write), text)?;
     assert_eq!(rt; writer.flushes, 1);
-    Ok(())
+    Ok(writer.writes)
 }
 
 // The reader and the writer would go on behind their fault, and aren't asked: the last call on them
@@ -156,14 +156,17 @@ fn failing_flush(rt: HostRuntime) -> Result<(), Fail> {
     )?;
     let mut reader = Giving::faulty(&code, usize::MAX, 100);
     flush_fails(&rt, FIRST_COUNT, &mut reader, ANSWERS)?;
-    flush_fails_past_limit(&rt, b"8 state 0\n9 state 0\n", "1 8 state 0 idle\n")
+    let text = "1 8 state 0 idle\n";
+    let _writes = flush_fails_past_limit(&rt, b"8 state 0\n9 state 0\n", text)?;
+    Ok(())
 }
 
 // There is a flush with no line, too.
 #[test]
 fn failing_flush_of_nothing(rt: HostRuntime) -> Result<(), Fail> {
     flush_fails(&rt, b"", &mut Giving::faulty(&[0], 1, 0), "")?;
-    flush_fails_past_limit(&rt, b"", "")
+    assert_eq!(rt; flush_fails_past_limit(&rt, b"", "")?, 0);
+    Ok(())
 }
 
 // A line at 0 comes before the first read, one at 8 with the first byte.

@@ -53,7 +53,8 @@ fn first_segment_of_one_sample(rt: HostRuntime) -> Result<(), Fail> {
     reference.follow(rt.alloc(), &steps)?;
     let first = "1 0 ok\n\
         1 0 ok\n\
-        1 1 count 0 -6 3 6 -3 6 -3\n";
+        1 1 count 0 -6 3 6 -3 6 -3\n\
+        1 1 state 0 ";
     assert!(rt; reference.text()?.starts_with(first));
     let script = b"0 track 0 5 1000 2045\n0 counts 0 4\n1 state 0\n";
     writes(&rt, &signal, stream, script, reference.text()?)
