@@ -9,9 +9,8 @@ use Rattle.definitions.specs.Commands.{TimedRequest, Request}
 use Rattle.definitions.specs.Samples.{Sample}
 use Rattle.definitions.specs.Banks.{with_command}
 use Rattle.channel_slots.specs.declared.place.Place.{Place}
-use Rattle.channel_slots.specs.Slots.{StandsFor, dumps_of}
-use Rattle.channel_slots.specs.Banks.{keys_of, BankStands, AllFew, most_dumps, IsAt}
-use Rattle.channel_slots.proofs.BankLemmas.{few-from_most, most-from_few}
+use Rattle.channel_slots.specs.Slots.{StandsFor}
+use Rattle.channel_slots.specs.Banks.{keys_of, BankStands, IsAt}
 
 pub each-at : {A : Type 0} (P : A → Type 0) (xs : List A) (i : ℕ) (d : A) → i < length xs
     → AllByRecursion P xs → P (get_or xs i d)
@@ -149,12 +148,6 @@ keys-set [] i d q c n = refl
 keys-set (p ∷ ps) zero d q c n = rw (c, n)
 keys-set (p ∷ ps) (suc i) d q c n = rw (keys-set ps i d q c n)
 
-few-set : (ps : List Place) (i n : ℕ) (q : Place) → AllFew n ps → dumps_of q.slot ≤ n
-    → AllFew n (slice_set ps i q)
-few-set [] i n q few h = tt
-few-set (p ∷ ps) zero n q few h = (h, few.1)
-few-set (p ∷ ps) (suc i) n q few h = (few.0, few-set ps i n q few.1 h)
-
 each-set : (P : Place → Type 0) (ps : List Place) (i : ℕ) (q : Place) → AllByRecursion P ps
     → P q → AllByRecursion P (slice_set ps i q)
 each-set P [] i q all h = tt
@@ -168,20 +161,14 @@ set-keeps P ps i p q b is keeps all =
     each-set P ps i q all (keeps (rw (sym is) at (each-at P ps i p b all)))
 
 -- what the bank keeps of itself
-pub record Keeps (ps qs : List Place) (n : ℕ) : Type 0 where
-  pub few : most_dumps qs ≤ n
+pub record Keeps (ps qs : List Place) : Type 0 where
   pub size : length qs ≡ length ps
   pub keys : keys_of qs ≡ keys_of ps
 
-pub keeps : (ps : List Place) (i n : ℕ) (p q : Place) → i < length ps → p ≡ get_or ps i p
-    → q.client ≡ p.client → q.number ≡ p.number → dumps_of q.slot ≤ dumps_of p.slot
-    → most_dumps ps ≤ n → Keeps ps (slice_set ps i q) n
-keeps ps i n p q b is c m fewer h =
-    let all = few-from_most n ps h in
-    let own : dumps_of p.slot ≤ n =
-    rw (sym is) at (each-at (λ (p : Place). dumps_of p.slot ≤ n) ps i p b all) in
+pub keeps : (ps : List Place) (i : ℕ) (p q : Place) → p ≡ get_or ps i p
+    → q.client ≡ p.client → q.number ≡ p.number → Keeps ps (slice_set ps i q)
+keeps ps i p q is c m =
     record {
-      few = most-from_few n (slice_set ps i q) (few-set ps i n q all (omega (arith, own, fewer)));
       size = length-set ps i q;
       keys =
           keys-set ps i p q (c ∙ ap (λ (x : Place). x.client) is)

@@ -13,5 +13,6 @@ pub mod ShareLemmas
 pub mod SlotLemmas
 pub mod StageLemmas
 pub mod SteeredLemmas
+pub mod TakenLemmas
 pub mod TellingLemmas
 pub mod TrackLemmas

@@ -1,106 +1,84 @@
--- Slots that search, on their way to their due times.
+-- What is known of slots at a time.
 use Rattle.std.proofs.Common.{◌≡◌, ◌≤◌, ◌+◌, ◌-◌, ℕ, List, [], ◌∷◌, refl, true, arith}
 use Rattle.std.specs.Prelude.{nat_eq, nat_lt}
 use Rattle.std.proofs.lemmas.Bool.{eq-eqb, eqb-true, lt-ltb, ltb-true, le-leb, leb-true, and_parts}
 use Rattle.channels.specs.Searching.{due_of, start_of, to_due_of}
+use Rattle.channels.specs.HeldChannels as held
+use Rattle.channels.specs.TrackedChannels as tracked
 use Rattle.channel_slots.specs.declared.stage.Stage.{Stage}
 use Rattle.channel_slots.specs.declared.stage.Stage.TheVariants.{Searching, Holding, Tracking}
 use Rattle.channel_slots.specs.declared.slot.Slot.{Slot}
 use Rattle.channel_slots.specs.declared.slot.Slot.TheVariants.{Idle, On}
 use Rattle.channel_slots.specs.Stages as stages
 use Rattle.channel_slots.specs.declared.place.Place.{Place}
-use Rattle.channel_slots.specs.Slots.{IsReady, IsWithin, IsWaiting, Holds, is_on_way}
-use Rattle.channel_slots.specs.Banks.{AllReady, AllWithin, are_on_way}
-
-pub waits : (first time : ℕ) (slot : Slot) → IsReady first time slot → IsWaiting slot
-waits first time Idle ready = tt
-waits first time (On life) ready = of_stage life.stage ready
-  where
-    of_stage : (stage : Stage) → stages.IsReady first time stage → stages.IsWaiting stage
-    of_stage (Searching a) ready = ready.2
-    of_stage (Holding h) ready = tt
-    of_stage (Tracking t) ready = tt
-
-pub holds : (first time to n : ℕ) (slot : Slot) → IsReady first time slot → time + n ≤ to
-    → Holds slot first to n
-holds first time to n Idle ready within = tt
-holds first time to n (On life) ready within = of_stage life.stage ready
-  where
-    of_stage : (stage : Stage) → stages.IsReady first time stage → stages.Holds stage first to n
-    of_stage (Searching a) ready = (ready.0, omega (arith, ready.1, within))
-    of_stage (Holding h) ready = tt
-    of_stage (Tracking t) ready = tt
+use Rattle.channel_slots.specs.Slots.{IsSound, is_sound}
+use Rattle.channel_slots.specs.Banks.{AllSound, are_sound}
 
 -- a source may hold fewer samples before a search's first one than it did
-pub ready-from : (reach time first : ℕ) (slot : Slot) → IsReady 0 time slot → IsWithin reach slot
-    → first ≤ time - reach → IsReady first time slot
-ready-from reach time first Idle ready within late = tt
-ready-from reach time first (On life) ready within late = of_stage life.stage ready within
+pub sound-from : (reach time first : ℕ) (slot : Slot) → IsSound 0 time reach slot
+    → first ≤ time - reach → IsSound first time reach slot
+sound-from reach time first Idle sound late = tt
+sound-from reach time first (On life) sound late = of_stage life.stage sound
   where
-    of_stage : (stage : Stage) → stages.IsReady 0 time stage → stages.IsWithin reach stage
-        → stages.IsReady first time stage
-    of_stage (Searching a) ready within =
-        (omega (arith, ready.1, ready.2, within, late), ready.1, ready.2)
-    of_stage (Holding h) ready within = tt
-    of_stage (Tracking t) ready within = tt
+    of_stage : (stage : Stage) → stages.IsSound 0 time reach stage
+        → stages.IsSound first time reach stage
+    of_stage (Searching a) sound =
+        (omega (arith, sound.1, sound.2, sound.3, late), sound.1, sound.2, sound.3)
+    of_stage (Holding h) sound = sound
+    of_stage (Tracking t) sound = sound
 
-pub all-ready-from : (reach time first : ℕ) (places : List Place) → AllReady 0 time places
-    → AllWithin reach places → first ≤ time - reach → AllReady first time places
-all-ready-from reach time first [] ready within late = tt
-all-ready-from reach time first (p ∷ places) ready within late = (
-  ready-from reach time first p.slot ready.0 within.0 late,
-  all-ready-from reach time first places ready.1 within.1 late,
+pub all-sound-from : (reach time first : ℕ) (places : List Place) → AllSound 0 time reach places
+    → first ≤ time - reach → AllSound first time reach places
+all-sound-from reach time first [] sound late = tt
+all-sound-from reach time first (p ∷ places) sound late = (
+  sound-from reach time first p.slot sound.0 late,
+  all-sound-from reach time first places sound.1 late,
 )
 
--- on its way, by the test and by the facts
-pub on-way : (time reach : ℕ) (slot : Slot) → IsReady 0 time slot → IsWithin reach slot
-    → is_on_way time reach slot ≡ true
-on-way time reach Idle ready within = refl
-on-way time reach (On life) ready within = of_stage life.stage ready within
+-- by the test and by the facts
+pub tested : (time reach : ℕ) (slot : Slot) → IsSound 0 time reach slot
+    → is_sound time reach slot ≡ true
+tested time reach Idle sound = refl
+tested time reach (On life) sound = of_stage life.stage sound
   where
-    of_stage : (stage : Stage) → stages.IsReady 0 time stage → stages.IsWithin reach stage
-        → stages.is_on_way time reach stage ≡ true
-    of_stage (Searching a) ready within =
+    of_stage : (stage : Stage) → stages.IsSound 0 time reach stage
+        → stages.is_sound time reach stage ≡ true
+    of_stage (Searching a) sound =
         rw (
-          eq-eqb (due_of a) (time + to_due_of a) ready.1,
-          lt-ltb 0 (to_due_of a) ready.2,
-          le-leb (due_of a) (start_of a + reach) within,
+          eq-eqb (due_of a) (time + to_due_of a) sound.1,
+          lt-ltb 0 (to_due_of a) sound.2,
+          le-leb (due_of a) (start_of a + reach) sound.3,
         ) refl
-    of_stage (Holding h) ready within = refl
-    of_stage (Tracking t) ready within = refl
+    of_stage (Holding h) sound = le-leb (held.dumps_of h) time sound
+    of_stage (Tracking t) sound = le-leb (tracked.dumps_of t) time sound
 
-pub on-way-ready : (time reach : ℕ) (slot : Slot) → is_on_way time reach slot ≡ true
-    → IsReady 0 time slot × IsWithin reach slot
-on-way-ready time reach Idle test = (tt, tt)
-on-way-ready time reach (On life) test = of_stage life.stage test
+pub by-test : (time reach : ℕ) (slot : Slot) → is_sound time reach slot ≡ true
+    → IsSound 0 time reach slot
+by-test time reach Idle test = tt
+by-test time reach (On life) test = of_stage life.stage test
   where
-    of_stage : (stage : Stage) → stages.is_on_way time reach stage ≡ true
-        → stages.IsReady 0 time stage × stages.IsWithin reach stage
+    of_stage : (stage : Stage) → stages.is_sound time reach stage ≡ true
+        → stages.IsSound 0 time reach stage
     of_stage (Searching a) test =
         let outer = and_parts (nat_eq (due_of a) (time + to_due_of a)) _ test in
         let inner = and_parts (nat_lt 0 (to_due_of a)) _ outer.1 in (
-          (
-            omega arith,
-            eqb-true (due_of a) (time + to_due_of a) outer.0,
-            ltb-true 0 (to_due_of a) inner.0,
-          ),
+          omega arith,
+          eqb-true (due_of a) (time + to_due_of a) outer.0,
+          ltb-true 0 (to_due_of a) inner.0,
           leb-true (due_of a) (start_of a + reach) inner.1,
         )
-    of_stage (Holding h) test = (tt, tt)
-    of_stage (Tracking t) test = (tt, tt)
+    of_stage (Holding h) test = leb-true (held.dumps_of h) time test
+    of_stage (Tracking t) test = leb-true (tracked.dumps_of t) time test
 
-pub all-on-way : (time reach : ℕ) (places : List Place) → AllReady 0 time places
-    → AllWithin reach places → are_on_way time reach places ≡ true
-all-on-way time reach [] ready within = refl
-all-on-way time reach (p ∷ places) ready within =
-    rw (on-way time reach p.slot ready.0 within.0)
-    (all-on-way time reach places ready.1 within.1)
+pub all-tested : (time reach : ℕ) (places : List Place) → AllSound 0 time reach places
+    → are_sound time reach places ≡ true
+all-tested time reach [] sound = refl
+all-tested time reach (p ∷ places) sound =
+    rw (tested time reach p.slot sound.0) (all-tested time reach places sound.1)
 
-pub all-ready : (time reach : ℕ) (places : List Place) → are_on_way time reach places ≡ true
-    → AllReady 0 time places × AllWithin reach places
-all-ready time reach [] test = (tt, tt)
-all-ready time reach (p ∷ places) test =
-    let parts = and_parts (is_on_way time reach p.slot) _ test in
-    let one = on-way-ready time reach p.slot parts.0 in
-    let rest = all-ready time reach places parts.1 in
-    ((one.0, rest.0), (one.1, rest.1))
+pub all-sound : (time reach : ℕ) (places : List Place) → are_sound time reach places ≡ true
+    → AllSound 0 time reach places
+all-sound time reach [] test = tt
+all-sound time reach (p ∷ places) test =
+    let parts = and_parts (is_sound time reach p.slot) _ test in
+    (by-test time reach p.slot parts.0, all-sound time reach places parts.1)

@@ -17,7 +17,7 @@ use Rattle.channel_slots.specs.declared.place.Place.{Place}
 use Rattle.channel_slots.specs.declared.slot.Slot.TheVariants.{Idle}
 use Rattle.channel_slots.specs.Banks.{total, keys_of, IsAt, row_of as row, AddsIdle, AllIdle}
 use Rattle.channel_slots.proofs.CommandLemmas.{Once}
-use Rattle.channel_slots.specs.Banks.{AllFew, AllReady, AllWithin}
+use Rattle.channel_slots.specs.Banks.{AllSound}
 use Rattle.channel_slots.specs.Slots.{StandsFor}
 use Rattle.channel_slots.specs.declared.command.TheConstants.{MOST_SLOTS}
 use Rattle.channel_slots.proofs.SlotLemmas.{stands-new}
@@ -220,17 +220,9 @@ idle-more client share before after idle adds =
 
 -- ---- idle slots
 
-pub idle-few : (ps : List Place) → AllIdle ps → AllFew 0 ps
-idle-few [] idle = tt
-idle-few (p ∷ ps) idle = (rw idle.0 (omega arith), idle-few ps idle.1)
-
-pub idle-ready : (ps : List Place) → AllIdle ps → AllReady 0 0 ps
-idle-ready [] idle = tt
-idle-ready (p ∷ ps) idle = (rw idle.0 tt, idle-ready ps idle.1)
-
-pub idle-within : (reach : ℕ) (ps : List Place) → AllIdle ps → AllWithin reach ps
-idle-within reach [] idle = tt
-idle-within reach (p ∷ ps) idle = (rw idle.0 tt, idle-within reach ps idle.1)
+pub idle-sound : (reach : ℕ) (ps : List Place) → AllIdle ps → AllSound 0 0 reach ps
+idle-sound reach [] idle = tt
+idle-sound reach (p ∷ ps) idle = (rw idle.0 tt, idle-sound reach ps idle.1)
 
 pub idle-stand : (settings : Settings) (ps : List Place) → AllIdle ps
     → AllByRecursion (λ (p : Place). StandsFor settings [] [] p.slot) ps

@@ -2,16 +2,17 @@
 -- events.
 use Rattle.std.proofs.Common.{◌≡◌, ℕ, zero, suc, ◌+◌, ◌-◌, ◌<◌, ◌≤◌, List, [], ◌∷◌, ◌++◌, length}
 use Rattle.std.proofs.Common.{take, drop, refl, sym, ap, ◌∙◌, arith, length-append, append-nil}
-use Rattle.std.proofs.Common.{append_assoc}
-use Rattle.std.specs.Prelude.{Bool, true, false, map, nat_lt, nat_le, if◌then◌else◌, pos}
+use Rattle.std.proofs.Common.{append_assoc, subst}
+use Rattle.std.specs.Prelude.{Bool, true, false, map, nat_lt, if◌then◌else◌, pos}
 use Rattle.channels.proofs.ChanceLemmas.{one-chance as one-segment}
 use Rattle.channel_slots.specs.declared.stage.Stage.{Stage}
 use Rattle.channel_slots.specs.declared.stage.Stage.TheVariants.{Searching, Holding, Tracking}
-use Rattle.channels.specs.Searching.{to_due_of}
 use Rattle.channel_slots.specs.Stages.{chance}
 use Rattle.channel_slots.specs.declared.slot.Slot.{Slot}
 use Rattle.channel_slots.specs.declared.slot.Slot.TheVariants.{Idle, On}
-use Rattle.std.proofs.lemmas.List.{map-append}
+use Rattle.std.proofs.lemmas.List.{map-append, length-take-le}
+use Rattle.channels.specs.Parts.{part}
+use Rattle.channels.proofs.PartLemmas.{part-length}
 use Rattle.std.proofs.Math.ListN.{get_or-append}
 use Rattle.definitions.specs.Samples.{Sample, real}
 use Rattle.sample_planes.specs.Sources.{AreSamplesOf}
@@ -108,53 +109,42 @@ earlier xs ys first held all n low high =
     ∙ get_or-append xs ys (real (pos 0)) n high
 
 -- ---- a place through a run
-pub goes-begin : (left time : ℕ) (p : Place) (before : List SlotEvent) → chances p.slot left ≤ 7
-    → (first : ℕ) (held : ℕ → Sample)
-    → PlaceGoes left [] time first held p p before before
+pub goes-begin : (time : ℕ) (p : Place) (before : List SlotEvent) (first : ℕ) (held : ℕ → Sample)
+    → PlaceGoes [] time first held p p before before
 unfolding at_each_sample put_all
-goes-begin left time p before few first held = record {
+goes-begin time p before first held = record {
   events = [];
   client = refl;
   number = refl;
-  chances = omega (arith, few);
-  dumps = omega arith;
+  few = omega arith;
   added = refl;
-  ready = λ from ready. let none : time + 0 ≡ time = omega arith in rw none ready;
-  reach = λ reach within. within;
+  sound = λ from reach sound. let none : time + 0 ≡ time = omega arith in rw none sound;
   tells = λ settings xs commands now samples s. record {
     told = refl;
     stands = rw (append-nil xs) s;
   };
 }
 
-pub goes-more : (left n : ℕ) (ys zs : List Sample) (time first : ℕ) (held : ℕ → Sample)
-    (p q r : Place) (before mid after : List SlotEvent)
-    → PlaceGoes left ys time first held p q before mid
-    → PlaceAdds zs (time + length ys + length zs) first held q r mid after
-    → length zs ≡ n → 0 < n → n ≤ left → left ≤ 1024
-    → PlaceGoes (left - n) (ys ++ zs) time first held p r before after
-goes-more left n ys zs time first held p q r before mid after g a is some within short =
+pub goes-more : (ys zs : List Sample) (time first : ℕ) (held : ℕ → Sample) (p q r : Place)
+    (before mid after : List SlotEvent) → PlaceGoes ys time first held p q before mid
+    → PlaceAdds zs (time + length ys + length zs) first held q r mid after → 0 < length zs
+    → length after ≤ length before + 7 → PlaceGoes (ys ++ zs) time first held p r before after
+goes-more ys zs time first held p q r before mid after g a some few =
     let s = a.steps in
-    let many : length (g.events ++ a.events) ≡ length g.events + length a.events =
-    simp length-append (omega arith) in
     let all : length (ys ++ zs) ≡ length ys + length zs = simp length-append (omega arith) in
-    let room : chances r.slot (left - n) + length a.events ≤ chances q.slot left =
-    rw is at (s.chances left (omega (arith, is, within)) short) in
     record {
       events = g.events ++ a.events;
       client = s.client ∙ g.client;
       number = s.number ∙ g.number;
-      chances = omega (arith, many, g.chances, room);
-      dumps = omega (arith, all, g.dumps, s.dumps, is, some);
+      few = few;
       added =
           a.added ∙ ap (λ (l : List SlotEvent). put_all time_in l a.events) g.added
           ∙ sym (put_all-append time_in before g.events a.events);
-      ready = λ from ready.
+      sound = λ from reach sound.
           let start : time + length ys + length zs - length zs ≡ time + length ys = omega arith in
           let end : time + length (ys ++ zs) ≡ time + length ys + length zs =
           omega (arith, all) in
-          rw end (s.ready from (rw start (g.ready from ready)));
-      reach = λ reach within. s.reach reach (g.reach reach within);
+          rw end (s.sound from reach (rw start (g.sound from reach sound)));
       tells = λ settings xs commands now samples st.
           let whole = rw (sym (append_assoc xs ys zs)) at samples in
           let before_it =
@@ -168,7 +158,7 @@ goes-more left n ys zs time first held p q r before mid after g a is some within
           λ j first b. ap (λ (l : List Event). slot_events p.client p.number
           (length ((xs ++ ys) ++ take j zs)) l) (step.inside j first b) in
           let last : at_each_sample f (xs ++ ys) zs ≡ f ((xs ++ ys) ++ zs) =
-          at_each_sample-last f (xs ++ ys) zs (omega (arith, is, some)) quiet in
+          at_each_sample-last f (xs ++ ys) zs some quiet in
           let own : AreTold a.events (f ((xs ++ ys) ++ zs)) =
           rw (g.client, g.number) at step.told in
           record {
@@ -184,16 +174,29 @@ goes-more left n ys zs time first held p q r before mid after g a is some within
         → AreTold (es ++ fs) (ts ++ us)
     both_told es fs ts us a b = map-append told_in es fs ∙ (λ i. a i ++ b i)
 
--- in 1,024 samples there is one dump of a slot at most, and the answer of an acquisition
-one-stage : (stage : Stage) (left : ℕ) → chance stage left ≤ 7
-one-stage (Searching a) left = by_due (nat_le (to_due_of a) left)
-  where
-    by_due : (b : Bool) → (if b then 7 else 0) ≤ 7
-    by_due true = omega arith
-    by_due false = omega arith
-one-stage (Holding h) left = omega (arith, one-segment h.follower left)
-one-stage (Tracking t) left = omega (arith, one-segment t.follower left)
+-- the same by the run and by how many of its samples were taken
+pub goes-on : (run : List Sample) (done count time first : ℕ) (held : ℕ → Sample) (p q r : Place)
+    (before mid after : List SlotEvent) → 0 < count → done + count ≤ length run
+    → PlaceGoes (take done run) time first held p q before mid
+    → PlaceAdds (part run done count) (time + (done + count)) first held q r mid after
+    → length after ≤ length before + 7
+    → PlaceGoes (take (done + count) run) time first held p r before after
+goes-on run done count time first held p q r before mid after some within g a few =
+    let ys : List Sample = take done run in
+    let zs : List Sample = part run done count in
+    let so_far : length ys ≡ done = length-take-le done run (omega (arith, within)) in
+    let is : length zs ≡ count = part-length run done count within in
+    let there : time + (done + count) ≡ time + length ys + length zs = omega (arith, so_far, is) in
+    rw (take_part run done count) (goes-more ys zs time first held p q r before mid after g
+    (subst (λ (t : ℕ). PlaceAdds zs t first held q r mid after) there a)
+    (omega (arith, is, some)) few)
 
-pub one-chance : (slot : Slot) (left : ℕ) → chances slot left ≤ 7
-one-chance Idle left = omega arith
-one-chance (On life) left = one-stage life.stage left
+-- in a run of samples there is one dump of a slot at most, and the answer of an acquisition
+one-stage : (stage : Stage) → chance stage ≤ 7
+one-stage (Searching a) = omega arith
+one-stage (Holding h) = omega (arith, one-segment h.follower)
+one-stage (Tracking t) = omega (arith, one-segment t.follower)
+
+pub one-chance : (slot : Slot) → chances slot ≤ 7
+one-chance Idle = omega arith
+one-chance (On life) = one-stage life.stage

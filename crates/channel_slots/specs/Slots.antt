@@ -14,55 +14,25 @@ use Rattle.channel_slots.specs.Events.{event_in}
 use Rattle.channel_slots.specs.Stages as stages
 use Rattle.channel_slots.specs.Lives as lives
 
--- a run of n samples doesn't go past the slot's next event
-abbrev pub MayStep : Slot → ℕ → Type 0
-MayStep Idle n = Unit
-MayStep (On life) n = stages.MayTake life.stage n
+-- how many events the slot may tell in a run of samples
+abbrev pub chances : Slot → ℕ
+chances Idle = 0
+chances (On life) = stages.chance life.stage
 
--- the slot's next event comes with the last of n samples, or before it
-abbrev pub ComesToEvent : Slot → ℕ → Type 0
-ComesToEvent Idle n = ⊥
-ComesToEvent (On life) n = stages.Ends life.stage n
+-- what is known of it at a time
+abbrev pub IsSound : ℕ → ℕ → ℕ → Slot → Type 0
+IsSound first time reach Idle = Unit
+IsSound first time reach (On life) = stages.IsSound first time reach life.stage
 
--- how many events the slot may tell within so many samples, of which there are at most 1,024
-abbrev pub chances : Slot → ℕ → ℕ
-chances Idle left = 0
-chances (On life) left = stages.chance life.stage left
-
--- one that searches isn't at its due time
-abbrev pub IsWaiting : Slot → Type 0
-IsWaiting Idle = Unit
-IsWaiting (On life) = stages.IsWaiting life.stage
-
--- a source of the samples from .. to - 1 holds what a search looks at within so many samples
-abbrev pub Holds : Slot → ℕ → ℕ → ℕ → Type 0
-Holds Idle from to n = Unit
-Holds (On life) from to n = stages.Holds life.stage from to n
-
--- one that searches is on its way to its due time, and a source holds the samples of its dwell from
--- its first one on
-abbrev pub IsReady : ℕ → ℕ → Slot → Type 0
-IsReady first time Idle = Unit
-IsReady first time (On life) = stages.IsReady first time life.stage
-
--- its due time isn't further from its start
-abbrev pub IsWithin : ℕ → Slot → Type 0
-IsWithin reach Idle = Unit
-IsWithin reach (On life) = stages.IsWithin reach life.stage
-
--- both of these as a test
-abbrev pub is_on_way : ℕ → ℕ → Slot → Bool
-is_on_way time reach Idle = true
-is_on_way time reach (On life) = stages.is_on_way time reach life.stage
+-- the same as a test, whatever sample a dwell begins with
+abbrev pub is_sound : ℕ → ℕ → Slot → Bool
+is_sound time reach Idle = true
+is_sound time reach (On life) = stages.is_sound time reach life.stage
 
 -- how many cells its search has done: none where it doesn't search
 abbrev pub cells_done_of : Slot → Option ℕ
 cells_done_of Idle = None
 cells_done_of (On life) = stages.cells_done_of life.stage
-
-abbrev pub dumps_of : Slot → ℕ
-dumps_of Idle = 0
-dumps_of (On life) = stages.dumps_of life.stage
 
 -- the life that is on after the samples and commands: none, whatever samples come, or its own
 abbrev pub IsOn : Settings → List Sample → List TimedRequest → Slot → Type 0

@@ -28,82 +28,45 @@ use Rattle.channel_slots.specs.declared.stage_news.StageNews.{StageNews}
 use Rattle.channel_slots.specs.declared.stage_news.StageNews.TheVariants as stage_news
 use Rattle.channel_slots.specs.declared.slot_news.TheConstants.{DUMP_EVENTS}
 
--- how many dumps it has had
-abbrev pub dumps_of : Stage → ℕ
-dumps_of (Searching s) = 0
-dumps_of (Holding h) = held.dumps_of h
-dumps_of (Tracking t) = tracked.dumps_of t
-
 -- how many cells its search has done: none where it doesn't search
 abbrev pub cells_done_of : Stage → Option ℕ
 cells_done_of (Searching s) = Some (sought.done_of s)
 cells_done_of (Holding h) = None
 cells_done_of (Tracking t) = None
 
--- so many samples don't go past its next event
-abbrev pub MayTake : Stage → ℕ → Type 0
-MayTake (Searching s) n = n ≤ sought.to_due_of s
-MayTake (Holding h) n = held.MayTake h n
-MayTake (Tracking t) n = tracked.MayTake t n
-
--- its next event comes with the last of so many samples, or before it
-abbrev pub Ends : Stage → ℕ → Type 0
-Ends (Searching s) n = sought.to_due_of s ≤ n
-Ends (Holding h) n = held.Ends h n
-Ends (Tracking t) n = tracked.Ends t n
-
--- how many events may come within so many samples, of which there are at most 1,024: those of a
--- dump, and the answer of an acquisition before it
-abbrev pub chance : Stage → ℕ → ℕ
-chance (Searching s) left = if nat_le (sought.to_due_of s) left then 1 + DUMP_EVENTS else 0
-chance (Holding h) left = DUMP_EVENTS * held.chance h left
-chance (Tracking t) left = DUMP_EVENTS * tracked.chance t left
+-- how many events may come in a run of samples: those of a dump, and the answer of an acquisition
+-- before it
+abbrev pub chance : Stage → ℕ
+chance (Searching s) = 1 + DUMP_EVENTS
+chance (Holding h) = DUMP_EVENTS * held.chance h
+chance (Tracking t) = DUMP_EVENTS * tracked.chance t
 
 -- how many events there may be with it
-abbrev pub room_for : Option StageNews → ℕ
-room_for None = 0
-room_for (Some (stage_news.Acquired prn cell)) = 1
-room_for (Some (stage_news.Dump d)) = DUMP_EVENTS
+abbrev pub room_for : StageNews → ℕ
+room_for (stage_news.Acquired prn cell) = 1
+room_for (stage_news.Dump d) = DUMP_EVENTS
 
--- one that searches is on its way to its due time, and a source holds the samples of its dwell from
--- its first one on
-abbrev pub IsReady : ℕ → ℕ → Stage → Type 0
-IsReady first time (Searching s) =
+-- what is known of it at a time: it has had a dump a sample at most; one that searches is on its
+-- way to its due time, which isn't further than `reach` from its start, and its dwell begins with
+-- sample `first` or later
+abbrev pub IsSound : ℕ → ℕ → ℕ → Stage → Type 0
+IsSound first time reach (Searching s) =
     (first ≤ sought.start_of s) × (sought.due_of s ≡ time + sought.to_due_of s)
-    × (0 < sought.to_due_of s)
-IsReady first time (Holding h) = Unit
-IsReady first time (Tracking t) = Unit
+    × (0 < sought.to_due_of s) × (sought.due_of s ≤ sought.start_of s + reach)
+IsSound first time reach (Holding h) = held.dumps_of h ≤ time
+IsSound first time reach (Tracking t) = tracked.dumps_of t ≤ time
 
--- one that searches isn't at its due time
-abbrev pub IsWaiting : Stage → Type 0
-IsWaiting (Searching s) = 0 < sought.to_due_of s
-IsWaiting (Holding h) = Unit
-IsWaiting (Tracking t) = Unit
-
--- a source of the samples from .. to - 1 holds what a search looks at within so many samples
-abbrev pub Holds : Stage → ℕ → ℕ → ℕ → Type 0
-Holds (Searching s) from to n =
-    (from ≤ sought.start_of s) × (sought.due_of s + n ≤ to + sought.to_due_of s)
-Holds (Holding h) from to n = Unit
-Holds (Tracking t) from to n = Unit
-
--- the same, and that its due time isn't further than so many samples from its start, as a test
-abbrev pub is_on_way : ℕ → ℕ → Stage → Bool
-is_on_way time reach (Searching s) =
+-- the same as a test, whatever sample its dwell begins with
+abbrev pub is_sound : ℕ → ℕ → Stage → Bool
+is_sound time reach (Searching s) =
     (sought.due_of s == time + sought.to_due_of s)
     && (nat_lt 0 (sought.to_due_of s) && nat_le (sought.due_of s) (sought.start_of s + reach))
-is_on_way time reach (Holding h) = true
-is_on_way time reach (Tracking t) = true
+is_sound time reach (Holding h) = nat_le (held.dumps_of h) time
+is_sound time reach (Tracking t) = nat_le (tracked.dumps_of t) time
 
 -- how far the due time of an acquisition may be from its start
 abbrev pub most_wait : Settings → ℕ
 most_wait settings = MOST_DWELL * samples_per_ms settings + 4 * MOST_CELLS
-
--- its due time isn't further from its start
-abbrev pub IsWithin : ℕ → Stage → Type 0
-IsWithin reach (Searching s) = sought.due_of s ≤ sought.start_of s + reach
-IsWithin reach (Holding h) = Unit
-IsWithin reach (Tracking t) = Unit
 
 -- a life that began with an acquisition has come as far with it, and it isn't due yet
 pub record IsSought (settings : Settings) (xs : List Sample) (life : Life) (s : Sought)

@@ -1,8 +1,7 @@
 //! A slot that is on.
 
 ghost use Rattle.std.specs.Prelude.{◌≡◌, ◌≤◌, ◌<◌, ◌+◌, ◌-◌};
-ghost use Rattle.tracking_loops.specs.declared.limits.TheConstants.{MOST_DUMPS};
-ghost use Rattle.sample_planes.specs.declared.planes.TheConstants.{MAX_SAMPLES};
+ghost use Rattle.channel_slots.specs.declared.bank.TheConstants.{MOST_TIME};
 
 use crate::answer::SlotState;
 use crate::slot_news::{DumpNews, SlotNews};
@@ -21,7 +20,7 @@ pub struct Life {
 }
 
 impl Life {
-    ghost use Rattle.std.specs.Prelude.{ℕ, List, ◌++◌, length, Some, nat_lt, false};
+    ghost use Rattle.std.specs.Prelude.{ℕ, List, ◌++◌, length, Some, IfSome, nat_lt, false};
     ghost use Rattle.sample_planes.specs.Sources.{AreSamplesOf};
     ghost use Rattle.definitions.specs.Samples.{Sample};
     ghost use Rattle.definitions.specs.Oscillators.{Settings as DefinedSettings};
@@ -30,11 +29,10 @@ impl Life {
     ghost use Rattle.definitions.specs.Answers.{shown, answer_with};
     ghost use Rattle.definitions.specs.Events.{count, when};
     ghost use Rattle.lane_correlator.specs.Counting.{counts_in};
-    ghost use Rattle.channel_slots.specs.NewsEvents.{count_in, events_of, ends_with};
-    ghost use Rattle.channels.specs.Parts.{part};
+    ghost use Rattle.channel_slots.specs.NewsEvents.{count_in, events_with, ends_with, is_end};
+    ghost use Rattle.channels.specs.Parts.{part, IsAsFar};
     ghost use Rattle.channel_slots.specs.Answers.{view_in};
-    ghost use Rattle.channel_slots.specs.Stages.{Follows, MayTake, Ends, chance, dumps_of};
-    ghost use Rattle.channel_slots.specs.Stages.{IsWaiting, IsReady, IsWithin, Holds};
+    ghost use Rattle.channel_slots.specs.Stages.{Follows, chance, IsSound};
     ghost use Rattle.channel_slots.specs.Stages.{cells_done_of};
     ghost use Rattle.channel_slots.specs.Lives.{StandsFor, Steps, first_life};
 
@@ -59,16 +57,6 @@ impl Life {
         ensures stage { self.new.stage ≡ self.old.stage }
     {
         self.unprinted = count;
-    }
-
-    /// How many samples there are to the next event.
-    pub fn to_event(&self) -> u64
-        requires { IsWaiting self.now.stage }
-        ensures some { 0 < result }
-        ensures ends { Ends self.now.stage result }
-        ensures before { (count : ℕ) → count ≤ result → MayTake self.now.stage count }
-    {
-        self.stage.to_event()
     }
 
     /// What it shows of itself.
@@ -101,45 +89,47 @@ impl Life {
         Some(counts)
     }
 
-    /// Takes `count` samples of a run, from sample `from` on, that don't go past its next event. It
-    /// answers what is told with the last of them. The life may be over with it.
-    pub fn step<S: SampleSource>(
+    /// Takes samples of a run, from sample `from` on, up to its next event or the end of the run.
+    /// It answers how many these are, and what is told with the last of them. The life may be over
+    /// with it.
+    pub fn take<S: SampleSource>(
         &mut self,
         run: &Planes,
         from: usize,
-        count: usize,
         source: &S,
         book: &mut CodeBook,
-    ) -> Option<SlotNews>
-        requires some { 0 < count }
-        requires within { from + count ≤ length run.now }
-        requires before { MayTake self.old.stage count }
-        requires few { dumps_of self.old.stage < MOST_DUMPS }
-        requires holds { Holds self.old.stage (S.from source.now) (S.to source.now) count }
+    ) -> (usize, Option<SlotNews>)
+        requires some { from < length run.now }
+        requires to { length run.now - from ≤ S.to source.now }
+        requires early { S.to source.now ≤ MOST_TIME }
+        requires sound { (reach : ℕ) × IsSound (S.from source.now)
+            (S.to source.now - (length run.now - from)) reach self.old.stage }
+        ensures as_far { IsAsFar (length run.now - from) result.0 result.1 }
         ensures steps { (settings : DefinedSettings) (xs : List Sample) (life : DefinedLife)
-            → AreSamplesOf (xs ++ part run.now from count) (S.from source.now)
-            (length (xs ++ part run.now from count)) (S.held source.now)
+            → AreSamplesOf (xs ++ part run.now from result.0) (S.from source.now)
+            (length (xs ++ part run.now from result.0)) (S.held source.now)
             → StandsFor settings xs life self.old
-            → Steps settings xs (part run.now from count) life self.new result }
-        ensures dumps { dumps_of self.new.stage ≤ dumps_of self.old.stage + 1 }
-        ensures chance { (left : ℕ) → count ≤ left → left ≤ MAX_SAMPLES
-            → ends_with result ≡ false
-            → chance self.new.stage (left - count) + length (events_of result)
-            ≤ chance self.old.stage left }
-        ensures room { (left : ℕ) → count ≤ left → left ≤ MAX_SAMPLES
-            → length (events_of result) ≤ chance self.old.stage left }
-        ensures ready { (first time : ℕ) → IsReady first time self.old.stage
-            → ends_with result ≡ false → IsReady first (time + count) self.new.stage }
-        ensures reach { (reach : ℕ) → IsWithin reach self.old.stage
-            → IsWithin reach self.new.stage }
+            → Steps settings xs (part run.now from result.0) life self.new result.1 }
+        ensures chance { IfSome result.1 (λ news. is_end news ≡ false
+            → chance self.new.stage + length (events_with news) ≤ chance self.old.stage) }
+        ensures room { IfSome result.1 (λ news.
+            length (events_with news) ≤ chance self.old.stage) }
+        ensures sound { (first time reach : ℕ) → IsSound first time reach self.old.stage
+            → ends_with result.1 ≡ false
+            → IsSound first (time + result.0) reach self.new.stage }
     {
-        match self.stage.take(run, from, count, source, book)? {
-            StageNews::Acquired { prn, cell } => Some(SlotNews::Acquired { prn, cell }),
-            StageNews::Dump(dump) => Some(SlotNews::Dump(DumpNews {
+        let (count, news) = self.stage.take(run, from, source, book);
+        let Some(news) = news else {
+            return (count, None);
+        };
+        let news = match news {
+            StageNews::Acquired { prn, cell } => SlotNews::Acquired { prn, cell },
+            StageNews::Dump(dump) => SlotNews::Dump(DumpNews {
                 count: self.count(dump.counts),
                 lock: dump.lock,
                 message: dump.message,
-            })),
-        }
+            }),
+        };
+        (count, Some(news))
     }
 }

@@ -6,9 +6,9 @@ ghost use Rattle.definitions.specs.Oscillators.{Settings as DefinedSettings};
 ghost use Rattle.definitions.specs.Banks.{layout};
 ghost use Rattle.channel_slots.specs.Slots.{StandsFor};
 ghost use Rattle.arrayvec.specs.ArrayVec.{array_vec_len};
-ghost use Rattle.channel_slots.specs.Banks.{keys_of, AllFew, AllReady, RunsAll, IsCommanded};
+ghost use Rattle.channel_slots.specs.Banks.{keys_of, AllSound, RunsAll, IsCommanded};
 ghost use Rattle.channel_slots.specs.Banks.{HasDone, total, AddsIdle, AllIdle};
-ghost use Rattle.channel_slots.specs.Slots.{IsReady, IsWithin, Holds};
+ghost use Rattle.channel_slots.specs.Slots.{IsSound};
 ghost use Rattle.channel_slots.specs.Stages.{most_wait};
 ghost use Rattle.acquisition.specs.declared.dwell.TheConstants.{MOST_START};
 ghost use Rattle.channel_slots.specs.declared.slot_news.TheConstants.{DUMP_EVENTS};
@@ -20,8 +20,6 @@ ghost use Rattle.channel_slots.specs.declared.place.TheConstants.{FRAME_EVENTS};
 ghost use Rattle.channel_slots.specs.NewsEvents.{if_any, lock_events, frame_events, events_with};
 ghost use Rattle.channel_slots.specs.NewsEvents.{dump_events};
 ghost use Rattle.channel_slots.specs.declared.slot.TheConstants.{SLOT_EVENTS};
-ghost use Rattle.tracking_loops.specs.declared.limits.TheConstants.{MOST_DUMPS};
-ghost use Rattle.sample_planes.specs.declared.planes.TheConstants.{MAX_SAMPLES};
 
 use crate::answer::Answer;
 use crate::command::{Command, MOST_SLOTS};
@@ -62,37 +60,9 @@ impl Place {
     ghost use Rattle.definitions.specs.Samples.{Sample};
     ghost use Rattle.definitions.specs.Commands.{TimedRequest};
     ghost use Rattle.definitions.specs.Answers.{answer_at_end};
-    ghost use Rattle.channels.specs.Parts.{part};
     ghost use Rattle.channel_slots.specs.Answers.{answer_in, IsRefusal};
-    ghost use Rattle.channel_slots.specs.Slots.{MayStep, StandsFor, dumps_of};
-    ghost use Rattle.channel_slots.specs.Banks.{PlaceAdds, PlaceGoes, PutsIn};
-
-    /// Takes `count` samples of a run, from sample `from` on, that don't go past the slot's next
-    /// event. It adds what they tell with the last of them, at that time.
-    fn step<S: SampleSource>(
-        &mut self,
-        run: &Planes,
-        from: usize,
-        count: usize,
-        source: &S,
-        book: &mut CodeBook,
-        time: u64,
-        events: &mut ArrayVec<SlotEvent, RUN_EVENTS>,
-    )
-        requires some { 0 < count }
-        requires within { from + count ≤ length run.now }
-        requires may { MayStep self.old.slot count }
-        requires few { dumps_of self.old.slot < MOST_DUMPS }
-        requires holds { Holds self.old.slot (S.from source.now) (S.to source.now) count }
-        requires later { count ≤ time }
-        requires fits { array_vec_len events.old + DUMP_EVENTS ≤ RUN_EVENTS }
-        ensures { PlaceAdds (part run.now from count) time (S.from source.now) (S.held source.now)
-            self.old self.new events.old.items events.new.items }
-    {
-        if let Some(news) = self.slot.step(run, from, count, source, book) {
-            self.put_news(&news, time, events);
-        }
-    }
+    ghost use Rattle.channel_slots.specs.Slots.{StandsFor};
+    ghost use Rattle.channel_slots.specs.Banks.{PlaceGoes, PutsIn};
 
     /// Puts in an event of its slot, if there is one.
     fn put(&self, event: Option<Event>, time: u64, events: &mut ArrayVec<SlotEvent, RUN_EVENTS>)
@@ -170,22 +140,21 @@ impl Place {
         time: u64,
         events: &mut ArrayVec<SlotEvent, RUN_EVENTS>,
     )
-        requires short { length run.now ≤ MAX_SAMPLES }
         requires room { time + length run.now ≤ MOST_TIME }
-        requires few { dumps_of self.old.slot ≤ time }
-        requires ready { IsReady (S.from source.now) time self.old.slot }
-        requires holds { time + length run.now ≤ S.to source.now }
+        requires sound { (reach : ℕ) × IsSound (S.from source.now) time reach self.old.slot }
+        requires to { time + length run.now ≡ S.to source.now }
         requires fits { array_vec_len events.old + 2 * SLOT_EVENTS ≤ RUN_EVENTS }
-        ensures { PlaceGoes 0 run.now time (S.from source.now) (S.held source.now) self.old self.new
+        ensures { PlaceGoes run.now time (S.from source.now) (S.held source.now) self.old self.new
             events.old.items events.new.items }
     {
         let len = run.len();
         let mut done = 0;
         while done < len {
-            let count = self.slot.room(len - done);
-            let end = done + count;
-            self.step(run, done, count, source, book, time + end as u64, events);
-            done = end;
+            let (count, news) = self.slot.take(run, done, source, book);
+            done += count;
+            if let Some(news) = news {
+                self.put_news(&news, time + done as u64, events);
+            }
         }
     }
 
@@ -202,11 +171,9 @@ impl Place {
             → StandsFor settings.now xs (commands
             ++ record { time = length xs; request = request_in command } ∷ []) self.new.slot }
         ensures refused { IsRefusal result → self.new ≡ self.old }
-        ensures dumps { dumps_of self.new.slot ≤ dumps_of self.old.slot }
-        ensures ready { (first : ℕ) → first ≤ time → IsReady first time self.old.slot
-            → IsReady first time self.new.slot }
-        ensures reach { IsWithin (most_wait settings.now) self.old.slot
-            → IsWithin (most_wait settings.now) self.new.slot }
+        ensures sound { (first : ℕ) → first ≤ time
+            → IsSound first time (most_wait settings.now) self.old.slot
+            → IsSound first time (most_wait settings.now) self.new.slot }
     {
         self.slot.command(settings, time, command)
     }
@@ -274,11 +241,9 @@ pub fn run_all<S: SampleSource>(
     time: u64,
     events: &mut ArrayVec<SlotEvent, RUN_EVENTS>,
 )
-    requires short { length run.now ≤ MAX_SAMPLES }
     requires room { time + length run.now ≤ MOST_TIME }
-    requires few { AllFew time places.old }
-    requires ready { AllReady (S.from source.now) time places.old }
-    requires holds { time + length run.now ≤ S.to source.now }
+    requires sound { (reach : ℕ) × AllSound (S.from source.now) time reach places.old }
+    requires to { time + length run.now ≡ S.to source.now }
     requires fits { array_vec_len events.old + SLOT_EVENTS * (length places.old + 1)
         ≤ RUN_EVENTS }
     ensures { RunsAll run.now time (S.from source.now) (S.held source.now) places.old places.new

@@ -1,8 +1,7 @@
 //! One slot: what it tells of the samples, and what it answers to its client.
 
 ghost use Rattle.std.specs.Prelude.{◌≡◌, ◌≤◌, ◌<◌, ◌+◌, ◌-◌};
-ghost use Rattle.tracking_loops.specs.declared.limits.TheConstants.{MOST_DUMPS};
-ghost use Rattle.sample_planes.specs.declared.planes.TheConstants.{MAX_SAMPLES};
+ghost use Rattle.channel_slots.specs.declared.bank.TheConstants.{MOST_TIME};
 
 use crate::answer::{Answer, Refusal, SlotState};
 use crate::command::Command;
@@ -26,20 +25,20 @@ pub enum Slot {
 }
 
 impl Slot {
-    ghost use Rattle.std.specs.Prelude.{ℕ, List, [], ◌∷◌, ◌++◌, length, Some};
+    ghost use Rattle.std.specs.Prelude.{ℕ, List, [], ◌∷◌, ◌++◌, length, Some, IfSome};
     ghost use Rattle.definitions.specs.Samples.{Sample};
     ghost use Rattle.definitions.specs.Oscillators.{Settings as DefinedSettings};
     ghost use Rattle.definitions.specs.Commands.{TimedRequest, Start, begin, state};
     ghost use Rattle.definitions.specs.Answers.{answer_at_end, shown};
     ghost use Rattle.channel_slots.specs.Commands.{request_in};
-    ghost use Rattle.channels.specs.Parts.{part};
+    ghost use Rattle.channels.specs.Parts.{part, IsAsFar};
     ghost use Rattle.channel_slots.specs.Answers.{answer_in, view_in, IsRefusal};
-    ghost use Rattle.channel_slots.specs.Slots.{chances, StandsFor, Tells, MayStep, ComesToEvent};
-    ghost use Rattle.channel_slots.specs.Slots.{dumps_of, IsWaiting, IsReady, IsWithin, Holds};
+    ghost use Rattle.channel_slots.specs.Slots.{chances, StandsFor, Tells};
+    ghost use Rattle.channel_slots.specs.Slots.{IsSound};
     ghost use Rattle.channel_slots.specs.Slots.{cells_done_of};
     ghost use Rattle.sample_planes.specs.Sources.{AreSamplesOf};
     ghost use Rattle.channel_slots.specs.Lives.{first_life};
-    ghost use Rattle.channel_slots.specs.NewsEvents.{events_of};
+    ghost use Rattle.channel_slots.specs.NewsEvents.{events_of, events_with};
     ghost use Rattle.channel_slots.specs.Stages.{Follows, most_wait};
     ghost use Rattle.acquisition.specs.declared.dwell.TheConstants.{MOST_START};
     ghost use Rattle.channel_slots.specs.Stages as stages;
@@ -47,75 +46,52 @@ impl Slot {
     /// A slot that was never asked for anything.
     pub fn new() -> Slot
         ensures stands { (settings : DefinedSettings) → StandsFor settings [] [] result }
-        ensures dumps { dumps_of result ≡ 0 }
-        ensures ready { (first time : ℕ) → IsReady first time result }
-        ensures within { (reach : ℕ) → IsWithin reach result }
+        ensures sound { (first time reach : ℕ) → IsSound first time reach result }
         ensures idle { result ≡ Slot.Idle }
     {
         Slot::Idle
     }
 
-    /// How many samples there are to the next event, but `most` if that is fewer.
-    pub fn room(&self, most: usize) -> usize
-        requires some { 0 < most }
-        requires waits { IsWaiting self.now }
-        ensures some { 0 < result }
-        ensures within { result ≤ most }
-        ensures may { MayStep self.now result }
-        ensures no_sooner { result < most → ComesToEvent self.now result }
-    {
-        match self {
-            Slot::Idle => most,
-            Slot::On(life) => {
-                let next = life.to_event();
-                if next < most as u64 {
-                    next as usize
-                } else {
-                    most
-                }
-            }
-        }
-    }
-
-    /// Takes `count` samples of a run, from sample `from` on, that don't go past the slot's next
-    /// event. It answers what is told with the last of them. The source holds the samples of the
-    /// recording so far, from the first one on that a search looks at. The book is any book of
-    /// codes.
-    pub fn step<S: SampleSource>(
+    /// Takes samples of a run, from sample `from` on, up to the slot's next event or the end of the
+    /// run. It answers how many these are, and what is told with the last of them. The source holds
+    /// the samples of the recording to the end of the run, from the first one on that a search
+    /// looks at. The book is any book of codes.
+    pub fn take<S: SampleSource>(
         &mut self,
         run: &Planes,
         from: usize,
-        count: usize,
         source: &S,
         book: &mut CodeBook,
-    ) -> Option<SlotNews>
-        requires some { 0 < count }
-        requires within { from + count ≤ length run.now }
-        requires may { MayStep self.old count }
-        requires few { dumps_of self.old < MOST_DUMPS }
-        requires holds { Holds self.old (S.from source.now) (S.to source.now) count }
+    ) -> (usize, Option<SlotNews>)
+        requires some { from < length run.now }
+        requires to { length run.now - from ≤ S.to source.now }
+        requires early { S.to source.now ≤ MOST_TIME }
+        requires sound { (reach : ℕ) × IsSound (S.from source.now)
+            (S.to source.now - (length run.now - from)) reach self.old }
+        ensures as_far { IsAsFar (length run.now - from) result.0 result.1 }
         ensures tells { (settings : DefinedSettings) (xs : List Sample)
             (commands : List TimedRequest)
-            → AreSamplesOf (xs ++ part run.now from count) (S.from source.now)
-            (length (xs ++ part run.now from count)) (S.held source.now)
+            → AreSamplesOf (xs ++ part run.now from result.0) (S.from source.now)
+            (length (xs ++ part run.now from result.0)) (S.held source.now)
             → StandsFor settings xs commands self.old
-            → Tells settings xs (part run.now from count) commands self.new (events_of result) }
-        ensures dumps { dumps_of self.new ≤ dumps_of self.old + 1 }
-        ensures chances { (left : ℕ) → count ≤ left → left ≤ MAX_SAMPLES
-            → chances self.new (left - count) + length (events_of result)
-            ≤ chances self.old left }
-        ensures ready { (first time : ℕ) → IsReady first time self.old
-            → IsReady first (time + count) self.new }
-        ensures reach { (reach : ℕ) → IsWithin reach self.old → IsWithin reach self.new }
+            → Tells settings xs (part run.now from result.0) commands self.new
+            (events_of result.1) }
+        ensures chances { IfSome result.1 (λ news.
+            chances self.new + length (events_with news) ≤ chances self.old) }
+        ensures sound { (first time reach : ℕ) → IsSound first time reach self.old
+            → IsSound first (time + result.0) reach self.new }
     {
         let Slot::On(life) = self else {
-            return None;
+            return (run.len() - from, None);
         };
-        let news = life.step(run, from, count, source, book)?;
+        let (count, news) = life.take(run, from, source, book);
+        let Some(news) = news else {
+            return (count, None);
+        };
         if news.is_end() {
             *self = Slot::Idle;
         }
-        Some(news)
+        (count, Some(news))
     }
 
     /// How many cells its search has done, if it searches.
@@ -153,11 +129,8 @@ impl Slot {
             → StandsFor settings xs (commands
             ++ record { time = length xs; request = begin start } ∷ []) self.new }
         ensures refused { IsRefusal result → self.new ≡ self.old }
-        ensures dumps { stages.dumps_of stage ≡ 0 → dumps_of self.new ≤ dumps_of self.old }
-        ensures ready { (first time : ℕ) → IsReady first time self.old
-            → stages.IsReady first time stage → IsReady first time self.new }
-        ensures reach { (reach : ℕ) → IsWithin reach self.old → stages.IsWithin reach stage
-            → IsWithin reach self.new }
+        ensures sound { (first time reach : ℕ) → IsSound first time reach self.old
+            → stages.IsSound first time reach stage → IsSound first time reach self.new }
     {
         match self {
             Slot::Idle => {
@@ -180,11 +153,9 @@ impl Slot {
             → StandsFor settings.now xs (commands
             ++ record { time = length xs; request = request_in command } ∷ []) self.new }
         ensures refused { IsRefusal result → self.new ≡ self.old }
-        ensures dumps { dumps_of self.new ≤ dumps_of self.old }
-        ensures ready { (first : ℕ) → first ≤ time → IsReady first time self.old
-            → IsReady first time self.new }
-        ensures reach { IsWithin (most_wait settings.now) self.old
-            → IsWithin (most_wait settings.now) self.new }
+        ensures sound { (first : ℕ) → first ≤ time
+            → IsSound first time (most_wait settings.now) self.old
+            → IsSound first time (most_wait settings.now) self.new }
     {
         match command {
             Command::Acquire { slot: _, plan } => self.start(Stage::search(settings, plan, time)),

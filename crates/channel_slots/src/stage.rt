@@ -1,8 +1,7 @@
 //! What a slot that is on follows.
 
 ghost use Rattle.std.specs.Prelude.{◌≡◌, ◌≤◌, ◌<◌, ◌+◌, ◌-◌};
-ghost use Rattle.tracking_loops.specs.declared.limits.TheConstants.{MOST_DUMPS};
-ghost use Rattle.sample_planes.specs.declared.planes.TheConstants.{MAX_SAMPLES};
+ghost use Rattle.channel_slots.specs.declared.bank.TheConstants.{MOST_TIME};
 
 use crate::answer::{Phase, SlotState};
 use crate::stage_news::StageNews;
@@ -22,16 +21,16 @@ pub enum Stage {
 }
 
 impl Stage {
-    ghost use Rattle.std.specs.Prelude.{ℕ, List, ◌++◌, length, Some, false};
+    ghost use Rattle.std.specs.Prelude.{ℕ, List, ◌++◌, length, Some, IfSome, false};
     ghost use Rattle.definitions.specs.Samples.{Sample};
     ghost use Rattle.definitions.specs.Oscillators.{Settings as DefinedSettings};
     ghost use Rattle.definitions.specs.Answers.{shown, answer_with};
     ghost use Rattle.definitions.specs.Commands.{hold, track, acquire, state};
     ghost use Rattle.definitions.specs.Lives.{Life};
-    ghost use Rattle.channels.specs.Parts.{part};
+    ghost use Rattle.channels.specs.Parts.{part, IsAsFar};
     ghost use Rattle.channel_slots.specs.Answers.{view_in};
-    ghost use Rattle.channel_slots.specs.Stages.{Follows, Takes, MayTake, Ends, chance, dumps_of};
-    ghost use Rattle.channel_slots.specs.Stages.{IsReady, IsWithin, IsWaiting, Holds, room_for};
+    ghost use Rattle.channel_slots.specs.Stages.{Follows, Takes, chance, IsSound};
+    ghost use Rattle.channel_slots.specs.Stages.{room_for, is_end};
     ghost use Rattle.channel_slots.specs.Stages.{ends_with, most_wait, cells_done_of};
     ghost use Rattle.sample_planes.specs.Sources.{AreSamplesOf};
     ghost use Rattle.acquisition.specs.declared.dwell.TheConstants.{MOST_START};
@@ -40,9 +39,7 @@ impl Stage {
     pub fn hold(settings: &Settings, prn: Prn, doppler: Doppler, half: HalfChip) -> Stage
         ensures follows { (xs : List Sample) (life : Life) → life.begun ≡ length xs
             → life.start ≡ hold prn doppler half → Follows settings.now xs life result }
-        ensures dumps { dumps_of result ≡ 0 }
-        ensures ready { (first time : ℕ) → IsReady first time result }
-        ensures within { (reach : ℕ) → IsWithin reach result }
+        ensures sound { (first time reach : ℕ) → IsSound first time reach result }
     {
         Stage::Holding(Held::start(settings, prn, doppler, half))
     }
@@ -51,9 +48,7 @@ impl Stage {
     pub fn track(settings: &Settings, prn: Prn, doppler: Doppler, half: HalfChip) -> Stage
         ensures follows { (xs : List Sample) (life : Life) → life.begun ≡ length xs
             → life.start ≡ track prn doppler half → Follows settings.now xs life result }
-        ensures dumps { dumps_of result ≡ 0 }
-        ensures ready { (first time : ℕ) → IsReady first time result }
-        ensures within { (reach : ℕ) → IsWithin reach result }
+        ensures sound { (first time reach : ℕ) → IsSound first time reach result }
     {
         Stage::Tracking(Tracked::start(settings, prn, doppler, half))
     }
@@ -64,25 +59,10 @@ impl Stage {
         ensures follows { (xs : List Sample) (life : Life) → length xs ≡ start
             → life.begun ≡ length xs → life.start ≡ acquire plan
             → Follows settings.now xs life result }
-        ensures dumps { dumps_of result ≡ 0 }
-        ensures ready { (first : ℕ) → first ≤ start → IsReady first start result }
-        ensures within { IsWithin (most_wait settings.now) result }
+        ensures sound { (first : ℕ) → first ≤ start
+            → IsSound first start (most_wait settings.now) result }
     {
         Stage::Searching(Sought::start(settings, plan, start))
-    }
-
-    /// How many samples there are to the next event.
-    pub fn to_event(&self) -> u64
-        requires { IsWaiting self.now }
-        ensures some { 0 < result }
-        ensures ends { Ends self.now result }
-        ensures before { (count : ℕ) → count ≤ result → MayTake self.now count }
-    {
-        match self {
-            Stage::Searching(sought) => sought.to_due(),
-            Stage::Holding(held) => held.to_dump(),
-            Stage::Tracking(tracked) => tracked.to_dump(),
-        }
     }
 
     /// What it shows.
@@ -121,53 +101,59 @@ impl Stage {
         }
     }
 
-    /// Takes `count` samples of a run, from sample `from` on, that don't go past its next event. It
-    /// answers what comes with the last of them. The source holds the samples of the recording so
-    /// far, from the first one on that a search looks at. The book is any book of codes.
+    /// Takes samples of a run, from sample `from` on, up to its next event or the end of the run.
+    /// It answers how many these are, and what comes with the last of them. The source holds the
+    /// samples of the recording to the end of the run, from the first one on that a search looks
+    /// at. The book is any book of codes.
     pub fn take<S: SampleSource>(
         &mut self,
         run: &Planes,
         from: usize,
-        count: usize,
         source: &S,
         book: &mut CodeBook,
-    ) -> Option<StageNews>
-        requires some { 0 < count }
-        requires within { from + count ≤ length run.now }
-        requires before { MayTake self.old count }
-        requires few { dumps_of self.old < MOST_DUMPS }
-        requires holds { Holds self.old (S.from source.now) (S.to source.now) count }
+    ) -> (usize, Option<StageNews>)
+        requires some { from < length run.now }
+        requires to { length run.now - from ≤ S.to source.now }
+        requires early { S.to source.now ≤ MOST_TIME }
+        requires sound { (reach : ℕ) × IsSound (S.from source.now)
+            (S.to source.now - (length run.now - from)) reach self.old }
+        ensures as_far { IsAsFar (length run.now - from) result.0 result.1 }
         ensures takes { (settings : DefinedSettings) (xs : List Sample) (life : Life)
-            → AreSamplesOf (xs ++ part run.now from count) (S.from source.now)
-            (length (xs ++ part run.now from count)) (S.held source.now)
+            → AreSamplesOf (xs ++ part run.now from result.0) (S.from source.now)
+            (length (xs ++ part run.now from result.0)) (S.held source.now)
             → Follows settings xs life self.old
-            → Takes settings xs (part run.now from count) life self.new result }
-        ensures dumps { dumps_of self.new ≤ dumps_of self.old + 1 }
-        ensures chance { (left : ℕ) → count ≤ left → left ≤ MAX_SAMPLES
-            → ends_with result ≡ false
-            → chance self.new (left - count) + room_for result ≤ chance self.old left }
-        ensures room { (left : ℕ) → count ≤ left → left ≤ MAX_SAMPLES
-            → room_for result ≤ chance self.old left }
-        ensures ready { (first time : ℕ) → IsReady first time self.old
-            → ends_with result ≡ false → IsReady first (time + count) self.new }
-        ensures reach { (reach : ℕ) → IsWithin reach self.old → IsWithin reach self.new }
+            → Takes settings xs (part run.now from result.0) life self.new result.1 }
+        ensures chance { IfSome result.1 (λ news. is_end news ≡ false
+            → chance self.new + room_for news ≤ chance self.old) }
+        ensures room { IfSome result.1 (λ news. room_for news ≤ chance self.old) }
+        ensures sound { (first time reach : ℕ) → IsSound first time reach self.old
+            → ends_with result.1 ≡ false → IsSound first (time + result.0) reach self.new }
     {
         match self {
             Stage::Searching(sought) => {
-                let cell = sought.take(count as u64, source, book)?;
+                let (count, cell) = sought.take(run.len() - from, source, book);
+                let Some(cell) = cell else {
+                    return (count, None);
+                };
                 let prn = sought.prn();
                 if let Some(tracked) = sought.follow(&cell) {
                     *self = Stage::Tracking(tracked);
                 }
-                Some(StageNews::Acquired { prn, cell })
+                (count, Some(StageNews::Acquired { prn, cell }))
             }
             Stage::Holding(held) => {
-                let counts = held.take(run, from, count, book)?;
-                Some(StageNews::Dump(Dump::plain(counts)))
+                let (count, counts) = held.take(run, from, book);
+                let Some(counts) = counts else {
+                    return (count, None);
+                };
+                (count, Some(StageNews::Dump(Dump::plain(counts))))
             }
             Stage::Tracking(tracked) => {
-                let dump = tracked.take(run, from, count, book)?;
-                Some(StageNews::Dump(dump))
+                let (count, dump) = tracked.take(run, from, book);
+                let Some(dump) = dump else {
+                    return (count, None);
+                };
+                (count, Some(StageNews::Dump(dump)))
             }
         }
     }

@@ -1,9 +1,9 @@
 //! Slots by hand: what they answer, and sums of samples of which each product is plain. `banks` has
 //! those of all clients together, and `searches` what a bank searches for.
 
-ghost use Rattle.std.specs.Prelude.{◌≡◌, ◌+◌, ◌<◌, ◌≤◌, IfOk};
+ghost use Rattle.std.specs.Prelude.{◌≡◌, ◌+◌, ◌<◌, ◌≤◌, ℕ, IfOk};
 ghost use Rattle.definitions.specs.Samples.{real1};
-ghost use Rattle.channel_slots.specs.Slots.{dumps_of, IsReady};
+ghost use Rattle.channel_slots.specs.Slots.{IsSound};
 ghost use Rattle.channel_slots.specs.Commands.{slot_of};
 
 use super::*;
@@ -147,8 +147,7 @@ fn sums([ie, qe, ip, qp, il, ql]: [i32; 6]) -> Counts {
 
 /// A slot that began to hold before the first sample, with counts asked for.
 fn held(settings: &Settings, prn: u8, doppler: i32) -> Result<Slot, Fail>
-    ensures few { IfOk result (λ slot. dumps_of slot ≡ 0) }
-    ensures ready { IfOk result (λ slot. IsReady 0 0 slot) }
+    ensures { IfOk result (λ slot. (reach : ℕ) × IsSound 0 0 reach slot) }
 {
     let mut slot = Slot::new();
     slot.command(settings, 0, hold(prn, doppler)?);
@@ -160,25 +159,24 @@ fn held(settings: &Settings, prn: u8, doppler: i32) -> Result<Slot, Fail>
     Ok(slot)
 }
 
-/// What `len` samples of value 1 make it tell at a time, where they go to its next event, or are
-/// `most` before it, and not beyond.
-fn told(slot: &mut Slot, time: u64, most: usize, len: usize) -> Result<Option<Counts>, Fail>
-    requires few { dumps_of slot.old < 4 }
-    requires some { 0 < most }
-    requires ready { IsReady 0 time slot.old }
+/// What samples of value 1 make it tell at a time, where it is to take `count` of `len` of them.
+fn told(slot: &mut Slot, time: u64, len: usize, count: usize) -> Result<Option<Counts>, Fail>
+    requires some { 0 < len }
+    requires sound { (reach : ℕ) × IsSound 0 time reach slot.old }
     requires in_byte { time + len ≤ 8 }
-    ensures few { dumps_of slot.new ≤ dumps_of slot.old + 1 }
-    ensures ready { IfOk result (λ _. IsReady 0 (time + len) slot.new) }
+    ensures { IfOk result (λ _. (reach : ℕ) × IsSound 0 (time + count) reach slot.new) }
 {
     let samples = unpack(Format::Real1, &[0], 0, len);
-    if slot.room(most) != len {
-        return Err(Fail::new("the next event is elsewhere"));
-    }
     if samples.len() != len {
         return Err(Fail::new("samples are missing"));
     }
-    let source = NumberedSamples::new(PackedSamples::new(Format::Real1, &[0]), 0);
-    match slot.step(&samples, 0, len, &source, &mut CodeBook::new()) {
+    let packed = PackedSamples::new(Format::Real1, &[0]).part(0, time as usize + len);
+    let source = NumberedSamples::new(packed, 0);
+    let (taken, news) = slot.take(&samples, 0, &source, &mut CodeBook::new());
+    if taken != count {
+        return Err(Fail::new("the next event is elsewhere"));
+    }
+    match news {
         Some(SlotNews::Dump(dump)) => Ok(dump.count),
         _ => Ok(None),
     }
@@ -207,7 +205,7 @@ fn sums_do_not_depend_on_the_cut(rt: HostRuntime) -> Result<(), Fail> {
     assert_eq!(rt; told(&mut whole, 0, 8, 2)?, Some(counts));
     let mut cut = held(&settings, 7, -1_000)?;
     assert_eq!(rt; told(&mut cut, 0, 1, 1)?, None);
-    assert_eq!(rt; told(&mut cut, 1, 8, 1)?, Some(counts));
+    assert_eq!(rt; told(&mut cut, 1, 7, 1)?, Some(counts));
     Ok(())
 }
 

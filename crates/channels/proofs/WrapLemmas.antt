@@ -1,25 +1,10 @@
 -- Where a step of samples stays before the end of the code's cycle, and where it reaches the end.
-use Rattle.std.proofs.Common.{inl, inr, zero, suc, ◌≡◌, ◌≤◌, ◌<◌, ◌+◌, ◌-◌, ◌*◌, ◌%◌, ℕ, arith, sym}
+use Rattle.std.proofs.Common.{zero, suc, ◌≡◌, ◌≤◌, ◌<◌, ◌+◌, ◌-◌, ◌*◌, ◌%◌, ℕ, arith, sym}
 use Rattle.std.proofs.Common.{ap, ◌∙◌}
-use Rattle.std.proofs.lemmas.Bool.{cases_lt}
-use Rattle.std.proofs.Math.Nat.{mul-le-mul_right}
 use Rattle.std.proofs.Math.Nat.{mod-eq_of_lt}
 use native.Mathlib.Numerals.{unary_clauses}
 use Rattle.definitions.specs.Oscillators.{code_cycle, code_phase_after}
 use Rattle.oscillators.specs.Views.{Oscillation}
-
--- the least number that reaches the end is another, so these samples don't
-pub before_wrap : (phase step n w : ℕ) → 0 < n → phase + (n - 1) * step < code_cycle
-    → code_cycle ≤ phase + w * step
-    → ((k : ℕ) → k < w → phase + k * step < code_cycle) → (w ≡ n → ⊥)
-    → phase + n * step < code_cycle
-before_wrap phase step n w some before through least other = elim (cases_lt n w) [
-  | inl less ↦ least n less
-  | inr more ↦ omega (arith, before, through, mul-le-mul_right step (below n w more other))
-]
-  where
-    below : (n w : ℕ) → w ≤ n → (w ≡ n → ⊥) → w ≤ n - 1
-    below n w more other = omega (arith, more, other)
 
 -- it passes the end by less than a step, and the phase begins again
 past_by : (phase step m : ℕ) → phase + m * step < code_cycle → step ≤ 3000000000
@@ -37,15 +22,13 @@ past_wrap phase step (suc m) some before slow through =
     ∙ past_by phase step m (simp unary_clauses at before) slow (rw (← more) through)
     ∙ ap (λ k. phase + k - code_cycle) (sym more)
 
--- an oscillator that takes samples and doesn't reach the end
+-- an oscillator that takes fewer samples than reach the end
 pub quiet : (code new : Oscillation) (len n w : ℕ) → len ≡ n
-    → new ≡ record { phase = code_phase_after code.phase code.step len; step = code.step } → 0 < n
-    → code.phase + (n - 1) * code.step < code_cycle → code_cycle ≤ code.phase + w * code.step
-    → ((k : ℕ) → k < w → code.phase + k * code.step < code_cycle) → (w ≡ len → ⊥)
+    → new ≡ record { phase = code_phase_after code.phase code.step len; step = code.step } → n < w
+    → ((k : ℕ) → k < w → code.phase + k * code.step < code_cycle)
     → (code.phase + n * code.step < code_cycle) × (new.phase ≡ code.phase + n * code.step)
-quiet code new len n w is e some before through least other =
-    let low : code.phase + n * code.step < code_cycle =
-    before_wrap code.phase code.step n w some before through least (λ h. other (h ∙ sym is)) in (
+quiet code new len n w is e less least =
+    let low : code.phase + n * code.step < code_cycle = least n less in (
       low,
       ap (λ (o : Oscillation). o.phase) e ∙ ap (λ k. code_phase_after code.phase code.step k) is
           ∙ mod-eq_of_lt low,

@@ -1,33 +1,27 @@
 -- What a follower stands for: the open segment of a channel over the samples so far.
 use Rattle.std.specs.Prelude.{◌≡◌, ◌≤◌, ◌<◌, ℕ, List, [], ◌∷◌, ◌++◌, length, take, ◌+◌, ◌-◌, ◌*◌}
-use Rattle.std.specs.Prelude.{Option, Some, None, nat_le, if◌then◌else◌, ℤ, pos, ◌^◌}
+use Rattle.std.specs.Prelude.{Option, Some, None, nat_lt, if◌then◌else◌, ℤ, pos, ◌^◌}
 use Rattle.definitions.specs.Samples.{Sample}
-use Rattle.definitions.specs.Oscillators.{Settings, carrier_phase_after, code_cycle}
+use Rattle.definitions.specs.Oscillators.{Settings, carrier_phase_after}
 use Rattle.definitions.specs.Oscillators.{code_phase_after, code_step}
 use Rattle.definitions.specs.Lives.{doppler_shift}
 use Rattle.definitions.specs.Correlation.{Counts, counts_over}
 use Rattle.definitions.specs.Segments.{Channel, Progress, progress, open_phases}
 use Rattle.channels.specs.declared.follower.Follower.{Follower}
 use Rattle.lane_correlator.specs.Counting.{counts_in}
+use Rattle.lane_correlator.specs.declared.counts.Counts.{Counts as Sums}
 
 -- which satellite it is
 abbrev pub prn_of : Follower → ℕ
 prn_of f = f.prn
 
--- so many samples don't go past the end of the open segment
-abbrev pub MayTake : Follower → ℕ → Type 0
-MayTake f count = f.code.phase + (count - 1) * f.code.step < code_cycle
+-- how many segments may end in a run of at most 1,024 samples: none where the code is so far from
+-- the end of its cycle that it doesn't come there, whatever its step is
+abbrev pub phase_chance : ℕ → ℕ
+phase_chance code = if nat_lt code 3000000000 then 0 else 1
 
--- the open segment ends with the last of so many samples, or before it
-abbrev pub Ends : Follower → ℕ → Type 0
-Ends f count = code_cycle ≤ f.code.phase + count * f.code.step
-
--- how many segments may end within so many samples, of which there are at most 1,024
-abbrev pub phase_chance : ℕ → ℕ → ℕ → ℕ
-phase_chance code step left = if nat_le code_cycle (code + left * step) then 1 else 0
-
-abbrev pub chance : Follower → ℕ → ℕ
-chance f left = phase_chance f.code.phase f.code.step left
+abbrev pub chance : Follower → ℕ
+chance f = phase_chance f.code.phase
 
 abbrev pub how_many : {A : Type 0} → Option A → ℕ
 how_many None = 0
@@ -71,11 +65,6 @@ pub record BeginsAfter (settings : Settings) (prn : ℕ) (doppler : ℤ) (half_c
       ago
   pub shift : channel.steering [] ≡ record { v = doppler_shift doppler; w = pos 0 }
 
--- the code is so far from the end of its cycle that it doesn't come there within 1,024 samples,
--- whatever their step is
-abbrev pub IsFar : Follower → Type 0
-IsFar f = f.code.phase < 3000000000
-
 -- the segment that is open has no sample yet; the steps may be those of the segment before
 pub record Opens (settings : Settings) (channel : Channel) (xs : List Sample) (f : Follower)
     : Type 0 where
@@ -109,3 +98,8 @@ pub record Closes (settings : Settings) (channel : Channel) (xs ys : List Sample
       ≡ (open_phases settings channel (progress settings channel xs)).code_step
   pub carrier_step : f.carrier.step
       ≡ (open_phases settings channel (progress settings channel xs)).carrier_step
+
+-- with ys behind xs it goes on, or has ended with the last of them where its sums were answered
+abbrev pub Goes : Settings → Channel → List Sample → List Sample → Option Sums → Follower → Type 0
+Goes settings channel xs ys None f = Stays settings channel xs ys f
+Goes settings channel xs ys (Some c) f = Closes settings channel xs ys (counts_in c) f

@@ -18,17 +18,9 @@ prn_of h = segments.prn_of h.follower
 abbrev pub dumps_of : Held → ℕ
 dumps_of h = h.dumps
 
--- so many samples don't go past its next dump
-abbrev pub MayTake : Held → ℕ → Type 0
-MayTake h count = segments.MayTake h.follower count
-
--- its next dump comes with the last of so many samples, or before it
-abbrev pub Ends : Held → ℕ → Type 0
-Ends h count = segments.Ends h.follower count
-
--- how many dumps may come within so many samples, of which there are at most 1,024
-abbrev pub chance : Held → ℕ → ℕ
-chance h left = segments.chance h.follower left
+-- how many dumps may come in a run of samples
+abbrev pub chance : Held → ℕ
+chance h = segments.chance h.follower
 
 -- the shift of a channel stays the same, whatever its dumps are
 abbrev pub IsSteady : Channel → Type 0

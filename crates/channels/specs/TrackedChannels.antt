@@ -21,17 +21,9 @@ use Rattle.channels.specs.Following.{Follows, QuietInside}
 abbrev pub dumps_of : Tracked → ℕ
 dumps_of t = dump_count t.loops
 
--- so many samples don't go past its next dump
-abbrev pub MayTake : Tracked → ℕ → Type 0
-MayTake t count = segments.MayTake t.follower count
-
--- its next dump comes with the last of so many samples, or before it
-abbrev pub Ends : Tracked → ℕ → Type 0
-Ends t count = segments.Ends t.follower count
-
--- how many dumps may come within so many samples, of which there are at most 1,024
-abbrev pub chance : Tracked → ℕ → ℕ
-chance t left = segments.chance t.follower left
+-- how many dumps may come in a run of samples
+abbrev pub chance : Tracked → ℕ
+chance t = segments.chance t.follower
 
 -- the sums of its dumps
 abbrev pub counts_so_far : Settings → Channel → List Sample → List Counts

@@ -1,7 +1,6 @@
 //! One segment of a satellite.
 
 ghost use Rattle.std.specs.Prelude.{◌≡◌, ◌≤◌, ◌<◌, ◌+◌, ◌-◌, ◌*◌};
-ghost use Rattle.sample_planes.specs.declared.planes.TheConstants.{MAX_SAMPLES};
 ghost use Rattle.channels.specs.declared.follower.TheConstants.{LEAST_STEP, MOST_STEP};
 ghost use Rattle.oscillators.specs.declared.settings.TheConstants.{MOST_SHIFT, MOST_CORRECTION};
 ghost use Rattle.tracking_loops.specs.declared.limits.TheConstants.{MOST_SUM};
@@ -35,16 +34,15 @@ pub struct Follower {
 }
 
 impl Follower {
-    ghost use Rattle.std.specs.Prelude.{ℕ, List, length, IfSome, IsNone, unsigned_abs};
+    ghost use Rattle.std.specs.Prelude.{ℕ, List, length, IfSome, unsigned_abs};
     ghost use Rattle.definitions.specs.Samples.{Sample};
     ghost use Rattle.definitions.specs.Oscillators.{Settings as DefinedSettings};
     ghost use Rattle.definitions.specs.Segments.{Channel, counts_of, progress};
     ghost use Rattle.definitions.specs.Lives.{held_channel};
     ghost use Rattle.lane_correlator.specs.Counting.{counts_in, AreWithin};
-    ghost use Rattle.channels.specs.Following.{Follows, Opens, Stays, Closes, MayTake, Ends};
-    ghost use Rattle.channels.specs.Following.{IsFar, BeginsAfter, prn_of};
-    ghost use Rattle.channels.specs.Following.{chance, how_many};
-    ghost use Rattle.channels.specs.Parts.{part};
+    ghost use Rattle.channels.specs.Following.{Follows, Opens, Goes};
+    ghost use Rattle.channels.specs.Following.{BeginsAfter, prn_of, chance};
+    ghost use Rattle.channels.specs.Parts.{part, IsAsFar};
 
     /// Begins at the next sample, with the code at a half chip of its cycle and the carrier at 0.
     /// It goes on at this Doppler shift.
@@ -92,52 +90,36 @@ impl Follower {
         self.prn
     }
 
-    /// How many samples there are to the end of the segment, at least 1.
-    pub fn to_end(&self) -> u64
-        ensures some { 0 < result }
-        ensures ends { Ends self.now result }
-        ensures before { (count : ℕ) → count ≤ result → MayTake self.now count }
-    {
-        self.code.to_wrap()
-    }
-
-    /// Takes `count` samples of a run, at least one and from sample `from` on, that don't go past
-    /// the segment's end. It answers the segment's sums if it ends with the last of them. The book
-    /// is any book of codes.
-    pub fn advance(
+    /// Takes samples of a run, from sample `from` on, up to the end of the segment or of the run.
+    /// It answers how many these are, and the segment's sums if it ends with the last of them. The
+    /// book is any book of codes.
+    pub fn take(
         &mut self,
         run: &Planes,
         from: usize,
-        count: usize,
         book: &mut CodeBook,
-    ) -> Option<Counts>
-        requires some { 0 < count }
-        requires within { from + count ≤ length run.now }
-        requires before { MayTake self.old count }
-        ensures stays { IsNone result
-            → (settings : DefinedSettings) (channel : Channel) (xs : List Sample)
+    ) -> (usize, Option<Counts>)
+        requires { from < length run.now }
+        ensures as_far { IsAsFar (length run.now - from) result.0 result.1 }
+        ensures goes { (settings : DefinedSettings) (channel : Channel) (xs : List Sample)
             → Follows settings channel xs self.old
-            → Stays settings channel xs (part run.now from count) self.new }
-        ensures closes { IfSome result (λ c. (settings : DefinedSettings) (channel : Channel)
-            (xs : List Sample)
-            → Follows settings channel xs self.old
-            → Closes settings channel xs (part run.now from count) (counts_in c) self.new) }
-        ensures chance { (left : ℕ) → count ≤ left → left ≤ MAX_SAMPLES
-            → chance self.new (left - count) + how_many result ≤ chance self.old left }
-        ensures small { IfSome result (λ c. AreWithin MOST_SUM (counts_in c)) }
-        ensures far { IfSome result (λ _. IsFar self.new) }
+            → Goes settings channel xs (part run.now from result.0) result.1 self.new }
+        ensures chance { IfSome result.1 (λ _. chance self.new + 1 ≤ chance self.old) }
+        ensures small { IfSome result.1 (λ c. AreWithin MOST_SUM (counts_in c)) }
     {
-        let more = replica_sums(run, from, count, &self.carrier, &self.code, book, self.prn);
+        let to_end = self.code.to_wrap();
+        let count = to_end.min((run.len() - from) as u64);
+        let len = count as usize;
+        let more = replica_sums(run, from, len, &self.carrier, &self.code, book, self.prn);
         let sums = self.sums.add(&more);
-        let ends = self.code.to_wrap() == count as u64;
-        self.code.advance(count as u64);
-        self.carrier.advance(count as u64);
-        if ends {
+        self.code.advance(count);
+        self.carrier.advance(count);
+        if count == to_end {
             self.sums = Counts::NONE;
-            Some(sums)
+            (len, Some(sums))
         } else {
             self.sums = sums;
-            None
+            (len, None)
         }
     }
 
@@ -151,8 +133,7 @@ impl Follower {
             → Opens settings.now channel xs self.old
             → channel.steering (counts_of (progress settings.now channel xs).dumps)
             ≡ record { v = v; w = w } → Follows settings.now channel xs self.new }
-        ensures far { IsFar self.old → (left : ℕ) → left ≤ MAX_SAMPLES
-            → chance self.new left ≡ 0 }
+        ensures chance { chance self.new ≡ chance self.old }
         ensures prn { prn_of self.new ≡ prn_of self.old }
     {
         self.code.set_step(settings.code_step(v, w));

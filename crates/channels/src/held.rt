@@ -2,7 +2,6 @@
 
 ghost use Rattle.std.specs.Prelude.{◌≡◌, ◌≤◌, ◌<◌, ◌+◌, ◌-◌, ◌^◌};
 ghost use Rattle.channels.specs.declared.held.TheConstants.{MOST_DUMPS};
-ghost use Rattle.sample_planes.specs.declared.planes.TheConstants.{MAX_SAMPLES};
 
 use crate::follower::Follower;
 use ca_codes::{CodeBook, Prn};
@@ -22,15 +21,15 @@ pub struct Held {
 }
 
 impl Held {
-    ghost use Rattle.std.specs.Prelude.{ℕ, List, length};
+    ghost use Rattle.std.specs.Prelude.{ℕ, List, length, IfSome};
     ghost use Rattle.definitions.specs.Samples.{Sample};
     ghost use Rattle.definitions.specs.Oscillators.{Settings as DefinedSettings};
     ghost use Rattle.definitions.specs.Segments.{Channel};
     ghost use Rattle.definitions.specs.Lives.{held_channel};
     ghost use Rattle.channels.specs.Following.{how_many};
-    ghost use Rattle.channels.specs.HeldChannels.{Holds, Takes, MayTake, Ends, prn_of, dumps_of};
+    ghost use Rattle.channels.specs.HeldChannels.{Holds, Takes, prn_of, dumps_of};
     ghost use Rattle.channels.specs.HeldChannels.{chance};
-    ghost use Rattle.channels.specs.Parts.{part};
+    ghost use Rattle.channels.specs.Parts.{part, IsAsFar};
 
     /// Begins at the next sample, with the code at a half chip of its cycle and the carrier at 0.
     pub fn start(settings: &Settings, prn: Prn, doppler: Doppler, half: HalfChip) -> Held
@@ -58,38 +57,29 @@ impl Held {
         self.dumps
     }
 
-    /// How many samples there are to the next dump, at least 1.
-    pub fn to_dump(&self) -> u64
-        ensures some { 0 < result }
-        ensures ends { Ends self.now result }
-        ensures before { (count : ℕ) → count ≤ result → MayTake self.now count }
-    {
-        self.follower.to_end()
-    }
-
-    /// Takes `count` samples of a run, at least one and from sample `from` on, that don't go past
-    /// the next dump. It answers that dump if it comes with the last of them. The book is any book
-    /// of codes.
+    /// Takes samples of a run, from sample `from` on, up to the next dump or the end of the run. It
+    /// answers how many these are, and the dump if it comes with the last of them. The book is any
+    /// book of codes.
     pub fn take(
         &mut self,
         run: &Planes,
         from: usize,
-        count: usize,
         book: &mut CodeBook,
-    ) -> Option<Counts>
-        requires some { 0 < count }
-        requires within { from + count ≤ length run.now }
-        requires before { MayTake self.old count }
+    ) -> (usize, Option<Counts>)
+        requires some { from < length run.now }
         requires few { dumps_of self.old < MOST_DUMPS }
+        ensures as_far { IsAsFar (length run.now - from) result.0 result.1 }
         ensures takes { (settings : DefinedSettings) (channel : Channel) (xs : List Sample)
             → Holds settings channel xs self.old
-            → Takes settings channel xs (part run.now from count) self.new result }
-        ensures dumps { dumps_of self.new ≡ dumps_of self.old + how_many result }
-        ensures chance { (left : ℕ) → count ≤ left → left ≤ MAX_SAMPLES
-            → chance self.new (left - count) + how_many result ≤ chance self.old left }
+            → Takes settings channel xs (part run.now from result.0) self.new result.1 }
+        ensures dumps { dumps_of self.new ≡ dumps_of self.old + how_many result.1 }
+        ensures chance { IfSome result.1 (λ _. chance self.new + 1 ≤ chance self.old) }
     {
-        let counts = self.follower.advance(run, from, count, book)?;
+        let (count, counts) = self.follower.take(run, from, book);
+        let Some(counts) = counts else {
+            return (count, None);
+        };
         self.dumps += 1;
-        Some(counts)
+        (count, Some(counts))
     }
 }

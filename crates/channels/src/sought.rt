@@ -37,6 +37,7 @@ impl Sought {
     ghost use Rattle.sample_planes.specs.Sources.{AreSamplesOf};
     ghost use Rattle.channels.specs.Searching.{Searches, Answers, plan_of, start_of, due_of};
     ghost use Rattle.channels.specs.Searching.{to_due_of, done_of};
+    ghost use Rattle.channels.specs.Parts.{IsAsFar};
     ghost use Rattle.channels.specs.TrackedChannels.{Tracks};
     ghost use Rattle.channels.specs.TrackedChannels as tracked;
 
@@ -83,43 +84,40 @@ impl Sought {
         self.search.plan().cells()
     }
 
-    /// How many samples there are to the time at which its answer is due.
-    pub fn to_due(&self) -> u64
-        ensures { result ≡ to_due_of self.now }
-    {
-        self.to_due
-    }
-
-    /// Goes on by `count` samples, at most `to_due()`, over a source that holds the samples from
-    /// its first on to the last of these. It answers the cell that the acquisition names, if that
-    /// is due with the last of them. The book is any book of codes.
+    /// Goes on by `most` samples, or to the time at which its answer is due if that is sooner, over
+    /// a source that holds the samples from its first on to the last of these. It answers how many
+    /// these are, and the cell that the acquisition names if that is due with the last of them. The
+    /// book is any book of codes.
     pub fn take<S: SampleSource>(
         &mut self,
-        count: u64,
+        most: usize,
         source: &S,
         book: &mut CodeBook,
-    ) -> Option<Cell>
-        requires before { count ≤ to_due_of self.old }
+    ) -> (usize, Option<Cell>)
+        requires some { 0 < most }
+        requires waits { 0 < to_due_of self.old }
         requires from { S.from source.now ≤ start_of self.old }
-        requires to { due_of self.old + count ≤ S.to source.now + to_due_of self.old }
+        requires to { due_of self.old + most ≤ S.to source.now + to_due_of self.old }
+        ensures as_far { IsAsFar most result.0 result.1 }
         ensures stands { (settings : DefinedSettings) (plan : DefinedPlan) (begun : ℕ)
-            (xs ys : List Sample) → length ys ≡ count
+            (xs ys : List Sample) → length ys ≡ result.0
             → AreSamplesOf (xs ++ ys) begun (length (xs ++ ys)) (S.held source.now)
             → Searches settings plan begun xs self.old
             → Searches settings plan begun (xs ++ ys) self.new }
         ensures answers { (settings : DefinedSettings) (plan : DefinedPlan) (begun : ℕ)
-            (xs ys : List Sample) → length ys ≡ count
+            (xs ys : List Sample) → length ys ≡ result.0
             → AreSamplesOf (xs ++ ys) begun (length (xs ++ ys)) (S.held source.now)
             → Searches settings plan begun xs self.old
-            → Answers settings plan begun (xs ++ ys) result }
-        ensures due { IsSome result ↔ (to_due_of self.new ≡ 0) }
-        ensures of_plan { IfSome result (λ cell.
+            → Answers settings plan begun (xs ++ ys) result.1 }
+        ensures due { IsSome result.1 ↔ (to_due_of self.new ≡ 0) }
+        ensures of_plan { IfSome result.1 (λ cell.
             unsigned_abs cell.bin ≤ (plan_of self.new).bins) }
-        ensures left { to_due_of self.new + count ≡ to_due_of self.old }
+        ensures left { to_due_of self.new + result.0 ≡ to_due_of self.old }
         ensures plan { plan_of self.new ≡ plan_of self.old }
         ensures start { start_of self.new ≡ start_of self.old }
         ensures time { due_of self.new ≡ due_of self.old }
     {
+        let count = self.to_due.min(most as u64);
         let to_due = self.to_due - count;
         let due = self.cells().saturating_sub(to_due.div_ceil(4));
         let more = due - self.search.done();
@@ -127,7 +125,7 @@ impl Sought {
             self.search.advance(more, source, book);
         }
         self.to_due = to_due;
-        self.search.result()
+        (count as usize, self.search.result())
     }
 
     /// The signal of a cell that was found, tracked from the time on at which the answer was due;

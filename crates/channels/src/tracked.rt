@@ -3,7 +3,6 @@
 ghost use Rattle.std.specs.Prelude.{◌≡◌, ◌≤◌, ◌<◌, ◌+◌, ◌-◌, unsigned_abs};
 ghost use Rattle.tracking_loops.specs.Standing.{dump_count};
 ghost use Rattle.channels.specs.LockedMessages.{bit_count};
-ghost use Rattle.sample_planes.specs.declared.planes.TheConstants.{MAX_SAMPLES};
 ghost use Rattle.tracking_loops.specs.declared.limits.TheConstants.{MOST_DUMPS, MOST_SHIFT};
 ghost use Rattle.tracking_loops.specs.declared.limits.TheConstants.{MOST_CORRECTION};
 
@@ -29,18 +28,18 @@ pub struct Tracked {
 }
 
 impl Tracked {
-    ghost use Rattle.std.specs.Prelude.{ℕ, List, length};
+    ghost use Rattle.std.specs.Prelude.{ℕ, List, length, IfSome};
     ghost use Rattle.definitions.specs.Samples.{Sample};
     ghost use Rattle.definitions.specs.Oscillators.{Settings as DefinedSettings};
     ghost use Rattle.definitions.specs.Segments.{Channel, progress, first_progress};
     ghost use Rattle.definitions.specs.Lives.{tracked_channel, doppler_shift};
     ghost use Rattle.channels.specs.Following.{how_many, BeginsAfter, Follows};
-    ghost use Rattle.channels.specs.TrackedChannels.{Tracks, Takes, MayTake, Ends, IsSteeredFrom};
+    ghost use Rattle.channels.specs.TrackedChannels.{Tracks, Takes, IsSteeredFrom};
     ghost use Rattle.channels.specs.TrackedChannels.{dumps_of, chance, counts_so_far};
     ghost use Rattle.definitions.specs.BitEdge.{has_edge};
     ghost use Rattle.definitions.specs.Events.{pushes_of};
     ghost use Rattle.definitions.specs.Lock.{is_locked};
-    ghost use Rattle.channels.specs.Parts.{part};
+    ghost use Rattle.channels.specs.Parts.{part, IsAsFar};
 
     /// Begins at the next sample, with the code at a half chip of its cycle and the carrier at 0,
     /// and at this Doppler shift.
@@ -151,45 +150,32 @@ impl Tracked {
         self.message.has_edge()
     }
 
-    /// How many samples there are to the next dump, at least 1.
-    pub fn to_dump(&self) -> u64
-        ensures some { 0 < result }
-        ensures ends { Ends self.now result }
-        ensures before { (count : ℕ) → count ≤ result → MayTake self.now count }
-    {
-        self.follower.to_end()
-    }
-
-    /// Takes `count` samples of a run, at least one and from sample `from` on, that don't go past
-    /// the next dump. It answers that dump if it comes with the last of them. The book is any book
-    /// of codes.
-    pub fn take(
-        &mut self,
-        run: &Planes,
-        from: usize,
-        count: usize,
-        book: &mut CodeBook,
-    ) -> Option<Dump>
-        requires some { 0 < count }
-        requires within { from + count ≤ length run.now }
-        requires before { MayTake self.old count }
+    /// Takes samples of a run, from sample `from` on, up to the next dump or the end of the run. It
+    /// answers how many these are, and the dump if it comes with the last of them. The book is any
+    /// book of codes.
+    pub fn take(&mut self, run: &Planes, from: usize, book: &mut CodeBook) -> (usize, Option<Dump>)
+        requires some { from < length run.now }
         requires few { dumps_of self.old < MOST_DUMPS }
+        ensures as_far { IsAsFar (length run.now - from) result.0 result.1 }
         ensures takes { (settings : DefinedSettings) (channel : Channel) (xs : List Sample)
             → Tracks settings channel xs self.old
-            → Takes settings channel xs (part run.now from count) self.new result }
-        ensures dumps { dumps_of self.new ≡ dumps_of self.old + how_many result }
-        ensures chance { (left : ℕ) → count ≤ left → left ≤ MAX_SAMPLES
-            → chance self.new (left - count) + how_many result ≤ chance self.old left }
+            → Takes settings channel xs (part run.now from result.0) self.new result.1 }
+        ensures dumps { dumps_of self.new ≡ dumps_of self.old + how_many result.1 }
+        ensures chance { IfSome result.1 (λ _. chance self.new + 1 ≤ chance self.old) }
     {
-        let counts = self.follower.advance(run, from, count, book)?;
+        let (count, counts) = self.follower.take(run, from, book);
+        let Some(counts) = counts else {
+            return (count, None);
+        };
         let lock = self.loops.take(counts);
         self.follower
             .steer(&self.settings, self.loops.v(), self.loops.w());
         let message = self.message.take(&counts, self.loops.locked());
-        Some(Dump {
+        let dump = Dump {
             counts,
             lock,
             message,
-        })
+        };
+        (count, Some(dump))
     }
 }

@@ -7,12 +7,12 @@ use acquisition::{Cell, Plan};
 use ca_codes::{CodeBook, Prn};
 use made_signals::code_file;
 use oscillators::{HalfChip, Settings};
-use sample_planes::{Format, NumberedSamples, PackedSamples};
+use sample_planes::{Format, NumberedSamples, PackedSamples, unpack};
 use std::test::Fail;
 
-/// The file of a code, and zeros as far as the due time.
-fn padded() -> [u8; 1_280] {
-    let mut bytes = [0; 1_280];
+/// The file of a code, and zeros as far as a run behind the due time.
+fn padded() -> [u8; 1_408] {
+    let mut bytes = [0; 1_408];
     let file = code_file();
     bytes[..file.len()].copy_from_slice(&file);
     bytes
@@ -39,21 +39,26 @@ fn one_cell_with_four_samples(rt: HostRuntime) -> Result<(), Fail> {
         let mut time = 2;
         assert_eq!(rt; (sought.prn().get(), sought.cells()), (1, 2_046));
         for _ in 0..10_230 {
-            if sought.to_due() == 0 {
-                break;
-            }
-            let count = piece.min(sought.to_due());
-            let answer = sought.take(count, &source, &mut book);
-            time += count;
+            let (count, answer) = sought.take(piece, &source, &mut book);
+            time += count as u64;
             assert_eq!(rt; sought.done(), time.saturating_sub(2_048) / 4, "at {time}");
             assert_eq!(rt; answer, if time == 10_232 { Some(named) } else { None });
+            if answer.is_some() {
+                break;
+            }
         }
-        let tracked = sought.follow(&named).ok_or("a signal that was found")?;
+        let mut tracked = sought.follow(&named).ok_or("a signal that was found")?;
         assert_eq!(rt;
             (tracked.prn().get(), tracked.dumps(), tracked.v()),
             (1, 0, 0)
         );
-        assert_eq!(rt; tracked.to_dump(), 2_044);
+        let run = unpack(Format::Real1, &bytes, 0, 1_024);
+        assert_eq!(rt; run.len(), 1_024);
+        let (count, dump) = tracked.take(&run, 0, &mut book);
+        assert_eq!(rt; (count, dump), (1_024, None));
+        assert_eq!(rt; tracked.dumps(), 0);
+        let (count, dump) = tracked.take(&run, 0, &mut book);
+        assert_eq!(rt; (count, dump.is_some()), (1_020, true));
     }
     Ok(())
 }
@@ -67,10 +72,9 @@ fn nothing_found_is_not_followed(rt: HostRuntime) -> Result<(), Fail> {
     let plan = Plan::new(Prn::new(1).ok_or("a satellite")?, 0, 0, 1, 11)?;
     let source = NumberedSamples::new(PackedSamples::new(Format::Real1, &bytes), 0);
     let mut sought = Sought::start(&settings, plan, 0);
-    assert_eq!(rt; sought.to_due(), 10_230);
-    let cell = sought
-        .take(10_230, &source, &mut CodeBook::new())
-        .ok_or("an answer")?;
+    let (count, cell) = sought.take(10_240, &source, &mut CodeBook::new());
+    let cell = cell.ok_or("an answer")?;
+    assert_eq!(rt; count, 10_230);
     assert!(rt; !cell.found);
     assert_eq!(rt; cell.power, 20);
     assert!(rt; sought.follow(&cell).is_none());

@@ -53,13 +53,12 @@ fn tracked_dumps_are_those_of_the_reference(rt: HostRuntime) -> Result<(), Fail>
     let mut place = 0;
     for _ in 0..690 {
         assert!(rt; place <= 599_000);
-        let room = tracked.to_dump().min(1_000) as usize;
-        let run = unpack(Format::Real2, &bytes, place, room);
-        assert_eq!(rt; run.len(), room);
+        let run = unpack(Format::Real2, &bytes, place, 1_000);
+        assert_eq!(rt; run.len(), 1_000);
         assert!(rt; tracked.dumps() < 1_000);
-        let dump = tracked.take(&run, 0, room, &mut book);
-        place += room;
-        let plain = plain_dump(&mut stream, &mut tracker, room)?;
+        let (count, dump) = tracked.take(&run, 0, &mut book);
+        place += count;
+        let plain = plain_dump(&mut stream, &mut tracker, count)?;
         assert_eq!(rt; dump.is_some(), plain.is_some());
         if let (Some(dump), Some(plain)) = (dump, plain) {
             assert_eq!(rt; dump.counts, sums(plain.counts), "dump {}", plain.number);

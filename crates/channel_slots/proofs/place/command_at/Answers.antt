@@ -10,10 +10,8 @@ returns c =
       set = refl;
       client = rw (← same) at c.command.ensures.client;
       number = rw (← same) at c.command.ensures.number;
-      dumps = rw (← same) at c.command.ensures.dumps;
       refused = rw (← same) at c.command.ensures.refused;
-      ready = rw (← same) at c.command.ensures.ready;
-      reach = rw (← same) at c.command.ensures.reach;
+      sound = rw (← same) at c.command.ensures.sound;
       answers = rw (← same) at c.command.ensures.answer;
       stands = rw (← same) at c.command.ensures.stands;
     }

@@ -1,23 +1,25 @@
-use Rattle.std.proofs.Common.{◌≡◌, ℕ, arith, subst}
-use Rattle.channel_slots.specs.Slots.{MayStep}
+use Rattle.std.proofs.Common.{ℕ, ◌+◌, ◌≡◌, subst}
+use Rattle.channel_slots.specs.Slots.{IsSound}
+use Rattle.channel_slots.specs.declared.slot.Slot.{Slot}
 use Rattle.channel_slots.proofs.tests.told.Goals as goal
 
-pub step-requires-clause-some : goal.step-requires-clause-some
-step-requires-clause-some c = omega (arith, c.room.ensures.some, c.if-room-len.false)
+-- so many samples were taken as were wanted
+sound : (time taken count reach : ℕ) (slot : Slot) → taken ≡ count
+    → IsSound 0 (time + taken) reach slot → (r : ℕ) × IsSound 0 (time + count) r slot
+sound time taken count reach slot is held =
+    (reach, subst (λ (n : ℕ). IsSound 0 (time + n) reach slot) is held)
 
-pub step-requires-clause-within : goal.step-requires-clause-within
-step-requires-clause-within c = omega (arith, c.len.ensures.count, c.if-len.false)
+pub returns-in-Some-Dump : goal.returns-in-Some-Dump
+returns-in-Some-Dump c =
+    sound c.args.time _ _ c.requires.sound.0 _ c.if-taken-count.false
+    (c.take-taken.ensures.sound 0 c.args.time _ c.requires.sound.1)
 
-pub step-requires-clause-may : goal.step-requires-clause-may
-step-requires-clause-may c =
-    let is : c.room.result ≡ c.args.len = omega (arith, c.if-room-len.false) in
-    subst (λ (n : ℕ). MayStep c.args.slot.now n) is c.room.ensures.may
+pub returns-in_default : goal.returns-in_default
+returns-in_default c =
+    sound c.args.time _ _ c.requires.sound.0 _ c.if-taken-count.false
+    (c.take-taken.ensures.sound 0 c.args.time _ c.requires.sound.1)
 
-pub returns-in-Some-Dump-clause-ready : goal.returns-in-Some-Dump-clause-ready
-returns-in-Some-Dump-clause-ready c = c.step.ensures.ready 0 c.args.time c.requires.ready
-
-pub returns-in_default-clause-ready : goal.returns-in_default-clause-ready
-returns-in_default-clause-ready c = c.step.ensures.ready 0 c.args.time c.requires.ready
-
-pub returns-in_default-2-clause-ready : goal.returns-in_default-2-clause-ready
-returns-in_default-2-clause-ready c = c.step.ensures.ready 0 c.args.time c.requires.ready
+pub returns-in_default-2 : goal.returns-in_default-2
+returns-in_default-2 c =
+    sound c.args.time _ _ c.requires.sound.0 _ c.if-taken-count.false
+    (c.take-taken.ensures.sound 0 c.args.time _ c.requires.sound.1)

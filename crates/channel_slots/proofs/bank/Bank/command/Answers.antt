@@ -4,13 +4,13 @@ use Rattle.definitions.specs.Oscillators.{Settings}
 use Rattle.channel_slots.specs.declared.place.Place.{Place}
 use Rattle.channel_slots.specs.declared.command.Command.{Command}
 use Rattle.channel_slots.specs.declared.answer.Answer.{Answer}
-use Rattle.channel_slots.specs.Slots.{StandsFor, IsReady, IsWithin}
+use Rattle.channel_slots.specs.Slots.{StandsFor, IsSound}
 use Rattle.channel_slots.specs.Banks.{IsCommanded}
 use Rattle.channel_slots.specs.Commands.{slot_of, request_in}
 use Rattle.channel_slots.proofs.BankLemmas.{refilled}
 use Rattle.channel_slots.proofs.CommandLemmas.{stands-at, commanded, keeps, set-keeps}
 use Rattle.channel_slots.proofs.ShareLemmas.{once-of}
-use Rattle.channel_slots.proofs.ReadyLemmas.{all-ready, all-on-way}
+use Rattle.channel_slots.proofs.ReadyLemmas.{all-sound, all-tested}
 use Rattle.channel_slots.specs.Stages.{most_wait}
 use Rattle.channel_slots.proofs.bank.Bank.command.Goals as goal
 
@@ -39,21 +39,17 @@ invariant_of-self c =
     c.command_at.ensures in
     let b : at < length ps = c.place-place.ensures.within in
     let k =
-    keeps ps at c.args.self.now.time e.old e.new b e.is e.client e.number e.dumps
-    c.args.self.now.few in
+    keeps ps at e.old e.new e.is e.client e.number in
     let whole =
     refilled c.args.self.now.places.len ps (slice_set ps at e.new)
     (k.size ∙ sym (ap length c.deref_mut.ensures.value) ∙ c.deref_mut.ensures.len) in
     let reach : ℕ = most_wait c.args.self.now.settings in
-    let ready = all-ready c.args.self.now.time reach ps c.args.self.now.on_way in
+    let time : ℕ = c.args.self.now.time in
     record {
-      few = rw (e.set, whole) k.few;
       early = c.args.self.now.early;
-      on_way = rw (e.set, whole) (all-on-way c.args.self.now.time reach (slice_set ps at e.new)
-          (set-keeps (λ (p : Place). IsReady 0 c.args.self.now.time p.slot) ps at e.old e.new b e.is
-          (e.ready 0 (omega arith)) ready.0)
-          (set-keeps (λ (p : Place). IsWithin reach p.slot) ps at e.old e.new b e.is e.reach
-          ready.1));
+      sound = rw (e.set, whole) (all-tested time reach (slice_set ps at e.new)
+          (set-keeps (λ (p : Place). IsSound 0 time reach p.slot) ps at e.old e.new b e.is
+          (e.sound 0 (omega arith)) (all-sound time reach ps c.args.self.now.sound)));
       packed = c.args.self.now.packed;
       room = c.args.self.now.room;
       taken = c.args.self.now.taken;

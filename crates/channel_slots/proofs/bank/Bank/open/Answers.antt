@@ -3,9 +3,8 @@ use Rattle.std.specs.Prelude.{true}
 use Rattle.std.specs.List.{list_all}
 use Rattle.definitions.specs.Banks.{layout}
 use Rattle.definitions.specs.Runs.{is_share}
-use Rattle.channel_slots.proofs.BankLemmas.{most-from_few}
-use Rattle.channel_slots.proofs.ReadyLemmas.{all-on-way}
-use Rattle.channel_slots.proofs.ShareLemmas.{idle-few, idle-ready, idle-within, idle-stand}
+use Rattle.channel_slots.proofs.ReadyLemmas.{all-tested}
+use Rattle.channel_slots.proofs.ShareLemmas.{idle-sound, idle-stand}
 use Rattle.channel_slots.proofs.ShareLemmas.{few-each}
 use Rattle.channel_slots.proofs.bank.Bank.open.Goals as goal
 
@@ -19,9 +18,8 @@ invariant_of-result c =
     let shared : list_all is_share c.args.shares.now ≡ true =
     sym c.are_shares.ensures ∙ c.if-not-are_shares.false in
     record {
-      few = most-from_few 0 _ (idle-few _ idle);
       early = omega arith;
-      on_way = all-on-way 0 _ _ (idle-ready _ idle) (idle-within _ _ idle);
+      sound = all-tested 0 _ _ (idle-sound _ _ idle);
       packed = c.in-Ok-open.ensures.packing ∙ c.format.ensures;
       room = omega (arith, c.in-Ok-open.ensures.room, c.most_reach.ensures);
       taken = c.in-Ok-open.ensures.taken;

@@ -1,108 +1,133 @@
-use Rattle.std.proofs.Common.{◌≡◌, ◌+◌, ◌-◌, arith, ℕ, List, length, take, drop, subst, ap, ◌∙◌}
-use Rattle.std.proofs.lemmas.List.{take_all, length-take-le}
+use Rattle.std.proofs.Common.{◌≡◌, ◌≤◌, ◌+◌, ◌-◌, arith, ℕ, List, [], length, take, refl, sym, ap}
+use Rattle.std.proofs.Common.{◌∙◌}
+use Rattle.std.proofs.lemmas.List.{length-take-le, length-map}
 use Rattle.definitions.specs.Samples.{Sample}
-use Rattle.channel_slots.specs.Banks.{PlaceAdds}
+use Rattle.channels.specs.Parts.{part}
+use Rattle.channel_slots.specs.Banks.{event_of}
 use Rattle.channel_slots.specs.Events.{time_in}
+use Rattle.channel_slots.specs.NewsEvents.{events_with}
+use Rattle.channel_slots.specs.Slots.{chances}
+use Rattle.channel_slots.specs.declared.slot.TheConstants.{SLOT_EVENTS}
 use Rattle.channel_slots.proofs.OrderLemmas.{put_all-length}
-use Rattle.channel_slots.proofs.ReadyLemmas.{waits, holds}
-use Rattle.channel_slots.proofs.TellingLemmas.{goes-begin, goes-more, one-chance, take_part}
-use Rattle.channels.proofs.PartLemmas.{part-length}
+use Rattle.channel_slots.proofs.PlaceLemmas.{placed}
+use Rattle.channel_slots.proofs.PutLemmas.{puts-none}
+use Rattle.channel_slots.proofs.TakenLemmas.{taken-length}
+use Rattle.channel_slots.proofs.TellingLemmas.{goes-begin, goes-on, one-chance}
 use Rattle.channel_slots.proofs.place.Place.run.Goals as goal
 
 pub loop-done-init : goal.loop-done-init
 loop-done-init g c = record {
   within = omega arith;
-  goes =
-      goes-begin (c.len-len.result - 0) c.args.time c.args.self.now c.args.events.now.items
-      (one-chance c.args.self.now.slot (c.len-len.result - 0)) _ _;
+  room = λ some. omega (arith, one-chance c.args.self.now.slot);
+  goes = goes-begin c.args.time c.args.self.now c.args.events.now.items _ _;
 }
 
-pub step-requires-clause-few : goal.step-requires-clause-few
-step-requires-clause-few g c =
-    let is : length (take c.loop-done.done c.args.run.now) ≡ c.loop-done.done =
-    length-take-le c.loop-done.done c.args.run.now
+pub take-count-requires-clause-sound : goal.take-count-requires-clause-sound
+take-count-requires-clause-sound g c =
+    let run : List Sample = c.args.run.now in
+    let done : ℕ = c.loop-done.done in
+    let so_far : length (take done run) ≡ done =
+    length-take-le done run
     (omega (arith, c.len-len.ensures.count, c.loop-done.invariant.within)) in
+    let now : g.S.SampleSource.to c.args.source.now - (length run - done)
+    ≡ c.args.time + length (take done run) =
     omega (
       arith,
-      c.requires.few,
-      c.requires.short,
-      c.loop-done.invariant.within,
+      so_far,
+      c.requires.to,
       c.len-len.ensures.count,
-      c.loop-done.invariant.goes.dumps,
-      is,
-    )
+      c.loop-done.invariant.within,
+    ) in
+    (c.requires.sound.0, rw now (c.loop-done.invariant.goes.sound _ _ c.requires.sound.1))
 
-pub step-requires-clause-fits : goal.step-requires-clause-fits
-step-requires-clause-fits g c =
-    let goes = c.loop-done.invariant.goes in
-    let e : length c.loop-done.events.items ≡ length c.args.events.now.items + length goes.events =
-    ap length goes.added ∙ put_all-length time_in c.args.events.now.items goes.events in
-    omega (arith, e, goes.chances, c.requires.fits)
-
-pub room-count-requires-clause-waits : goal.room-count-requires-clause-waits
-room-count-requires-clause-waits g c =
-    waits _ _ c.loop-done.self.slot (c.loop-done.invariant.goes.ready _ c.requires.ready)
-
-pub step-requires-clause-holds : goal.step-requires-clause-holds
-step-requires-clause-holds g c =
-    let is : length (take c.loop-done.done c.args.run.now) ≡ c.loop-done.done =
-    length-take-le c.loop-done.done c.args.run.now
-    (omega (arith, c.len-len.ensures.count, c.loop-done.invariant.within)) in
-    holds _ _ _ c.room-count.result c.loop-done.self.slot
-    (c.loop-done.invariant.goes.ready _ c.requires.ready)
-    (omega (
+pub loop-done-preserved-in-Some : goal.loop-done-preserved-in-Some
+loop-done-preserved-in-Some g c =
+    let run : List Sample = c.args.run.now in
+    let done : ℕ = c.loop-done.done in
+    let took = c.take-count in
+    let news = c.in-Some.news in
+    let zs : List Sample = part run done took.result.0 in
+    let is : took.result.0 ≡ length zs =
+    sym (taken-length run done took.result.0 took.result.1
+    (omega (arith, c.loop-done-test.true, c.len-len.ensures.count)) took.ensures.as_far) in
+    let here : ℕ = c.args.time + (done + took.result.0) in
+    let many : length c.put_news.new.events.items
+    ≡ length c.loop-done.events.items + length (events_with news) =
+    ap length c.put_news.ensures
+    ∙ put_all-length time_in c.loop-done.events.items _
+    ∙ ap (λ (n : ℕ). length c.loop-done.events.items + n)
+    (length-map (events_with news) (event_of c.loop-done.self here)) in
+    let room : length c.put_news.new.events.items + chances took.new.self
+    ≤ length c.args.events.now.items + SLOT_EVENTS =
+    omega (
       arith,
-      is,
-      c.requires.holds,
-      c.room-count.ensures.within,
-      c.len-len.ensures.count,
-      c.loop-done.invariant.within,
-    ))
+      many,
+      rw c.in-Some.is at took.ensures.chances,
+      c.loop-done.invariant.room c.loop-done-test.true,
+    ) in
+    record {
+      within = omega (
+        arith,
+        took.ensures.as_far.within,
+        c.len-len.ensures.count,
+        c.loop-done-test.true,
+      );
+      room = λ more. room;
+      goes = goes-on run done took.result.0 c.args.time _ _ c.args.self.now c.loop-done.self _
+          c.args.events.now.items c.loop-done.events.items c.put_news.new.events.items
+          took.ensures.as_far.some
+          (omega (
+            arith,
+            took.ensures.as_far.within,
+            c.len-len.ensures.count,
+            c.loop-done-test.true,
+          ))
+          c.loop-done.invariant.goes
+          (record {
+            events = _;
+            steps = placed zs here _ _ c.loop-done.self _ (events_with news) refl refl
+                (omega (arith, is)) (rw is at took.ensures.sound)
+                (rw c.in-Some.is at took.ensures.tells);
+            added = c.put_news.ensures;
+          })
+          (omega (arith, room));
+    }
 
 pub loop-done-preserved : goal.loop-done-preserved
 loop-done-preserved g c =
+    let run : List Sample = c.args.run.now in
     let done : ℕ = c.loop-done.done in
-    let count : ℕ = c.room-count.result in
-    let xs : List Sample = c.args.run.now in
-    let ys : List Sample = take done xs in
-    let zs : List Sample = take count (drop done xs) in
-    let before_it : length ys ≡ done =
-    length-take-le done xs
-    (omega (arith, c.len-len.ensures.count, c.loop-done.invariant.within)) in
-    let is : length zs ≡ count =
-    part-length xs done count
-    (omega (
-      arith,
-      c.len-len.ensures.count,
-      c.room-count.ensures.within,
-      c.loop-done-test.true,
-    )) in
-    let here : c.args.time + (done + count) ≡ c.args.time + length ys + length zs =
-    omega (arith, before_it, is) in
-    let left : c.len-len.result - (done + count) ≡ c.len-len.result - done - count = omega arith in
-    let from : ℕ = g.S.SampleSource.from c.args.source.now in
-    let held : ℕ → Sample = g.S.SampleSource.held c.args.source.now in
-    let steps : PlaceAdds zs (c.args.time + (done + count)) from held c.loop-done.self
-    c.step.new.self c.loop-done.events.items c.step.new.events.items = c.step.ensures in
-    let adds : PlaceAdds zs (c.args.time + length ys + length zs) from held c.loop-done.self
-    c.step.new.self c.loop-done.events.items c.step.new.events.items =
-    subst (λ (t : ℕ). PlaceAdds zs t from held c.loop-done.self c.step.new.self
-    c.loop-done.events.items c.step.new.events.items) here steps in
-    rw (left, take_part xs done count) (record {
-      within = omega (arith, c.room-count.ensures.within, c.loop-done-test.true);
-      goes =
-          goes-more (c.len-len.result - done) count ys zs c.args.time from held c.args.self.now
-          c.loop-done.self c.step.new.self c.args.events.now.items c.loop-done.events.items
-          c.step.new.events.items c.loop-done.invariant.goes adds is c.room-count.ensures.some
-          c.room-count.ensures.within
-          (omega (arith, c.len-len.ensures.count, c.requires.short));
-    })
-
-pub returns : goal.returns
-returns g c =
-    let all : c.len-len.result ≡ c.loop-done.done =
-    omega (arith, c.loop-done.invariant.within, c.loop-done-test.false) in
-    let none_left : c.len-len.result - c.loop-done.done ≡ 0 = omega (arith, all) in
-    let whole : take c.loop-done.done c.args.run.now ≡ c.args.run.now =
-    take_all c.loop-done.done c.args.run.now (omega (arith, c.len-len.ensures.count, all)) in
-    rw (none_left, whole) at c.loop-done.invariant.goes
+    let took = c.take-count in
+    let zs : List Sample = part run done took.result.0 in
+    let is : took.result.0 ≡ length zs =
+    sym (taken-length run done took.result.0 took.result.1
+    (omega (arith, c.loop-done-test.true, c.len-len.ensures.count)) took.ensures.as_far) in
+    let whole : took.result.0 ≡ length run - done =
+    took.ensures.as_far.whole (rw c.in_default.is refl) in
+    record {
+      within = omega (
+        arith,
+        took.ensures.as_far.within,
+        c.len-len.ensures.count,
+        c.loop-done-test.true,
+      );
+      room = λ more. absurd (omega (arith, more, whole, c.len-len.ensures.count));
+      goes = goes-on run done took.result.0 c.args.time _ _ c.args.self.now c.loop-done.self _
+          c.args.events.now.items c.loop-done.events.items c.loop-done.events.items
+          took.ensures.as_far.some
+          (omega (
+            arith,
+            took.ensures.as_far.within,
+            c.len-len.ensures.count,
+            c.loop-done-test.true,
+          ))
+          c.loop-done.invariant.goes
+          (record {
+            events = [];
+            steps = placed zs (c.args.time + (done + took.result.0)) _ _ c.loop-done.self _ [] refl
+                refl (omega (arith, is)) (rw is at took.ensures.sound)
+                (rw c.in_default.is at took.ensures.tells);
+            added = puts-none c.loop-done.self (c.args.time + (done + took.result.0)) _;
+          })
+          (omega (arith, c.loop-done.invariant.room c.loop-done-test.true));
+    }

@@ -66,25 +66,14 @@ returns-in-On-self-clause-stands c xs commands now s =
     rw (ap request_in c.in-Stop.is)
     (becomes-idle _ xs commands _ s _ _ (Some i.life) i.of i.now refl)
 
-pub returns-in-Acquire-clause-ready : goal.returns-in-Acquire-clause-ready
-returns-in-Acquire-clause-ready c first later ready =
-    c.start.ensures.ready first _ ready (c.search.ensures.ready first later)
+pub returns-in-Acquire-clause-sound : goal.returns-in-Acquire-clause-sound
+returns-in-Acquire-clause-sound c first later sound =
+    c.start.ensures.sound first _ _ sound (c.search.ensures.sound first later)
 
-pub returns-in-Acquire-clause-reach : goal.returns-in-Acquire-clause-reach
-returns-in-Acquire-clause-reach c within = c.start.ensures.reach _ within c.search.ensures.within
+pub returns-in-Hold-clause-sound : goal.returns-in-Hold-clause-sound
+returns-in-Hold-clause-sound c first later sound =
+    c.start-in-Hold.ensures.sound first _ _ sound (c.hold.ensures.sound first _ _)
 
-pub returns-in-Hold-clause-ready : goal.returns-in-Hold-clause-ready
-returns-in-Hold-clause-ready c first later ready =
-    c.start-in-Hold.ensures.ready first _ ready (c.hold.ensures.ready first _)
-
-pub returns-in-Hold-clause-reach : goal.returns-in-Hold-clause-reach
-returns-in-Hold-clause-reach c within =
-    c.start-in-Hold.ensures.reach _ within (c.hold.ensures.within _)
-
-pub returns-in-Track-clause-ready : goal.returns-in-Track-clause-ready
-returns-in-Track-clause-ready c first later ready =
-    c.start-in-Track.ensures.ready first _ ready (c.track.ensures.ready first _)
-
-pub returns-in-Track-clause-reach : goal.returns-in-Track-clause-reach
-returns-in-Track-clause-reach c within =
-    c.start-in-Track.ensures.reach _ within (c.track.ensures.within _)
+pub returns-in-Track-clause-sound : goal.returns-in-Track-clause-sound
+returns-in-Track-clause-sound c first later sound =
+    c.start-in-Track.ensures.sound first _ _ sound (c.track.ensures.sound first _ _)

@@ -11,15 +11,15 @@ use Rattle.channels.proofs.sought.Sought.take.Goals as goal
 use Rattle.channels.proofs.sought.Sought.take.Goals.{then-more-gt0, else-more-gt0}
 
 module _ (g : Over) (c : goal.After-result g) (settings : Settings) (plan : Plan) (begun : ℕ)
-    (xs ys : List Sample) (count : length ys ≡ c.args.count)
+    (xs ys : List Sample) (count : length ys ≡ c.min-count.result)
     (holds : AreSamplesOf (xs ++ ys) begun (length (xs ++ ys))
     (g.S.SampleSource.held c.args.source.now)) (s : Searches settings plan begun xs c.args.self.now)
   where
     abbrev still : ℕ
-    still = c.args.self.now.to_due - c.args.count
+    still = c.args.self.now.to_due - c.min-count.result
 
     fewer : still + length ys ≡ c.args.self.now.to_due
-    fewer = omega (arith, count, c.requires.before)
+    fewer = omega (arith, count, c.min-count.ensures)
 
     same : c.cells.result ≡ cell_count plan
     same = c.cells.ensures ∙ ap (λ (p : Plan). cell_count p) s.search.plan_is

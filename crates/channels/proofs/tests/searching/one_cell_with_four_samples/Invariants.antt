@@ -1,7 +1,8 @@
-use Rattle.std.proofs.Common.{◌≡◌, ◌+◌}
+use Rattle.std.proofs.Common.{◌≡◌, ◌<◌, ◌+◌}
 use Rattle.channels.specs.Searching.{start_of, due_of, to_due_of}
 use Rattle.channels.proofs.tests.searching.one_cell_with_four_samples.Given as goal
 
 abbrev pub invariant-loop : goal.invariant-loop
 invariant-loop g l =
     (start_of l.sought ≡ 2) × (due_of l.sought ≡ 10232) × (l.time + to_due_of l.sought ≡ 10232)
+    × (0 < to_due_of l.sought)
