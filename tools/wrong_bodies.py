@@ -101,6 +101,13 @@ def refusals(said):
             and (line.startswith('note: ') or ': error: ' in line)]
 
 
+def does_not_compile(said, place):
+    """Whether a function is one that the compiler refused, before any goal was tried."""
+    file, function = place
+    found = re.findall(rf'^(?:\./)?{re.escape(file)}:(\d+):\d+: error\[', said, re.M)
+    return any(function.first <= int(number) <= function.last + 1 for number in found)
+
+
 def path_of(file):
     """The names of the modules of a source."""
     parts = file[len('src/'):-len('.rt')].split('/')
