@@ -36,8 +36,6 @@ mod plan;
 mod search;
 mod sums;
 mod tally;
-#[cfg(test)]
-mod tests;
 
 pub use cell::Cell;
 pub use dwell::MOST_START;

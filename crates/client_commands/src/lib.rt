@@ -21,8 +21,6 @@ mod plan;
 mod refusal;
 mod script;
 mod start;
-#[cfg(test)]
-mod tests;
 mod verb;
 mod words;
 

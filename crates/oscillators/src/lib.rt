@@ -20,8 +20,6 @@ mod doppler;
 mod half_chip;
 mod settings;
 mod strides;
-#[cfg(test)]
-mod tests;
 
 pub use carrier::{CarrierOsc, CarrierPlanes, CarrierWord};
 pub use code::{ChipWord, CodeOsc, CodePlanes};

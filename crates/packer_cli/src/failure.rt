@@ -29,6 +29,9 @@ pub enum Failure {
     /// No packing was given.
     #[error("--to: it is missing, and so is --measure")]
     NoFormat,
+    /// A packing was given, and measuring writes none.
+    #[error("--to: --measure packs nothing")]
+    NotPacked,
     /// The packing has sizes, and no threshold was given.
     #[error("--to: two bits a part need --threshold; --measure suggests one")]
     NoThreshold,
@@ -39,10 +42,10 @@ pub enum Failure {
     #[error("standard input has no whole sample")]
     Nothing,
     /// A centre or a threshold isn't a number of halves, or is out of range.
-    #[error("--{0}: it takes N or N.5, at most 1000000")]
+    #[error("--{0}: it takes N or N.5, at most 1000000.5")]
     Number(&'static str),
     /// A threshold of floats isn't a float of at least 0, or is infinite.
-    #[error("--threshold: it takes a number of at least 0")]
+    #[error("--threshold: of floats it takes a number from 0 to 3.4e38")]
     Float,
     /// Floats have the centre 0.
     #[error("--centre: floats have the centre 0")]

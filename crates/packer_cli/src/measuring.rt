@@ -7,7 +7,7 @@ ghost use Rattle.recordings.specs.declared.recipe.TheConstants.{MOST_BYTES};
 use crate::decimals::{Halves, Hundredths};
 use crate::failure::Failure;
 use crate::running::{read, zeros};
-use recordings::{MOST_BYTES, MOST_PIECE, Measure, Part, Recipe, Window};
+use recordings::{Kind, MOST_BYTES, MOST_PIECE, Measure, Part, Recipe, Window};
 use std::alloc::{AllocGlobal, Global};
 use std::io::{self, Print, Read};
 
@@ -33,27 +33,34 @@ pub fn measure<T: AllocGlobal + Print, R: Read>(
     if of_i.count == 0 {
         return Err(Failure::Nothing);
     }
-    tell(rt, recipe.is_paired, (&i, &of_i), (&q, &of_q), threshold).map_err(|_| Failure::Output)
+    tell(rt, recipe, (&i, &of_i), (&q, &of_q), threshold).map_err(|_| Failure::Output)
 }
 
 /// Prints what was found, and the options.
 fn tell<P: Print>(
     rt: &P,
-    is_paired: bool,
+    recipe: &Recipe,
     i: (&Part, &Measure),
     q: (&Part, &Measure),
     threshold: u64,
 ) -> io::Result<()> {
     println!(rt; "samples {}", i.1.count)?;
-    tell_part(rt, "", i.0, i.1)?;
-    if is_paired {
-        tell_part(rt, "-q", q.0, q.1)?;
+    tell_part(rt, recipe.kind, "", i.0, i.1)?;
+    if recipe.is_paired {
+        tell_part(rt, recipe.kind, "-q", q.0, q.1)?;
     }
     println!(rt; "--threshold {}", Halves(signed(threshold)))
 }
 
-/// Prints what was found of a part.
-fn tell_part<P: Print>(rt: &P, name: &str, part: &Part, measure: &Measure) -> io::Result<()> {
+/// Prints what was found of a part. That values of few bits stand at the ends of their range says
+/// nothing of a radio that clips.
+fn tell_part<P: Print>(
+    rt: &P,
+    kind: Kind,
+    name: &str,
+    part: &Part,
+    measure: &Measure,
+) -> io::Result<()> {
     let count = measure.count;
     let [plus, far_plus, minus, far_minus] = measure.shares;
     println!(rt;
@@ -61,7 +68,9 @@ fn tell_part<P: Print>(rt: &P, name: &str, part: &Part, measure: &Measure) -> io
         Hundredths(nearest(measure.sum.saturating_mul(50), count))
     )?;
     println!(rt; "rms{name} {}", rms(measure))?;
-    println!(rt; "at-the-ends{name} {}%", share(measure.at_ends, count))?;
+    if kind.bits() >= 8 {
+        println!(rt; "at-the-ends{name} {}%", share(measure.at_ends, count))?;
+    }
     println!(rt;
         "shares{name} {}% {}% {}% {}%",
         share(plus, count),

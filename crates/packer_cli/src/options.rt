@@ -6,18 +6,20 @@ use clap::{Arg, ArgAction, ArgMatches, Command, Error, value_parser};
 use recordings::{Choice, Kind, Recipe, Window};
 use sample_planes::Format;
 use std::alloc::Global;
+use version::VERSION;
 
 const ABOUT: &str = "\
 Packs a recording of samples as the receiver reads them: standard input to standard output.";
 
 /// The kinds that `--from` takes.
-static KINDS: [&str; 16] = [
+static KINDS: [&str; 18] = [
     "u8",
     "i8",
     "i16",
     "i16be",
     "f32",
     "bits2-low",
+    "bits2-sm-low",
     "bits1-low",
     "bits1-high",
     "iq-u8",
@@ -26,6 +28,7 @@ static KINDS: [&str; 16] = [
     "iq-i16be",
     "iq-f32",
     "iq-bits2-low",
+    "iq-bits2-sm-low",
     "iq-bits1-low",
     "iq-bits1-high",
 ];
@@ -45,6 +48,8 @@ quadrature.
   i16, i16be  16 bits of two's complement, the low byte first, or the high one
   f32         floats of 32 bits, the low byte first; their centre is 0
   bits2-low   two bits t of two's complement for 2t + 1, the earliest in a byte's low bits
+  bits2-sm-low
+              two bits, a sign above a size, for 1, 3, -1 and -3, the earliest in a byte's low bits
   bits1-low   one bit, 0 for 1 and 1 for -1, the earliest in a byte's low bit; or in its high bit,
   bits1-high  as in real1
 
@@ -54,8 +59,8 @@ threshold.
 
 With --measure nothing is packed. It measures the first 1048576 bytes, or fewer by --count, and
 prints: how many samples there are; of each part (`-q` for the one in quadrature) its mean, its root
-mean square about the centre, the share at the ends of the range, and the shares of 1, 3, -1 and -3
-that the options below them would give.
+mean square about the centre, the share at the ends of the range where a value has 8 bits or more,
+and the shares of 1, 3, -1 and -3 that the options below them would give.
 
 Statuses:
   0  the recording came to its end, or all that was wanted is written, or help was asked for
@@ -72,7 +77,7 @@ Examples:
 /// Reads the words of a command line, the program's name first.
 pub fn matches<'a>(alloc: Global, words: &'a [String]) -> Result<ArgMatches<'a>, Error> {
     Command::new(alloc, "pack")
-        .version("1")
+        .version(VERSION)
         .about(ABOUT)
         .override_usage("pack --from <KIND> <--to <FORMAT>|--measure> [OPTIONS]")
         .after_help(MORE)
@@ -178,7 +183,11 @@ fn flag<'a>(alloc: Global, name: &'a str, help: &'a str) -> Arg<'a> {
 /// The recipe that the options ask for.
 pub fn recipe(matches: &ArgMatches) -> Result<Recipe, Failure> {
     let (is_paired, kind) = kind(matches.get_str("from").unwrap_or("u8"));
-    let format = format(matches, is_paired)?;
+    let format = if is_measured(matches) {
+        measured_format(matches, is_paired)?
+    } else {
+        format(matches)?
+    };
     let default = if kind == Kind::U8 { 255 } else { 0 };
     let centre = twice(matches, "centre", default)?;
     let centre_q = twice(matches, "centre-q", centre)?;
@@ -214,6 +223,7 @@ fn kind(name: &str) -> (bool, Kind) {
         "i16be" => Kind::I16Be,
         "f32" => Kind::F32,
         "bits2-low" => Kind::Bits2Low,
+        "bits2-sm-low" => Kind::SignSizeLow,
         "bits1-low" => Kind::Bits1Low,
         "bits1-high" => Kind::Bits1High,
         _ => Kind::U8,
@@ -221,14 +231,18 @@ fn kind(name: &str) -> (bool, Kind) {
     (is_paired, kind)
 }
 
-/// The packing to write. What is measured gets one of signs alone.
-fn format(matches: &ArgMatches, is_paired: bool) -> Result<Format, Failure> {
+/// A packing of signs alone for what is measured, which is not written.
+fn measured_format(matches: &ArgMatches, is_paired: bool) -> Result<Format, Failure> {
     match matches.get_str("to") {
-        _ if is_measured(matches) => Ok(if is_paired {
-            Format::Iq1
-        } else {
-            Format::Real1
-        }),
+        Some(_) => Err(Failure::NotPacked),
+        None if is_paired => Ok(Format::Iq1),
+        None => Ok(Format::Real1),
+    }
+}
+
+/// The packing to write.
+fn format(matches: &ArgMatches) -> Result<Format, Failure> {
+    match matches.get_str("to") {
         Some("real1") => Ok(Format::Real1),
         Some("real2") => Ok(Format::Real2),
         Some("iq1") => Ok(Format::Iq1),
@@ -253,15 +267,15 @@ fn threshold(matches: &ArgMatches, kind: Kind, format: Format) -> Result<u32, Fa
 /// The bits of the float of a text, which is neither below 0 nor infinite.
 fn float(text: &str) -> Result<u32, Failure> {
     const INFINITY: u32 = 0x7f80_0000;
+    const MINUS_ZERO: u32 = 0x8000_0000;
     let number = text.parse::<f32>().map_err(|_| Failure::Float)?;
     if number.is_nan() {
         return Err(Failure::Float);
     }
-    let bits = number.to_bits();
-    if bits < INFINITY {
-        Ok(bits)
-    } else {
-        Err(Failure::Float)
+    match number.to_bits() {
+        MINUS_ZERO => Ok(0),
+        bits if bits < INFINITY => Ok(bits),
+        _ => Err(Failure::Float),
     }
 }
 

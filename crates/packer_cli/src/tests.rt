@@ -1,5 +1,7 @@
 //! Numbers of options, and runs over memory and over devices that fail.
 
+mod command_lines;
+
 use crate::decimals::{Halves, Hundredths};
 use crate::failure::{Failure, status};
 use crate::halves::halves;

@@ -17,8 +17,6 @@ mod hex;
 mod lines;
 mod pages;
 mod subframe_words;
-#[cfg(test)]
-mod tests;
 mod words;
 
 pub use lines::{answer_line, end_line, event_line, refusal_line};

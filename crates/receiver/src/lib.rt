@@ -22,8 +22,6 @@ mod queues;
 mod reading;
 mod running;
 mod session;
-#[cfg(test)]
-mod tests;
 mod writing;
 
 pub use devices::{DeviceFault, Plain, Sink, Source};

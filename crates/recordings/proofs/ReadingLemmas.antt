@@ -5,7 +5,7 @@ use mir.Syntax.{w64}
 use mir.Val.{to_z, of_z}
 use Rattle.std.proofs.lemmas.Int.{ints}
 use Rattle.std.proofs.lemmas.Bool.Decides.{nat_tests}
-use Rattle.recordings.specs.Readings.{signed, float_order}
+use Rattle.recordings.specs.Readings.{signed, sized, float_order}
 
 pub doubled : (r : ℤ) → unsigned_abs r < 2 ^ 31
     → to_z w64 (of_z w64 (pos 2 *ℤ to_z w64 (of_z w64 r))) ≡ pos 2 *ℤ r
@@ -41,3 +41,19 @@ float_order-low bits h = grind (arith, nat_tests)
 pub float_order-high : (bits : ℕ) → 2 ^ 31 ≤ bits → float_order bits ≡ neg_ℤ (pos (bits - 2 ^ 31))
 unfolding float_order
 float_order-high bits h = grind (arith, nat_tests)
+
+pub sized-0 : (bits : ℕ) → bits ≡ 0 → pos 1 ≡ sized bits
+unfolding sized
+sized-0 bits e = rw e (omega (arith, ints))
+
+pub sized-1 : (bits : ℕ) → bits ≡ 1 → pos 3 ≡ sized bits
+unfolding sized
+sized-1 bits e = rw e (omega (arith, ints))
+
+pub sized-2 : (bits : ℕ) → bits ≡ 2 → neg_ℤ (pos 1) ≡ sized bits
+unfolding sized
+sized-2 bits e = rw e (omega (arith, ints))
+
+pub sized-3 : (bits : ℕ) → bits ≡ 3 → neg_ℤ (pos 3) ≡ sized bits
+unfolding sized
+sized-3 bits e = rw e (omega (arith, ints))

@@ -12,7 +12,8 @@ use Rattle.sample_planes.specs.Packings.{width_of}
 use Rattle.recordings.specs.Readings.{bits_of}
 use Rattle.recordings.specs.declared.kind.Kind.{Kind}
 use Rattle.recordings.specs.declared.kind.Kind.TheVariants.{U8, I8, I16, I16Be, F32}
-use Rattle.recordings.specs.declared.kind.Kind.TheVariants.{Bits2Low, Bits1Low, Bits1High}
+use Rattle.recordings.specs.declared.kind.Kind.TheVariants.{Bits2Low, SignSizeLow}
+use Rattle.recordings.specs.declared.kind.Kind.TheVariants.{Bits1Low, Bits1High}
 use Rattle.std.specs.Prelude.{◌-ℤ◌, unsigned_abs, int_lt, nat_lt}
 use Rattle.recordings.specs.Recordings.{sign_bit, size_bit, sign_in, size_in, code_in, code_of}
 use Rattle.recordings.specs.Recordings.{sample_in, sample_of, packing_in}
@@ -27,6 +28,7 @@ some_bits I16 = omega arith
 some_bits I16Be = omega arith
 some_bits F32 = omega arith
 some_bits Bits2Low = omega arith
+some_bits SignSizeLow = omega arith
 some_bits Bits1Low = omega arith
 some_bits Bits1High = omega arith
 

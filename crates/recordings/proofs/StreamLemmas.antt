@@ -20,7 +20,8 @@ use Rattle.recordings.specs.Recordings.{sample_of, samples_of, sample_in, packin
 use Rattle.recordings.specs.Recordings.{sample_bits, group_of, IsPacked}
 use Rattle.recordings.specs.declared.kind.Kind.{Kind}
 use Rattle.recordings.specs.declared.kind.Kind.TheVariants.{U8, I8, I16, I16Be, F32}
-use Rattle.recordings.specs.declared.kind.Kind.TheVariants.{Bits2Low, Bits1Low, Bits1High}
+use Rattle.recordings.specs.declared.kind.Kind.TheVariants.{Bits2Low, SignSizeLow}
+use Rattle.recordings.specs.declared.kind.Kind.TheVariants.{Bits1Low, Bits1High}
 use Rattle.recordings.specs.declared.recipe.Recipe.{Recipe}
 
 -- ---- values
@@ -60,6 +61,8 @@ reading-front F32 front back i h =
     let d = byte_front front back (4 * i + 3) (omega arith) in rw (a, b, c, d) refl
 reading-front Bits2Low front back i h =
     let a = byte_front front back (i / 4) (omega arith) in rw a refl
+reading-front SignSizeLow front back i h =
+    let a = byte_front front back (i / 4) (omega arith) in rw a refl
 reading-front Bits1Low front back i h =
     let a = byte_front front back (i / 8) (omega arith) in rw a refl
 reading-front Bits1High front back i h =
@@ -86,6 +89,9 @@ reading-back F32 front back m i e =
     let c = byte_back front back (4 * (m + i) + 2) (4 * i + 2) (omega arith) in
     let d = byte_back front back (4 * (m + i) + 3) (4 * i + 3) (omega arith) in rw (a, b, c, d) refl
 reading-back Bits2Low front back m i e =
+    let a = byte_back front back ((m + i) / 4) (i / 4) (omega arith) in
+    let b : (m + i) % 4 ≡ i % 4 = omega arith in rw (a, b) refl
+reading-back SignSizeLow front back m i e =
     let a = byte_back front back ((m + i) / 4) (i / 4) (omega arith) in
     let b : (m + i) % 4 ≡ i % 4 = omega arith in rw (a, b) refl
 reading-back Bits1Low front back m i e =

@@ -6,7 +6,8 @@ use Rattle.std.specs.Int.{bit_at}
 use Rattle.definitions.specs.Samples.{sign_of, bit_in}
 use Rattle.recordings.specs.declared.kind.Kind.{Kind}
 use Rattle.recordings.specs.declared.kind.Kind.TheVariants.{U8, I8, I16, I16Be, F32}
-use Rattle.recordings.specs.declared.kind.Kind.TheVariants.{Bits2Low, Bits1Low, Bits1High}
+use Rattle.recordings.specs.declared.kind.Kind.TheVariants.{Bits2Low, SignSizeLow}
+use Rattle.recordings.specs.declared.kind.Kind.TheVariants.{Bits1Low, Bits1High}
 
 -- how many bits a value has
 abbrev pub bits_of : Kind → ℕ
@@ -16,6 +17,7 @@ bits_of I16 = 16
 bits_of I16Be = 16
 bits_of F32 = 32
 bits_of Bits2Low = 2
+bits_of SignSizeLow = 2
 bits_of Bits1Low = 1
 bits_of Bits1High = 1
 
@@ -31,6 +33,10 @@ four_bytes bytes at =
 -- a number of two's complement: from the half of its range on it stands for one below zero
 unfoldable pub signed : ℕ → ℕ → ℤ
 signed half n = if nat_lt n half then pos n else pos n -ℤ pos (2 * half)
+
+-- two bits, a sign above a size that is 1 for 0 and 3 for 1
+unfoldable pub sized : ℕ → ℤ
+sized bits = sign_of (bits / 2) *ℤ pos (1 + 2 * (bits % 2))
 
 -- the bits of a float as an integer that grows with it: its highest bit is the sign of the rest
 unfoldable pub float_order : ℕ → ℤ
@@ -50,6 +56,8 @@ reading I16Be bytes i =
 reading F32 bytes i = float_order (four_bytes bytes (4 * i))
 reading Bits2Low bytes i =
     pos 2 *ℤ (pos 2 *ℤ signed 2 (slice_index bytes (i / 4) / 2 ^ (2 * (i % 4)) % 4) +ℤ pos 1)
+reading SignSizeLow bytes i =
+    pos 2 *ℤ sized (slice_index bytes (i / 4) / 2 ^ (2 * (i % 4)) % 4)
 reading Bits1Low bytes i = pos 2 *ℤ sign_of (bit_at (slice_index bytes (i / 8)) (i % 8))
 reading Bits1High bytes i = pos 2 *ℤ sign_of (bit_in bytes i)
 
@@ -65,6 +73,7 @@ has_nans I16 = false
 has_nans I16Be = false
 has_nans F32 = true
 has_nans Bits2Low = false
+has_nans SignSizeLow = false
 has_nans Bits1Low = false
 has_nans Bits1High = false
 

@@ -4,7 +4,7 @@ ghost use Rattle.std.specs.Prelude.{true, false, ◌≡◌, ◌+◌, ◌*◌};
 ghost use Rattle.std.specs.Prelude.{◌<◌, ◌≤◌, ◌^◌, length, unsigned_abs};
 ghost use Rattle.recordings.specs.Readings.{bits_of, reading, AreNumbers};
 
-use crate::numbers::{are_numbers, float_order, four_bytes, sign_of, signed, two_bytes};
+use crate::numbers::{are_numbers, float_order, four_bytes, sign_of, signed, sized, two_bytes};
 
 /// The kind of the values of a recording.
 #[derive(Clone, Copy, Debug, PartialEq, Eq)]
@@ -21,6 +21,9 @@ pub enum Kind {
     F32,
     /// Two bits of two's complement t for the value 2t + 1, the earliest in a byte's low bits.
     Bits2Low,
+    /// Two bits, a sign s above a size m, for the value (1 - 2s)(1 + 2m), the earliest in a byte's
+    /// low bits.
+    SignSizeLow,
     /// One bit, 0 for 1 and 1 for -1, the earliest in a byte's low bit.
     Bits1Low,
     /// The same, the earliest in a byte's high bit.
@@ -39,6 +42,7 @@ impl Kind {
             Kind::I16Be => 16,
             Kind::F32 => 32,
             Kind::Bits2Low => 2,
+            Kind::SignSizeLow => 2,
             Kind::Bits1Low => 1,
             Kind::Bits1High => 1,
         }
@@ -53,6 +57,7 @@ impl Kind {
             Kind::I16Be => (-65536, 65534),
             Kind::F32 => (-0x7f80_0000, 0x7f80_0000),
             Kind::Bits2Low => (-6, 6),
+            Kind::SignSizeLow => (-6, 6),
             Kind::Bits1Low => (-2, 2),
             Kind::Bits1High => (-2, 2),
         }
@@ -85,6 +90,7 @@ impl Kind {
             Kind::Bits2Low => {
                 2 * (2 * signed(2, u32::from((bytes[i / 4] >> (2 * (i % 4))) % 4)) + 1)
             }
+            Kind::SignSizeLow => 2 * sized((bytes[i / 4] >> (2 * (i % 4))) % 4),
             Kind::Bits1Low => 2 * sign_of((bytes[i / 8] >> (i % 8)) % 2),
             Kind::Bits1High => 2 * sign_of((bytes[i / 8] >> (7 - i % 8)) % 2),
         }

@@ -20,8 +20,6 @@ mod numbers;
 mod packer;
 mod part;
 mod recipe;
-#[cfg(test)]
-mod tests;
 mod window;
 
 pub use choice::{Choice, ChoiceFault};

@@ -3,7 +3,8 @@
 ghost use Rattle.std.specs.Prelude.{ℕ, true, false, ◌≡◌, ◌+◌};
 ghost use Rattle.std.specs.Prelude.{◌*◌, ◌<◌, ◌≤◌, ◌^◌, length, unsigned_abs};
 ghost use Rattle.definitions.specs.Samples.{sign_of};
-ghost use Rattle.recordings.specs.Readings.{signed, float_order, two_bytes, four_bytes, IsNumber};
+ghost use Rattle.recordings.specs.Readings.{signed, sized, float_order, two_bytes, four_bytes};
+ghost use Rattle.recordings.specs.Readings.{IsNumber};
 
 /// The highest bit of 32.
 const HALF: u32 = 1 << 31;
@@ -18,6 +19,20 @@ pub fn sign_of(bit: u8) -> i64
     ensures small { unsigned_abs result ≤ 1 }
 {
     if bit == 0 { 1 } else { -1 }
+}
+
+/// The value of a sign above a size: 1, 3, -1 or -3.
+pub fn sized(bits: u8) -> i64
+    requires { bits < 4 }
+    ensures value { result ≡ sized bits }
+    ensures small { unsigned_abs result ≤ 3 }
+{
+    match bits {
+        0 => 1,
+        1 => 3,
+        2 => -1,
+        _ => -3,
+    }
 }
 
 /// A number of two's complement, of which `half` is the half of the range.

@@ -29,8 +29,6 @@ mod message;
 mod page;
 mod reading;
 mod rows;
-#[cfg(test)]
-mod tests;
 mod utc;
 
 pub use almanac::AlmanacField;

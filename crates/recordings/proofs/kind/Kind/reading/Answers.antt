@@ -44,6 +44,13 @@ returns-in-Bits2Low-clause-value c =
     rw c.in-Bits2Low.is (odd c.signed-in-Bits2Low.result small ∙ ap (λ (z : ℤ). pos 2 *ℤ (pos 2 *ℤ
     z +ℤ pos 1)) (c.signed-in-Bits2Low.ensures.value ∙ ap (signed 2) c.from-in-Bits2Low.ensures))
 
+pub returns-in-SignSizeLow-clause-value : goal.returns-in-SignSizeLow-clause-value
+unfolding reading
+returns-in-SignSizeLow-clause-value c =
+    let small : unsigned_abs c.sized.result < 2 ^ 31 = omega arith in
+    rw c.in-SignSizeLow.is (doubled c.sized.result small ∙ ap (λ (z : ℤ). pos 2 *ℤ z)
+    c.sized.ensures.value)
+
 pub returns-in-Bits1Low-clause-value : goal.returns-in-Bits1Low-clause-value
 unfolding reading
 returns-in-Bits1Low-clause-value c =

@@ -1,0 +1,113 @@
+//! Plans at the ends of their ranges, searches whose cells were worked out by hand, and a made
+//! signal against a plain double loop.
+
+ghost use Rattle.std.specs.Prelude.{◌+◌, ◌≤◌, ◌^◌, length};
+ghost use Rattle.definitions.specs.Acquisition.{dwell_end};
+
+mod made_signal;
+mod plans;
+
+use acquisition::*;
+use ca_codes::{CodeBook, Prn};
+use made_signals::code_file;
+use oscillators::{HalfChip, Settings};
+use sample_planes::{Format, NumberedSamples, PackedSamples};
+use std::test::Fail;
+
+/// What a search names that does so many cells at a call.
+fn search_in_steps(
+    settings: &Settings,
+    plan: Plan,
+    start: u64,
+    source: &NumberedSamples,
+    cells: u64,
+) -> Option<Cell>
+    requires early { start ≤ 2 ^ 40 }
+    requires from { source.now.first ≤ start }
+    requires to { dwell_end settings.now plan start ≤ source.now.first + length source.now.samples }
+{
+    let mut search = Search::new(plan, settings, start);
+    let mut book = CodeBook::new();
+    for _ in 0..plan.cells() {
+        if search.result().is_none() {
+            search.advance(cells, source, &mut book);
+        }
+    }
+    search.result()
+}
+
+// At half chip 2 the replica is the code of the file from its third sample on, so the products are
+// all 2 in phase and -1 in quadrature: 4,092 and -2,046, whose squares add up to 20,930,580.
+#[test]
+fn acquire_code_file(rt: HostRuntime) -> Result<(), Fail> {
+    let bytes = code_file();
+    assert_eq!(rt; (bytes[0], bytes[1]), (0xf0, 0xc0));
+    let settings = Settings::new(2_046_000, 0, Format::Real1)?;
+    let plan = Plan::new(Prn::new(1).ok_or("a satellite")?, 0, 0, 1, 10)?;
+    let source = NumberedSamples::new(PackedSamples::new(Format::Real1, &bytes), 0);
+    let named = Cell {
+        bin: 0,
+        half: HalfChip::new(2).ok_or("a half chip")?,
+        power: 20_930_580,
+        found: true,
+    };
+    for cells in [1, 7, u64::MAX] {
+        assert_eq!(rt;
+            search_in_steps(&settings, plan, 2, &source, cells),
+            Some(named),
+            "{cells} at a time"
+        );
+    }
+    Ok(())
+}
+
+// The chips add up to -1, each is seen twice, and so every cell has sums of -4 in phase and 2 in
+// quadrature.
+#[test]
+fn equal_cells(rt: HostRuntime) -> Result<(), Fail> {
+    let bytes = [0; 256];
+    let settings = Settings::new(2_046_000, 0, Format::Real1)?;
+    let prn = Prn::new(1).ok_or("a satellite")?;
+    let source = NumberedSamples::new(PackedSamples::new(Format::Real1, &bytes), 0);
+    for (threshold, found) in [(10, true), (11, false)] {
+        let plan = Plan::new(prn, 0, 0, 1, threshold)?;
+        let named = Cell {
+            bin: 0,
+            half: HalfChip::new(0).ok_or("a half chip")?,
+            power: 20,
+            found,
+        };
+        assert_eq!(rt;
+            search_in_steps(&settings, plan, 0, &source, 500),
+            Some(named),
+            "at {threshold}"
+        );
+    }
+    Ok(())
+}
+
+#[test]
+fn search_is_left_off_and_taken_up(rt: HostRuntime) -> Result<(), Fail> {
+    let bytes = [0; 256];
+    let settings = Settings::new(2_046_000, 0, Format::Real1)?;
+    let plan = Plan::new(Prn::new(1).ok_or("a satellite")?, 0, 0, 1, 10)?;
+    let source = NumberedSamples::new(PackedSamples::new(Format::Real1, &bytes), 5);
+    let mut book = CodeBook::new();
+    let mut search = Search::new(plan, &settings, 7);
+    // 2,046 samples of the dwell and 4 for each of 2,046 cells.
+    assert_eq!(rt; (search.due(), search.done()), (10_237, 0));
+    search.advance(0, &source, &mut book);
+    assert_eq!(rt; search.done(), 0);
+    search.advance(7, &source, &mut book);
+    assert_eq!(rt; (search.done(), search.result()), (7, None));
+    search.advance(2_038, &source, &mut book);
+    assert_eq!(rt; (search.done(), search.result()), (2_045, None));
+    search.advance(u64::MAX, &source, &mut book);
+    let result = search.result();
+    assert!(rt; result.is_some());
+    assert_eq!(rt; search.done(), 2_046);
+    search.advance(u64::MAX, &source, &mut book);
+    assert_eq!(rt; (search.due(), search.done()), (10_237, 2_046));
+    assert_eq!(rt; search.result(), result);
+    Ok(())
+}

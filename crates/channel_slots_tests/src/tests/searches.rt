@@ -1,0 +1,375 @@
+//! Searches of a bank, over its one history of samples.
+
+ghost use Rattle.std.specs.Prelude.{◌≡◌, ◌<◌, ◌≤◌, ◌∷◌, [], IfOk, replicate};
+ghost use Rattle.channel_slots.specs.BankStates.{settings_of, shares_of};
+ghost use Rattle.definitions.specs.Samples.{real1};
+ghost use Rattle.sample_planes.specs.declared.planes.TheConstants.{MAX_SAMPLES};
+
+use super::{acquire, hold, plain_settings, slot_zero, sums, track};
+use acquisition::{Cell, Plan};
+use arrayvec::ArrayVec;
+use ca_codes::Prn;
+use channel_slots::{Answer, Bank, Command, Event, Phase, Refusal, SlotEvent, SlotNo, SlotState};
+use made_signals::long_code_file;
+use oscillators::HalfChip;
+use sample_planes::{Format, PackedSamples};
+use std::alloc::Global;
+use std::process::Abort;
+use std::test::Fail;
+
+/// The most events that these tests wait for.
+const MOST_TOLD: usize = 32;
+
+/// The longest recording of these tests, in samples.
+const LONGEST: u64 = 100_000;
+
+/// A bank of one client over a plain recording.
+fn bank_of_one(alloc: Global) -> Result<Bank, Fail>
+    ensures packing { IfOk result (λ bank. (settings_of bank).packing ≡ real1) }
+    ensures shares { IfOk result (λ bank. shares_of bank ≡ 4 ∷ []) }
+{
+    Ok(Bank::open(alloc, plain_settings()?, &[4])?)
+}
+
+/// Feeds a bank the samples of a recording up to a time, in pieces, and gives what it tells.
+fn feed_to(
+    bank: &mut Bank,
+    recording: &PackedSamples,
+    piece: usize,
+    until: u64,
+) -> Result<ArrayVec<SlotEvent, MOST_TOLD>, Fail>
+    requires packing { recording.now.packing ≡ (settings_of bank.old).packing }
+    requires some { 0 < piece }
+    requires short { piece ≤ MAX_SAMPLES }
+    ensures settings { settings_of bank.new ≡ settings_of bank.old }
+    ensures shares { shares_of bank.new ≡ shares_of bank.old }
+{
+    if (recording.len() as u64) < until {
+        return Err(Fail::new("samples are missing"));
+    }
+    if LONGEST < until {
+        return Err(Fail::new("the recording is too long"));
+    }
+    let mut told = ArrayVec::new();
+    let mut events = ArrayVec::new();
+    for _ in 0..until {
+        let time = bank.time();
+        if until <= time {
+            break;
+        }
+        let count = piece.min((until - time) as usize);
+        events.clear();
+        bank.feed_into(&recording.part(time as usize, count), &mut events);
+        told.try_extend_from_slice(events.as_slice())?;
+    }
+    Ok(told)
+}
+
+/// The same, and sees that it tells just what is wanted.
+fn hear(
+    rt: &impl Abort,
+    bank: &mut Bank,
+    recording: &PackedSamples,
+    piece: usize,
+    until: u64,
+    wanted: &[SlotEvent],
+) -> Result<(), Fail>
+    requires packing { recording.now.packing ≡ (settings_of bank.old).packing }
+    requires some { 0 < piece }
+    requires short { piece ≤ MAX_SAMPLES }
+    ensures settings { settings_of bank.new ≡ settings_of bank.old }
+    ensures shares { shares_of bank.new ≡ shares_of bank.old }
+{
+    let told = feed_to(bank, recording, piece, until)?;
+    assert_eq!(rt;
+        told.as_slice(),
+        wanted,
+        "from {piece} at a time, by {until}"
+    );
+    Ok(())
+}
+
+/// The cell that the code of satellite 1 is found in: half chip 2, where all its products are 2 in
+/// phase and -1 in quadrature.
+fn found_at_two() -> Result<Event, Fail> {
+    Ok(Event::Acquired {
+        prn: Prn::new(1).ok_or("a satellite")?,
+        cell: Cell {
+            bin: 0,
+            half: HalfChip::new(2).ok_or("a half chip")?,
+            power: 20_930_580,
+            found: true,
+        },
+    })
+}
+
+/// What slot 0 of client 1 tells at a time.
+fn told_at(time: u64, event: Event) -> SlotEvent {
+    SlotEvent {
+        client: 1,
+        slot: 0,
+        time,
+        event,
+    }
+}
+
+/// A slot that searches for satellite 1, and has done so many of 2,046 cells.
+fn searching(done: u64) -> Result<SlotState, Fail> {
+    Ok(SlotState::Acquire {
+        prn: Prn::new(1).ok_or("a satellite")?,
+        done,
+        cells: 2_046,
+    })
+}
+
+/// A slot that tracks satellite 1 at 0 Hz, and has had no dump.
+fn tracking() -> Result<SlotState, Fail> {
+    Ok(SlotState::Track {
+        prn: Prn::new(1).ok_or("a satellite")?,
+        dumps: 0,
+        v: 0,
+        w: 0,
+        phase: Phase::Unlocked,
+    })
+}
+
+// The dwell is samples 2 to 2,047, and there are 2,046 cells: the answer is due at 2,048 + 8,184,
+// and not before. From then on the signal is tracked.
+#[test]
+fn acquire_code_file(rt: HostRuntime) -> Result<(), Fail> {
+    let bytes = long_code_file();
+    let recording = PackedSamples::new(Format::Real1, &bytes);
+    let state = Command::State { slot: slot_zero()? };
+    let mut bank = bank_of_one(rt.alloc())?;
+    hear(&rt, &mut bank, &recording, 1_024, 2, &[])?;
+    assert_eq!(rt; bank.command(1, acquire(1, 10)?), Answer::Accepted);
+    hear(&rt, &mut bank, &recording, 1_024, 10_231, &[])?;
+    let shown = searching(2_045)?;
+    assert_eq!(rt; bank.command(1, state), Answer::State(shown));
+    let named = told_at(10_232, found_at_two()?);
+    hear(&rt, &mut bank, &recording, 1_024, 10_232, &[named])?;
+    let shown = tracking()?;
+    assert_eq!(rt; bank.command(1, state), Answer::State(shown));
+    Ok(())
+}
+
+// The chips add up to -1, each is seen twice, and so every cell has sums of -4 in phase and 2 in
+// quadrature: the first one is named, and no cell has more than the mean.
+#[test]
+fn equal_cells(rt: HostRuntime) -> Result<(), Fail> {
+    let state = Command::State { slot: slot_zero()? };
+    let zeros = [0; 1_279];
+    let recording = PackedSamples::new(Format::Real1, &zeros);
+    for (threshold, found) in [(10, true), (11, false)] {
+        let mut bank = bank_of_one(rt.alloc())?;
+        bank.command(1, acquire(1, threshold)?);
+        let named = Event::Acquired {
+            prn: Prn::new(1).ok_or("a satellite")?,
+            cell: Cell {
+                bin: 0,
+                half: HalfChip::new(0).ok_or("a half chip")?,
+                power: 20,
+                found,
+            },
+        };
+        let told = told_at(10_230, named);
+        hear(&rt, &mut bank, &recording, 1_024, 10_230, &[told])?;
+        let shown = if found { tracking()? } else { SlotState::Idle };
+        assert_eq!(rt; bank.command(1, state), Answer::State(shown));
+        hear(&rt, &mut bank, &recording, 1_024, 10_232, &[])?;
+    }
+    Ok(())
+}
+
+// The dwell ends at 2,046, and one cell is done with every four samples behind it.
+#[test]
+fn cells_come_with_samples(rt: HostRuntime) -> Result<(), Fail> {
+    let bytes = long_code_file();
+    let recording = PackedSamples::new(Format::Real1, &bytes);
+    let state = Command::State { slot: slot_zero()? };
+    let mut bank = bank_of_one(rt.alloc())?;
+    bank.command(1, acquire(1, 10)?);
+    for (time, done) in [
+        (0, 0),
+        (2_045, 0),
+        (2_049, 0),
+        (2_050, 1),
+        (2_053, 1),
+        (2_054, 2),
+        (6_137, 1_022),
+        (6_138, 1_023),
+        (10_225, 2_044),
+        (10_226, 2_045),
+        (10_229, 2_045),
+    ] {
+        hear(&rt, &mut bank, &recording, 1_000, time, &[])?;
+        let shown = searching(done)?;
+        assert_eq!(rt; bank.command(1, state), Answer::State(shown), "at {time}");
+    }
+    Ok(())
+}
+
+/// Client 1's slot 0 is to search over ten periods at time 0, and slot s of client k over one at
+/// time 4 (k - 1) + s.
+fn ask_in_turn(bank: &mut Bank, recording: &PackedSamples) -> Result<(), Fail>
+    requires packing { recording.now.packing ≡ (settings_of bank.old).packing }
+    requires shares { shares_of bank.old ≡ replicate 8 4 }
+    ensures settings { settings_of bank.new ≡ settings_of bank.old }
+    ensures shares { shares_of bank.new ≡ shares_of bank.old }
+{
+    let prn = Prn::new(1).ok_or("a satellite")?;
+    for turn in 0..32u8 {
+        feed_to(bank, recording, 1, u64::from(turn))?;
+        let (bins, dwell) = if turn == 0 { (40, 10) } else { (0, 1) };
+        let plan = Plan::new(prn, 0, bins, dwell, 1_000)?;
+        let slot = SlotNo::new(turn % 4).ok_or("a slot")?;
+        bank.command(turn / 4 + 1, Command::Acquire { slot, plan });
+    }
+    Ok(())
+}
+
+/// When the answer is due that slot s of client k asks for at time 4 (k - 1) + s: its dwell has
+/// 2,046 samples, and there are 2,046 cells.
+fn due_in_turn(client: u8, slot: u8) -> u64 {
+    10_226 + 4 * u64::from(client) + u64::from(slot)
+}
+
+/// Sees that each answer comes when it is due.
+fn hear_in_turn(rt: &impl Abort, told: &[SlotEvent]) {
+    for event in told {
+        assert_eq!(rt; event.time, due_in_turn(event.client, event.slot));
+    }
+}
+
+// Whatever 31 other slots search for, the dwell of client 1's slot 0 ends at 20,460, and one cell
+// is done with the fourth sample behind it.
+#[test]
+fn cells_among_strangers(rt: HostRuntime) -> Result<(), Fail> {
+    let zeros = [0; 2_558];
+    let recording = PackedSamples::new(Format::Real1, &zeros);
+    let first = slot_zero()?;
+    let second = SlotNo::new(1).ok_or("a slot")?;
+    let last = SlotNo::new(3).ok_or("a slot")?;
+    let mut bank = Bank::open(rt.alloc(), plain_settings()?, &[4; 8])?;
+    assert_eq!(rt; bank.cells_done(1, first), None);
+    ask_in_turn(&mut bank, &recording)?;
+    assert_eq!(rt; bank.cells_done(8, last), Some(0));
+    // The dwells of the second and of the last slot end at 2,047 and at 2,077.
+    hear(&rt, &mut bank, &recording, 1_024, 10_000, &[])?;
+    assert_eq!(rt; bank.cells_done(1, first), Some(0));
+    assert_eq!(rt; bank.cells_done(1, second), Some(1_988));
+    assert_eq!(rt; bank.cells_done(8, last), Some(1_980));
+    assert_eq!(rt; bank.cells_done(0, last), None);
+    assert_eq!(rt; bank.cells_done(9, first), None);
+    let told = feed_to(&mut bank, &recording, 1_024, 20_463)?;
+    assert_eq!(rt; told.len(), 31);
+    hear_in_turn(&rt, told.as_slice());
+    assert_eq!(rt; bank.cells_done(8, last), None);
+    assert_eq!(rt; bank.cells_done(1, first), Some(0));
+    hear(&rt, &mut bank, &recording, 1_024, 20_464, &[])?;
+    assert_eq!(rt; bank.cells_done(1, first), Some(1));
+    Ok(())
+}
+
+// A slot that searches is busy. Its counts are kept, and printed from the first tracked dump on:
+// at the due time the code is at half chip 2, so 2,044 samples of it are left. Of the neighbouring
+// chips' products, which add up to -1, those of chips 0 and 1 are missing early, which is 1, and
+// those of chips 1,022 and 0 late, which is -1.
+#[test]
+fn counts_outlast_the_search(rt: HostRuntime) -> Result<(), Fail> {
+    let bytes = long_code_file();
+    let recording = PackedSamples::new(Format::Real1, &bytes);
+    let counts = Command::Counts {
+        slot: slot_zero()?,
+        n: 1,
+    };
+    let mut bank = bank_of_one(rt.alloc())?;
+    hear(&rt, &mut bank, &recording, 1_024, 2, &[])?;
+    bank.command(1, acquire(1, 10)?);
+    hear(&rt, &mut bank, &recording, 1_024, 3_000, &[])?;
+    let busy = Answer::Refused(Refusal::Busy);
+    assert_eq!(rt; bank.command(1, hold(2, 0)?), busy);
+    assert_eq!(rt; bank.command(1, track(2, 0)?), busy);
+    assert_eq!(rt; bank.command(1, acquire(2, 10)?), busy);
+    assert_eq!(rt; bank.command(1, counts), Answer::Accepted);
+    let named = told_at(10_232, found_at_two()?);
+    let counts = sums([2_040, -1_020, 4_088, -2_044, 2_044, -1_022]);
+    let count = told_at(12_276, Event::Count(counts));
+    hear(&rt, &mut bank, &recording, 1_024, 12_288, &[named, count])?;
+    Ok(())
+}
+
+// A search that is stopped tells nothing. At the due time its answer comes first: then a found
+// signal is tracked, and is stopped, and where nothing was found the slot is idle.
+#[test]
+fn stop_at_the_due_time(rt: HostRuntime) -> Result<(), Fail> {
+    let zeros = [0; 1_279];
+    let recording = PackedSamples::new(Format::Real1, &zeros);
+    let stop = Command::Stop { slot: slot_zero()? };
+    for (threshold, time, events, answer) in [
+        (10, 0, 0, Answer::Accepted),
+        (10, 10_229, 0, Answer::Accepted),
+        (10, 10_230, 1, Answer::Accepted),
+        (11, 10_229, 0, Answer::Accepted),
+        (11, 10_230, 1, Answer::Refused(Refusal::Idle)),
+    ] {
+        let mut bank = bank_of_one(rt.alloc())?;
+        bank.command(1, acquire(1, threshold)?);
+        let told = feed_to(&mut bank, &recording, 1_024, time)?;
+        assert_eq!(rt; told.len(), events, "by {time}");
+        assert_eq!(rt; bank.command(1, stop), answer, "at {time}");
+        hear(&rt, &mut bank, &recording, 1_024, 10_232, &[])?;
+    }
+    Ok(())
+}
+
+/// The same samples behind so many others, fewer than a byte has.
+fn behind(bytes: &[u8; 1_536], first: usize) -> [u8; 1_537]
+    requires { first < 8 }
+{
+    let mut moved = [255; 1_537];
+    for k in 0..1_536 {
+        let pair = u16::from(bytes[k]) << (8 - first);
+        let kept = if first == 0 {
+            0
+        } else {
+            moved[k] >> (8 - first) << (8 - first)
+        };
+        moved[k] = kept | (pair >> 8) as u8;
+        moved[k + 1] = (pair & 255) as u8;
+    }
+    moved
+}
+
+/// Sees that a bank tells the same in pieces, wherever in a byte the recording begins.
+fn hear_from_each_place(rt: &impl Abort, alloc: Global, piece: usize) -> Result<(), Fail>
+    requires some { 0 < piece }
+    requires short { piece ≤ MAX_SAMPLES }
+{
+    let bytes = long_code_file();
+    let named = told_at(10_232, found_at_two()?);
+    for first in 0..8 {
+        let moved = behind(&bytes, first);
+        let recording = PackedSamples::new(Format::Real1, &moved).part(first, 10_240);
+        let mut bank = bank_of_one(alloc)?;
+        hear(rt, &mut bank, &recording, piece, 2, &[])?;
+        bank.command(1, acquire(1, 10)?);
+        hear(rt, &mut bank, &recording, piece, 10_240, &[named])?;
+    }
+    Ok(())
+}
+
+#[test]
+fn samples_one_by_one(rt: HostRuntime) -> Result<(), Fail> {
+    hear_from_each_place(&rt, rt.alloc(), 1)
+}
+
+#[test]
+fn samples_by_threes(rt: HostRuntime) -> Result<(), Fail> {
+    hear_from_each_place(&rt, rt.alloc(), 3)
+}
+
+#[test]
+fn samples_by_whole_runs(rt: HostRuntime) -> Result<(), Fail> {
+    hear_from_each_place(&rt, rt.alloc(), 1_024)
+}

@@ -1,0 +1,202 @@
+//! Steps worked out by hand, the ends of all ranges, and planes at extreme steps.
+
+use ca_codes::{CodeBook, Prn};
+use oscillators::*;
+use sample_planes::Format;
+use std::test::Fail;
+
+/// Steps with no phase gained, with the greatest phase gained, and with the chip or the sign turned
+/// at each sample.
+const EXTREME_STEPS: [u32; 4] = [0, 1, 1 << 31, u32::MAX];
+
+/// The code's cycle, 1,023 chips of 2^32.
+const CYCLE: u128 = 4_393_751_543_808;
+
+#[test]
+fn floor_steps(rt: HostRuntime) -> Result<(), Fail> {
+    let settings = Settings::new(4_092_000, 0, Format::Real1)?;
+    assert_eq!(rt; settings.carrier_step(-65_536), 4_294_966_246);
+    assert_eq!(rt; settings.code_step(1540 * 65_536, 0), 1_073_742_873);
+    Ok(())
+}
+
+// -1/1540 is rounded down to -1, so the rate is 1,023,000 * 65,536 - 1 in 1/65536 chip a second.
+// Times 65,536 and over 2,046,000 that is 2^31 - 65,536/2,046,000, a little less than 2^31, and
+// rounded down 2^31 - 1. With -1/1540 rounded to 0 it would be 2^31.
+#[test]
+fn code_step_below_zero(rt: HostRuntime) -> Result<(), Fail> {
+    let settings = Settings::new(2_046_000, 0, Format::Real1)?;
+    assert_eq!(rt; settings.code_step(-1, 0), 2_147_483_647);
+    assert_eq!(rt; settings.code_step(0, 0), 2_147_483_648);
+    Ok(())
+}
+
+#[test]
+fn stated_limits(rt: HostRuntime) {
+    for (rate, offset, fault) in [
+        (2_045_999, 0, Some(SettingsFault::Rate)),
+        (2_046_000, 0, None),
+        (20_000_000, 0, None),
+        (20_000_001, 0, Some(SettingsFault::Rate)),
+        (2_046_000, 1_023_001, Some(SettingsFault::Offset)),
+        (2_046_000, -1_023_001, Some(SettingsFault::Offset)),
+        (2_046_000, 1_023_000, None),
+        (2_046_000, -1_023_000, None),
+        (2_046_000, i64::MIN, Some(SettingsFault::Offset)),
+        (2_045_999, 1_023_001, Some(SettingsFault::Rate)),
+    ] {
+        assert_eq!(rt;
+            Settings::new(rate, offset, Format::Real2).err(),
+            fault,
+            "at {rate}, {offset}"
+        );
+    }
+    for (hz, valid) in [
+        (-16_001, false),
+        (-16_000, true),
+        (16_000, true),
+        (16_001, false),
+    ] {
+        assert_eq!(rt; Doppler::new(hz).is_some(), valid, "at {hz} Hz");
+    }
+    for (half_chips, valid) in [(0, true), (2_045, true), (2_046, false)] {
+        assert_eq!(rt;
+            HalfChip::new(half_chips).is_some(),
+            valid,
+            "at {half_chips}"
+        );
+    }
+}
+
+#[test]
+fn fault_texts(rt: HostRuntime) -> Result<(), Fail> {
+    assert_eq!(rt;
+        format!(in rt.alloc(); "{}", SettingsFault::Rate)?.as_str(),
+        "rate"
+    );
+    assert_eq!(rt;
+        format!(in rt.alloc(); "{}", SettingsFault::Offset)?.as_str(),
+        "offset"
+    );
+    Ok(())
+}
+
+#[test]
+fn settings_are_kept(rt: HostRuntime) -> Result<(), Fail> {
+    let settings = Settings::new(2_047_999, 500_000, Format::Real2)?;
+    assert_eq!(rt; settings.per_ms(), 2_047);
+    assert_eq!(rt; settings.format(), Format::Real2);
+    assert_eq!(rt; Doppler::new(-1_000).ok_or("a shift")?.get(), -1_000);
+    assert_eq!(rt; HalfChip::new(2_045).ok_or("a half chip")?.get(), 2_045);
+    Ok(())
+}
+
+#[test]
+fn numbers_become_shifts_and_half_chips(rt: HostRuntime) {
+    assert_eq!(rt; Doppler::try_from(-16_000).ok(), Doppler::new(-16_000));
+    assert_eq!(rt; Doppler::try_from(-16_001), Err(DopplerFault));
+    assert_eq!(rt; HalfChip::try_from(2_045).ok(), HalfChip::new(2_045));
+    assert_eq!(rt; HalfChip::try_from(2_046), Err(HalfChipFault));
+    assert!(rt; Doppler::new(-1) < Doppler::new(0));
+    assert!(rt; HalfChip::new(2_044) < HalfChip::new(2_045));
+}
+
+#[test]
+fn settings_tell_their_parts(rt: HostRuntime) -> Result<(), Fail> {
+    let settings = Settings::new(4_092_000, -511_500, Format::Real2)?;
+    let copy = settings;
+    assert_eq!(rt; (settings.rate(), settings.offset()), (4_092_000, -511_500));
+    assert_eq!(rt; settings.format(), Format::Real2);
+    assert_eq!(rt; copy, settings);
+    Ok(())
+}
+
+#[test]
+fn carrier_views_at_extreme_steps(rt: HostRuntime) {
+    // Cosine and sine, by the eighth of the cycle.
+    let values = [
+        (2, 1),
+        (1, 2),
+        (-1, 2),
+        (-2, 1),
+        (-2, -1),
+        (-1, -2),
+        (1, -2),
+        (2, -1),
+    ];
+    for step in EXTREME_STEPS {
+        let mut osc = CarrierOsc::new(0x9000_0001);
+        osc.advance(3);
+        osc.set_step(step);
+        let planes = osc.planes(130);
+        assert_eq!(rt; planes.len(), 130);
+        for i in 0..130 {
+            let phase = (3 * 0x9000_0001 + i as u128 * step as u128) % 0x1_0000_0000;
+            let (cos, sin) = values[(phase / 0x2000_0000) as usize];
+            assert_eq!(rt;
+                (planes.cos(i), planes.sin(i)),
+                (cos, sin),
+                "at sample {i} with step {step}"
+            );
+        }
+    }
+}
+
+/// The sign of the chip at a phase of any number of cycles.
+fn sign(book: &mut CodeBook, prn: Prn, phase: u128) -> i8 {
+    if book.chip(prn, (phase % CYCLE / 0x1_0000_0000) as u32) {
+        -1
+    } else {
+        1
+    }
+}
+
+#[test]
+fn code_views_at_every_half_chip_and_extreme_steps(rt: HostRuntime) -> Result<(), Fail> {
+    let prn = Prn::new(19).ok_or("a satellite")?;
+    let mut book = CodeBook::new();
+    for half_chips in 0..2_046u16 {
+        for step in EXTREME_STEPS {
+            let osc = CodeOsc::new(HalfChip::new(half_chips).ok_or("a half chip")?, step);
+            let planes = osc.planes(130, &mut book, prn);
+            assert_eq!(rt; planes.len(), 130);
+            for i in 0..130 {
+                let phase = half_chips as u128 * 0x8000_0000 + i as u128 * step as u128;
+                let early = sign(&mut book, prn, phase + 0x8000_0000);
+                let prompt = sign(&mut book, prn, phase);
+                let late = sign(&mut book, prn, phase + CYCLE - 0x8000_0000);
+                assert_eq!(rt;
+                    (planes.early(i), planes.prompt(i), planes.late(i)),
+                    (early, prompt, late),
+                    "at sample {i} from {half_chips} with step {step}"
+                );
+            }
+        }
+    }
+    Ok(())
+}
+
+#[test]
+fn code_goes_round(rt: HostRuntime) -> Result<(), Fail> {
+    let mut osc = CodeOsc::new(HalfChip::new(2_045).ok_or("a half chip")?, 0x7fff_ffff);
+    assert_eq!(rt; osc.phase(), 2_045 * 0x8000_0000);
+    // Half a chip is left, and a step is 2^-32 chip less, so it takes two.
+    assert_eq!(rt; osc.to_wrap(), 2);
+    osc.advance(2);
+    assert_eq!(rt; osc.phase(), 0x7fff_fffe);
+    osc.set_step(0x8000_0000);
+    osc.jump(2_045);
+    assert_eq!(rt;
+        osc.phase(),
+        0x7fff_fffe + 1_022 * 0x1_0000_0000 + 0x8000_0000
+    );
+    assert_eq!(rt; osc.to_wrap(), 1);
+    osc.set_step(u32::MAX);
+    let phase = osc.phase() as u128;
+    osc.jump(u64::MAX);
+    assert_eq!(rt;
+        osc.phase() as u128,
+        (phase + 0xffff_ffff_ffff_ffff * 0xffff_ffff) % CYCLE
+    );
+    Ok(())
+}

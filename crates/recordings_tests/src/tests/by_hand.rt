@@ -1,0 +1,167 @@
+//! Values and options worked out by hand.
+
+use crate::tests::{choice, in_pieces};
+use recordings::{Choice, ChoiceFault, Kind, PackFault, Packer, Window};
+use sample_planes::Format;
+use std::alloc::Global;
+use std::test::Fail;
+
+/// What is written of a recording as a choice asks.
+fn byte_of(alloc: Global, choice: &Choice, bytes: &[u8]) -> Result<Vec<u8>, Fail> {
+    match choice.recipe() {
+        Ok(recipe) => in_pieces(alloc, recipe, bytes, 64),
+        Err(_) => Ok(Vec::new(alloc)),
+    }
+}
+
+// Signs and sizes were worked out by hand: 11 is below the centre and far from it, 10 below and
+// near, 00 near and 01 far.
+#[test]
+fn ends_of_ranges(rt: HostRuntime) -> Result<(), Fail> {
+    let unsigned = choice(Kind::U8, false, Format::Real2);
+    let near = [85, 84, 170, 171];
+    assert_eq!(rt;
+        byte_of(rt.alloc(), &unsigned, &[0, 127, 128, 255])?.as_slice(),
+        [0xe1].as_slice()
+    );
+    assert_eq!(rt;
+        byte_of(rt.alloc(), &unsigned, &near)?.as_slice(),
+        [0xb1].as_slice()
+    );
+    let signed = choice(Kind::I8, false, Format::Real2);
+    assert_eq!(rt;
+        byte_of(rt.alloc(), &signed, &[0x80, 0xfb, 0xfc, 0x7f])?.as_slice(),
+        [0xe1].as_slice()
+    );
+    let wide = choice(Kind::I16, false, Format::Real2);
+    let ends = [0x00, 0x80, 0xf3, 0x01, 0xf4, 0x01, 0xff, 0x7f];
+    assert_eq!(rt;
+        byte_of(rt.alloc(), &wide, &ends)?.as_slice(),
+        [0xe1].as_slice()
+    );
+    let turned = choice(Kind::I16Be, false, Format::Real2);
+    let ends = [0x80, 0x00, 0x01, 0xf3, 0x01, 0xf4, 0x7f, 0xff];
+    assert_eq!(rt;
+        byte_of(rt.alloc(), &turned, &ends)?.as_slice(),
+        [0xe1].as_slice()
+    );
+    Ok(())
+}
+
+// Two pairs of signed bytes: (1, -2), (-3, 4). Signs in phase and in quadrature: 01 10.
+#[test]
+fn parts_by_options(rt: HostRuntime) -> Result<(), Fail> {
+    let pairs = [1, 0xfe, 0xfd, 4, 1, 0xfe, 0xfd, 4];
+    let mut asked = choice(Kind::I8, true, Format::Iq1);
+    (asked.centre, asked.centre_q) = (0, 0);
+    assert_eq!(rt;
+        byte_of(rt.alloc(), &asked, &pairs)?.as_slice(),
+        [0x66].as_slice()
+    );
+    asked.is_conjugate = true;
+    assert_eq!(rt;
+        byte_of(rt.alloc(), &asked, &pairs)?.as_slice(),
+        [0x33].as_slice()
+    );
+    asked.is_swapped = true;
+    assert_eq!(rt;
+        byte_of(rt.alloc(), &asked, &pairs)?.as_slice(),
+        [0xcc].as_slice()
+    );
+    asked.is_conjugate = false;
+    asked.centre = 9;
+    assert_eq!(rt;
+        byte_of(rt.alloc(), &asked, &pairs)?.as_slice(),
+        [0xbb].as_slice()
+    );
+    let mut part = choice(Kind::I8, true, Format::Real2);
+    (part.centre, part.centre_q, part.threshold) = (0, 0, 4);
+    assert_eq!(rt;
+        byte_of(rt.alloc(), &part, &pairs)?.as_slice(),
+        [0x33].as_slice()
+    );
+    part.takes_quadrature = true;
+    assert_eq!(rt;
+        byte_of(rt.alloc(), &part, &pairs)?.as_slice(),
+        [0x99].as_slice()
+    );
+    Ok(())
+}
+
+#[test]
+fn what_cannot_be_had(rt: HostRuntime) {
+    let real = choice(Kind::I8, false, Format::Iq1);
+    assert_eq!(rt; real.recipe().err(), Some(ChoiceFault::Pairs));
+    let mut turned = choice(Kind::I8, false, Format::Real1);
+    turned.is_conjugate = true;
+    assert_eq!(rt; turned.recipe().err(), Some(ChoiceFault::Pairs));
+    let signs = choice(Kind::Bits1Low, true, Format::Iq2);
+    assert_eq!(rt; signs.recipe().err(), Some(ChoiceFault::Sizes));
+    let mut both = choice(Kind::I8, true, Format::Iq1);
+    both.takes_quadrature = true;
+    assert_eq!(rt; both.recipe().err(), Some(ChoiceFault::Part));
+}
+
+#[test]
+fn a_stretch_of_pieces(rt: HostRuntime) {
+    let mut window = Window::new(3, 4);
+    assert_eq!(rt; window.part(&[0, 1]), [].as_slice());
+    assert_eq!(rt; window.part(&[2, 3, 4]), [3, 4].as_slice());
+    assert!(rt; !window.is_over());
+    assert_eq!(rt; window.part(&[5, 6, 7]), [5, 6].as_slice());
+    assert!(rt; window.is_over());
+    assert_eq!(rt; window.part(&[8]), [].as_slice());
+}
+
+#[test]
+fn what_is_left(rt: HostRuntime) -> Result<(), Fail> {
+    if let Ok(recipe) = choice(Kind::I16, true, Format::Iq1).recipe() {
+        let mut packer = Packer::new(rt.alloc(), recipe)?;
+        let mut written = Vec::new(rt.alloc());
+        packer.take(&[0; 25], &mut written)?;
+        assert_eq!(rt; written.as_slice(), [0xff].as_slice());
+        assert_eq!(rt; (packer.samples_held(), packer.ends_inside()), (2, true));
+        packer.take(&[0; 3], &mut written)?;
+        assert_eq!(rt; (packer.samples_held(), packer.ends_inside()), (3, false));
+    }
+    Ok(())
+}
+
+// -1, -0.25, 0.5 and the float behind 0.5; then -0, 0, minus infinity and the greatest float below
+// 0; about 0, with the threshold 0.5.
+#[test]
+fn floats(rt: HostRuntime) -> Result<(), Fail> {
+    let words: [u32; 8] = [
+        0xbf80_0000,
+        0xbe80_0000,
+        0x3f00_0000,
+        0x3f00_0001,
+        0x8000_0000,
+        0,
+        0xff80_0000,
+        0x8000_0001,
+    ];
+    let mut bytes = Vec::new(rt.alloc());
+    for word in &words {
+        bytes.extend_from_slice(&word.to_le_bytes())?;
+    }
+    let mut asked = choice(Kind::F32, false, Format::Real2);
+    asked.threshold = 0x3f00_0000;
+    assert_eq!(rt;
+        byte_of(rt.alloc(), &asked, &bytes)?.as_slice(),
+        [0xe1, 0x0e].as_slice()
+    );
+    Ok(())
+}
+
+#[test]
+fn a_float_that_is_no_number(rt: HostRuntime) -> Result<(), Fail> {
+    if let Ok(recipe) = choice(Kind::F32, false, Format::Real1).recipe() {
+        let mut packer = Packer::new(rt.alloc(), recipe)?;
+        let mut written = Vec::new(rt.alloc());
+        assert!(rt; packer.take(&[0, 0, 0x80, 0x7f, 1], &mut written).is_ok());
+        let refused = packer.take(&[0, 0x80, 0xff], &mut written).err();
+        assert_eq!(rt; refused, Some(PackFault::NotANumber));
+    }
+    Ok(())
+}
