@@ -13,6 +13,7 @@ use clap::{Arg, ArgAction, ArgMatches, Command, Error, value_parser};
 use oscillators::{Settings, SettingsFault};
 use sample_planes::Format;
 use std::alloc::Global;
+use version::VERSION;
 
 const ABOUT: &str = "\
 Runs scripts of timed commands over recorded GPS L1 C/A samples.
@@ -23,7 +24,14 @@ static FORMATS: [&str; 4] = ["real1", "real2", "iq1", "iq2"];
 
 /// The help after the options: scripts, printed lines, refusals and statuses.
 const MORE: &str = "\
-A script is lines of `T VERB WORDS`. T is a time in samples, and never falls from line to line.
+The samples have no header, and the earliest of a byte is in its top bits: eight of real1, four of
+real2 (sign, magnitude), four pairs of iq1 (sign in phase, sign in quadrature), or two pairs of iq2
+(sign and magnitude in phase, then in quadrature). A sign of 1 is minus. A magnitude of 1 is the
+size 3, of 0 the size 1. `pack` makes these of other recordings.
+--offset takes no sign: --offset 5000 --minus is -5000 Hz. Real samples want an offset away from 0.
+
+A script is lines of `T VERB WORDS`. T is a time in samples, and never falls from line to line. T
+over the rate is the time in seconds. Lines without words are skipped; there are no comments.
 Each script is a client with the slots 0 to 3, or with as many slots as --shares gives it.
   T hold S PRN DOPPLER HALF  follow satellite PRN (1 to 32) in slot S, at a Doppler shift of DOPPLER
                              Hz (-16000 to 16000), its code beginning at half chip HALF (0 to 2045)
@@ -43,13 +51,17 @@ A printed line is `CLIENT T TEXT`:
   ok                         a command other than `state` was accepted
   err N                      a line of the script was refused
   count S IE QE IP QP IL QL  a dump: sums in phase (I) and in quadrature (Q) with the early (E),
-                             prompt (P) and late (L) code
+                             prompt (P) and late (L) code, half a chip apart
   acq S PRN found BIN HALF POWER
-                             a search is done: its strongest cell; or none in the place of found
-  lock S, unlock S, lost S   the loops locked, unlocked, or lost the signal (the slot is idle then)
+                             a search is done: its strongest cell; or none in the place of found.
+                             Its Doppler shift is CENTRE + 250 BIN Hz. HALF is where the code was
+                             at the time of the command, not of this line
+  lock S, unlock S, lost S   the loops locked, unlocked, or lost the signal (the slot is idle then).
+                             They lock on noise too, now and then
   bits S                     the edge of the data bits was found
   gap S N                    the next subframe starts N bits late
-  sub S ID TOW W1 .. W10     a subframe: its words in hexadecimal, ------ where parity fails
+  sub S ID TOW W1 .. W10     a subframe: its words in hexadecimal, ------ where parity fails. TOW is
+                             the time of the week at the start of the next one, in units of 6 s
   eph S FIELDS               clock and ephemeris; FIELDS are name=integer:exponent
   alm, utc, hlt, msg, als    a page of almanac, time, health or text; the almanacs of all
   state S idle               the slot is idle
@@ -67,18 +79,24 @@ A printed line is `CLIENT T TEXT`:
   3 no time up to 2^40              8 a number is out of range
   4 the time is before the last     9 the slot isn't idle
   5 no verb, or an unknown one     10 the slot is idle
+A tab, a carriage return or a byte order mark is err 2; a line that begins with # is err 3.
 
 Statuses:
-  0  the samples came to their end, or help was asked for
+  0  the samples came to their end, or help or the version was asked for
   1  no memory, more than eight scripts, a failed read or write, more than 2^40 samples
   2  an option, the rate, the offset, the shares or a script file was refused
 
-Example, with the lines `0 hold 0 5 1250 700` and `0 counts 0 5` in the file hold.script:
+Example: search for satellite 5 and track it, with the line `0 acquire 0 5 1000 4 4 60` in the file
+search.script:
+  receiver --offset 511500 search.script < three_satellites.real1
+Example: five dumps at a fixed shift, with the lines `0 hold 0 5 1250 700` and `0 counts 0 5` in the
+file hold.script:
   receiver --offset 511500 hold.script < three_satellites.real1";
 
 /// Reads the words of a command line, the program's name first.
 pub fn matches<'a>(alloc: Global, words: &'a [String]) -> Result<ArgMatches<'a>, Error> {
     Command::new(alloc, "receiver")
+        .version(VERSION)
         .about(ABOUT)
         .override_usage("receiver [OPTIONS] [SCRIPT]...")
         .after_help(MORE)
