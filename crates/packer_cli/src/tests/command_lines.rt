@@ -56,8 +56,8 @@ fn parts_in_the_other_order(rt: HostRuntime) -> Result<(), Fail> {
     Ok(())
 }
 
-// Unsigned bytes have the centre 127.5. A pair of them is two bytes, so a stretch of 3 pairs behind
-// 5 is 6 bytes behind 10.
+// Unsigned bytes have the centre 127.5. A pair of them is two bytes, so a stretch of 3 pairs after
+// 5 is 6 bytes after 10.
 #[test]
 fn defaults_and_a_stretch(rt: HostRuntime) -> Result<(), Fail> {
     let line = "pack --from iq-u8 --to iq1 --skip 5 --count 3";
