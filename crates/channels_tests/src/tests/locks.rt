@@ -3,7 +3,7 @@
 ghost use Rattle.std.specs.Prelude.{◌≤◌};
 ghost use Rattle.channels.specs.LockedMessages.{bit_count};
 
-use crate::locked_message::LockedMessage;
+use channels::LockedMessage;
 use data_sets::{AlmanacSet, Report};
 use lane_correlator::Counts;
 use nav_message::{MOST_BITS, MessageNews};

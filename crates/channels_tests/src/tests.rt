@@ -8,8 +8,8 @@ mod locks;
 mod searching;
 mod tracking;
 
-use crate::Held;
 use ca_codes::{CodeBook, Prn};
+use channels::Held;
 use lane_correlator::Counts;
 use made_signals::RECORDING;
 use oscillators::{Doppler, HalfChip, Settings};

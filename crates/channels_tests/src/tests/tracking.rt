@@ -1,8 +1,8 @@
 //! A tracked satellite beside the plain reference of tracking.
 
 use super::sums;
-use crate::Tracked;
 use ca_codes::{CodeBook, Prn};
+use channels::Tracked;
 use made_signals::{MadeSignal, PlainDump, PlainNews, PlainTracker, SampleStream};
 use oscillators::{Doppler, HalfChip, Settings};
 use sample_planes::{Format, unpack};

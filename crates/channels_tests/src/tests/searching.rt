@@ -2,9 +2,9 @@
 
 ghost use Rattle.channels.specs.Searching.{start_of, due_of, to_due_of};
 
-use crate::Sought;
 use acquisition::{Cell, Plan};
 use ca_codes::{CodeBook, Prn};
+use channels::Sought;
 use made_signals::code_file;
 use oscillators::{HalfChip, Settings};
 use sample_planes::{Format, NumberedSamples, PackedSamples, unpack};
