@@ -14,6 +14,8 @@ use Rattle.std.specs.List.{list_all}
 use Rattle.std.proofs.lemmas.Bool.{cases_lt, and_parts, eqb-true}
 use Rattle.definitions.specs.BitEdge.{changes_at, is_change, is_edge}
 use Rattle.definitions.proofs.SixteenthLemmas.{sixteenth}
+use Rattle.std.specs.Prelude.{nat_lt}
+use Rattle.definitions.specs.BitEdge.{is_crowded}
 
 -- pushes begin with the dump behind a lock
 abbrev dump : ℤ → ℤ → Counts
@@ -69,3 +71,22 @@ fifteenth_is_no_edge = sixteenth square_wave 0 300 (λ i h e. one_place i (omega
 sixteenth_is_edge : is_edge square_wave 320 ≡ true
 unfolding xor
 sixteenth_is_edge = sixteenth square_wave 0 320 (λ i h e. one_place i (omega arith) e)
+
+-- a bit whose sums add up to 0 is 0, to -1 is 1, each of its 20 pushes counts
+zero_sums : bits_behind (replicate 10 (pos 1) ++ replicate 10 (negsuc 0) ++ replicate 19 (pos 0)
+    ++ negsuc 0 ∷ []) (Some 0) ≡ false ∷ true ∷ []
+zero_sums = refl
+
+-- two places with four changes each reset the counts, four and three don't
+abbrev changing : List ℕ → ℕ → List ℤ
+changing places n = map (λ k. at places k true) (range_with_len 0 n)
+  where
+    at : List ℕ → ℕ → Bool → ℤ
+    at [] k sign = if sign then pos 1 else negsuc 0
+    at (p ∷ ps) k sign =
+        if nat_lt k p then (if sign then pos 1 else negsuc 0) else at ps k (xor sign true)
+
+crowds : map (λ k. is_crowded (changing (1 ∷ 10 ∷ 21 ∷ 30 ∷ 41 ∷ 50 ∷ 61 ∷ 70 ∷ []) 72) 0 k)
+    (69 ∷ 70 ∷ []) ≡ false ∷ true ∷ []
+unfolding xor
+crowds = refl

@@ -11,6 +11,8 @@ use Rattle.definitions.specs.Frames.{is_candidate, checked_at, subframe_at}
 use Rattle.definitions.specs.DataSets.{reports_of, new_set, last_reported}
 use Rattle.definitions.specs.Events.{subframe, gap, bit_events, pages_among}
 use Rattle.definitions.specs.Pages.{page_of}
+use Rattle.std.specs.Prelude.{true}
+use Rattle.definitions.specs.Frames.{is_header}
 
 abbrev bits_of_word : ℕ → List Bool
 bits_of_word word = map (λ i. bit_at word (29 - i) == 1) (range_with_len 0 30)
@@ -48,3 +50,12 @@ gap_comes_first : bit_events with_five_between (found_by with_five_between)
 unfolding found_by starts_of starts_from is_candidate checked_at checked_data passes holds data_of
     least_below subframe_at page_of pages_among reports_of new_set last_reported
 gap_comes_first = refl
+
+-- a header needs an ID of 1 to 5, equal bits before it, and the same two at its end
+headers : map (λ second. is_header 0 (Some 0x8b0000) (Some second) 0)
+    (0x80 ∷ 0x84 ∷ 0x94 ∷ 0x98 ∷ 0x9c ∷ []) ≡ false ∷ true ∷ true ∷ false ∷ false ∷ []
+headers = refl
+
+priors : map (λ prior. is_header prior (Some 0x8b0000) (Some 0x84) prior) (0 ∷ 1 ∷ 2 ∷ 3 ∷ [])
+    ≡ true ∷ false ∷ false ∷ true ∷ []
+priors = refl

@@ -319,3 +319,17 @@ no_scripts = refl
 
 nine_scripts : are_clients (replicate 9 []) ≡ false
 nine_scripts = refl
+
+-- two slots with an event at one time: by slot, whatever the order of the commands
+two_slots : run (quick real2) (0x72 ∷ []) (client 2 (codes "0 hold 1 1 0 2044"
+    ∷ codes "0 hold 0 1 0 2044" ∷ codes "0 counts 1 1" ∷ codes "0 counts 0 1" ∷ []) ∷ [])
+    ≡ text (codes "1 0 ok" ∷ codes "1 0 ok" ∷ codes "1 0 ok" ∷ codes "1 0 ok"
+    ∷ codes "1 4 count 0 12 4 6 2 6 2" ∷ codes "1 4 count 1 12 4 6 2 6 2" ∷ codes "1 4 end" ∷ [])
+unfolding full full_lines body_lines end_lines at_each_time lines_at event_lines answer_lines
+    for_each_client event_texts answer_texts entries_of commands_to script entry_of entries_after
+    pieces_ended_by values_in as_bytes digits events_at_end life_now life_of life_events is_over
+    answer_at_end view_of event_text answer_text sample samples_from dumps_of_life last_of front_of
+    unprinted_count progress behind_segments closed_if_ended next_end end_by is_through closed_at
+    counts_over six_sums in_phase_sum quadrature_sum least_below code_step carrier_step total chip
+    chip_after register_after
+two_slots = refl

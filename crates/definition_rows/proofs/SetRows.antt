@@ -6,7 +6,7 @@ use Rattle.std.specs.Option.{is_some}
 use Rattle.std.specs.List.{range_with_len}
 use Rattle.std.specs.Fmt.{digits}
 use Rattle.definitions.specs.Pages.{Page, clock, eph2, eph3, almanac}
-use Rattle.definitions.specs.DataSets.{reports_of, last_reported, new_set, AlmanacSet}
+use Rattle.definitions.specs.DataSets.{reports_of, last_reported, new_set, AlmanacSet, single}
 use Rattle.definitions.specs.Events.{almanacs}
 use Rattle.definitions.specs.Texts.{event_text}
 
@@ -121,3 +121,9 @@ negative_is_not_zero : is_some
     ≡ false
 unfolding reports_of new_set last_reported
 negative_is_not_zero = refl
+
+-- the page that is reported is the last
+last_is_told : (reports_of (almanac_with 3 5 0 ∷ almanac_with 4 6 1 ∷ [])).page
+    ≡ Some (single (almanac_with 4 6 1))
+unfolding reports_of new_set last_reported
+last_is_told = refl

@@ -8,6 +8,9 @@ use Rattle.definitions.specs.Events.{subframe, reported, acquired, locked, unloc
 use Rattle.definitions.specs.Events.{edge, gap}
 use Rattle.definitions.specs.Texts.{event_text, page_text}
 use Rattle.definitions.specs.Pages.{page_of}
+use Rattle.std.specs.Prelude.{false}
+use Rattle.definitions.specs.Answers.{acquiring, holding, tracking, idle, shown}
+use Rattle.definitions.specs.Texts.{answer_text, word_text}
 
 abbrev words : List ℕ → Subframe
 words data_words = record { words = map (λ w. Some w) data_words }
@@ -74,3 +77,18 @@ other_texts : map (event_text 1) (locked ∷ unlocked ∷ signal_lost ∷ edge �
     ≡ codes "lock 1" ∷ codes "unlock 1" ∷ codes "lost 1" ∷ codes "bits 1" ∷ codes "gap 1 150" ∷ []
 unfolding event_text digits
 other_texts = refl
+
+-- the texts of a state
+states : map (λ view. answer_text 2 (shown view)) (idle ∷ acquiring 7 3 2046 ∷ holding 7 4
+    ∷ tracking 7 5 (record { v = neg_ℤ (pos 6); w = pos 8 }) false false
+    ∷ tracking 7 5 (record { v = neg_ℤ (pos 6); w = pos 8 }) true false
+    ∷ tracking 7 5 (record { v = neg_ℤ (pos 6); w = pos 8 }) true true ∷ [])
+    ≡ codes "state 2 idle" ∷ codes "state 2 acquire 7 3 2046" ∷ codes "state 2 hold 7 4"
+    ∷ codes "state 2 track 7 5 -6 8 open" ∷ codes "state 2 track 7 5 -6 8 lock"
+    ∷ codes "state 2 track 7 5 -6 8 bits" ∷ []
+unfolding answer_text digits
+states = refl
+
+-- words in lower case
+lower_case : word_text (Some 0xabcdef) ≡ codes "abcdef"
+lower_case = refl
