@@ -35,9 +35,9 @@ pub enum Failure {
     /// The packing has sizes, and no threshold was given.
     #[error("--to: two bits a part need --threshold; --measure suggests one")]
     NoThreshold,
-    /// Floats can't be measured.
-    #[error("--measure: it takes no floats")]
-    Floats,
+    /// Standard input has a float that is infinite, so that it has no mean.
+    #[error("standard input has a float that is infinite")]
+    Infinite,
     /// There is no sample to measure.
     #[error("standard input has no whole sample")]
     Nothing,
@@ -66,7 +66,7 @@ pub fn status(ended: Result<(), Failure>) -> u8
     match ended {
         Ok(()) => 0,
         Err(Failure::NoMemory | Failure::Input | Failure::Output) => 1,
-        Err(Failure::NotANumber | Failure::Nothing) => 1,
+        Err(Failure::NotANumber | Failure::Infinite | Failure::Nothing) => 1,
         Err(_) => 2,
     }
 }

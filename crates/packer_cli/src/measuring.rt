@@ -6,6 +6,7 @@ ghost use Rattle.recordings.specs.declared.recipe.TheConstants.{MOST_BYTES};
 
 use crate::decimals::{Halves, Hundredths};
 use crate::failure::Failure;
+use crate::floats::measure_floats;
 use crate::running::{read, zeros};
 use recordings::{Kind, MOST_BYTES, MOST_PIECE, Measure, Part, Recipe, Window};
 use std::alloc::{AllocGlobal, Global};
@@ -23,6 +24,9 @@ pub fn measure<T: AllocGlobal + Print, R: Read>(
     reader: &mut R,
 ) -> Result<(), Failure> {
     let bytes = gather(rt.alloc(), window, reader)?;
+    if recipe.kind == Kind::F32 {
+        return measure_floats(rt, recipe, &bytes);
+    }
     let i = centred(recipe, &recipe.in_phase, &bytes);
     let q = centred(recipe, &recipe.quadrature, &bytes);
     // Where there is one part, both are that one.
@@ -62,7 +66,6 @@ fn tell_part<P: Print>(
     measure: &Measure,
 ) -> io::Result<()> {
     let count = measure.count;
-    let [plus, far_plus, minus, far_minus] = measure.shares;
     println!(rt;
         "mean{name} {}",
         Hundredths(nearest(measure.sum.saturating_mul(50), count))
@@ -71,14 +74,21 @@ fn tell_part<P: Print>(
     if kind.bits() >= 8 {
         println!(rt; "at-the-ends{name} {}%", share(measure.at_ends, count))?;
     }
+    tell_shares(rt, name, measure)?;
+    println!(rt; "--centre{name} {}", Halves(part.centre))
+}
+
+/// Prints the shares of 1, 3, -1 and -3.
+pub fn tell_shares<P: Print>(rt: &P, name: &str, measure: &Measure) -> io::Result<()> {
+    let count = measure.count;
+    let [plus, far_plus, minus, far_minus] = measure.shares;
     println!(rt;
         "shares{name} {}% {}% {}% {}%",
         share(plus, count),
         share(far_plus, count),
         share(minus, count),
         share(far_minus, count)
-    )?;
-    println!(rt; "--centre{name} {}", Halves(part.centre))
+    )
 }
 
 /// The part about the centre of its values, which is their mean to the nearest half.

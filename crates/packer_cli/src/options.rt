@@ -64,7 +64,7 @@ and the shares of 1, 3, -1 and -3 that the options below them would give.
 
 Statuses:
   0  the recording came to its end, or all that was wanted is written, or help was asked for
-  1  no memory, a failed read or write, a float that is no number
+  1  no memory, a failed read or write, a float that is no number, or is infinite and measured
   2  an option was refused
 
 Examples:
@@ -191,9 +191,6 @@ pub fn recipe(matches: &ArgMatches) -> Result<Recipe, Failure> {
     let default = if kind == Kind::U8 { 255 } else { 0 };
     let centre = twice(matches, "centre", default)?;
     let centre_q = twice(matches, "centre-q", centre)?;
-    if kind == Kind::F32 && is_measured(matches) {
-        return Err(Failure::Floats);
-    }
     if kind == Kind::F32 && (centre, centre_q) != (0, 0) {
         return Err(Failure::Centre);
     }

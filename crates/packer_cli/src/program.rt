@@ -7,9 +7,9 @@ use crate::running::run;
 use clap::error::ErrorKind;
 use clap::{ArgMatches, Error};
 use recordings::Packer;
-use std::alloc::{AllocGlobal, Global};
+use std::alloc::AllocGlobal;
 use std::env::{self, Env};
-use std::io::{self, Eprint, Print, Read, Write};
+use std::io::{Eprint, Print, Read, Write};
 use std::process::ExitCode;
 
 /// Does what the words of the command line ask for, with this reader and writer, and gives the

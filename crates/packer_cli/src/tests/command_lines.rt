@@ -98,7 +98,6 @@ fn options_that_are_refused(rt: HostRuntime) -> Result<(), Fail> {
         ("pack --from i8", Failure::NoFormat),
         ("pack --from i8 --to real1 --measure", Failure::NotPacked),
         ("pack --from i8 --to real2", Failure::NoThreshold),
-        ("pack --from f32 --measure", Failure::Floats),
         ("pack --from f32 --to real1 --centre 1", Failure::Centre),
         (
             "pack --from i8 --to real2 --threshold -1",
