@@ -4,6 +4,7 @@ import shlex
 import subprocess
 import tempfile
 from concurrent.futures import ThreadPoolExecutor
+from functools import lru_cache
 
 HERE = os.path.dirname(os.path.realpath(__file__))
 TOP = os.path.dirname(HERE)
@@ -14,12 +15,20 @@ JOBS = 2
 
 
 def build():
-    """Builds the maker, and the receiver and pack where they aren't built."""
+    """Builds the maker, and the receiver and pack as plain Rust where they aren't built."""
     subprocess.run(['cargo', 'build', '--release', '--quiet', '--offline'], check=True,
                    cwd=os.path.join(HERE, 'maker'))
-    for program in ('receiver', 'pack'):
-        subprocess.run([os.path.join(TOP, program), '--version'], check=True,
-                       stdout=subprocess.DEVNULL)
+    program('packer_cli', 'pack')
+    program('receiver_cli', 'receiver')
+
+
+@lru_cache(maxsize=None)
+def program(crate, called):
+    """The path of a program of this repository. It is built where it has to be."""
+    ran = subprocess.run([os.path.join(TOP, 'tools', 'build'), crate, called], check=True,
+                         env={**os.environ, 'RECEIVER_PLAIN': '1'}, stdout=subprocess.PIPE,
+                         encoding='utf-8')
+    return ran.stdout.strip()
 
 
 def name(satellite, doppler, half, density, periods):
@@ -41,8 +50,8 @@ def lines_of(scripts, satellites, samples, seed, packing='iq1', rate=RATE, share
         commands = [
             [MAKER, '--samples', samples, '--seed', seed, '--kind', kind, '--rate', rate,
              '--offset', offset, *satellites],
-            [os.path.join(TOP, 'pack'), '--from', kind, '--to', packing, *threshold],
-            [os.path.join(TOP, 'receiver'), '--rate', rate, '--offset', offset,
+            [program('packer_cli', 'pack'), '--from', kind, '--to', packing, *threshold],
+            [program('receiver_cli', 'receiver'), '--rate', rate, '--offset', offset,
              '--format', packing, *more, *paths],
         ]
         line = ' | '.join(shlex.join(map(str, command)) for command in commands)

@@ -13,7 +13,7 @@ ODD_RATE = 2046613
 PACKINGS = ('real1', 'real2', 'iq1', 'iq2')
 # C/N0 in dB-Hz, the seeds of recordings, their seconds, and those after which lines count.
 ERROR_DENSITIES = (47, 42)
-ERROR_SEEDS = (1, 2)
+ERROR_SEEDS = range(1, 7)
 SECONDS, SETTLED = 10, 3
 CHIP_RATE, CARRIER = 1023000, 1575420000
 
@@ -53,23 +53,19 @@ def densities_of(lines):
 
 
 def track(density, packing, seed):
-    """Errors in Hz and in chips, and C/N0 in dB-Hz, of four satellites that are tracked."""
-    satellites = drawn_satellites(seed, 4, density)
-    script = [f'0 track {slot} {it[0]} {it[1]:.0f} {int(it[2])}'
-              for slot, it in enumerate(satellites)]
-    script += [f'{SETTLED * ODD_RATE} counts {slot} 1000000' for slot in range(4)]
-    tenths = range(10 * SETTLED, 10 * SECONDS)
-    script += [f'{k * ODD_RATE // 10} state {slot}' for k in tenths for slot in range(4)]
-    lines = lines_of([script], [name(*it) for it in satellites], SECONDS * ODD_RATE // 8 * 8, seed,
-                     packing, ODD_RATE)
+    """Errors in Hz and in chips, and C/N0 in dB-Hz, of a satellite that is tracked."""
+    [satellite] = drawn_satellites(seed, 1, density)
+    number, doppler, half, _, _ = satellite
+    script = [f'0 track 0 {number} {doppler:.0f} {int(half)}',
+              f'{SETTLED * ODD_RATE} counts 0 1000000']
+    script += [f'{k * ODD_RATE // 10} state 0' for k in range(10 * SETTLED, 10 * SECONDS)]
+    lines = lines_of([script], [name(*satellite)], SECONDS * ODD_RATE // 8 * 8, seed, packing,
+                     ODD_RATE)
     states = [words for words in lines if words[2] == 'state']
     assert all(words[4] == 'track' for words in states), 'a satellite was lost'
-    dopplers = [int(words[7]) / 65536 - satellites[int(words[3])][1] for words in states]
+    dopplers = [int(words[7]) / 65536 - doppler for words in states]
     counts = [words for words in lines if words[2] == 'count']
-    codes = []
-    for slot, satellite in enumerate(satellites):
-        times = [int(words[1]) for words in counts if int(words[3]) == slot]
-        codes += code_errors(times, satellite)
+    codes = code_errors([int(words[1]) for words in counts], satellite)
     return dopplers, codes, densities_of(counts)
 
 
@@ -86,7 +82,7 @@ def measure_tracking():
     errors, densities = [], []
     for k, (density, packing) in enumerate(plans):
         these = results[k * len(ERROR_SEEDS):(k + 1) * len(ERROR_SEEDS)]
-        dopplers, codes, shown = ([it for each in these for it in each[part]] for part in range(3))
+        dopplers, codes, shown = ([it for run in these for it in run[part]] for part in range(3))
         errors.append([density, packing, len(dopplers), *spread(dopplers, 2), len(codes),
                        *spread(codes, 3)])
         mean, theory = statistics.fmean(shown), packing_loss(int(packing[-1]))
@@ -125,4 +121,5 @@ def measure_times():
             times = [it[kind] for it in firsts if kind in it]
             shown = [f'{f(times):.2f}' if times else '-' for f in (min, statistics.median, max)]
             rows.append([density, f'`{kind}`', f'{len(times)} of {len(firsts)}', *shown])
-    return table(['C/N0, dB-Hz', 'line', 'satellites', 'least, s', 'median, s', 'greatest, s'], rows)
+    heads = ['C/N0, dB-Hz', 'line', 'satellites', 'least, s', 'median, s', 'greatest, s']
+    return table(heads, rows)

@@ -30,7 +30,11 @@ const BLOCK: u64 = 16384;
 const STEPS: usize = 4096;
 
 /// Writes all samples.
-fn write(settings: &Settings, satellites: &mut [Satellite], out: &mut impl Write) -> io::Result<()> {
+fn write(
+    settings: &Settings,
+    satellites: &mut [Satellite],
+    out: &mut impl Write,
+) -> io::Result<()> {
     let turn = std::f64::consts::TAU / STEPS as f64;
     let waves: Vec<f32> = (0..STEPS).map(|at| (at as f64 * turn).cos() as f32).collect();
     let mut chance = Chance::new(settings.seed);
