@@ -6,7 +6,7 @@ from theory import detection, false_alarm, packing_loss, replica_loss
 
 # Periods and thresholds on noise; bins, and the recordings with 32 searches each.
 NOISE_PLANS = {1: (110, 130, 150), 2: (70, 80, 95), 4: (45, 50, 60, 75), 10: (30, 35, 40, 45)}
-NOISE_BINS = {4: 6, 20: 3}
+NOISE_BINS = {4: 6, 20: 2}
 
 # Periods and thresholds of a signal, in 4 bins to each side; C/N0 in dB-Hz; trials of each.
 SIGNAL_PLANS = ((1, 150), (2, 95), (4, 75), (4, 60), (10, 45))

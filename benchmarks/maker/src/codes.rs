@@ -4,6 +4,7 @@
 pub const CHIPS: usize = 1023;
 
 /// The stages of the second register that make each satellite's code (table 3-Ia).
+#[rustfmt::skip]
 const STAGES: [(usize, usize); 32] = [
     (2, 6), (3, 7), (4, 8), (5, 9), (1, 9), (2, 10), (1, 8), (2, 9), (3, 10), (2, 3), (3, 4),
     (5, 6), (6, 7), (7, 8), (8, 9), (9, 10), (1, 4), (2, 5), (3, 6), (4, 7), (5, 8), (6, 9),
@@ -29,4 +30,23 @@ fn shift(register: &mut [u8; 10], taps: &[usize]) {
     let input = taps.iter().fold(0, |sum, tap| sum ^ register[tap - 1]);
     register.rotate_right(1);
     register[0] = input;
+}
+
+#[cfg(test)]
+mod tests {
+    use super::chip_signs;
+
+    /// The first ten chips of satellites 1 to 10 as octal numbers (IS-GPS-200, table 3-Ia).
+    const FIRST_CHIPS: [u32; 10] = [
+        0o1440, 0o1620, 0o1710, 0o1744, 0o1133, 0o1455, 0o1131, 0o1454, 0o1626, 0o1504,
+    ];
+
+    #[test]
+    fn codes_begin_as_in_the_table() {
+        for (at, first) in FIRST_CHIPS.into_iter().enumerate() {
+            let signs = chip_signs(at + 1);
+            let chips = signs[..10].iter().fold(0, |bits, sign| bits << 1 | (*sign < 0.0) as u32);
+            assert_eq!(chips, first, "satellite {}", at + 1);
+        }
+    }
 }
