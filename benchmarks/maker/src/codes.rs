@@ -45,7 +45,9 @@ mod tests {
     fn codes_begin_as_in_the_table() {
         for (at, first) in FIRST_CHIPS.into_iter().enumerate() {
             let signs = chip_signs(at + 1);
-            let chips = signs[..10].iter().fold(0, |bits, sign| bits << 1 | (*sign < 0.0) as u32);
+            let chips = signs[..10]
+                .iter()
+                .fold(0, |bits, sign| bits << 1 | (*sign < 0.0) as u32);
             assert_eq!(chips, first, "satellite {}", at + 1);
         }
     }

@@ -36,7 +36,9 @@ fn write(
     out: &mut impl Write,
 ) -> io::Result<()> {
     let turn = std::f64::consts::TAU / STEPS as f64;
-    let waves: Vec<f32> = (0..STEPS).map(|at| (at as f64 * turn).cos() as f32).collect();
+    let waves: Vec<f32> = (0..STEPS)
+        .map(|at| (at as f64 * turn).cos() as f32)
+        .collect();
     let mut chance = Chance::new(settings.seed);
     let mut left = settings.samples;
     while left > 0 {
@@ -62,7 +64,11 @@ fn bytes_of(block: &[(f32, f32)], pairs: bool, chance: &mut Chance) -> Vec<u8> {
     } else {
         for two in block.chunks(2) {
             let (x, y) = chance.normal_pair();
-            bytes.extend(two.iter().zip([x, y]).map(|((i, _), it)| byte(i + DEVIATION * it)));
+            bytes.extend(
+                two.iter()
+                    .zip([x, y])
+                    .map(|((i, _), it)| byte(i + DEVIATION * it)),
+            );
         }
     }
     bytes
@@ -82,8 +88,10 @@ fn main() -> ExitCode {
             return ExitCode::from(2);
         }
     };
-    let mut satellites: Vec<Satellite> =
-        satellites.iter().map(|named| Satellite::new(named, &settings)).collect();
+    let mut satellites: Vec<Satellite> = satellites
+        .iter()
+        .map(|named| Satellite::new(named, &settings))
+        .collect();
     match write(&settings, &mut satellites, &mut io::stdout().lock()) {
         Ok(()) => ExitCode::SUCCESS,
         Err(_) => ExitCode::FAILURE,

@@ -32,8 +32,8 @@ fn sent_word(data: u32, prior: u32) -> u32 {
 
 /// A word whose last two bits are 0, by the choice of data bits 23 and 24.
 fn solved_word(data: u32, prior: u32) -> u32 {
-    let words = (0..4).map(|last| sent_word(data & !3 | last, prior));
-    words.filter(|word| word & 3 == 0).last().unwrap_or(0)
+    let mut words = (0..4).map(|last| sent_word(data & !3 | last, prior));
+    words.find(|word| word & 3 == 0).unwrap_or(0)
 }
 
 /// The data of a word by its number in its subframe, 1 to 10. What isn't told here is `drawn`.
@@ -55,7 +55,11 @@ pub fn frame(chance: &mut Chance) -> Vec<bool> {
         for number in 1..=10 {
             let data = data_of(subframe, number, chance.bits() as u32 >> 8);
             let solved = number == 2 || number == 10;
-            let word = if solved { solved_word(data, prior) } else { sent_word(data, prior) };
+            let word = if solved {
+                solved_word(data, prior)
+            } else {
+                sent_word(data, prior)
+            };
             bits.extend((0..30).rev().map(|place| word >> place & 1 == 1));
             prior = word & 3;
         }

@@ -11,7 +11,9 @@ impl Chance {
         let mut z = seed.wrapping_add(1).wrapping_mul(0x9e37_79b9_7f4a_7c15);
         z = (z ^ (z >> 30)).wrapping_mul(0xbf58_476d_1ce4_e5b9);
         z = (z ^ (z >> 27)).wrapping_mul(0x94d0_49bb_1331_11eb);
-        Chance { state: (z ^ (z >> 31)) | 1 }
+        Chance {
+            state: (z ^ (z >> 31)) | 1,
+        }
     }
 
     /// The next 64 bits.

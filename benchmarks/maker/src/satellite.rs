@@ -41,7 +41,10 @@ pub struct Satellite {
 impl Satellite {
     pub fn new(named: &Named, settings: &Settings) -> Self {
         let rate = settings.rate as f64;
-        let seed = settings.seed.wrapping_mul(64).wrapping_add(named.satellite as u64);
+        let seed = settings
+            .seed
+            .wrapping_mul(64)
+            .wrapping_add(named.satellite as u64);
         // With a variance v in each part, noise has the density 2 v / rate in pairs and in real
         // samples. The power of an amplitude a is a^2 in pairs, and a^2 / 2 in real samples.
         let parts = if settings.pairs { 2.0 } else { 1.0 };
@@ -63,7 +66,11 @@ impl Satellite {
     /// The amplitude with the sign of the data bit that is being sent.
     fn level(&self) -> f32 {
         let place = (self.periods / 20) as usize % FRAME_BITS;
-        if self.bits[place] { -self.amplitude } else { self.amplitude }
+        if self.bits[place] {
+            -self.amplitude
+        } else {
+            self.amplitude
+        }
     }
 
     /// Adds the next samples to a block, where each is cosine and sine. `waves` has the cosines of

@@ -18,8 +18,13 @@ pub struct Settings {
 
 /// The settings and the satellites, or what is wrong.
 pub fn read(words: &[String]) -> Result<(Settings, Vec<Named>), String> {
-    let mut settings =
-        Settings { samples: 2_046_000, rate: 2_046_000, offset: 0.0, pairs: true, seed: 1 };
+    let mut settings = Settings {
+        samples: 2_046_000,
+        rate: 2_046_000,
+        offset: 0.0,
+        pairs: true,
+        seed: 1,
+    };
     let mut satellites = Vec::new();
     let mut words = words.iter();
     while let Some(word) = words.next() {
@@ -40,11 +45,13 @@ fn set(settings: &mut Settings, name: &str, value: &str) -> Option<()> {
         "rate" => settings.rate = value.parse().ok().filter(|it| *it >= 1_100_000)?,
         "offset" => settings.offset = value.parse().ok()?,
         "seed" => settings.seed = value.parse().ok()?,
-        "kind" => settings.pairs = match value {
-            "iq-i8" => true,
-            "i8" => false,
-            _ => return None,
-        },
+        "kind" => {
+            settings.pairs = match value {
+                "iq-i8" => true,
+                "i8" => false,
+                _ => return None,
+            }
+        }
         _ => return None,
     }
     Some(())
@@ -53,11 +60,19 @@ fn set(settings: &mut Settings, name: &str, value: &str) -> Option<()> {
 /// SATELLITE:DOPPLER:HALF:CN0:PERIODS.
 fn named(word: &str) -> Option<Named> {
     let parts: Vec<&str> = word.split(':').collect();
-    let [satellite, doppler, half_chip, density, periods] = parts[..] else { return None };
+    let [satellite, doppler, half_chip, density, periods] = parts[..] else {
+        return None;
+    };
     let named = Named {
         satellite: satellite.parse().ok().filter(|it| (1..=32).contains(it))?,
-        doppler: doppler.parse().ok().filter(|it: &f64| it.abs() <= 16000.0)?,
-        half_chip: half_chip.parse().ok().filter(|it| (0.0..2046.0).contains(it))?,
+        doppler: doppler
+            .parse()
+            .ok()
+            .filter(|it: &f64| it.abs() <= 16000.0)?,
+        half_chip: half_chip
+            .parse()
+            .ok()
+            .filter(|it| (0.0..2046.0).contains(it))?,
         density: density.parse().ok().filter(|it| (0.0..60.0).contains(it))?,
         periods: periods.parse().ok()?,
     };
