@@ -50,7 +50,7 @@ def measure_noise():
         count = counts[bins, periods, threshold]
         rows.append((bins, periods, threshold, trials, count, f'{count / trials:.3f}',
                      f'{chance:.2g}'))
-    return table(['B', 'N', 'THRESHOLD', 'searches', 'found', 'share', 'theory, at most'], rows)
+    return table(['B', 'N', 'H', 'searches', 'found', 'share', 'theory, at most'], rows)
 
 
 def is_right(words, doppler, half):
@@ -89,7 +89,7 @@ def measure_signals():
         rows.append([density] + [f'{share:.2f} ({chance:.2f})'
                                  for share, chance in zip(shares, theory)])
         points.append([density, *shares])
-    heads = ['C/N0, dB-Hz'] + [f'N {n}, THRESHOLD {h}' for n, h in SIGNAL_PLANS]
+    heads = ['C/N0, dB-Hz'] + [f'N {n}, H {h}' for n, h in SIGNAL_PLANS]
     lines = table(heads, rows)
     lines += ['', f'In {len(tasks) * len(SIGNAL_PLANS)} searches another cell than the signal\'s, '
               f'or one beside it, was `found` {elsewhere} times.']

@@ -88,9 +88,9 @@ def measure_tracking():
         mean, theory = statistics.fmean(shown), packing_loss(int(packing[-1]))
         densities.append([density, packing, len(shown), f'{mean:.2f}', f'{density - mean:.2f}',
                           f'{theory:.2f}', f'{theory + replica_loss():.2f}'])
-    heads = ['made, dB-Hz', 'packing', '`state` lines', 'Doppler: mean, Hz', 'deviation, Hz',
-             'means of 100 `count` lines', 'code: mean, chips', 'deviation, chips']
-    losses = ['made, dB-Hz', 'packing', 'seconds', 'C/N0 by `cn0`', 'loss, dB', 'theory: packing',
+    heads = ['made', 'packing', '`state` lines', 'shift: mean', 'deviation', 'code means',
+             'code: mean', 'deviation']
+    losses = ['made', 'packing', 'seconds', 'C/N0 by `cn0`', 'loss', 'theory: packing',
               'packing and replica']
     return table(heads, errors), table(losses, densities)
 
