@@ -1,12 +1,16 @@
 """What Rust wants beside a source that was made plain: premises that a debug build checks, the
 usual traits, and leave for names that only the prover uses."""
 import re
+import textwrap
 
 from plain_text import block_end, code_of
 
 # A function with the comments of its clauses: its head, these lines, and its brace's indentation.
 FUNCTION = re.compile(
     r'^( *(?:pub(?:\([a-z]+\))? )?fn (?:[^{;/\[]|\[[^\]]*\])*)\n((?: *// .*\n)+)( *)\{$', re.M)
+
+# A law: a public function with clauses that does nothing.
+LAW = re.compile(r'^(pub fn [^{;/]*\n(?: *// .*\n)+\{\})$', re.M)
 
 # A term of a clause that Rust can say: a power, a list's length, a size, a number or a name.
 TERM = re.compile(r'2 \^ (\d+)|length (\w+)\.(?:now|old|entry)|unsigned_abs (\w+)(?![.\w])'
@@ -44,21 +48,24 @@ def condition(premise, head, code):
     return text if is_simple and ' as i128' in text else None
 
 
+def contract(clauses, indent):
+    """The clauses of a function as a part of its documentation."""
+    lines = re.sub(r'^( *)// ?', r'\1', textwrap.dedent(clauses), flags=re.M).rstrip().split('\n')
+    rows = ['', '# Contract', '```text', *lines, '```']
+    return ''.join(f'{indent}/// {row}'.rstrip() + '\n' for row in rows)
+
+
 def checked_text(text):
     """A source whose functions say what they require, and see to the simple ones by themselves."""
     code = code_of(text)
 
     def checked(found):
         head, clauses, indent = found.groups()
-        required = premises(clauses)
-        docs = ''
-        if required and head.lstrip().startswith('pub fn'):
-            rows = ['///', '/// # Requires', *(f'/// - `{premise}`' for premise in required)]
-            docs = ''.join(f'{indent}{row}\n' for row in rows)
-        holds = filter(None, (condition(premise, head, code) for premise in required))
+        docs = contract(clauses, indent) if head.lstrip().startswith('pub fn') else ''
+        holds = filter(None, (condition(premise, head, code) for premise in premises(clauses)))
         return docs + found[0] + ''.join(f'\n    {indent}debug_assert!({hold});' for hold in holds)
 
-    return FUNCTION.sub(checked, text)
+    return LAW.sub(r'#[doc(hidden)]\n\1', FUNCTION.sub(checked, text))
 
 
 def allow(found, is_unused, lint='dead_code'):

@@ -112,8 +112,8 @@ impl<'a> Arg<'a> {
 
     /// Sees whether a value may stand here.
     pub(crate) fn check(&self, value: &str) -> Result<(), Error> {
-        let name = self.shown();
         let invalid = |why: String| {
+            let name = self.shown();
             Err(Error::refused(
                 format!("invalid value '{value}' for '{name}'{why}"),
                 None,

@@ -3,7 +3,7 @@
 use crate::arg::{Arg, ArgAction};
 use crate::error::Error;
 use crate::help::help;
-use crate::matches::ArgMatches;
+use crate::matches::{ArgMatches, push};
 use kit_std::alloc::{AllocError, Global};
 
 /// A program's command line.
@@ -49,7 +49,7 @@ impl<'a> Command<'a> {
     }
 
     pub fn arg(mut self, arg: Arg<'a>) -> Result<Command<'a>, AllocError> {
-        self.args.push(arg);
+        push(&mut self.args, arg)?;
         Ok(self)
     }
 
@@ -78,17 +78,18 @@ impl<'a> Command<'a> {
     /// Adds the defaults, and sees that what is required is there.
     fn complete(&self, found: &mut ArgMatches<'a>) -> Result<(), Error> {
         let is_missing = |arg: &&Arg| found.get_strs(arg.id).is_none();
-        let missing: Vec<_> = self.args.iter().filter(is_missing).collect();
-        let wanted = missing.iter().filter(|arg| arg.is_required);
+        let missing = self.args.iter().filter(is_missing);
+        let wanted = missing.filter(|arg| arg.is_required);
         let wanted: String = wanted.map(|arg| format!("\n  {}", arg.shown())).collect();
         if !wanted.is_empty() {
             let why = format!("the following required arguments were not provided:{wanted}");
             return Err(Error::refused(why, Some(self.usage)));
         }
-        let defaults = missing
-            .iter()
-            .filter_map(|arg| Some((arg.id, vec![arg.default?])));
-        found.values.extend(defaults);
+        for arg in &self.args {
+            if let (None, Some(text)) = (found.get_strs(arg.id), arg.default) {
+                found.add(arg.id, text)?;
+            }
+        }
         Ok(())
     }
 
@@ -110,11 +111,7 @@ impl<'a> Command<'a> {
         let Some(arg) = self.args.iter().find(|arg| arg.long.is_none()) else {
             return Err(self.unexpected(word));
         };
-        match found.values.iter_mut().find(|(id, _)| *id == arg.id) {
-            Some((_, values)) => values.push(word),
-            None => found.values.push((arg.id, vec![word])),
-        }
-        Ok(())
+        Ok(found.add(arg.id, word)?)
     }
 
     /// Adds an option with its value, which stands in the same word or in the next one, or a flag.
@@ -136,14 +133,15 @@ impl<'a> Command<'a> {
             _ => {}
         }
         let arg = self.named(name).ok_or_else(|| self.unexpected(name))?;
-        let shown = arg.shown();
         if found.get_strs(arg.id).is_some() {
+            let shown = arg.shown();
             let why = format!("the argument '{shown}' cannot be used multiple times");
             return Err(Error::refused(why, Some(self.usage)));
         }
         let value = match (arg.action, value) {
             (ArgAction::SetTrue, None) => "true",
             (ArgAction::SetTrue, Some(value)) => {
+                let shown = arg.shown();
                 let why = format!(
                     "unexpected value '{value}' for '{shown}' found; no more were expected"
                 );
@@ -152,8 +150,7 @@ impl<'a> Command<'a> {
             (ArgAction::Set, value) => value.ok_or_else(|| arg.without_value())?,
         };
         arg.check(value)?;
-        found.values.push((arg.id, vec![value]));
-        Ok(())
+        Ok(found.add(arg.id, value)?)
     }
 
     fn unexpected(&self, word: &str) -> Error {

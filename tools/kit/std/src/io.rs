@@ -1,9 +1,7 @@
 //! Printing takes what has the right to.
 
 use crate::HostRuntime;
-use crate::fs::File;
 pub use ::std::io::*;
-use ::std::os::fd::AsFd;
 use std::fmt::Display;
 
 /// What prints on standard output.
@@ -28,7 +26,23 @@ pub trait Eprint {
     }
 }
 
-/// Standard output, without a buffer.
-pub fn writer(_: &HostRuntime) -> File {
-    File::of(::std::io::stdout().as_fd())
+/// Standard output. What a call takes is with the system when the call returns.
+#[derive(Debug)]
+pub struct Output(Stdout);
+
+/// Standard output as it is, with no file opened beside it.
+pub fn writer(_: &HostRuntime) -> Output {
+    Output(stdout())
+}
+
+impl Write for Output {
+    fn write(&mut self, bytes: &[u8]) -> Result<usize> {
+        let count = self.0.write(bytes)?;
+        self.0.flush()?;
+        Ok(count)
+    }
+
+    fn flush(&mut self) -> Result<()> {
+        self.0.flush()
+    }
 }

@@ -9,6 +9,7 @@ pub mod env;
 pub mod fs;
 pub mod io;
 mod macros;
+pub mod num;
 pub mod process;
 mod runtime;
 pub mod string;

@@ -2,12 +2,13 @@
 
 use crate::alloc::{Alloc, Global};
 use crate::env::{Env, FillError};
-use crate::fs::{File, Files};
+use crate::fs::Files;
 use crate::io::{Eprint, Print};
 use crate::process::Abort;
-use ::std::io::{Result, Write};
-use ::std::os::fd::AsFd;
+use ::std::ffi::OsString;
+use ::std::io::{Result, Stdin, Write, stdin};
 use ::std::os::unix::ffi::OsStrExt;
+use ::std::sync::OnceLock;
 use std::fmt::Display;
 
 /// Stands for the right to touch the world.
@@ -19,9 +20,9 @@ impl HostRuntime {
         Global
     }
 
-    /// Standard input, without a buffer.
-    pub fn reader(&self) -> File {
-        File::of(::std::io::stdin().as_fd())
+    /// Standard input as it is, with no file opened beside it.
+    pub fn reader(&self) -> Stdin {
+        stdin()
     }
 }
 
@@ -38,7 +39,10 @@ impl Alloc for HostRuntime {
 
 impl Env for HostRuntime {
     fn arg(&self, i: usize, buffer: &mut [u8]) -> ::std::result::Result<usize, FillError> {
-        let word = ::std::env::args_os().nth(i).ok_or(FillError::NotPresent)?;
+        static WORDS: OnceLock<::std::vec::Vec<OsString>> = OnceLock::new();
+        // std copies all words each time that it is asked, so it is asked once.
+        let words = WORDS.get_or_init(|| ::std::env::args_os().collect());
+        let word = words.get(i).ok_or(FillError::NotPresent)?;
         let bytes = word.as_bytes();
         let room = buffer.get_mut(..bytes.len()).ok_or(FillError::TooLong)?;
         room.copy_from_slice(bytes);

@@ -1,0 +1,99 @@
+//! Writes a made recording to standard output: white noise, and satellites in it where they are
+//! named. The same command always writes the same bytes.
+//!
+//!     maker [OPTION VALUE].. [SATELLITE:DOPPLER:HALF:CN0:PERIODS]..
+//!       --samples N    2046000 if not given
+//!       --rate HZ      samples a second, 2046000 if not given
+//!       --offset HZ    the intermediate frequency, 0 if not given
+//!       --kind KIND    iq-i8 if not given: pairs of bytes; i8: one byte a sample, in phase
+//!       --seed N       of the noise and of the messages, 1 if not given
+//!
+//! A satellite (1 to 32) has its Doppler shift in Hz, the half chip of its code at sample 0 (with a
+//! fraction where wanted), its C/N0 in dB-Hz, and how many code periods of its frame of 30 s are
+//! over at sample 0. Its message passes its parity and says nothing true. The noise has a standard
+//! deviation of 20 in each part.
+
+mod codes;
+mod message;
+mod noise;
+mod satellite;
+mod settings;
+
+use noise::Chance;
+use satellite::Satellite;
+use settings::{Settings, DEVIATION};
+use std::io::{self, Write};
+use std::process::ExitCode;
+
+/// The samples of a block, and the steps of a turn of the carrier.
+const BLOCK: u64 = 16384;
+const STEPS: usize = 4096;
+
+/// Writes all samples.
+fn write(
+    settings: &Settings,
+    satellites: &mut [Satellite],
+    out: &mut impl Write,
+) -> io::Result<()> {
+    let turn = std::f64::consts::TAU / STEPS as f64;
+    let waves: Vec<f32> = (0..STEPS)
+        .map(|at| (at as f64 * turn).cos() as f32)
+        .collect();
+    let mut chance = Chance::new(settings.seed);
+    let mut left = settings.samples;
+    while left > 0 {
+        let size = left.min(BLOCK);
+        left -= size;
+        let mut block = vec![(0.0, 0.0); size as usize];
+        for satellite in satellites.iter_mut() {
+            satellite.add_to(&mut block, &waves);
+        }
+        out.write_all(&bytes_of(&block, settings.pairs, &mut chance))?;
+    }
+    Ok(())
+}
+
+/// The bytes of a block with noise on it.
+fn bytes_of(block: &[(f32, f32)], pairs: bool, chance: &mut Chance) -> Vec<u8> {
+    let mut bytes = Vec::with_capacity(2 * block.len());
+    if pairs {
+        for (i, q) in block {
+            let (x, y) = chance.normal_pair();
+            bytes.extend([byte(i + DEVIATION * x), byte(q + DEVIATION * y)]);
+        }
+    } else {
+        for two in block.chunks(2) {
+            let (x, y) = chance.normal_pair();
+            bytes.extend(
+                two.iter()
+                    .zip([x, y])
+                    .map(|((i, _), it)| byte(i + DEVIATION * it)),
+            );
+        }
+    }
+    bytes
+}
+
+/// The nearest whole number in two's complement; what doesn't fit is at the end of the range.
+fn byte(value: f32) -> u8 {
+    value.round() as i8 as u8
+}
+
+fn main() -> ExitCode {
+    let words: Vec<String> = std::env::args().skip(1).collect();
+    let (settings, satellites) = match settings::read(&words) {
+        Ok(read) => read,
+        Err(why) => {
+            eprintln!("maker: {why}");
+            return ExitCode::from(2);
+        }
+    };
+    let mut satellites: Vec<Satellite> = satellites
+        .iter()
+        .map(|named| Satellite::new(named, &settings))
+        .collect();
+    match write(&settings, &mut satellites, &mut io::stdout().lock()) {
+        Ok(()) => ExitCode::SUCCESS,
+        Err(_) => ExitCode::FAILURE,
+    }
+}
