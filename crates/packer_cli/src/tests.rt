@@ -42,6 +42,20 @@ impl Write for Full {
     }
 }
 
+/// Takes all, and fails to pass it on.
+#[derive(Drop)]
+struct Clogged;
+
+impl Write for Clogged {
+    fn write(&mut self, bytes: &[u8]) -> io::Result<usize> {
+        Ok(bytes.len())
+    }
+
+    fn flush(&mut self) -> io::Result<()> {
+        Err(io::Error::from(io::ErrorKind::Other))
+    }
+}
+
 /// Signs of bytes.
 fn packer(alloc: Global) -> Result<Packer, Fail> {
     let choice = Choice {
@@ -130,6 +144,14 @@ fn devices_that_fail(rt: HostRuntime) -> Result<(), Fail> {
         &mut window,
         &mut &[0; 8][..],
         &mut Full,
+    );
+    assert_eq!(rt; ended, Err(Failure::Output));
+    let ended = run(
+        rt.alloc(),
+        &mut packer,
+        &mut window,
+        &mut &[][..],
+        &mut Clogged,
     );
     assert_eq!(rt; ended, Err(Failure::Output));
     assert_eq!(rt;
