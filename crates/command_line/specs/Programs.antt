@@ -15,6 +15,7 @@ use Rattle.oscillators.specs.Limits.{IsRate}
 use Rattle.oscillators.specs.declared.settings.SettingsFault.TheVariants.{Rate, Offset}
 use Rattle.channel_slots.specs.declared.bank.TheConstants.{MOST_TIME}
 use Rattle.receiver.specs.declared.faults.RunFault.{RunFault}
+use Rattle.receiver.specs.declared.faults.RunFault.TheVariants as faults
 use Rattle.receiver.specs.Runs.{Devices, IsRun, task_of}
 use Rattle.command_line.specs.declared.failure.Failure.{Failure}
 use Rattle.command_line.specs.declared.failure.Failure.TheVariants.{NoMemory, Shares, Script}
@@ -167,13 +168,18 @@ Receives asked files old new (Err (Settings Rate)) = ¬ IsRate asked.rate × (ne
 Receives asked files old new (Err (Settings Offset)) =
     IsRate asked.rate × (asked.rate < 2 * asked.offset) × (new ≡ old)
 
--- the program didn't come to its run
+-- the program ended before it read or wrote: before its run, or where the run was refused
 abbrev pub IsBeforeRun : Failure → Type 0
 IsBeforeRun NoMemory = Unit {0}
 IsBeforeRun Shares = Unit {0}
 IsBeforeRun Script = Unit {0}
 IsBeforeRun (Settings fault) = Unit {0}
-IsBeforeRun (Run fault) = ⊥
+IsBeforeRun (Run faults.Clients) = Unit {0}
+IsBeforeRun (Run faults.Share) = Unit {0}
+IsBeforeRun (Run faults.NoMemory) = Unit {0}
+IsBeforeRun (Run faults.Read) = ⊥
+IsBeforeRun (Run faults.Write) = ⊥
+IsBeforeRun (Run faults.TooLong) = ⊥
 
 -- the exit status: 2 where what was asked for is at fault, and 1 where the run or memory is
 abbrev pub status_of : Result ℕ Failure → ℕ

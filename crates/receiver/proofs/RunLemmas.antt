@@ -20,11 +20,9 @@ use Rattle.receiver.specs.declared.held_text.HeldText.{HeldText}
 use Rattle.receiver.proofs.HeldLemmas.{none-held}
 use Rattle.definitions.specs.Receiver.{answer_lines}
 use Rattle.receiver.specs.Sessions.{StandsFor}
-use Rattle.definitions.proofs.TextLemmas.{client-alone}
-use Rattle.definitions.specs.Receiver.{alone_to_end}
 use Rattle.std.specs.Prelude.{Result, Ok, Err, ◌↔◌}
 use Rattle.std.proofs.lemmas.Bool.{cases_lt}
-use Rattle.receiver.specs.Runs.{ServesEachAlone, Ran, Devices, IsOpen, IsWrittenTo, samples_read}
+use Rattle.receiver.specs.Runs.{Ran, Devices, IsOpen, IsWrittenTo, samples_read}
 use Rattle.receiver.specs.Runs.{text_for}
 use Rattle.receiver.proofs.TextLemmas.{appended-part}
 
@@ -96,18 +94,3 @@ few-clients opened fault n when = elim (cases_lt 8 n) [
   | inl many ↦ absurd (not-both opened fault when (inr many))
   | inr few ↦ few
 ]
-
-pub served-alone : (settings : Settings) (clients : List Client) (limit : ℕ) (session : Session)
-    (old new : Devices) → Ran settings clients limit session old new AtEnd → length clients ≤ 8
-    → ServesEachAlone settings clients old new
-served-alone settings clients limit session old new r few = record {
-  read = r.read;
-  text = full settings (samples_read settings limit r.read) clients;
-  consumed = r.consumed;
-  written = r.completes.written;
-  alone = λ k client found.
-      client-alone settings (samples_read settings limit r.read) clients k client found
-      (omega (arith, few))
-      ∙ ap (λ (xs : List Sample). alone_to_end settings xs client)
-      (take_all limit (samples settings.packing r.read) r.completes.why.1);
-}

@@ -1,7 +1,7 @@
 -- A run's parts, and the answer that the definitions' table has for them.
 use Rattle.std.proofs.Common.{◌≡◌, ◌≤◌, ◌<◌, ℕ, zero, suc, Bool, true, false, List, [], length}
 use Rattle.std.proofs.Common.{refl, sym, ap, ◌∙◌, subst, arith, ◌⊎◌, inl, inr}
-use Rattle.std.specs.Prelude.{◌↔◌, Result, Ok, Err, if◌then◌else◌, map, nat_lt}
+use Rattle.std.specs.Prelude.{◌↔◌, Result, Ok, Err, IfOk, if◌then◌else◌, map, nat_lt}
 use Rattle.std.specs.Prelude.{nat_le, nat_eq, ◌==◌}
 use Rattle.std.specs.List.{list_all}
 use Rattle.std.specs.Io.KnownBytes.{Consumes}
@@ -9,10 +9,10 @@ use Rattle.std.proofs.KnownBytes.{Appends-nil, Consumes-nil}
 use Rattle.std.proofs.lemmas.Bool.{cases_lt, le-leb, le-ltb, lt-leb, lt-ltb, eq-eqb, ne_eqb}
 use Rattle.std.proofs.lemmas.Bool.{eqb-true}
 use Rattle.std.proofs.Math.Bool.{and-false}
-use Rattle.std.proofs.lemmas.List.{length-map}
+use Rattle.std.proofs.lemmas.List.{length-map, take_all}
 use Rattle.definitions.specs.Oscillators.{Settings}
-use Rattle.definitions.specs.Samples.{sample_count, samples}
-use Rattle.definitions.specs.Receiver.{answer_lines, body}
+use Rattle.definitions.specs.Samples.{Sample, sample_count, samples}
+use Rattle.definitions.specs.Receiver.{Client, answer_lines, body, full}
 use Rattle.definitions.specs.Runs.{Task, Input, InputEnd, clients_of, is_share, are_clients}
 use Rattle.definitions.specs.Runs.{AreRight, taken_samples, is_too_long, body_text, full_text}
 use Rattle.definitions.specs.Runs.{due_text, IsAnswer, are_shares}
@@ -30,7 +30,9 @@ use Rattle.receiver.specs.declared.faults.RunFault.TheVariants.{TooLong, Share}
 use Rattle.receiver.specs.declared.faults.Stop.{Stop}
 use Rattle.receiver.specs.declared.faults.Stop.TheVariants.{AtEnd, ReadFailed, PastLimit}
 use Rattle.receiver.proofs.OpeningLemmas.{first-lines}
+use Rattle.receiver.proofs.PrintedLemmas.{lines-are-right}
 use Rattle.receiver.proofs.ShareLemmas.{clients-number}
+use Rattle.receiver.specs.Printed.{LinesAreRight}
 use Rattle.receiver.specs.Runs.{Devices, IsOpen, IsRun, Ran, BrokeOff, StopsFor, EndedAs}
 use Rattle.receiver.specs.Runs.{WriterTells, answer_of, task_of, samples_read, text_for}
 
@@ -174,6 +176,7 @@ module _ (settings : Settings) (shares : List ℕ) (scripts : List (List ℕ)) (
     written = ((b.written).1).appended;
     writer = b.write_failed;
     answer = (right, ((b.written).0, ((b.written).1).whole));
+    lines = tt;
   }
 
   -- a run that came to a stop, by what the table has for it
@@ -185,8 +188,12 @@ module _ (settings : Settings) (shares : List ℕ) (scripts : List (List ℕ)) (
       → IsAnswer (task_of settings shares scripts limit) (record { bytes = r.read; end = end })
       (text_for stop settings (samples_read settings limit r.read)
       (clients_of (task_of settings shares scripts limit))) (answer_of result)
+      → IfOk result (λ _. LinesAreRight settings
+      (clients_of (task_of settings shares scripts limit)) (samples settings.packing r.read)
+      (text_for stop settings (samples_read settings limit r.read)
+      (clients_of (task_of settings shares scripts limit))))
       → IsRun (task_of settings shares scripts limit) old new result
-  ran-to end stop session old new result r ended writer answer = record {
+  ran-to end stop session old new result r ended writer answer lines = record {
     input = record { bytes = r.read; end = end };
     text = text_for stop settings (samples_read settings limit r.read)
         (clients_of (task_of settings shares scripts limit));
@@ -195,18 +202,32 @@ module _ (settings : Settings) (shares : List ℕ) (scripts : List (List ℕ)) (
     written = r.completes.written;
     writer = writer;
     answer = answer;
+    lines = lines;
   }
 
   pub ran-to-end : (n : ℕ) (session : Session) (old new : Devices)
       → AreRight (task_of settings shares scripts limit)
       → Ran settings (clients_of (task_of settings shares scripts limit)) limit session old new
       AtEnd
-      → n ≡ time_of session → IsRun (task_of settings shares scripts limit) old new (Ok n)
+      → n ≡ time_of session → length (clients_of (task_of settings shares scripts limit)) ≤ 8
+      → IsRun (task_of settings shares scripts limit) old new (Ok n)
   unfolding IsAnswer taken_samples task
-  ran-to-end n session old new right r is =
+  ran-to-end n session old new right r is few =
       ran-to runs.exhausted AtEnd session old new (Ok n) r
       (r.completes.why.0, r.completes.why.2) r.completes.write_failed
       (right, within settings limit r.read r.completes.why.1, refl, is ∙ r.stands.bank.now, refl)
+      (right-lines (take_all limit (samples settings.packing r.read) r.completes.why.1))
+    where
+      clients : List Client
+      clients = clients_of (task_of settings shares scripts limit)
+
+      xs : List Sample
+      xs = samples settings.packing r.read
+
+      right-lines : samples_read settings limit r.read ≡ xs
+          → LinesAreRight settings clients xs
+          (full settings (samples_read settings limit r.read) clients)
+      right-lines all = rw all (lines-are-right settings clients xs few)
 
   pub ran-to-fault : (session : Session) (old new : Devices)
       → AreRight (task_of settings shares scripts limit)
@@ -217,7 +238,7 @@ module _ (settings : Settings) (shares : List ℕ) (scripts : List (List ℕ)) (
   ran-to-fault session old new right r =
       ran-to runs.failed ReadFailed session old new (Err Read) r
       r.completes.why.0 r.completes.write_failed
-      (right, within settings limit r.read r.completes.why.1, refl, refl)
+      (right, within settings limit r.read r.completes.why.1, refl, refl) tt
 
   pub ran-to-limit : (session : Session) (old new : Devices)
       → AreRight (task_of settings shares scripts limit)
@@ -228,16 +249,16 @@ module _ (settings : Settings) (shares : List ℕ) (scripts : List (List ℕ)) (
   ran-to-limit session old new right r =
       ran-to runs.unfinished PastLimit session old new (Err TooLong) r
       r.completes.why.1 r.completes.write_failed
-      (right, beyond settings limit r.read r.completes.why.0, refl)
+      (right, beyond settings limit r.read r.completes.why.0, refl) tt
 
 -- ---- runs of scripts that are handed in
 
 -- a run that was refused before it read or wrote
-refused : (asked : Task) (old : Devices) (result : Result ℕ RunFault)
-    → WriterTells result old old
-    → IsAnswer asked (record { bytes = []; end = runs.unfinished }) [] (answer_of result)
-    → IsRun asked old old result
-refused asked old result writer answer = record {
+refused : (asked : Task) (old : Devices) (fault : RunFault)
+    → WriterTells (Err fault) old old
+    → IsAnswer asked (record { bytes = []; end = runs.unfinished }) [] (answer_of (Err fault))
+    → IsRun asked old old (Err fault)
+refused asked old fault writer answer = record {
   input = record { bytes = []; end = runs.unfinished };
   text = [];
   consumed = Consumes-nil old.remaining;
@@ -245,6 +266,7 @@ refused asked old result writer answer = record {
   written = Appends-nil old.contents;
   writer = writer;
   answer = answer;
+  lines = tt;
 }
 
 module _ (settings : Settings) (shares : List ℕ) (scripts : List (List ℕ)) (limit : ℕ)
@@ -256,19 +278,19 @@ module _ (settings : Settings) (shares : List ℕ) (scripts : List (List ℕ)) (
       → IsRun (task_of settings shares scripts limit) old old (Err Clients)
   unfolding IsAnswer asked
   without-clients wrong =
-      refused asked old (Err Clients) refl (are-wrong scripts wrong, (refl, refl, refl))
+      refused asked old Clients refl (are-wrong scripts wrong, (refl, refl, refl))
 
   pub without-shares : (AreWrong (length scripts) → ⊥) → are_shares shares scripts ≡ false
       → IsRun (task_of settings shares scripts limit) old old (Err Share)
   unfolding IsAnswer asked
   without-shares right wrong =
-      refused asked old (Err Share) refl (some-clients scripts right, wrong, (refl, refl, refl))
+      refused asked old Share refl (some-clients scripts right, wrong, (refl, refl, refl))
 
   pub without-memory : (AreWrong (length scripts) → ⊥) → are_shares shares scripts ≡ true
       → IsRun (task_of settings shares scripts limit) old old (Err NoMemory)
   unfolding IsAnswer asked
   without-memory right shared =
-      refused asked old (Err NoMemory) refl
+      refused asked old NoMemory refl
       ((some-clients scripts right, shared), (refl, refl, refl))
 
 -- what opening a session for them gives

@@ -1,14 +1,16 @@
 -- What a run reads and writes, by its answer.
 use Rattle.std.specs.Prelude.{◌≡◌, ◌≤◌, ◌<◌, ℕ, Bool, true, List, [], length, take}
-use Rattle.std.specs.Prelude.{slice_get, ◌++◌, ◌+◌, Option, Some, Result, Ok, Err}
+use Rattle.std.specs.Prelude.{◌++◌, Option, Result, Ok, Err, IfOk}
 use Rattle.std.specs.Io.KnownBytes.{Appends, Consumes, IsAtEnd}
 use Rattle.definitions.specs.Oscillators.{Settings}
 use Rattle.definitions.specs.Samples.{Sample, samples}
 use Rattle.definitions.specs.Receiver.{Client}
 use Rattle.definitions.specs.Runs.{Task, Input, InputEnd, RunAnswer, due_text, IsAnswer}
+use Rattle.definitions.specs.Runs.{clients_of}
 use Rattle.definitions.specs.Runs as runs
-use Rattle.definitions.specs.Receiver.{body, full, body_lines, lines_of_client, alone_to_end}
-use Rattle.definitions.specs.Lines.{as_bytes, lines_of}
+use Rattle.definitions.specs.Receiver.{body, full, body_lines}
+use Rattle.definitions.specs.Lines.{as_bytes}
+use Rattle.receiver.specs.Printed.{LinesAreRight}
 use Rattle.receiver.specs.Texts.{AppendsPart, WroteUpTo}
 use Rattle.definitions.specs.Receiver.{answer_lines}
 use Rattle.receiver.specs.Sessions.{StandsFor}
@@ -103,7 +105,8 @@ WriterTells (Err Write) old new = new.write_failed ≡ true
 WriterTells (Err TooLong) old new = new.write_failed ≡ old.write_failed
 
 -- a run: the bytes that its reads gave and how they ended, and the text that it wrote. Its result
--- is the answer that the definitions' table has for them
+-- is the answer that the definitions' table has for them. Where it came to its end, the lines of the
+-- text are each client's alone, and what each of them names is right
 pub record IsRun (task : Task) (old new : Devices) (result : Result ℕ RunFault) : Type 0 where
   pub input : Input
   pub text : List ℕ
@@ -112,18 +115,8 @@ pub record IsRun (task : Task) (old new : Devices) (result : Result ℕ RunFault
   pub written : Appends old.contents new.contents text
   pub writer : WriterTells result old new
   pub answer : IsAnswer task input text (answer_of result)
-
--- what was written has for each client, behind its number, the lines of a receiver with that client
--- alone over the samples that were read, and then its end, whatever the others ask
-pub record ServesEachAlone (settings : Settings) (clients : List Client)
-    (old new : Devices) : Type 0 where
-  pub read : List ℕ
-  pub text : List ℕ
-  pub consumed : Consumes old.remaining new.remaining read
-  pub written : Appends old.contents new.contents text
-  pub alone : (k : ℕ) (client : Client) → slice_get clients k ≡ Some client
-      → lines_of_client (1 + k) (lines_of text)
-      ≡ alone_to_end settings (samples settings.packing read) client
+  pub lines : IfOk result (λ _. LinesAreRight task.settings (clients_of task)
+      (samples task.settings.packing input.bytes) text)
 
 -- ---- within a run
 

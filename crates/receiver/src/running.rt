@@ -6,8 +6,7 @@ ghost use Rattle.definitions.specs.Oscillators.{Settings as DefinedSettings};
 ghost use Rattle.channel_slots.specs.declared.bank.TheConstants.{MOST_TIME};
 ghost use Rattle.channel_slots.specs.declared.place.TheConstants.{MOST_CLIENTS};
 ghost use Rattle.definitions.specs.Runs.{clients_of, are_shares};
-ghost use Rattle.receiver.specs.Clients.{clients_with, four_each};
-ghost use Rattle.receiver.specs.Printed.{LinesAreRight};
+ghost use Rattle.receiver.specs.Clients.{four_each};
 ghost use Rattle.receiver.specs.Runs.{devices_at, task_of, IsOpen, Ran, BrokeOff, IsRun};
 ghost use Rattle.receiver.specs.Sessions.{time_of};
 
@@ -79,11 +78,6 @@ pub fn run<R: Source, W: Sink>(
         (map (λ script. script.now) scripts.now) MOST_TIME)
         (devices_at R.Source W.Sink reader.old writer.old)
         (devices_at R.Source W.Sink reader.new writer.new) result }
-    ensures lines { IfOk result (λ _. LinesAreRight settings
-        (clients_with (four_each (map (λ script. script.now) scripts.now))
-        (map (λ script. script.now) scripts.now))
-        (devices_at R.Source W.Sink reader.old writer.old)
-        (devices_at R.Source W.Sink reader.new writer.new)) }
 {
     run_to(alloc, settings, scripts, MOST_TIME, reader, writer)
 }
@@ -109,11 +103,6 @@ pub fn run_to<R: Source, W: Sink>(
         (map (λ script. script.now) scripts.now) limit)
         (devices_at R.Source W.Sink reader.old writer.old)
         (devices_at R.Source W.Sink reader.new writer.new) result }
-    ensures lines { IfOk result (λ _. LinesAreRight settings
-        (clients_with (four_each (map (λ script. script.now) scripts.now))
-        (map (λ script. script.now) scripts.now))
-        (devices_at R.Source W.Sink reader.old writer.old)
-        (devices_at R.Source W.Sink reader.new writer.new)) }
 {
     let Some(shares) = FOUR_EACH.get(..scripts.len()) else {
         return Err(RunFault::Clients);
@@ -148,10 +137,6 @@ pub fn run_shares<R: Source, W: Sink>(
         (task_of settings shares.now (map (λ script. script.now) scripts.now) limit)
         (devices_at R.Source W.Sink reader.old writer.old)
         (devices_at R.Source W.Sink reader.new writer.new) result }
-    ensures lines { IfOk result (λ _. LinesAreRight settings
-        (clients_with shares.now (map (λ script. script.now) scripts.now))
-        (devices_at R.Source W.Sink reader.old writer.old)
-        (devices_at R.Source W.Sink reader.new writer.new)) }
 {
     if scripts.is_empty() || MOST_CLIENTS < scripts.len() {
         return Err(RunFault::Clients);

@@ -2,12 +2,10 @@ use Rattle.std.proofs.Common.{◌≡◌, ℕ, List, length, map, ap, sym, ◌∙
 use Rattle.std.specs.Prelude.{Err}
 use Rattle.std.proofs.lemmas.List.{length-map}
 use Rattle.channel_slots.specs.declared.open_fault.OpenFault.{OpenFault}
-use Rattle.receiver.specs.Clients.{clients_with}
 use Rattle.receiver.proofs.TableLemmas.{opened-for, refused-memory, refused-share}
 use Rattle.receiver.proofs.TableLemmas.{without-clients, without-shares, wrong-number, no-fault}
 use Rattle.receiver.proofs.TableLemmas.{some-of, none-of, broke-off, ran-to-end, ran-to-fault}
 use Rattle.receiver.proofs.TableLemmas.{ran-to-limit}
-use Rattle.receiver.proofs.PrintedLemmas.{lines-are-right}
 use Rattle.receiver.proofs.running.run_shares.Goals as goal
 
 pub returns-then-is_empty-clause-run : goal.returns-then-is_empty-clause-run
@@ -59,20 +57,7 @@ returns-in-Ok-AtEnd-clause-run g c =
     is.right
     (rw c.in-Ok-AtEnd.field-0-is at (c.in-Ok-AtEnd.ensures.ran a.settings a.shares.now texts
     is.is_open))
-    c.time.ensures
-
-pub returns-in-Ok-AtEnd-clause-lines : goal.returns-in-Ok-AtEnd-clause-lines
-returns-in-Ok-AtEnd-clause-lines g c =
-    let a = c.args in
-    let texts : List (List ℕ) = map (λ script. script.now) a.scripts.now in
-    let is = opened-for (λ script. script.now) a.settings a.shares.now a.scripts.now a.limit
-    c.if-is_empty.ensures c.if-scripts-gt-MOST_CLIENTS.false c.if-shares-scripts.false
-    c.in-Ok.session c.in-Ok.ensures.share c.in-Ok.ensures.stands in
-    lines-are-right a.settings (clients_with a.shares.now texts) a.limit
-    c.run_session.new.session _ _
-    (rw c.in-Ok-AtEnd.field-0-is at (c.in-Ok-AtEnd.ensures.ran a.settings a.shares.now texts
-    is.is_open))
-    is.few
+    c.time.ensures is.few
 
 pub returns-in-Ok-ReadFailed-clause-run : goal.returns-in-Ok-ReadFailed-clause-run
 returns-in-Ok-ReadFailed-clause-run g c =

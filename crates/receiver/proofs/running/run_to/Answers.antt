@@ -1,10 +1,9 @@
 use Rattle.std.proofs.Common.{◌≡◌, ◌≤◌, ◌-◌, ℕ, List, length, map, take, ap, sym, ◌∙◌, subst, arith}
 use Rattle.std.proofs.Common.{inl, inr}
-use Rattle.std.specs.Prelude.{replicate, IfOk}
+use Rattle.std.specs.Prelude.{replicate}
 use Rattle.std.specs.List.{slice_range}
 use Rattle.std.proofs.lemmas.List.{length-map, take-replicate}
-use Rattle.receiver.specs.Clients.{clients_with, four_each}
-use Rattle.receiver.specs.Printed.{LinesAreRight}
+use Rattle.receiver.specs.Clients.{four_each}
 use Rattle.receiver.specs.Runs.{IsRun, task_of, devices_at}
 use Rattle.receiver.proofs.TableLemmas.{without-clients}
 use Rattle.receiver.proofs.running.run_to.Goals as goal
@@ -37,16 +36,3 @@ returns-clause-run g c =
     let after = devices_at g.R.Source g.W.Sink c.run_shares.new.reader c.run_shares.new.writer in
     subst (λ (l : List ℕ). IsRun (task_of c.args.settings l texts c.args.limit) before after
     c.run_shares.result) shares c.run_shares.ensures.run
-
-pub returns-clause-lines : goal.returns-clause-lines
-returns-clause-lines g c =
-    let texts : List (List ℕ) = map (λ script. script.now) c.args.scripts.now in
-    let number : length texts ≡ length c.args.scripts.now = length-map c.args.scripts.now _ in
-    let shares : c.in-Some.shares.now ≡ four_each texts =
-    c.in-Some.ensures.lookup.0.2
-    ∙ first-fours (length c.args.scripts.now) c.in-Some.ensures.lookup.0.1
-    ∙ ap (λ n. replicate n 4) (sym number) in
-    let before = devices_at g.R.Source g.W.Sink c.args.reader.now c.args.writer.now in
-    let after = devices_at g.R.Source g.W.Sink c.run_shares.new.reader c.run_shares.new.writer in
-    subst (λ (l : List ℕ). IfOk c.run_shares.result (λ _. LinesAreRight c.args.settings
-    (clients_with l texts) before after)) shares c.run_shares.ensures.lines
