@@ -27,15 +27,14 @@ pub fn words<E: Env>(alloc: Global, env: &E) -> Result<Vec<String>, Failure>
     Ok(words)
 }
 
-/// A word as text. One that isn't UTF-8 gets U+FFFD for what isn't, and a NUL at its end: the
-/// system passes no word with a NUL and has no file with one, so what stands there is no option's
-/// value and no script.
+/// A word as text. One that isn't UTF-8 gets U+FFFD for what isn't, so that it is no option's value,
+/// and a slash at its end, so that no file has it as its name.
 fn word(alloc: Global, bytes: &[u8]) -> Result<String, AllocError>
     ensures { IfOk result (λ word. IsUtf8 bytes.now → string_bytes word ≡ bytes.now) }
 {
     let mut word = String::from_utf8_lossy(alloc, bytes)?;
     if from_utf8(bytes).is_err() {
-        word.push('\0')?;
+        word.push('/')?;
     }
     Ok(word)
 }

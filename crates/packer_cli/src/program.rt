@@ -9,7 +9,7 @@ use clap::{ArgMatches, Error};
 use recordings::Packer;
 use std::alloc::AllocGlobal;
 use std::env::{self, Env};
-use std::io::{Eprint, Print, Read, Write};
+use std::io::{self, Eprint, Print, Read, Write};
 use std::process::ExitCode;
 
 /// Does what the words of the command line ask for, with this reader and writer, and gives the
@@ -33,7 +33,12 @@ where
 /// The words of the command line, the program's name first.
 fn words<T: AllocGlobal + Env>(rt: &T) -> Result<Vec<String>, Failure> {
     let mut words = Vec::new(rt.alloc());
-    for word in env::args(rt).map_err(|_| Failure::Words)? {
+    let args = match env::args(rt) {
+        Ok(args) => args,
+        Err(error) if error.kind() == io::ErrorKind::OutOfMemory => return Err(Failure::NoMemory),
+        Err(_) => return Err(Failure::Words),
+    };
+    for word in args {
         words.push(word)?;
     }
     Ok(words)

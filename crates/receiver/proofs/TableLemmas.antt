@@ -10,6 +10,7 @@ use Rattle.std.proofs.lemmas.Bool.{cases_lt, le-leb, le-ltb, lt-leb, lt-ltb, eq-
 use Rattle.std.proofs.lemmas.Bool.{eqb-true}
 use Rattle.std.proofs.Math.Bool.{and-false}
 use Rattle.std.proofs.lemmas.List.{length-map, take_all}
+use Rattle.std.proofs.lemmas.Result.{IfOk-at_ok}
 use Rattle.definitions.specs.Oscillators.{Settings}
 use Rattle.definitions.specs.Samples.{Sample, sample_count, samples}
 use Rattle.definitions.specs.Receiver.{Client, answer_lines, body, full}
@@ -370,18 +371,26 @@ module _ {A : Type 0} (text : A → List ℕ) (settings : Settings) (shares : Li
       no-fault (length (map text handed))
       (omega (arith, number, some-of (length handed) some)) (omega (arith, number, few))
 
-  pub opened-for : (session : Session)
-      → (Ok session ≡ Err Faults.Share) ↔ ((0 < length handed) × (length handed ≤ 8)
+  -- a session that was opened for them
+  pub opened-for : (opened : Result Session OpenFault) (session : Session) → opened ≡ Ok session
+      → (opened ≡ Err Faults.Share) ↔ ((0 < length handed) × (length handed ≤ 8)
       × (list_all is_share shares ≡ false))
-      → StandsFor settings (clients_with shares (map text handed)) session []
-      (answer_lines settings (clients_with shares (map text handed)) [])
+      → IfOk opened (λ (s : Session). StandsFor settings (clients_with shares (map text handed)) s []
+      (answer_lines settings (clients_with shares (map text handed)) []))
       → IsOpened settings shares (map text handed) limit session
-  opened-for session when stands =
+  opened-for opened session is when stands =
       was-opened settings shares (map text handed) limit session
       (omega (arith, number, some-of (length handed) some)) (omega (arith, number, few))
       (each ∙ sym number)
-      (shares-of-opened session (length handed) shares (some-of (length handed) some) few when)
-      stands
+      (shares-of-opened session (length handed) shares (some-of (length handed) some) few
+      (subst
+      (λ (r : Result Session OpenFault). (r ≡ Err Faults.Share) ↔ ((0 < length handed)
+      × (length handed ≤ 8) × (list_all is_share shares ≡ false)))
+      is when))
+      (IfOk-at_ok
+      (λ (s : Session). StandsFor settings (clients_with shares (map text handed)) s []
+      (answer_lines settings (clients_with shares (map text handed)) []))
+      is stands)
 
   pub refused-memory : {S : Type 0} (opened : Result S OpenFault) (old : Devices)
       → opened ≡ Err Faults.NoMemory

@@ -6,7 +6,7 @@ use crate::devices::{DeviceFault, Sink};
 use arrayvec::ArrayVec;
 
 /// The most bytes that are held back.
-pub const MOST_HELD: usize = 65_536;
+pub const MOST_HELD: usize = 16_384;
 
 /// Text that is held back for a writer.
 #[derive(Drop)]

@@ -24,7 +24,7 @@ use channel_slots::{RUN_EVENTS, SlotEvent};
 use sample_planes::{MAX_SAMPLES, PackedSamples};
 
 /// The most bytes of a read.
-const READ_BYTES: usize = 65_536;
+const READ_BYTES: usize = 16_384;
 
 /// Takes a run of samples, none of them past the next command's time, and puts the lines of each
 /// time.

@@ -144,13 +144,15 @@ pub fn run_shares<R: Source, W: Sink>(
     if shares.len() != scripts.len() {
         return Err(RunFault::Share);
     }
-    let mut session = match Session::open(alloc, settings, scripts, shares) {
+    // It is large, so it stays where it was opened.
+    let mut opened = Session::open(alloc, settings, scripts, shares);
+    let session = match &mut opened {
         Ok(session) => session,
         Err(OpenFault::NoMemory) => return Err(RunFault::NoMemory),
         Err(OpenFault::Clients) => return Err(RunFault::Clients),
         Err(OpenFault::Share) => return Err(RunFault::Share),
     };
-    match run_session(&mut session, limit, reader, writer) {
+    match run_session(session, limit, reader, writer) {
         Ok(Stop::AtEnd) => Ok(session.time()),
         Ok(Stop::ReadFailed) => Err(RunFault::Read),
         Ok(Stop::PastLimit) => Err(RunFault::TooLong),

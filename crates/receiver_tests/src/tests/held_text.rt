@@ -35,9 +35,9 @@ impl Sink for Measuring {
     }
 }
 
-// Each answer is `1 0 state 0 idle` with its end, 17 bytes. The buffer has 65,536 bytes, so 3,855
-// of them, 65,535 bytes, go out when the next doesn't fit. The other 145 go out before the read,
-// and `1 0 end` behind it.
+// Each answer is `1 0 state 0 idle` with its end, 17 bytes. The buffer has 16,384 bytes, so 963 of
+// them, 16,371 bytes, go out when the next doesn't fit, four times. The other 148 go out before the
+// read, and `1 0 end` after it.
 #[test]
 fn full_buffer_is_written(rt: HostRuntime) -> Result<(), Fail> {
     let mut script = Vec::new(rt.alloc());
@@ -51,6 +51,7 @@ fn full_buffer_is_written(rt: HostRuntime) -> Result<(), Fail> {
     let settings = plain_settings()?;
     let answer = run(rt.alloc(), settings, &[&script], &mut reader, &mut writer);
     assert_eq!(rt; answer, Ok(0));
-    assert_eq!(rt; writer.lengths.as_slice(), [65_535, 2_465, 8].as_slice());
+    let lengths = [16_371, 16_371, 16_371, 16_371, 2_516, 8];
+    assert_eq!(rt; writer.lengths.as_slice(), lengths.as_slice());
     Ok(())
 }

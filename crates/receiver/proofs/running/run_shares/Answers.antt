@@ -33,18 +33,19 @@ pub returns-in-Err-NoMemory-clause-run : goal.returns-in-Err-NoMemory-clause-run
 returns-in-Err-NoMemory-clause-run g c =
     let a = c.args in
     refused-memory (λ script. script.now) a.settings a.shares.now a.scripts.now a.limit
-    c.if-is_empty.ensures c.if-scripts-gt-MOST_CLIENTS.false c.if-shares-scripts.false c.open.result
+    c.if-is_empty.ensures c.if-scripts-gt-MOST_CLIENTS.false c.if-shares-scripts.false c.open-opened.result
     _
-    (c.in-Err-NoMemory.is ∙ ap (λ (fault : OpenFault). Err fault) c.in-Err-NoMemory.field-0-is)
-    c.open.ensures.share
+    (c.in-Err-NoMemory.is ∙ ap (λ (fault : OpenFault). Err fault)
+    (rw c.in-Err-NoMemory.is at c.in-Err-NoMemory.field-0-is))
+    c.open-opened.ensures.share
 
 pub returns-in-Err-Share-clause-run : goal.returns-in-Err-Share-clause-run
 returns-in-Err-Share-clause-run g c =
     let a = c.args in
     refused-share (λ script. script.now) a.settings a.shares.now a.scripts.now a.limit
     c.if-is_empty.ensures c.if-scripts-gt-MOST_CLIENTS.false c.if-shares-scripts.false _
-    (c.open.ensures.share.0 (c.in-Err-Share.is
-    ∙ ap (λ (fault : OpenFault). Err fault) c.in-Err-Share.field-0-is)).2
+    (c.open-opened.ensures.share.0 (c.in-Err-Share.is
+    ∙ ap (λ (fault : OpenFault). Err fault) (rw c.in-Err-Share.is at c.in-Err-Share.field-0-is))).2
 
 pub returns-in-Ok-AtEnd-clause-run : goal.returns-in-Ok-AtEnd-clause-run
 returns-in-Ok-AtEnd-clause-run g c =
@@ -52,7 +53,8 @@ returns-in-Ok-AtEnd-clause-run g c =
     let texts : List (List ℕ) = map (λ script. script.now) a.scripts.now in
     let is = opened-for (λ script. script.now) a.settings a.shares.now a.scripts.now a.limit
     c.if-is_empty.ensures c.if-scripts-gt-MOST_CLIENTS.false c.if-shares-scripts.false
-    c.in-Ok.session c.in-Ok.ensures.share c.in-Ok.ensures.stands in
+    c.open-opened.result c.in-Ok.session c.in-Ok.is c.open-opened.ensures.share
+    c.open-opened.ensures.stands in
     ran-to-end a.settings a.shares.now texts a.limit c.time.result c.run_session.new.session _ _
     is.right
     (rw c.in-Ok-AtEnd.field-0-is at (c.in-Ok-AtEnd.ensures.ran a.settings a.shares.now texts
@@ -65,7 +67,8 @@ returns-in-Ok-ReadFailed-clause-run g c =
     let texts : List (List ℕ) = map (λ script. script.now) a.scripts.now in
     let is = opened-for (λ script. script.now) a.settings a.shares.now a.scripts.now a.limit
     c.if-is_empty.ensures c.if-scripts-gt-MOST_CLIENTS.false c.if-shares-scripts.false
-    c.in-Ok.session c.in-Ok.ensures.share c.in-Ok.ensures.stands in
+    c.open-opened.result c.in-Ok.session c.in-Ok.is c.open-opened.ensures.share
+    c.open-opened.ensures.stands in
     ran-to-fault a.settings a.shares.now texts a.limit c.run_session.new.session _ _ is.right
     (rw c.in-Ok-ReadFailed.field-0-is at (c.in-Ok-ReadFailed.ensures.ran a.settings a.shares.now
     texts is.is_open))
@@ -76,7 +79,8 @@ returns-in-Ok-PastLimit-clause-run g c =
     let texts : List (List ℕ) = map (λ script. script.now) a.scripts.now in
     let is = opened-for (λ script. script.now) a.settings a.shares.now a.scripts.now a.limit
     c.if-is_empty.ensures c.if-scripts-gt-MOST_CLIENTS.false c.if-shares-scripts.false
-    c.in-Ok.session c.in-Ok.ensures.share c.in-Ok.ensures.stands in
+    c.open-opened.result c.in-Ok.session c.in-Ok.is c.open-opened.ensures.share
+    c.open-opened.ensures.stands in
     ran-to-limit a.settings a.shares.now texts a.limit c.run_session.new.session _ _ is.right
     (rw c.in-Ok-PastLimit.field-0-is at (c.in-Ok-PastLimit.ensures.ran a.settings a.shares.now
     texts is.is_open))
@@ -87,6 +91,7 @@ returns-clause-run g c =
     let texts : List (List ℕ) = map (λ script. script.now) a.scripts.now in
     let is = opened-for (λ script. script.now) a.settings a.shares.now a.scripts.now a.limit
     c.if-is_empty.ensures c.if-scripts-gt-MOST_CLIENTS.false c.if-shares-scripts.false
-    c.in-Ok.session c.in-Ok.ensures.share c.in-Ok.ensures.stands in
+    c.open-opened.result c.in-Ok.session c.in-Ok.is c.open-opened.ensures.share
+    c.open-opened.ensures.stands in
     broke-off a.settings a.shares.now texts a.limit _ _ is.right
     (c.in-Err.ensures.broken a.settings a.shares.now texts is.is_open)
