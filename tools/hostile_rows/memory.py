@@ -95,7 +95,7 @@ def of_the_system(outcome):
 
 
 def swept(case, wanted):
-    """The outcomes of a sweep that aren't wanted, with their limits, and whether a run was whole."""
+    """The outcomes that aren't wanted, with their limits, and whether a run was whole."""
     wrong, whole = {}, 0
     for space in range(LEAST_SPACE, MOST_SPACE, STEP):
         outcome = run(f'ulimit -v {space}; exec "$@"', case.command, case.given)

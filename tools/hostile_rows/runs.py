@@ -1,4 +1,4 @@
-"""Runs of a program by a line of bash that sets limits and redirects, and what must come of them."""
+"""Runs of a program by a line of bash with limits and redirections, and what must come of them."""
 import os
 import re
 import subprocess

@@ -29,9 +29,7 @@ def words(programs, rows):
         rows.see(f'a script with a name {name}', run('exec "$@"', [receiver, word]), SCRIPT)
         for option in '--rate', '--offset', '--format', '--shares':
             # Shares are digits, of which the parser knows nothing.
-            wanted = Wanted(2, PARSER)
-            if option == '--shares' and word != BROKEN:
-                wanted = Wanted(2, b'receiver: shares\n')
+            wanted = Wanted(2, b'receiver: shares\n' if option == '--shares' else PARSER)
             rows.see(f'{option} with a word {name}', run('exec "$@"', [receiver, option, word]),
                      wanted)
     rows.see('an option that isn\'t UTF-8', run('exec "$@"', [receiver, b'--' + BROKEN]),
