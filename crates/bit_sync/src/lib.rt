@@ -5,10 +5,13 @@
 //!
 //!     use bit_sync::{BitNews, BitSync};
 //!
+//!     // Twenty sums of each bit: 0 and 1 in turn.
 //!     let mut sync = BitSync::new();
-//!     for counts in dumps_since_lock {
-//!         if let BitNews::Bit(bit) = sync.push(counts.ip) {
-//!             bits.push(bit)?;
+//!     let mut ones = 0;
+//!     for millisecond in 0..2_000 {
+//!         let sum = if millisecond / 20 % 2 == 0 { 900 } else { -900 };
+//!         if let BitNews::Bit(bit) = sync.push(sum) {
+//!             ones += u32::from(bit);
 //!         }
 //!     }
 #![tactic(auto)]

@@ -6,8 +6,10 @@
 //!
 //!     use command_line::{Stored, carry_out};
 //!     use receiver::Plain;
+//!     use std::io;
+//!     use std::process::ExitCode;
 //!
-//!     fn main(rt: HostRuntime) -> ExitCode {
+//!     fn program(rt: HostRuntime) -> ExitCode {
 //!         let (mut reader, mut writer) = (Plain::new(rt.reader()), Plain::new(io::writer(&rt)));
 //!         carry_out(&rt, &Stored::new(&rt), &mut reader, &mut writer)
 //!     }

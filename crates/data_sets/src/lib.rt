@@ -9,10 +9,11 @@
 //! or one by the name of its field.
 //!
 //!     use data_sets::DataSets;
+//!     use frame_sync::Subframe;
 //!     use subframes::{ClockField, Field, Page};
 //!
-//!     let mut sets = DataSets::new();
-//!     if let Some(page) = Page::read(&subframe) {
+//!     fn show(sets: &mut DataSets, subframe: &Subframe) {
+//!         let Some(page) = Page::read(subframe) else { return };
 //!         let reports = sets.take(&page);
 //!         // The clock and ephemeris come with the last of their three pages.
 //!         if let Some(report) = reports.page {

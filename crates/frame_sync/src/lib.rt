@@ -7,8 +7,9 @@
 //!
 //!     use frame_sync::FrameSync;
 //!
+//!     // A subframe is found among bits where its header and its parity are. Here is none.
 //!     let mut sync = FrameSync::new();
-//!     for bit in bits {
+//!     for bit in [true, false, false, false, true, false, true, true] {
 //!         if let Some(found) = sync.push(bit) {
 //!             let (id, time_of_week) = (found.subframe.id(), found.subframe.tow());
 //!         }

@@ -6,11 +6,15 @@
 //!
 //!     use nav_message::{Message, MessageNews};
 //!
+//!     // The prompt sums of dumps since the lock.
 //!     let mut message = Message::new();
-//!     match message.push(counts.ip) {
-//!         MessageNews::Nothing => {}
-//!         MessageNews::Edge => bits_are_found(),
-//!         MessageNews::Frame { found, reports } => show(&found.subframe, reports.page),
+//!     let (mut edges, mut pages) = (0, 0);
+//!     for ip in [900, 870, 910, -880, -905] {
+//!         match message.push(ip) {
+//!             MessageNews::Nothing => {}
+//!             MessageNews::Edge => edges += 1,
+//!             MessageNews::Frame { found, reports } => pages += u32::from(reports.page.is_some()),
+//!         }
 //!     }
 #![tactic(auto)]
 

@@ -9,8 +9,10 @@
 //!
 //!     use second_receiver::{Packing, Recording, text_of};
 //!
+//!     let bytes = &[0x5a; 128];
 //!     let recording = Recording { rate: 2_046_000, offset: 0, packing: Packing::Real1, bytes };
-//!     let text = text_of(alloc, &recording, &[b"0 state 0"], &[4])?;
+//!     let text = text_of(HostRuntime.alloc(), &recording, &[b"0 state 0"], &[4]);
+//!     assert!(text.is_ok());
 
 mod bits;
 mod code;
