@@ -5,7 +5,7 @@ ghost use Rattle.std.specs.Prelude.{◌≡◌, ◌^◌, ◌≤◌, unsigned_abs,
 use crate::bit_sum::BitSum;
 use crate::edge_search::EdgeSearch;
 
-/// What a prompt sum tells that is pushed.
+/// What comes with a prompt sum that is pushed.
 #[derive(Debug, Clone, Copy, PartialEq, Eq)]
 pub enum BitNews {
     /// Neither an edge nor a whole bit.

@@ -1,7 +1,7 @@
-//! The edge of the data bits of GPS L1 C/A among a channel's prompt sums, and the bits behind it. A
+//! The edge of the data bits of GPS L1 C/A among a channel's prompt sums, and the bits after it. A
 //! bit is 20 code periods, since data come at 50 bits a second (IS-GPS-200, sections 3.2.2 and
-//! 20.3.2). The crate promises that what it tells of each sum is what the definition of edge and
-//! bits says of all the sums so far, however many there are.
+//! 20.3.2). The crate promises that what it reports with each sum is what the definition of edge
+//! and bits says of all the sums so far, however many there are.
 //!
 //!     use bit_sync::{BitNews, BitSync};
 //!

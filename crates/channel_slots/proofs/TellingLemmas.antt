@@ -1,4 +1,4 @@
--- Events that are put in by time, and what a place tells over a run that it takes by its own
+-- Events that are inserted by time, and what a place emits over a run that it takes by its own
 -- events.
 use Rattle.std.proofs.Common.{◌≡◌, ℕ, zero, suc, ◌+◌, ◌-◌, ◌<◌, ◌≤◌, List, [], ◌∷◌, ◌++◌, length}
 use Rattle.std.proofs.Common.{take, drop, refl, sym, ap, ◌∙◌, arith, length-append, append-nil}
@@ -42,7 +42,7 @@ module _ {A : Type 0} (tells : List Sample → List A) where
       ∙ sym (append_assoc (tells (xs ++ y ∷ [])) (at_each_sample tells (xs ++ y ∷ []) ys)
       (at_each_sample tells (xs ++ (y ∷ ys)) zs))
 
-  -- where nothing is told before the last
+  -- where nothing is emitted before the last
   pub at_each_sample-last : (xs ys : List Sample) → 0 < length ys
       → ((j : ℕ) → 0 < j → j < length ys → tells (xs ++ take j ys) ≡ [])
       → at_each_sample tells xs ys ≡ tells (xs ++ ys)

@@ -69,7 +69,7 @@ pub enum Refusal {
 }
 
 impl Refusal {
-    /// The number that is printed: 9 or 10, behind those of a script's lines.
+    /// The number that is printed: 9 or 10. A script's lines have the numbers below.
     pub fn number(self) -> u8
         ensures { result ≡ number_of self }
     {

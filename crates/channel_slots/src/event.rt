@@ -1,4 +1,4 @@
-//! What the samples make the slots tell.
+//! The events that slots emit.
 
 use acquisition::Cell;
 use ca_codes::Prn;
@@ -6,7 +6,7 @@ use data_sets::{AlmanacSet, Report};
 use frame_sync::Subframe;
 use lane_correlator::Counts;
 
-/// What the samples make a slot tell.
+/// An event that a slot emits with a sample.
 #[derive(Clone, Copy, Debug, PartialEq, Eq)]
 pub enum Event {
     /// What an acquisition names, for a satellite.
@@ -47,6 +47,6 @@ pub struct SlotEvent {
     pub slot: u8,
     /// The time in samples: it rests on the samples before it.
     pub time: u64,
-    /// What the slot tells.
+    /// What the slot emits.
     pub event: Event,
 }

@@ -90,7 +90,7 @@ impl Life {
     }
 
     /// Takes samples of a run, from sample `from` on, up to its next event or the end of the run.
-    /// It answers how many these are, and what is told with the last of them. The life may be over
+    /// It answers how many these are, and what comes with the last of them. The life may be over
     /// with it.
     pub fn take<S: SampleSource>(
         &mut self,

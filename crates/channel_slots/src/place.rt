@@ -131,7 +131,7 @@ impl Place {
         self.put(reports.set.map(Event::Almanacs), time, events);
     }
 
-    /// Takes a run of samples, and puts in by time what they tell.
+    /// Takes a run of samples, and inserts its events by time.
     fn run<S: SampleSource>(
         &mut self,
         run: &Planes,
@@ -179,7 +179,7 @@ impl Place {
     }
 }
 
-/// What a slot tells of the lock.
+/// What a slot emits of the lock.
 fn lock_event(lock: News) -> Option<Event>
     ensures { if_any result ≡ lock_events lock }
 {
@@ -232,7 +232,7 @@ fn add_idle(places: &mut Vec<Place>, client: u8, share: u8) -> Result<(), AllocE
     Ok(())
 }
 
-/// All slots take a run, one behind the other, and put in by time what they tell.
+/// Each slot in turn takes a run, and inserts its events by time.
 pub fn run_all<S: SampleSource>(
     places: &mut [Place],
     run: &Planes,

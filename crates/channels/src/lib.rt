@@ -2,8 +2,8 @@
 //! and carrier at the next sample, and its sums so far. A `Held` is a channel at a fixed Doppler
 //! shift, with the number of its dumps. A `Tracked` one is steered by its loops, and its message is
 //! read while they are locked: that is a `LockedMessage`. Each stands for the samples that it took.
-//! Its dumps, and what these tell, are proved to be those of the definition, however the samples
-//! are cut into runs. Nothing here knows a command or a client.
+//! Its dumps and their news are proved to be those of the definition, however the samples are cut
+//! into runs. Nothing here knows a command or a client.
 //!
 //!     use ca_codes::{CodeBook, Prn};
 //!     use channels::Held;

@@ -15,7 +15,7 @@ use oscillators::Settings;
 use sample_planes::SampleSource;
 
 /// A satellite that is searched for from a sample on. One more cell of its plan is done with every
-/// four samples behind the dwell, so that its answer is due at a sample that depends on the plan
+/// four samples after the dwell, so that its answer is due at a sample that depends on the plan
 /// alone. It stands for its acquisition and the samples so far.
 #[derive(Debug, Drop)]
 pub struct Sought {

@@ -10,7 +10,7 @@ use ca_codes::Prn;
 use channel_slots::{Command, SlotNo};
 use oscillators::{Doppler, HalfChip};
 
-/// What the words behind the slot of a `hold` or a `track` write.
+/// The values of the words after the slot of a `hold` or a `track`.
 pub(crate) struct Start {
     /// The satellite.
     pub(crate) prn: Prn,

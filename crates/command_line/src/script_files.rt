@@ -24,7 +24,7 @@ pub trait ScriptFiles {
             ⊎ ((failure ≡ Failure.Script) × MayBeRefused (bytes_of self.now path.now))) };
 }
 
-/// The files of a file system, whose bytes nothing tells.
+/// The files of a file system. No contract knows their bytes.
 #[derive(Clone, Copy)]
 pub struct Stored<'a, F> {
     files: &'a F,

@@ -12,7 +12,7 @@ use crate::report::Report;
 use crate::reports::Reports;
 use subframes::Page;
 
-/// What is kept of a channel's pages to tell what the next one makes reported.
+/// What is kept of a channel's pages, to decide which reports the next page makes.
 ///
 /// A clock page and the two ephemeris pages (subframes 1, 2 and 3) belong together where the low
 /// eight bits of the clock's issue of data are the issue of data of both others (IS-GPS-200,
@@ -44,8 +44,8 @@ impl DataSets {
     }
 
     /// Takes the next page and gives what it makes reported. With a clock or ephemeris page that is
-    /// the set, if there is a new one, and with any other page that page. Behind an almanac it is
-    /// the almanacs of all satellites too, if they are a new set. There may be any number of pages.
+    /// the set, if there is a new one, and with any other page that page. With an almanac it is the
+    /// almanacs of all satellites too, if they are a new set. There may be any number of pages.
     pub fn take(&mut self, page: &Page) -> Reports
         ensures stands { (pages : List DefinedPage) → StandsFor pages self.old
             → StandsFor (pages ++ page_in page.now ∷ []) self.new }

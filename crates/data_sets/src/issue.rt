@@ -23,7 +23,7 @@ pub fn are_of_one_issue(clock: &[i64; 11], eph2: &[i64; 11], eph3: &[i64; 9]) ->
     clock[IODC].rem_euclid(256) == eph2[IODE] && eph2[IODE] == eph3[IODE3]
 }
 
-/// The numbers of the three pages, one page behind the other.
+/// The numbers of the three pages, one page after the other.
 #[tactic(auto, using(crate::proofs::Parts::two_written, crate::proofs::Parts::three_written))]
 pub fn numbers_of_pages(clock: &[i64; 11], eph2: &[i64; 11], eph3: &[i64; 9]) -> [i64; 31]
     ensures { result ≡ clock.now ++ eph2.now ++ eph3.now }

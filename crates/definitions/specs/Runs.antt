@@ -57,7 +57,7 @@ abbrev pub full_text : Task → Input → List ℕ
 full_text task input = full task.settings (taken_samples task input) (clients_of task)
 
 -- the text that is due for what came: with the ends where reading came to its end within the limit,
--- and without them behind a failed read, past the limit, and while reading goes on
+-- and without them after a failed read, past the limit, and while reading goes on
 abbrev pub due_text : Task → Input → List ℕ
 due_text task input = if is_too_long task input then body_text task input
     else elim input.end [

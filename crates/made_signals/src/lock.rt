@@ -45,8 +45,8 @@ impl PlainLock {
         self.answer(window)
     }
 
-    /// What the end of a window tells. It is locked where the last good window is at most nine
-    /// before it; it is lost where there are 50 windows, and none of the last 50 is good.
+    /// What the end of a window makes of the lock. It is locked where the last good window is at
+    /// most nine before it; it is lost where there are 50 windows, and none of the last 50 is good.
     fn answer(&mut self, window: u64) -> PlainNews {
         let was_locked = self.is_locked;
         let bad = match self.last_good {

@@ -16,7 +16,7 @@ pub struct PlainDump {
     pub time: u64,
     /// The early, prompt and late sums, each in phase and in quadrature.
     pub counts: [i32; 6],
-    /// What it tells of the lock.
+    /// What it reports of the lock.
     pub news: PlainNews,
     /// Whether the satellite is locked after it.
     pub is_locked: bool,
@@ -63,8 +63,8 @@ impl PlainTracker {
         }
     }
 
-    /// Takes the value of the next sample, and gives the dump that it ends. Behind a dump that
-    /// tells that the satellite is lost there is none.
+    /// Takes the value of the next sample, and gives the dump that it ends. After a dump that
+    /// reports the satellite lost there is none.
     pub fn take(&mut self, value: i32) -> Option<PlainDump> {
         if self.is_lost {
             return None;

@@ -1,7 +1,7 @@
 //! The navigation message of one satellite, from the lock of its loops on (IS-GPS-200, section 20).
 //!
 //! [`Message`] takes the prompt sums of a locked channel one by one. It finds the data bits, their
-//! subframes, the pages of these and the sets that the pages make. What each push tells is proved
+//! subframes, the pages of these and the sets that the pages make. What each push reports is proved
 //! to be what the definition makes of all pushes so far.
 //!
 //!     use nav_message::{Message, MessageNews};

@@ -1,4 +1,4 @@
-//! Printed lines: what a slot tells, what it answers, the refusal of a script's line and a client's
+//! Printed lines: what a slot emits, what it answers, the refusal of a script's line and a client's
 //! last line, each with its end, are proved to be the texts of their definitions. None has more
 //! than LINE_BYTES bytes.
 //!

@@ -20,7 +20,7 @@ pub trait Source {
     /// Whether a call has failed.
     ghost has_failed: { Self → Bool };
 
-    /// Whether there was a call behind one that had failed.
+    /// Whether there was a call after one that had failed.
     ghost was_asked_again: { Self → Bool };
 
     /// Reads some bytes into the front of the buffer, which has room for one, and answers how many:

@@ -56,7 +56,7 @@ fn run_session<R: Source, W: Sink>(
 const FOUR_EACH: [u8; MOST_CLIENTS] = [4; MOST_CLIENTS];
 
 /// Runs one to eight scripts over all samples that a reader gives, at most `MOST_TIME` of them:
-/// writes the lines of all clients, time by time, with an `end` for each behind the last, and
+/// writes the lines of all clients, time by time, with an `end` for each after the last, and
 /// answers the number of samples. However reads cut the bytes, and whatever the other clients ask,
 /// each client's lines are those of a receiver with that client alone. Each count is the plain sum
 /// over its samples, each acquisition names a greatest cell, and each data word that is shown

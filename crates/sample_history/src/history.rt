@@ -23,7 +23,7 @@ pub struct SampleHistory {
     format: Format,
     /// The last whole bytes of the stream.
     whole: HeapCircularBuffer<u8>,
-    /// The samples behind those of the whole bytes, fewer than a byte holds.
+    /// The samples after those of the whole bytes, fewer than a byte holds.
     partial: u8,
     taken: u64,
     ghost few: { taken ≤ MOST_TAKEN },
@@ -104,8 +104,8 @@ impl SampleHistory {
         self.taken += len as u64;
     }
 
-    /// `count` of its bytes from byte `from` of the ring on, and zeros behind them. The byte that
-    /// isn't full stands behind those of the ring.
+    /// `count` of its bytes from byte `from` of the ring on, and zeros after them. The byte that
+    /// isn't full comes after those of the ring.
     fn near_bytes(&self, from: usize, count: usize) -> [u8; NEAR_BYTES]
         requires from { from ≤ length self.now.whole.items }
         requires within { from + count ≤ length self.now.whole.items + 1 }

@@ -17,7 +17,7 @@ use crate::utc::UtcField;
 
 /// A field of the message, by the table that it stands in (IS-GPS-200, sections 20.3.3.3 to
 /// 20.3.3.5). Its number times two to the power of [`Field::exponent`] is its value, in the unit
-/// that its variant tells.
+/// that its variant names.
 #[derive(Clone, Copy, Debug, PartialEq, Eq)]
 pub enum Field {
     /// Subframe 1, the clock (section 20.3.3.3.1).

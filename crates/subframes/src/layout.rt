@@ -8,7 +8,7 @@ ghost use Rattle.subframes.specs.Layouts.{number_of_bits, number_of_parts};
 
 use frame_sync::Subframe;
 
-/// The bits of a word that are data; the parity stands behind them.
+/// The bits of a word that are data; the parity follows them.
 const DATA_WIDTH: usize = 24;
 
 /// Bits first to last of a subframe, counted from 1, parity places included (IS-GPS-200, figure

@@ -83,7 +83,7 @@ impl Lock {
     }
 }
 
-/// What a change of the lock is told as.
+/// What a change of the lock is reported as.
 fn change(was_locked: bool, is_locked: bool) -> News
     ensures { news_in result ≡ news_by false was_locked is_locked }
 {

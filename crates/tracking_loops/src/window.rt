@@ -1,4 +1,4 @@
-//! The windows of dumps by which a lock is told.
+//! The windows of dumps that decide the lock.
 
 ghost use Rattle.std.specs.Prelude.{◌≡◌, ◌^◌, ◌≤◌, ◌<◌, ◌*◌, List, [], ◌∷◌, ◌++◌, length};
 ghost use Rattle.std.specs.Prelude.{unsigned_abs, ◌+◌};

@@ -37,7 +37,7 @@ impl Sink for Measuring {
 
 // Each answer is `1 0 state 0 idle` with its end, 17 bytes. The buffer has 65,536 bytes, so 3,855
 // of them, 65,535 bytes, go out when the next doesn't fit. The other 145 go out before the read,
-// and `1 0 end` behind it.
+// and `1 0 end` after it.
 #[test]
 fn full_buffer_is_written(rt: HostRuntime) -> Result<(), Fail> {
     let mut script = Vec::new(rt.alloc());
