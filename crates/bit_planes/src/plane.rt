@@ -23,7 +23,7 @@ pub struct Plane {
 impl Plane {
     ghost use Rattle.bit_planes.specs.Bits.{bit, IsDrawn};
 
-    /// All bits 0.
+    /// A plane of which all bits are 0.
     pub fn new() -> Plane
         ensures { (f : ℕ → ℕ) → IsDrawn f 0 result }
     {

@@ -15,7 +15,7 @@ pub enum Event {
     Count(Counts),
     /// With this dump the loops are locked.
     Lock,
-    /// With this dump they aren't any more.
+    /// From this dump on the loops aren't locked.
     Unlock,
     /// The signal is lost, and the slot is idle.
     Lost,
@@ -38,7 +38,7 @@ impl Default for Event {
     }
 }
 
-/// An event with whose slot it is of, and when.
+/// An event, with its client, its slot and its time.
 #[derive(Clone, Copy, Debug, Default, PartialEq, Eq)]
 pub struct SlotEvent {
     /// The client's number, from 1 on.

@@ -59,7 +59,7 @@ impl Life {
         self.unprinted = count;
     }
 
-    /// What it shows of itself.
+    /// What the life's slot shows.
     pub fn state(&self) -> SlotState
         ensures { (settings : DefinedSettings) (xs : List Sample) (life : DefinedLife)
             → StandsFor settings xs life self.now
@@ -68,7 +68,7 @@ impl Life {
         self.stage.state()
     }
 
-    /// How many cells its search has done, if it searches.
+    /// The number of cells that the search has done, if the life searches.
     pub fn cells_done(&self) -> Option<u64>
         ensures { result ≡ cells_done_of self.now.stage }
     {

@@ -94,7 +94,7 @@ impl Slot {
         (count, Some(news))
     }
 
-    /// How many cells its search has done, if it searches.
+    /// The number of cells that the search has done, if the slot searches.
     pub fn cells_done(&self) -> Option<u64>
         ensures { result ≡ cells_done_of self.now }
     {
@@ -104,7 +104,7 @@ impl Slot {
         }
     }
 
-    /// What it shows of itself.
+    /// What the slot shows.
     fn state(&self) -> SlotState
         ensures { (settings : DefinedSettings) (xs : List Sample) (commands : List TimedRequest)
             → StandsFor settings xs commands self.now
@@ -116,7 +116,7 @@ impl Slot {
         }
     }
 
-    /// Begins to follow a stage, if it is idle.
+    /// Makes the slot follow a stage, if it is idle.
     fn start(&mut self, stage: Stage) -> Answer
         ensures answer { (settings : DefinedSettings) (xs : List Sample)
             (commands : List TimedRequest) (start : Start)

@@ -70,14 +70,14 @@ impl Sought {
         self.search.plan().prn()
     }
 
-    /// How many cells it has done.
+    /// The number of cells that the search has done.
     pub fn done(&self) -> u64
         ensures { result ≡ done_of self.now }
     {
         self.search.done()
     }
 
-    /// How many cells there are.
+    /// The number of cells of the search's plan.
     pub fn cells(&self) -> u64
         ensures { result ≡ cell_count (plan_of self.now) }
     {

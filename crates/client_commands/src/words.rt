@@ -69,7 +69,7 @@ pub(crate) fn next_word(line: &[u8]) -> Option<(&[u8], &[u8])>
 pub(crate) struct Words<'a> {
     /// All words after the verb.
     words: ArrayVec<&'a [u8], MOST_WORDS>,
-    /// How many of them are read.
+    /// The number of words that are read.
     read: usize,
 }
 

@@ -14,7 +14,7 @@ const MOST_BYTES: usize = 16 << 20;
 
 /// What keeps script files.
 pub trait ScriptFiles {
-    /// The bytes of the file of a name, where they are known.
+    /// The bytes of the file with a name, where they are known.
     ghost bytes_of: { Self → List ℕ → Option (List ℕ) };
 
     /// Reads a file whole, of 16 MiB at most.
@@ -31,7 +31,7 @@ pub struct Stored<'a, F> {
 }
 
 impl<'a, F> Stored<'a, F> {
-    /// These files.
+    /// The script files in some files of a system.
     pub fn new(files: &'a F) -> Self
         ensures { result.files.now ≡ files.now }
     {

@@ -33,7 +33,7 @@ pub struct DataSets {
 impl DataSets {
     ghost use Rattle.data_sets.specs.Standing.{Follows, StandsFor};
 
-    /// Stands for no pages.
+    /// The state before the first page.
     pub fn new() -> Self
         ensures { StandsFor [] result }
     {

@@ -9,10 +9,10 @@ use subframes::{ClockField, Eph2Field, Eph3Field};
 /// Where the issue of data stands among the numbers of a clock page (ten bits).
 const IODC: usize = ClockField::Iodc as usize;
 
-/// Where it stands among those of a subframe 2 (eight bits).
+/// Where the issue of data stands among the numbers of a subframe 2 (eight bits).
 const IODE: usize = Eph2Field::Iode as usize;
 
-/// Where it stands among those of a subframe 3 (eight bits).
+/// Where the issue of data stands among the numbers of a subframe 3 (eight bits).
 const IODE3: usize = Eph3Field::Iode as usize;
 
 /// Says whether the low eight bits of the clock's issue of data are that of both ephemeris pages.

@@ -14,7 +14,7 @@ pub struct Reports {
 }
 
 impl Reports {
-    /// Nothing.
+    /// No report, and no set of almanacs.
     pub const NONE: Reports = Reports {
         page: None,
         set: None,

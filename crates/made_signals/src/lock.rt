@@ -65,7 +65,7 @@ impl PlainLock {
         }
     }
 
-    /// Whether it is locked after the dumps so far.
+    /// Whether the satellite is locked after the dumps so far.
     pub fn is_locked(&self) -> bool {
         self.is_locked
     }

@@ -10,17 +10,17 @@ use crate::steps::{carrier_step, code_step, cosine, sine};
 /// A dump of the plain reference.
 #[derive(Clone, Copy, Debug, PartialEq, Eq)]
 pub struct PlainDump {
-    /// Its number, from 1 on.
+    /// The dump's number, from 1 on.
     pub number: u64,
-    /// The number of samples up to its end.
+    /// The number of samples up to the dump's end.
     pub time: u64,
     /// The early, prompt and late sums, each in phase and in quadrature.
     pub counts: [i32; 6],
-    /// What it reports of the lock.
+    /// What the dump reports of the lock.
     pub news: PlainNews,
-    /// Whether the satellite is locked after it.
+    /// Whether the satellite is locked after the dump.
     pub is_locked: bool,
-    /// The shift after it, in 1/65536 Hz.
+    /// The shift after the dump, in 1/65536 Hz.
     pub v: i64,
     /// The correction of the code after it, in 1/65536 chip a second.
     pub w: i64,

@@ -14,7 +14,7 @@ pub enum MessageNews {
     Frame {
         /// The subframe, and the gap before it.
         found: Found,
-        /// What its page makes reported.
+        /// What the subframe's page makes reported.
         reports: Reports,
     },
 }

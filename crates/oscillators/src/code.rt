@@ -135,7 +135,7 @@ impl CodeOsc {
         self.next_chips(book, prn)
     }
 
-    /// The same, by the bits of the chips.
+    /// Does what `next_word` does. Contracts see the bits of the chips here, and their signs there.
     fn next_chips(&mut self, book: &mut CodeBook, prn: Prn) -> ChipWord
         ensures word { AreChipBits prn self.old.phase self.old.step result }
         ensures moved { self.new
@@ -205,11 +205,11 @@ impl CodeOsc {
 /// The chips of a satellite at 64 samples, the first of them in the top bits.
 #[derive(Clone, Copy, Debug)]
 pub struct ChipWord {
-    /// Those half a chip ahead.
+    /// The chips half a chip ahead of the phase.
     pub early: u64,
-    /// In time.
+    /// The chips at the phase.
     pub prompt: u64,
-    /// Those half a chip behind.
+    /// The chips half a chip behind the phase.
     pub late: u64,
 }
 

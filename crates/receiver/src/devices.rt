@@ -48,7 +48,7 @@ pub trait Sink {
         ensures bytes { WriteAppends (contents self.old) (contents self.new) result bytes.now }
         ensures failure { TellsFailure (has_failed self.old) (has_failed self.new) result };
 
-    /// Passes on what it may hold back.
+    /// Passes on what the sink holds back.
     fn flush(&mut self) -> Result<(), DeviceFault>
         ensures bytes { Keeps (contents self.old) (contents self.new) }
         ensures failure { TellsFailure (has_failed self.old) (has_failed self.new) result };
@@ -63,7 +63,7 @@ pub struct Plain<T> {
 }
 
 impl<T> Plain<T> {
-    /// No call on it has failed yet.
+    /// A device of std, on which no call has failed yet.
     pub fn new(inner: T) -> Self
         ensures inner { result.inner ≡ inner }
         ensures has_failed { result.has_failed ≡ false }

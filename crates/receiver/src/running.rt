@@ -82,7 +82,8 @@ pub fn run<R: Source, W: Sink>(
     run_to(alloc, settings, scripts, MOST_TIME, reader, writer)
 }
 
-/// The same over at most `limit` samples, a multiple of 8 of at most `MOST_TIME`.
+/// Runs scripts as `run` does, over at most `limit` samples, a multiple of 8 of at most
+/// `MOST_TIME`.
 pub fn run_to<R: Source, W: Sink>(
     alloc: Global,
     settings: Settings,
@@ -110,8 +111,9 @@ pub fn run_to<R: Source, W: Sink>(
     run_shares(alloc, settings, scripts, shares, limit, reader, writer)
 }
 
-/// The same for clients with these shares of the slots, one for each script, of 1 to `MOST_SLOTS`
-/// slots. The scripts are looked at first, then the shares, and then memory is taken.
+/// Runs scripts as `run_to` does, for clients with these shares of the slots: one share for each
+/// script, of 1 to `MOST_SLOTS` slots. The scripts are checked first, then the shares, and then
+/// memory is taken.
 pub fn run_shares<R: Source, W: Sink>(
     alloc: Global,
     settings: Settings,

@@ -76,7 +76,7 @@ impl<'a> Session<'a> {
         self.bank.time()
     }
 
-    /// How many clients it has.
+    /// The number of clients.
     pub fn clients(&self) -> u8
         ensures number { result ≡ length (shares_of self.now.bank) }
         ensures few { result ≤ MOST_CLIENTS }

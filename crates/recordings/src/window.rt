@@ -8,7 +8,7 @@ ghost use Rattle.std.specs.Prelude.{◌≡◌, ◌≤◌, ◌↔◌, true, lengt
 pub struct Window {
     /// How many bytes are still to come before the first that is wanted.
     skip: u64,
-    /// How many are still wanted at most.
+    /// How many bytes are still wanted at most.
     left: u64,
 }
 

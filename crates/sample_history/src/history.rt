@@ -77,7 +77,7 @@ impl SampleHistory {
         self.take_bytes(place.bytes, place.first, place.len);
     }
 
-    /// The same for the `len` samples of `bytes` from sample `first` of the first byte on.
+    /// Takes the `len` samples of `bytes` from sample `first` of the first byte on, as `take` does.
     fn take_bytes(&mut self, bytes: &[u8], first: usize, len: usize)
         requires first { first < samples_per_byte (packing_in self.old) }
         requires within { first + len ≤ sample_count (packing_in self.old) bytes.now }

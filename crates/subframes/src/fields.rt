@@ -64,7 +64,7 @@ impl Field {
         }
     }
 
-    /// Its place among the fields of its kind, from 0.
+    /// The field's place among the fields of its kind, from 0.
     #[tactic(auto, using(crate::proofs::Written::place), unfolding(crate::specs::Entries::name_of))]
     pub(crate) fn place(self) -> usize
         ensures place { result ≡ place_of (name_of self) (fields_of (kind_with self)) }
@@ -80,7 +80,7 @@ impl Field {
         }
     }
 
-    /// Its line of its table.
+    /// The field's line of its table.
     #[tactic(auto, unfolding(crate::specs::Entries::entry_of, crate::specs::Entries::name_of))]
     pub(crate) fn layout(self) -> Layout
         ensures name { result.name.now ≡ name_of self }
