@@ -23,7 +23,7 @@ const EQUATIONS: [(u32, u32); 6] = [
     (29, 0b0010_1101_1110_1010_0010_0111),
 ];
 
-/// The 30 bits as they are sent of a word with this data, behind a word that ended in `prior`.
+/// The 30 bits as they are sent of a word with this data, after a word that ended in `prior`.
 fn sent_word(data: u32, prior: u32) -> u32 {
     let (d29, d30) = (prior >> 1 & 1, prior & 1);
     let parity = EQUATIONS.iter().fold(0, |bits, (star, places)| {
@@ -40,7 +40,7 @@ fn solved_word(data: u32, prior: u32) -> u32 {
     words.find(|word| word & 3 == 0).unwrap_or(0)
 }
 
-/// The data of a word by its number in its subframe, 1 to 10. What isn't told here is `drawn`.
+/// The data of a word by its number in its subframe, 1 to 10. What isn't given here is `drawn`.
 fn data_of(subframe: u32, word: u32, drawn: u32) -> u32 {
     match (subframe, word) {
         (_, 1) => 0x8b << 16 | drawn & 0xffff,
