@@ -2,10 +2,10 @@
 //! which a satellite's signal is strongest.
 //!
 //! A `Plan` says which cells are searched and over how many milliseconds. A `Search` does them in
-//! order, any number at a call, over the samples that a `SampleSource` holds; it can be left off
-//! and taken up at every cell, and stands for the greatest and the total of the powers of the cells
-//! that it has done. Once all are done it names the first greatest cell. (IS-GPS-200 has the signal
-//! alone; the search is this project's own.)
+//! order, any number at a call, over the samples that a `SampleSource` holds; it can pause after
+//! any cell. It stands for the greatest and the total of the powers of the cells that it has done.
+//! Once all are done it names the first greatest cell. (IS-GPS-200 has the signal alone; the search
+//! is this project's own.)
 //!
 //!     use acquisition::{Plan, Search};
 //!     use ca_codes::{CodeBook, Prn};

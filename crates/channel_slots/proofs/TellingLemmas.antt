@@ -57,8 +57,8 @@ module _ {A : Type 0} (tells : List Sample → List A) where
       (quiet (suc j) (omega arith) (omega arith))) in
       rw first (rest ∙ ap tells (append_assoc xs (y ∷ []) (z ∷ ys)))
 
--- ---- events that are put in by time
--- the code's events and the definitions' are put in at the same places
+-- ---- events that are inserted by time
+-- the code's events and the definitions' are inserted at the same places
 one-put : (e : SlotEvent) (es : List SlotEvent)
     → map told_in (put_in time_in e es) ≡ put_in time_at (told_in e) (map told_in es)
 unfolding put_in

@@ -21,7 +21,7 @@ pub enum Event {
     Lost,
     /// The edge of the data bits was found.
     Bits,
-    /// So many bits lie between the end of the subframe before and the start of the next one.
+    /// The number of bits between the end of the subframe before and the start of the next one.
     Gap(u64),
     /// A subframe is whole.
     Sub(Subframe),

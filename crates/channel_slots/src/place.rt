@@ -113,7 +113,7 @@ impl Place {
         }
     }
 
-    /// Puts in a subframe, with the gap before it and what its page makes reported.
+    /// Inserts a subframe, with the gap before it and what its page makes reported.
     fn put_frame(
         &self,
         found: &Found,

@@ -17,12 +17,12 @@ use subframes::Page;
 /// A clock page and the two ephemeris pages (subframes 1, 2 and 3) belong together where the low
 /// eight bits of the clock's issue of data are the issue of data of both others (IS-GPS-200,
 /// section 20.3.3.4.1). When their set is reported is this project's own. With each page of the
-/// three kinds the last of each are looked at. They are reported where they belong together and
+/// three kinds the last of each are compared. They are reported where they belong together and
 /// differ in any number from the set that was reported last, or none was. A report uses no page up.
 ///
 /// The almanacs of satellites 1 to 32 belong together where they have one time of applicability
 /// (section 20.3.3.5.1.2). When they are reported is this project's own too. With each almanac the
-/// last of each satellite are looked at. They are reported where all are there, belong together and
+/// last of each satellite are compared. They are reported where all are there, belong together and
 /// differ in any number from the set that was reported last, or none was.
 #[derive(Debug, Drop)]
 pub struct DataSets {

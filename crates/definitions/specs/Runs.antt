@@ -87,7 +87,7 @@ IsUntouched input written = (input.end ≡ unfinished) × (input.bytes ≡ []) �
 abbrev pub AreRight : Task → Type 0
 AreRight task = (are_clients task.scripts ≡ true) × (are_shares task.shares task.scripts ≡ true)
 
--- which answer goes with what came and what was written. The scripts are looked at first, then the
+-- which answer goes with what came and what was written. The scripts are checked first, then the
 -- shares; then memory is taken, all before anything is read
 unfoldable pub IsAnswer : Task → Input → List ℕ → RunAnswer → Type 0
 IsAnswer task input written wrong_clients =

@@ -46,7 +46,7 @@ pub struct PlainTracker {
 
 impl PlainTracker {
     /// Tracks with the rate and offset of a signal, from its satellite, shift and half chip on. Its
-    /// data bits aren't looked at.
+    /// data bits aren't used.
     pub fn follow(signal: &MadeSignal) -> Self {
         PlainTracker {
             rate: signal.rate,

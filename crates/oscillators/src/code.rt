@@ -111,7 +111,7 @@ impl CodeOsc {
         self.phase = (phase % CODE_CYCLE as u128) as u64;
     }
 
-    /// Where it was `n` samples ago, at most 1,023, if it has had this step since.
+    /// The oscillator `n` samples ago, at most 1,023, if it has had this step since.
     pub fn earlier(&self, n: u32) -> CodeOsc
         requires { n ≤ 1023 }
         ensures now { code_phase_after result.phase result.step n ≡ self.now.phase }

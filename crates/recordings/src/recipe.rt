@@ -26,7 +26,7 @@ pub struct Recipe {
     pub threshold: u64,
     /// The part in phase.
     pub in_phase: Part,
-    /// The part in quadrature. Where the packing is real it isn't looked at.
+    /// The part in quadrature. Where the packing is real it isn't used.
     pub quadrature: Part,
     ghost in_phase_is_there: { in_phase.place < (if is_paired then 2 else 1) },
     ghost quadrature_is_there: { quadrature.place < (if is_paired then 2 else 1) },

@@ -112,7 +112,7 @@ fn refuses(
     Ok(())
 }
 
-// The scripts are looked at before the shares, and both before anything is read or written.
+// The scripts are checked before the shares, and both before anything is read or written.
 #[test]
 fn share_faults(rt: HostRuntime) -> Result<(), Fail> {
     let nine = [FIRST_COUNT; 9];
