@@ -3,6 +3,7 @@ usual traits, and leave for names that only the prover uses."""
 import re
 import textwrap
 
+from plain_premises import condition, types_in
 from plain_text import block_end, code_of
 
 # A function with the comments of its clauses: its head, these lines, and its brace's indentation.
@@ -12,40 +13,12 @@ FUNCTION = re.compile(
 # A law: a public function with clauses that does nothing.
 LAW = re.compile(r'^(pub fn [^{;/]*\n(?: *// .*\n)+\{\})$', re.M)
 
-# A term of a clause that Rust can say: a power, a list's length, a size, a number or a name.
-TERM = re.compile(r'2 \^ (\d+)|length (\w+)\.(?:now|old|entry)|unsigned_abs (\w+)(?![.\w])'
-                  r'|(\w+)(?![.\w])')
-
 
 def premises(clauses):
     """What the clauses of a function require."""
     joined = re.sub(r'\n *// (?!requires|ensures)', ' ', clauses)
     joined = re.sub('[«»]', '', joined)
     return re.findall(r'// requires(?: \w+)? \{ (.*) \}', joined)
-
-
-def condition(premise, head, code):
-    """A premise as `place + 16 ≤ length table.now` as a condition of Rust; others are None."""
-    numbers = re.findall(r'(\w+): (?:[ui]\d+|usize)\b', head)
-    lists = re.findall(r"(\w+): &(?:mut )?(?:'\w+ )?\[", head)
-
-    def is_constant(name):
-        return re.search(rf'\bconst {name}:|^use [^;]*\b{name}\b', code, re.M)
-
-    def term(found):
-        power, of_list, of_size, word = found.groups()
-        if power:
-            return f'(1 << {power})'
-        if word:
-            is_known = word in numbers or is_constant(word)
-            return word if word.isdigit() else f'({word} as i128)' if is_known else '?'
-        if of_list:
-            return f'({of_list}.len() as i128)' if of_list in lists else '?'
-        return f'({of_size}.unsigned_abs() as i128)' if of_size in numbers else '?'
-
-    text = TERM.sub(term, premise).replace('≤', '<=')
-    is_simple = re.fullmatch(r'[\w.() +*]+ (<=|<) [\w.() +*<]+', text)
-    return text if is_simple and ' as i128' in text else None
 
 
 def contract(clauses, indent):
@@ -55,14 +28,16 @@ def contract(clauses, indent):
     return ''.join(f'{indent}/// {row}'.rstrip() + '\n' for row in rows)
 
 
-def checked_text(text):
-    """A source whose functions say what they require, and see to the simple ones by themselves."""
+def checked_text(text, constants):
+    """A source whose functions say what they require, and see to the simple ones by themselves. It
+    may name constants, whose types are given."""
     code = code_of(text)
 
     def checked(found):
         head, clauses, indent = found.groups()
         docs = contract(clauses, indent) if head.lstrip().startswith('pub fn') else ''
-        holds = filter(None, (condition(premise, head, code) for premise in premises(clauses)))
+        types = types_in(head, code, constants)
+        holds = filter(None, (condition(premise, types) for premise in premises(clauses)))
         return docs + found[0] + ''.join(f'\n    {indent}debug_assert!({hold});' for hold in holds)
 
     return LAW.sub(r'#[doc(hidden)]\n\1', FUNCTION.sub(checked, text))

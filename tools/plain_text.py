@@ -47,7 +47,7 @@ REWRITTEN = [(re.compile(pattern, re.M), new) for pattern, new in [
 
 
 def block_end(text, at):
-    """The place behind the block that begins at a place."""
+    """The place after the block that begins at a place."""
     depth = 0
     for token in TOKEN.finditer(text, at):
         depth += {'{': 1, '}': -1}.get(token[0], 0)

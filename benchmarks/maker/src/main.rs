@@ -7,11 +7,14 @@
 //!       --offset HZ    the intermediate frequency, 0 if not given
 //!       --kind KIND    iq-i8 if not given: pairs of bytes; i8: one byte a sample, in phase
 //!       --seed N       of the noise and of the messages, 1 if not given
+//!       --message FILE what all satellites send: a subframe a line, as ten words of 24 bits in
+//!                      hexadecimal; the parity is added, and data bits 23 and 24 of words 2 and 10
+//!                      are solved for. Behind the last line comes the first one
 //!
 //! A satellite (1 to 32) has its Doppler shift in Hz, the half chip of its code at sample 0 (with a
-//! fraction where wanted), its C/N0 in dB-Hz, and how many code periods of its frame of 30 s are
-//! over at sample 0. Its message passes its parity and says nothing true. The noise has a standard
-//! deviation of 20 in each part.
+//! fraction where wanted), its C/N0 in dB-Hz, and how many code periods of its message are over at
+//! sample 0. Where no message is named it is a frame of 30 s that passes its parity and says nothing
+//! true. The noise has a standard deviation of 20 in each part.
 
 mod codes;
 mod message;

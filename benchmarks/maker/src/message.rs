@@ -1,9 +1,13 @@
-//! An LNAV message that passes its parity (IS-GPS-200, sections 20.3.3 and 20.3.5).
+//! LNAV messages that pass their parity (IS-GPS-200, sections 20.3.3 and 20.3.5).
 
 use crate::noise::Chance;
 
-/// The bits of a frame: five subframes of ten words of 30 bits.
-pub const FRAME_BITS: usize = 1500;
+/// The words of a subframe, and the bits of a word as it is sent.
+const WORDS: usize = 10;
+const WORD_BITS: usize = 30;
+
+/// The bits of data of a word.
+const DATA_BITS: u32 = 24;
 
 /// The issue of data of all subframes.
 const ISSUE: u32 = 0x5a;
@@ -19,7 +23,7 @@ const EQUATIONS: [(u32, u32); 6] = [
     (29, 0b0010_1101_1110_1010_0010_0111),
 ];
 
-/// The 30 bits as they are sent of a word with this data, behind a word that ended in `prior`.
+/// The 30 bits as they are sent of a word with this data, after a word that ended in `prior`.
 fn sent_word(data: u32, prior: u32) -> u32 {
     let (d29, d30) = (prior >> 1 & 1, prior & 1);
     let parity = EQUATIONS.iter().fold(0, |bits, (star, places)| {
@@ -36,7 +40,7 @@ fn solved_word(data: u32, prior: u32) -> u32 {
     words.find(|word| word & 3 == 0).unwrap_or(0)
 }
 
-/// The data of a word by its number in its subframe, 1 to 10. What isn't told here is `drawn`.
+/// The data of a word by its number in its subframe, 1 to 10. What isn't given here is `drawn`.
 fn data_of(subframe: u32, word: u32, drawn: u32) -> u32 {
     match (subframe, word) {
         (_, 1) => 0x8b << 16 | drawn & 0xffff,
@@ -47,22 +51,50 @@ fn data_of(subframe: u32, word: u32, drawn: u32) -> u32 {
     }
 }
 
-/// A frame, true for 1, which is sent over and over. Its time-of-week counts don't go on.
-pub fn frame(chance: &mut Chance) -> Vec<bool> {
-    let mut bits = Vec::with_capacity(FRAME_BITS);
+/// The 24 bits of data of each word of a subframe.
+type Subframe = [u32; WORDS];
+
+/// The bits of subframes as they are sent, one behind another, true for 1. Data bits 23 and 24 of
+/// words 2 and 10 are solved for.
+fn sent(subframes: impl Iterator<Item = Subframe>) -> Vec<bool> {
+    let mut bits = Vec::new();
     let mut prior = 0;
-    for subframe in 1..=5 {
-        for number in 1..=10 {
-            let data = data_of(subframe, number, chance.bits() as u32 >> 8);
-            let solved = number == 2 || number == 10;
-            let word = if solved {
-                solved_word(data, prior)
-            } else {
-                sent_word(data, prior)
-            };
-            bits.extend((0..30).rev().map(|place| word >> place & 1 == 1));
-            prior = word & 3;
-        }
+    for (at, data) in subframes.flatten().enumerate() {
+        let word = match at % WORDS {
+            1 | 9 => solved_word(data, prior),
+            _ => sent_word(data, prior),
+        };
+        bits.extend((0..WORD_BITS).rev().map(|place| word >> place & 1 == 1));
+        prior = word & 3;
     }
     bits
+}
+
+/// A frame of five subframes that say nothing true. Its time-of-week counts don't go on when it is
+/// sent again.
+pub fn frame(chance: &mut Chance) -> Vec<bool> {
+    let mut data_by_word =
+        |id| std::array::from_fn(|at| data_of(id, at as u32 + 1, chance.bits() as u32 >> 8));
+    let subframes: Vec<Subframe> = (1..=5).map(&mut data_by_word).collect();
+    sent(subframes.into_iter())
+}
+
+/// The bits of a message that is written down: a subframe a line, as ten words of six hexadecimal
+/// digits. Nothing comes back where a line is something else, or there is none.
+pub fn written(text: &str) -> Option<Vec<bool>> {
+    let subframes: Option<Vec<Subframe>> = text.lines().map(subframe).collect();
+    subframes
+        .filter(|them| !them.is_empty())
+        .map(|them| sent(them.into_iter()))
+}
+
+/// A subframe by its line.
+fn subframe(line: &str) -> Option<Subframe> {
+    let word = |digits| {
+        u32::from_str_radix(digits, 16)
+            .ok()
+            .filter(|it| it >> DATA_BITS == 0)
+    };
+    let words: Option<Vec<u32>> = line.split_whitespace().map(word).collect();
+    words?.try_into().ok()
 }

@@ -1,7 +1,7 @@
 //! The signal of one satellite.
 
 use crate::codes::{chip_signs, CHIPS};
-use crate::message::{frame, FRAME_BITS};
+use crate::message::frame;
 use crate::noise::Chance;
 use crate::settings::{Settings, DEVIATION};
 
@@ -22,7 +22,7 @@ pub struct Named {
     pub half_chip: f64,
     /// C/N0 in dB-Hz.
     pub density: f64,
-    /// How many code periods of the frame are over at sample 0.
+    /// How many code periods of the message are over at sample 0.
     pub periods: u64,
 }
 
@@ -53,7 +53,10 @@ impl Satellite {
         let chips = CHIP_RATE * (1.0 + named.doppler / CARRIER) / rate;
         Satellite {
             signs: chip_signs(named.satellite),
-            bits: frame(&mut Chance::new(seed ^ 0x6d65_7373_6167_6500)),
+            bits: settings
+                .message
+                .clone()
+                .unwrap_or_else(|| frame(&mut Chance::new(seed ^ 0x6d65_7373_6167_6500))),
             amplitude: DEVIATION * ratio.sqrt() as f32,
             code: (named.half_chip / 2.0 * CHIP as f64) as u64 % CODE,
             code_step: (chips * CHIP as f64).round() as u64,
@@ -65,7 +68,7 @@ impl Satellite {
 
     /// The amplitude with the sign of the data bit that is being sent.
     fn level(&self) -> f32 {
-        let place = (self.periods / 20) as usize % FRAME_BITS;
+        let place = (self.periods / 20) as usize % self.bits.len();
         if self.bits[place] {
             -self.amplitude
         } else {

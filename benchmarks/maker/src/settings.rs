@@ -1,5 +1,6 @@
 //! The command line.
 
+use crate::message;
 use crate::satellite::Named;
 
 /// The standard deviation of the noise in each part.
@@ -14,6 +15,8 @@ pub struct Settings {
     pub offset: f64,
     pub pairs: bool,
     pub seed: u64,
+    /// The bits of the message of all satellites, where one is named.
+    pub message: Option<Vec<bool>>,
 }
 
 /// The settings and the satellites, or what is wrong.
@@ -24,6 +27,7 @@ pub fn read(words: &[String]) -> Result<(Settings, Vec<Named>), String> {
         offset: 0.0,
         pairs: true,
         seed: 1,
+        message: None,
     };
     let mut satellites = Vec::new();
     let mut words = words.iter();
@@ -45,6 +49,10 @@ fn set(settings: &mut Settings, name: &str, value: &str) -> Option<()> {
         "rate" => settings.rate = value.parse().ok().filter(|it| *it >= 1_100_000)?,
         "offset" => settings.offset = value.parse().ok()?,
         "seed" => settings.seed = value.parse().ok()?,
+        "message" => {
+            let text = std::fs::read_to_string(value).ok()?;
+            settings.message = Some(message::written(&text)?);
+        }
         "kind" => {
             settings.pairs = match value {
                 "iq-i8" => true,

@@ -40,7 +40,7 @@ sign-kept prn n sign is = rw is (kept (chip_sign prn n) (sign_cases prn n))
     kept : (z : ℤ) → (z ≡ pos 1) ⊎ (z ≡ negsuc 0) → to_z w32 (of_z w32 z) ≡ z
     kept z cases = elim cases [ inl one ↦ rw one refl | inr less ↦ rw less refl ]
 
--- the signs of the first k chips, and 1 behind them
+-- the signs of the first k chips, and 1 after them
 pub record AreFirst (prn k : ℕ) (values : List ℤ) : Type 0 where
   pub done : (j : ℕ) → j < k → get_or values j (pos 0) ≡ chip_sign prn j
   pub rest : (j : ℕ) → k ≤ j → j < 2048 → get_or values j (pos 0) ≡ pos 1

@@ -40,7 +40,7 @@ impl BinPowers {
     ghost use Rattle.acquisition.specs.FoldStates.{ArePeriodFolds};
     ghost use Rattle.acquisition.specs.Powers.{ArePowers};
 
-    /// Over no period.
+    /// The powers of a bin's cells over no period: all are 0.
     #[inline(always)]
     pub(crate) fn new() -> BinPowers
         ensures powers { (x : ℕ → Sample) (prn long : ℕ) (cells : BinCells)

@@ -12,7 +12,7 @@ pub(crate) struct BinRoom {
 }
 
 impl BinRoom {
-    /// Of no samples.
+    /// The room of a bin's cells, with the sums over no samples.
     #[inline(always)]
     pub(crate) fn new() -> BinRoom {
         BinRoom {

@@ -19,7 +19,7 @@ pub(crate) struct ChipSigns {
 }
 
 impl ChipSigns {
-    /// Those of a satellite.
+    /// The signs of a satellite's chips.
     pub(crate) fn new(prn: Prn, book: &mut CodeBook) -> ChipSigns
         ensures { result.prn ≡ prn }
     {

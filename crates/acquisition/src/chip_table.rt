@@ -23,7 +23,7 @@ pub(crate) struct ChipTable {
 }
 
 impl ChipTable {
-    /// Of no values.
+    /// The table of no values: each sum is 0.
     #[inline(always)]
     pub(crate) fn new() -> ChipTable
         ensures none { (k : ℕ) → k < PLACES → get_or result.sums k (pos 0) ≡ pos 0 }

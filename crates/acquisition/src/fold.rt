@@ -26,7 +26,7 @@ impl Fold {
     ghost use Rattle.acquisition.specs.Folds.{total_to};
     ghost use Rattle.acquisition.specs.FoldStates.{IsFold, IsWhole, taken_of};
 
-    /// Of no samples.
+    /// The sums over no samples.
     #[inline(always)]
     pub(crate) fn new() -> Fold
         ensures fold { (x : ℕ → Sample) (parity step carrier_step from : ℕ)

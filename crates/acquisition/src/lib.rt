@@ -2,20 +2,24 @@
 //! which a satellite's signal is strongest.
 //!
 //! A `Plan` says which cells are searched and over how many milliseconds. A `Search` does them in
-//! order, any number at a call, over the samples that a `SampleSource` holds; it can be left off
-//! and taken up at every cell, and stands for the greatest and the total of the powers of the cells
-//! that it has done. Once all are done it names the first greatest cell. (IS-GPS-200 has the signal
-//! alone; the search is this project's own.)
+//! order, any number at a call, over the samples that a `SampleSource` holds; it can pause after
+//! any cell. It stands for the greatest and the total of the powers of the cells that it has done.
+//! Once all are done it names the first greatest cell. (IS-GPS-200 has the signal alone; the search
+//! is this project's own.)
 //!
 //!     use acquisition::{Plan, Search};
 //!     use ca_codes::{CodeBook, Prn};
-//!     use sample_planes::{NumberedSamples, PackedSamples};
+//!     use oscillators::Settings;
+//!     use sample_planes::{Format, NumberedSamples, PackedSamples};
 //!
 //!     // Satellite 5 within 4 kHz of 0, over 2 ms of samples from the first one on.
-//!     let plan = Plan::new(Prn::new(5)?, 0, 16, 2, 25)?;
+//!     let settings = Settings::new(2_046_000, 511_500, Format::Real1)?;
+//!     let prn = Prn::new(5).ok_or("no satellite")?;
+//!     let plan = Plan::new(prn, 0, 16, 2, 25)?;
 //!     let mut search = Search::new(plan, &settings, 0);
-//!     let samples = PackedSamples::new(settings.format(), &bytes);
-//!     let numbered = NumberedSamples::new(samples, 0);
+//!     // 4,092 samples, eight in a byte.
+//!     let bytes = [0x5a; 512];
+//!     let numbered = NumberedSamples::new(PackedSamples::new(settings.format(), &bytes), 0);
 //!     search.advance(plan.cells(), &numbered, &mut CodeBook::new());
 //!     if let Some(cell) = search.result().filter(|cell| cell.found) {
 //!         // The signal is followed from the dwell's first sample on at this shift and half chip.

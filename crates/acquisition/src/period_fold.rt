@@ -36,7 +36,7 @@ impl PeriodFold {
     ghost use Rattle.acquisition.specs.Replicas.{phases};
     ghost use Rattle.acquisition.specs.FoldStates.{ArePeriodFolds, IsWhole, taken_of};
 
-    /// Of no samples.
+    /// The sums over no samples.
     #[inline(always)]
     pub(crate) fn new() -> PeriodFold
         ensures folds { (x : ℕ → Sample) (step carrier_step from : ℕ)
@@ -154,7 +154,7 @@ fn without_carrier(samples: &Planes, carrier: &CarrierPlanes, i: usize) -> Sums
     }
 }
 
-/// The code's phase `step` further on.
+/// The code's phase one `step` on, within its cycle. Phases are in 2^-32 chip.
 #[inline(always)]
 fn phase_behind(phase: u64, step: u32) -> u64
     requires { phase < code_cycle }

@@ -1,4 +1,4 @@
--- Sixteen more bits behind a word.
+-- Sixteen more bits after a word.
 use Rattle.std.proofs.Common.{◌≡◌, ℕ, suc, ◌+◌, ◌-◌, ◌*◌, ◌%◌, ◌^◌, ◌<◌, ◌≤◌, ap, ◌∙◌, arith, inl}
 use Rattle.std.proofs.Common.{inr, mul-le-mul}
 use Rattle.std.specs.Prelude.{bit_or}
@@ -10,7 +10,7 @@ use Rattle.std.proofs.lemmas.Nat.Bits.{bit_at_cat_low, bit_at_cat_high}
 use Rattle.std.proofs.lemmas.Bool.{cases_lt}
 use Rattle.bit_planes.specs.Bits.{IsBegun}
 
--- the word before and the bits behind it, as a sum
+-- the word before and the bits after it, as a sum
 joined : (word bits n : ℕ) → n ≤ 48 → word < 2 ^ n → bits < 65536
     → bit_or (word * 65536 % 18446744073709551616) bits ≡ word * 2 ^ 16 + bits
 joined word bits n few short small =

@@ -6,11 +6,12 @@
 //! the sixteen, so that a bitmask of lanes has the first place in its top bit.
 //!
 //!     use bit_planes::{Plane, top_bits};
+//!     use std::simd::prelude::u8x16;
 //!
 //!     let mut plane = Plane::new();
 //!     // The top bits of sixteen bytes are the bits at places 0 to 15.
-//!     plane.put(0, top_bits(bytes));
-//!     let first = plane.bit(0);
+//!     plane.put(0, top_bits(u8x16::splat(0x80)));
+//!     assert_eq!(plane.bit(0), 1);
 #![tactic(auto)]
 
 mod lanes;

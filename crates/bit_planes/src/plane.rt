@@ -23,15 +23,15 @@ pub struct Plane {
 impl Plane {
     ghost use Rattle.bit_planes.specs.Bits.{bit, IsDrawn};
 
-    /// All bits 0.
+    /// A plane of which all bits are 0.
     pub fn new() -> Plane
         ensures { (f : ℕ → ℕ) → IsDrawn f 0 result }
     {
         Plane { words: [0; WORDS] }
     }
 
-    /// Sets the sixteen places from `16 * group` on, all of which are 0, as all behind them are:
-    /// the first of them is the highest bit.
+    /// Sets the sixteen places from `16 * group` on, all of which are 0, as all after them are. The
+    /// first of them is the highest bit.
     pub fn put(&mut self, group: usize, bits: u64)
         requires group { group < GROUPS }
         requires bits { bits < 2 ^ 16 }
@@ -42,8 +42,8 @@ impl Plane {
         self.words[group / 4] |= bits << (48 - 16 * (group % 4));
     }
 
-    /// Sets the 64 places from `64 * w` on, behind which all are 0: the first of them is the top
-    /// bit.
+    /// Sets the 64 places from `64 * w` on. They and all places after them are 0 before. The first
+    /// of them is the top bit.
     pub fn set_word(&mut self, w: usize, word: u64)
         requires { w < WORDS }
         ensures { (f : ℕ → ℕ) → IsDrawn f (64 * w) self.old

@@ -4,7 +4,7 @@ ghost use Rattle.std.specs.Prelude.{◌≡◌, ◌+◌, ◌-◌, ◌<◌, ◌≤
 ghost use Rattle.std.specs.Int.{bit_at};
 ghost use Rattle.bit_planes.specs.Bits.{IsBegun};
 
-/// A word with sixteen more places behind those that it has: the first of them is the highest bit.
+/// A word with sixteen more places after those that it has. The first of them is the highest bit.
 pub fn with_sixteen(word: u64, bits: u64) -> u64
     requires { bits < 2 ^ 16 }
     ensures { (f : ℕ → ℕ) (n : ℕ) → n ≤ 48 → IsBegun f n word

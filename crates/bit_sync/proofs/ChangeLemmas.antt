@@ -39,7 +39,7 @@ changes_at-more pushes place r k h =
     ∙ ap (λ i. changes_at pushes place r k + cond ((i % 20 == place) && is_change pushes i) 1 0)
     here)
 
--- there are none behind a reset at the last push
+-- there are none after a reset at the last push
 changes_at-none : (pushes : List ℤ) (place k : ℕ) → changes_at pushes place k k ≡ 0
 changes_at-none pushes place k = let n : k - k ≡ 0 = omega arith in rw n refl
 
@@ -159,7 +159,7 @@ resets pushes zero = by_test (is_crowded pushes 0 0)
     by_test false = refl
 resets pushes (suc j) = let p : suc j - 1 ≡ j = omega arith in rw p refl
 
--- what is counted on from, behind the push
+-- what is counted on from, after the push
 pub since_reset-kept : (pushes : List ℤ) (ip : ℤ) (place : ℕ) → is_crowded_with pushes ip ≡ false
     → changes_since_reset (pushes ++ ip ∷ []) place ≡ changes_with pushes ip place
 unfolding changes_since_reset

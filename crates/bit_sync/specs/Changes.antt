@@ -10,7 +10,7 @@ unfoldable pub sign_of_last : List ℤ → Option Bool
 sign_of_last pushes =
     if length pushes == 0 then None else Some (is_negative (push_at pushes (length pushes - 1)))
 
--- a push of this sign behind one of that sign is a change
+-- a push of this sign after one of that sign is a change
 abbrev pub sign_turns : Option Bool → Bool → Bool
 sign_turns None is_negative = false
 sign_turns (Some last) is_negative = xor last is_negative

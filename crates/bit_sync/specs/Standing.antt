@@ -16,7 +16,7 @@ pub record IsSearching (pushes : List ℤ) (search : EdgeSearch) : Type 0 where
   pub last : search.last ≡ sign_of_last pushes
   pub changes : (at : ℕ) → at < 20 → slice_index search.changes at ≡ changes_since_reset pushes at
 
--- the edge is known, and what is summed up is the pushes behind the last whole bit
+-- the edge is known, and what is summed up is the pushes after the last whole bit
 pub record IsSumming (pushes : List ℤ) (bit : BitSum) : Type 0 where
   pub edge : ℕ
   pub edge_is : edge_of pushes ≡ Some edge

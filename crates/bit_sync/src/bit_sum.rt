@@ -9,7 +9,7 @@ const PUSHES_OF_BIT: u8 = 20;
 /// The pushes of the data bit that isn't whole yet.
 #[derive(Debug, Drop)]
 pub struct BitSum {
-    /// How many there are.
+    /// The number of pushes, fewer than 20.
     count: u8,
     sum: i32,
     ghost count_in_range: { count < 20 },

@@ -5,10 +5,10 @@ ghost use Rattle.std.specs.Prelude.{◌≡◌, ◌^◌, ◌≤◌, unsigned_abs,
 use crate::bit_sum::BitSum;
 use crate::edge_search::EdgeSearch;
 
-/// What a prompt sum tells that is pushed.
+/// What comes with a prompt sum that is pushed.
 #[derive(Debug, Clone, Copy, PartialEq, Eq)]
 pub enum BitNews {
-    /// Neither an edge nor a whole bit.
+    /// There is neither an edge nor a whole bit.
     Nothing,
     /// The push is the first of bit 0. It comes once, before all bits.
     Edge,
@@ -39,7 +39,7 @@ impl BitSync {
     ghost use Rattle.bit_sync.specs.Standing.{StandsFor};
     ghost use Rattle.bit_sync.specs.News.{Tells};
 
-    /// Stands for no pushes.
+    /// The state before the first push.
     pub fn new() -> Self
         ensures { StandsFor [] result }
     {

@@ -7,14 +7,14 @@ ghost use Rattle.bit_sync.specs.Changes.{sign_turns};
 /// Places in a bit: the 20 code periods of one (IS-GPS-200, section 3.2.2).
 const PLACES: usize = 20;
 
-/// So many changes at one place make the last of them the edge. (This project's own, as is all of
-/// the search.)
+/// With this number of changes at one place, the last of them is the edge. (This project's own, as
+/// is all of the search.)
 const EDGE_CHANGES: u8 = 16;
 
-/// A place with so many changes is a candidate.
+/// A place with this number of changes is a candidate.
 const CANDIDATE_CHANGES: u8 = 4;
 
-/// With so many candidates all changes are counted anew.
+/// With this number of candidates all changes are counted anew.
 const CROWDED_CANDIDATES: usize = 2;
 
 /// The search for the first push of bit 0.
@@ -34,7 +34,7 @@ impl EdgeSearch {
     ghost use Rattle.definitions.specs.BitEdge.{is_edge};
     ghost use Rattle.bit_sync.specs.Standing.{IsSearching};
 
-    /// Stands for no pushes.
+    /// The search before the first push.
     pub fn new() -> Self
         ensures { IsSearching [] result }
     {

@@ -1,14 +1,17 @@
-//! The edge of the data bits of GPS L1 C/A among a channel's prompt sums, and the bits behind it. A
+//! The edge of the data bits of GPS L1 C/A among a channel's prompt sums, and the bits after it. A
 //! bit is 20 code periods, since data come at 50 bits a second (IS-GPS-200, sections 3.2.2 and
-//! 20.3.2). The crate promises that what it tells of each sum is what the definition of edge and
-//! bits says of all the sums so far, however many there are.
+//! 20.3.2). The crate promises that what it reports with each sum is what the definition of edge
+//! and bits says of all the sums so far, however many there are.
 //!
 //!     use bit_sync::{BitNews, BitSync};
 //!
+//!     // Twenty sums of each bit: 0 and 1 in turn.
 //!     let mut sync = BitSync::new();
-//!     for counts in dumps_since_lock {
-//!         if let BitNews::Bit(bit) = sync.push(counts.ip) {
-//!             bits.push(bit)?;
+//!     let mut ones = 0;
+//!     for millisecond in 0..2_000 {
+//!         let sum = if millisecond / 20 % 2 == 0 { 900 } else { -900 };
+//!         if let BitNews::Bit(bit) = sync.push(sum) {
+//!             ones += u32::from(bit);
 //!         }
 //!     }
 #![tactic(auto)]

@@ -38,10 +38,10 @@ fn changes_at_every_push(rt: HostRuntime) {
 
 // The sign turns at pushes 10, 20, .. 80, and then at 100, 120, .. alone. Place 10 has its fourth
 // change at push 70, and place 0 its fourth at push 80. So there all is counted anew, the change at
-// push 80 among what is forgotten, and the sixteenth change at place 0 since is at push
-// 80 + 16 * 20 = 400. (With no reset it would be at 320, and with the change at the reset counted
-// at 380.) The sign turns 8 times up to push 80 and 16 times behind it up to push 400, so that it
-// is + from there on: bit 0 is 0, and bit 1 is 1.
+// push 80 among what is forgotten, and the sixteenth change at place 0 since is at push 80 + 16 *
+// 20 = 400. (With no reset it would be at 320, and with the change at the reset counted at 380.)
+// The sign turns 8 times up to push 80 and 16 times after it up to push 400, so that it is + from
+// there on: bit 0 is 0, and bit 1 is 1.
 #[test]
 fn reset_decides(rt: HostRuntime) {
     let mut sync = BitSync::new();
@@ -83,7 +83,7 @@ fn sum_decides(rt: HostRuntime) {
     }
 }
 
-// Zero isn't below zero: a run of zeros behind +1 is no change, and one behind -1 is.
+// Zero isn't below zero: a run of zeros after +1 is no change, and one after -1 is.
 #[test]
 fn zero_is_not_negative(rt: HostRuntime) {
     let mut sync = BitSync::new();

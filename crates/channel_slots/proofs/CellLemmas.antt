@@ -1,4 +1,4 @@
--- How many cells a search has done: what is shown of it, and how many more they are behind a run.
+-- How many cells a search has done: what is shown of it, and how many more they are after a run.
 use Rattle.std.proofs.Common.{◌≡◌, ◌≤◌, ◌+◌, ◌/◌, ◌++◌, ◌∷◌, ◌∙◌, ℕ, zero, suc}
 use Rattle.std.proofs.Common.{List, [], drop, length, length-append, get_or, refl, sym, ap, arith}
 use Rattle.std.specs.Prelude.{Bool, true, false, nat_eq, Some, None}

@@ -1,4 +1,4 @@
--- A slot that is on, when it is told how many dumps to print, and takes a run.
+-- A slot that is on, when it gets a number of dumps to print, and takes a run.
 use Rattle.std.proofs.Common.{◌≡◌, ℕ, ◌+◌, ◌-◌, ◌<◌, ◌≤◌, List, ◌++◌, length, sym, ap}
 use Rattle.std.proofs.Common.{◌∙◌, arith, subst, length-append}
 use Rattle.std.specs.List.{AllByRecursion}
@@ -125,7 +125,7 @@ module _ (settings : Settings) (xs ys : List Sample) (life : DefinedLife) (old :
         ends = λ over. t.ends (rw (← lock) over);
       }
 
--- the sums are told where some are still to be printed
+-- the sums are emitted where some are still to be printed
 pub unwanted : (n : ℕ) (c : Counts) → n ≡ 0
     → count_in None ≡ when (nat_lt 0 n) (count (counts_in c))
 unwanted n c is = rw is

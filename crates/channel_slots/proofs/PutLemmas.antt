@@ -1,4 +1,4 @@
--- Events of a place that are put in one behind the other.
+-- Events of a place that are inserted one after the other.
 use Rattle.std.proofs.Common.{◌≡◌, ℕ, List, [], ◌∷◌, ◌++◌, refl, sym, ap, ◌∙◌}
 use Rattle.std.specs.Prelude.{map, Option, Some, None, option_map, MatchOption, IsSomeAnd}
 use Rattle.std.proofs.lemmas.List.{map-append}

@@ -1,4 +1,4 @@
--- What the dumps of a life tell, and lives that are on.
+-- What the dumps of a life emit, and lives that are on.
 use Rattle.std.proofs.Common.{◌≡◌, ℕ, ◌-◌, ◌<◌, ◌≤◌, List, [], ◌∷◌, ◌++◌, length}
 use Rattle.std.proofs.Common.{refl, ap, ◌∙◌, arith, length-append, append-nil, true, false}
 use Rattle.std.specs.Prelude.{Option, Some, None}
@@ -15,7 +15,7 @@ use Rattle.definitions.proofs.DumpLemmas.{slice_get-last}
 use Rattle.definitions.proofs.EventLemmas.{all-at}
 use Rattle.definitions.proofs.LifeLemmas.{front_of-append}
 
--- dumps that all end before the last sample tell nothing
+-- dumps that all end before the last sample emit nothing
 pub no-dump-now : (life : Life) (n m : ℕ) (dumps : List Dump)
     → AllByRecursion (λ (d : Dump). d.time ≤ n) dumps → n < m
     → last_dump_events life m dumps (last_of dumps) ≡ []

@@ -1,4 +1,4 @@
--- What a life tells that searches.
+-- What a life emits that searches.
 use Rattle.std.proofs.Common.{◌≡◌, ℕ, ◌+◌, ◌<◌, ◌≤◌, List, [], ◌∷◌, ◌++◌, length, take, refl, sym}
 use Rattle.std.proofs.Common.{ap, ◌∙◌, subst, arith, length-append, true, false}
 use Rattle.std.specs.Prelude.{Bool, ◌&&◌, nat_le, Option, Some, None}

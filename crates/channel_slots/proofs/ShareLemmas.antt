@@ -62,7 +62,7 @@ in-row first share shares i h =
     (rw (row-length first share) h)
     ∙ row-at first share i h
 
--- slot s of client first + k stands behind the slots of the clients before it
+-- slot s of client first + k comes after the slots of the clients before it
 at-rows : (first : ℕ) (shares : List ℕ) (k s : ℕ) → s < get_or shares k 0
     → slice_get (rows first shares) (total (take k shares) + s) ≡ Some (first + k, s)
 at-rows first [] k s h = absurd (omega arith)

@@ -1,4 +1,4 @@
--- What a slot answers and becomes with a command, and what it tells with a block.
+-- What a slot answers and becomes with a command, and what it emits with a block.
 use Rattle.std.proofs.Common.{refl, sym, ◌≡◌, ℕ, zero, suc, ◌+◌, ◌<◌, ◌≤◌, List, [], ◌∷◌, ◌++◌}
 use Rattle.std.proofs.Common.{length, take, ap, ◌∙◌, arith, length-append, append-nil, append_assoc}
 use Rattle.std.specs.Prelude.{Option, Some, None, map, true, false, ◌-◌}
@@ -134,7 +134,7 @@ module _ (settings : Settings) (xs : List Sample) (commands : List TimedRequest)
         ∙ latest w last life of now ∙ none);
   }
 
-  -- one with a life behind the command
+  -- one with a life after the command
   pub becomes-on : (w : Request) (last life : Option Life) (new : Life) (l : Kept)
       → life_of settings xs commands ≡ last → life_now settings xs commands ≡ life
       → life_with last life (length xs) w ≡ Some new → lives.StandsFor settings xs new l
@@ -162,7 +162,7 @@ module _ (settings : Settings) (xs : List Sample) (commands : List TimedRequest)
       by-slot Idle e = rw e (stays-idle e state refl)
       by-slot (On l) e = keeps-on l e state (λ life. refl)
 
-  -- ---- what it tells with ys behind xs
+  -- ---- what it emits with ys after xs
   module _ (ys : List Sample) (some : 0 < length ys) where
     both : length (xs ++ ys) ≡ length xs + length ys
     both = simp length-append (omega arith)
@@ -185,7 +185,7 @@ module _ (settings : Settings) (xs : List Sample) (commands : List TimedRequest)
       };
     }
 
-    -- what is told by a life that is on before the last of these
+    -- what is emitted by a life that is on before the last of these
     told-by : (old : Kept) (i : HasLife settings xs commands old) (zs : List Sample)
         → 0 < length zs → is_over settings (xs ++ front_of zs) i.life ≡ false
         → events_at_end settings (xs ++ zs) commands

@@ -117,7 +117,7 @@ abbrev pub dump_news : Option Dump → Option StageNews
 dump_news None = None
 dump_news (Some d) = Some (stage_news.Dump d)
 
--- a held life and what ys behind xs bring to it
+-- a held life and what ys after xs bring to it
 module _ (settings : Settings) (xs ys : List Sample) (life : Life) (h : Held)
     (s : IsHeld settings xs life h) (some : 0 < length ys) where
   abbrev channel : Channel
@@ -180,7 +180,7 @@ unfolding view_of
 tracked-view settings xs life channel steered given dumps all =
     ap (λ o. shown (life_view settings xs life o)) given ∙ rw (steered, all) refl
 
--- a tracked life, what is shown of it, and what ys behind xs bring to it
+-- a tracked life, what is shown of it, and what ys after xs bring to it
 module _ (settings : Settings) (xs : List Sample) (life : Life) (t : Tracked)
     (s : IsTracked settings xs life t) where
   pub shows-tracked : (n dumps : ℕ) (v w : ℤ) (locked edge phase_locked phase_edge : Bool)

@@ -12,7 +12,7 @@ use Rattle.definitions.specs.Lives.{channel_of, found_channel, found_nothing, is
 use Rattle.definitions.specs.Events.{due_events}
 use Rattle.definitions.proofs.AcquisitionLemmas.{result_of-append}
 
--- what stays as it is behind the samples zs
+-- what stays as it is after the samples zs
 pub record GoesOn (settings : Settings) (xs zs : List Sample) (begun : ℕ) (start : Start)
     (channel : Channel) : Type 0 where
   pub given : channel_of settings (xs ++ zs) begun start ≡ Some channel

@@ -1,4 +1,4 @@
--- Events that are put in by time, and what a place tells over a run that it takes by its own
+-- Events that are inserted by time, and what a place emits over a run that it takes by its own
 -- events.
 use Rattle.std.proofs.Common.{◌≡◌, ℕ, zero, suc, ◌+◌, ◌-◌, ◌<◌, ◌≤◌, List, [], ◌∷◌, ◌++◌, length}
 use Rattle.std.proofs.Common.{take, drop, refl, sym, ap, ◌∙◌, arith, length-append, append-nil}
@@ -42,7 +42,7 @@ module _ {A : Type 0} (tells : List Sample → List A) where
       ∙ sym (append_assoc (tells (xs ++ y ∷ [])) (at_each_sample tells (xs ++ y ∷ []) ys)
       (at_each_sample tells (xs ++ (y ∷ ys)) zs))
 
-  -- where nothing is told before the last
+  -- where nothing is emitted before the last
   pub at_each_sample-last : (xs ys : List Sample) → 0 < length ys
       → ((j : ℕ) → 0 < j → j < length ys → tells (xs ++ take j ys) ≡ [])
       → at_each_sample tells xs ys ≡ tells (xs ++ ys)
@@ -57,8 +57,8 @@ module _ {A : Type 0} (tells : List Sample → List A) where
       (quiet (suc j) (omega arith) (omega arith))) in
       rw first (rest ∙ ap tells (append_assoc xs (y ∷ []) (z ∷ ys)))
 
--- ---- events that are put in by time
--- the code's events and the definitions' are put in at the same places
+-- ---- events that are inserted by time
+-- the code's events and the definitions' are inserted at the same places
 one-put : (e : SlotEvent) (es : List SlotEvent)
     → map told_in (put_in time_in e es) ≡ put_in time_at (told_in e) (map told_in es)
 unfolding put_in

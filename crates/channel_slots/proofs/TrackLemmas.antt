@@ -1,4 +1,4 @@
--- What a life that loops steer tells.
+-- What a life emits that loops steer.
 use Rattle.std.proofs.Common.{◌≡◌, ℕ, ◌+◌, ◌<◌, ◌≤◌, List, [], ◌∷◌, ◌++◌, length, take}
 use Rattle.std.proofs.Common.{refl, sym, ap, ◌∙◌, arith, length-append, append-nil, true, false}
 use Rattle.std.specs.Prelude.{Bool, Option, Some, None, nat_lt}
@@ -97,7 +97,7 @@ module _ (settings : Settings) (xs : List Sample) (life : Life) (t : Tracked)
   abbrev pub own : Channel
   own = s.channel
 
-  -- behind more samples it is the same life of the same channel
+  -- after more samples it is the same life of the same channel
   pub more : (zs : List Sample) → GoesOn settings xs zs life.begun life.start own
   more zs = steered-on settings xs zs life.begun life.start own s.steered s.given
 
@@ -159,7 +159,7 @@ module _ (settings : Settings) (xs : List Sample) (life : Life) (t : Tracked)
       one-more : length (before ++ counts_in d.counts ∷ []) ≡ length before + 1
       one-more = simp length-append (omega arith)
 
-      -- it is the last dump of the life where the loops tell so
+      -- it is the last dump of the life where the loops report so
       lost-is : is_lost_with (before ++ counts_in d.counts ∷ []) (length before + 1)
           ≡ is_loss d.lock
       lost-is =

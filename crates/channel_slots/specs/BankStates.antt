@@ -40,7 +40,7 @@ pub record StandsFor (settings : Settings) (xs : List Sample)
   pub history : histories.StandsFor xs bank.history
   pub slots : BankStands settings xs asked bank.time bank.places.items
 
--- whatever a bank stood for: these events are what its slots tell over a run of samples
+-- whatever a bank stood for: these events are what its slots emit over a run of samples
 abbrev pub Tells : Bank → List Sample → List SlotEvent → Type 0
 Tells old run events =
     (settings : Settings) (xs : List Sample) (asked : ℕ → ℕ → List TimedRequest)
@@ -48,7 +48,7 @@ Tells old run events =
     → AreTold events (at_each_sample
     (bank_events_at_end settings (layout (shares_of old)) asked) xs run)
 
--- and behind the run it stands for the same with these samples
+-- and after the run it stands for the same with these samples
 abbrev pub Takes : Bank → List Sample → Bank → Type 0
 Takes old run new =
     (settings : Settings) (xs : List Sample) (asked : ℕ → ℕ → List TimedRequest)

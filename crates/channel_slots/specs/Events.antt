@@ -1,4 +1,4 @@
--- What slots tell as the definitions have it.
+-- The events that slots emit, as the definitions have them.
 use Rattle.std.specs.Prelude.{◌≡◌, ℕ, List, map}
 use Rattle.definitions.specs.Events.{Event as DefinedEvent, acquired, count, locked, unlocked}
 use Rattle.definitions.specs.Events.{signal_lost}

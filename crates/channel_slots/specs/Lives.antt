@@ -23,7 +23,7 @@ pub record StandsFor (settings : Settings) (xs : List Sample) (life : DefinedLif
   pub left : l.unprinted ≡ unprinted_count life (dumps_of_life settings xs life)
   pub asked : life.wanted_from ≤ length xs
 
--- with ys behind xs the life tells nothing before the last of them, and then what was answered; it
+-- with ys after xs the life emits nothing before the last of them, and then what was answered; it
 -- goes on, or is over where nothing is found or the signal is lost
 pub record Steps (settings : Settings) (xs ys : List Sample) (life : DefinedLife) (l : Life)
     (news : Option SlotNews) : Type 0 where

@@ -20,7 +20,7 @@ abbrev pub if_any : Option Event → List Event
 if_any None = []
 if_any (Some event) = event ∷ []
 
--- the sums of a dump, if they are told, as the definitions have them
+-- the sums of a dump, if they are emitted, as the definitions have them
 abbrev pub count_in : Option Counts → List DefinedEvent
 count_in None = []
 count_in (Some c) = count (counts_in c) ∷ []
@@ -52,7 +52,7 @@ abbrev pub events_with : SlotNews → List Event
 events_with (slot_news.Acquired prn cell) = events.Acquired prn cell ∷ []
 events_with (slot_news.Dump dump) = dump_events dump
 
--- all that is told, if anything is
+-- all that is emitted, if anything is
 abbrev pub events_of : Option SlotNews → List Event
 events_of None = []
 events_of (Some news) = events_with news

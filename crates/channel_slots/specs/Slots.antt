@@ -14,7 +14,7 @@ use Rattle.channel_slots.specs.Events.{event_in}
 use Rattle.channel_slots.specs.Stages as stages
 use Rattle.channel_slots.specs.Lives as lives
 
--- how many events the slot may tell in a run of samples
+-- how many events the slot may emit in a run of samples
 abbrev pub chances : Slot → ℕ
 chances Idle = 0
 chances (On life) = stages.chance life.stage
@@ -47,7 +47,8 @@ pub record StandsFor (settings : Settings) (xs : List Sample) (commands : List T
   pub early : AllByRecursion (λ (c : TimedRequest). c.time ≤ length xs) commands
   pub on : IsOn settings xs commands slot
 
--- with ys behind xs nothing is told before the last of them, and then the events that were answered
+-- with ys after xs nothing is emitted before the last of them, and then the events that were
+-- answered
 pub record Tells (settings : Settings) (xs ys : List Sample) (commands : List TimedRequest)
     (slot : Slot) (answer : List Event) : Type 0 where
   pub inside : (j : ℕ) → 0 < j → j < length ys

@@ -99,9 +99,9 @@ Follows settings xs life (Searching s) = IsSought settings xs life s
 Follows settings xs life (Holding h) = IsHeld settings xs life h
 Follows settings xs life (Tracking t) = IsTracked settings xs life t
 
--- what ys behind xs bring to a life is what was answered: nothing, the cell that its acquisition
--- names, or a dump with the last of them, whose sums are told where they are wanted, and then what
--- it tells beside
+-- what ys after xs bring to a life is what was answered: nothing, the cell that its acquisition
+-- names, or a dump with the last of them, whose sums are emitted where they are wanted, and then
+-- its news
 abbrev pub Brings : Settings → List Sample → List Sample → Life → Option StageNews → Type 0
 Brings settings xs ys life None =
     (dumps_of_life settings (xs ++ ys) life ≡ dumps_of_life settings xs life)
@@ -125,8 +125,8 @@ abbrev pub ends_with : Option StageNews → Bool
 ends_with None = false
 ends_with (Some news) = is_end news
 
--- with ys behind xs the life tells nothing before the last of them, and then what was answered;
--- it goes on, or is over where nothing is found or the signal is lost
+-- with ys after xs the life emits nothing before the last of them, and then what was answered; it
+-- goes on, or is over where nothing is found or the signal is lost
 pub record Takes (settings : Settings) (xs ys : List Sample) (life : Life) (stage : Stage)
     (news : Option StageNews) : Type 0 where
   pub inside : (j : ℕ) → 0 < j → j < length ys

@@ -8,7 +8,7 @@ use ca_codes::Prn;
 /// How far a tracking slot has come with its signal.
 #[derive(Clone, Copy, Debug, PartialEq, Eq)]
 pub enum Phase {
-    /// Its loops aren't locked.
+    /// The loops aren't locked.
     Unlocked,
     /// They are locked, and the edge of the data bits isn't found.
     Locked,
@@ -35,21 +35,21 @@ impl Phase {
 /// What a slot shows of itself.
 #[derive(Clone, Copy, Debug, PartialEq, Eq)]
 pub enum SlotState {
-    /// Nothing is asked of it.
+    /// The slot follows nothing.
     Idle,
-    /// It searches for a satellite, and has done so many of its cells.
+    /// The slot searches for a satellite, and has done this many cells.
     Acquire {
         prn: Prn,
         done: u64,
         cells: u64,
     },
-    /// It follows a satellite at a fixed Doppler shift, and has had so many dumps.
+    /// The slot follows a satellite at a fixed Doppler shift, and has had this many dumps.
     Hold {
         prn: Prn,
         dumps: u64,
     },
-    /// It tracks a satellite, and has had so many dumps. Its carrier is shifted by `v`, in 1/65536
-    /// Hz, and its code's rate corrected by `w`, in 1/65536 chip a second.
+    /// The slot tracks a satellite, and has had this many dumps. The carrier is shifted by `v`, in
+    /// 1/65536 Hz, and the code's rate corrected by `w`, in 1/65536 chip a second.
     Track {
         prn: Prn,
         dumps: u64,
@@ -69,7 +69,7 @@ pub enum Refusal {
 }
 
 impl Refusal {
-    /// The number that is printed: 9 or 10, behind those of a script's lines.
+    /// The number that is printed: 9 or 10. A script's lines have the numbers below.
     pub fn number(self) -> u8
         ensures { result ≡ number_of self }
     {

@@ -39,7 +39,7 @@ impl SlotNo {
         }
     }
 
-    /// Its number.
+    /// The slot's number, 0 to 7.
     pub fn get(self) -> u8
         ensures same { result ≡ self }
         ensures range { result < MOST_SLOTS }

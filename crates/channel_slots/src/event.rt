@@ -1,4 +1,4 @@
-//! What the samples make the slots tell.
+//! The events that slots emit.
 
 use acquisition::Cell;
 use ca_codes::Prn;
@@ -6,7 +6,7 @@ use data_sets::{AlmanacSet, Report};
 use frame_sync::Subframe;
 use lane_correlator::Counts;
 
-/// What the samples make a slot tell.
+/// An event that a slot emits with a sample.
 #[derive(Clone, Copy, Debug, PartialEq, Eq)]
 pub enum Event {
     /// What an acquisition names, for a satellite.
@@ -15,13 +15,13 @@ pub enum Event {
     Count(Counts),
     /// With this dump the loops are locked.
     Lock,
-    /// With this dump they aren't any more.
+    /// From this dump on the loops aren't locked.
     Unlock,
     /// The signal is lost, and the slot is idle.
     Lost,
     /// The edge of the data bits was found.
     Bits,
-    /// So many bits lie between the end of the subframe before and the start of the next one.
+    /// The number of bits between the end of the subframe before and the start of the next one.
     Gap(u64),
     /// A subframe is whole.
     Sub(Subframe),
@@ -38,7 +38,7 @@ impl Default for Event {
     }
 }
 
-/// An event with whose slot it is of, and when.
+/// An event, with its client, its slot and its time.
 #[derive(Clone, Copy, Debug, Default, PartialEq, Eq)]
 pub struct SlotEvent {
     /// The client's number, from 1 on.
@@ -47,6 +47,6 @@ pub struct SlotEvent {
     pub slot: u8,
     /// The time in samples: it rests on the samples before it.
     pub time: u64,
-    /// What the slot tells.
+    /// What the slot emits.
     pub event: Event,
 }

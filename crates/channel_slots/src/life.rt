@@ -59,7 +59,7 @@ impl Life {
         self.unprinted = count;
     }
 
-    /// What it shows of itself.
+    /// What the life's slot shows.
     pub fn state(&self) -> SlotState
         ensures { (settings : DefinedSettings) (xs : List Sample) (life : DefinedLife)
             → StandsFor settings xs life self.now
@@ -68,7 +68,7 @@ impl Life {
         self.stage.state()
     }
 
-    /// How many cells its search has done, if it searches.
+    /// The number of cells that the search has done, if the life searches.
     pub fn cells_done(&self) -> Option<u64>
         ensures { result ≡ cells_done_of self.now.stage }
     {
@@ -90,7 +90,7 @@ impl Life {
     }
 
     /// Takes samples of a run, from sample `from` on, up to its next event or the end of the run.
-    /// It answers how many these are, and what is told with the last of them. The life may be over
+    /// It answers how many these are, and what comes with the last of them. The life may be over
     /// with it.
     pub fn take<S: SampleSource>(
         &mut self,

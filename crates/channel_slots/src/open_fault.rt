@@ -2,7 +2,7 @@
 
 use thiserror::Error;
 
-/// Why no bank was opened. The number of clients is looked at first, then their shares.
+/// Why no bank was opened. The number of clients is checked first, then their shares.
 #[derive(Clone, Copy, Debug, PartialEq, Eq, Error)]
 pub enum OpenFault {
     /// There was no memory for the slots.

@@ -64,7 +64,7 @@ impl Place {
     ghost use Rattle.channel_slots.specs.Slots.{StandsFor};
     ghost use Rattle.channel_slots.specs.Banks.{PlaceGoes, PutsIn};
 
-    /// Puts in an event of its slot, if there is one.
+    /// Inserts an event of the place's slot, if there is one.
     fn put(&self, event: Option<Event>, time: u64, events: &mut ArrayVec<SlotEvent, RUN_EVENTS>)
         requires { array_vec_len events.old < RUN_EVENTS }
         ensures puts { PutsIn self.now time (if_any event) events.old.items events.new.items }
@@ -82,7 +82,7 @@ impl Place {
         put_in_time(events, told);
     }
 
-    /// Puts in all that comes with a sample.
+    /// Inserts all that comes with a sample.
     fn put_news(&self, news: &SlotNews, time: u64, events: &mut ArrayVec<SlotEvent, RUN_EVENTS>)
         requires { array_vec_len events.old + DUMP_EVENTS ≤ RUN_EVENTS }
         ensures { PutsIn self.now time (events_with news.now) events.old.items events.new.items }
@@ -99,7 +99,7 @@ impl Place {
         }
     }
 
-    /// Puts in all that comes with a dump.
+    /// Inserts all that comes with a dump.
     fn put_dump(&self, news: &DumpNews, time: u64, events: &mut ArrayVec<SlotEvent, RUN_EVENTS>)
         requires { array_vec_len events.old + DUMP_EVENTS ≤ RUN_EVENTS }
         ensures { PutsIn self.now time (dump_events news.now) events.old.items events.new.items }
@@ -113,7 +113,7 @@ impl Place {
         }
     }
 
-    /// Puts in a subframe, with the gap before it and what its page makes reported.
+    /// Inserts a subframe, with the gap before it and what its page makes reported.
     fn put_frame(
         &self,
         found: &Found,
@@ -131,7 +131,7 @@ impl Place {
         self.put(reports.set.map(Event::Almanacs), time, events);
     }
 
-    /// Takes a run of samples, and puts in by time what they tell.
+    /// Takes a run of samples, and inserts its events by time.
     fn run<S: SampleSource>(
         &mut self,
         run: &Planes,
@@ -158,7 +158,7 @@ impl Place {
         }
     }
 
-    /// Does what its client asks of its slot, and answers it.
+    /// Does what a client asks of the place's slot, and answers it.
     pub fn command(&mut self, settings: &Settings, time: u64, command: Command) -> Answer
         requires { time ≤ MOST_START }
         ensures client { self.new.client ≡ self.old.client }
@@ -179,7 +179,7 @@ impl Place {
     }
 }
 
-/// What a slot tells of the lock.
+/// What a slot emits of the lock.
 fn lock_event(lock: News) -> Option<Event>
     ensures { if_any result ≡ lock_events lock }
 {
@@ -205,7 +205,7 @@ pub fn idle_places(alloc: Global, shares: &[u8]) -> Result<Vec<Place>, AllocErro
     Ok(places)
 }
 
-/// How many slots clients with these shares have together.
+/// The number of slots that clients with some shares have together.
 pub fn slots_in(shares: &[u8]) -> usize
     requires clients { length shares.now ≤ MOST_CLIENTS }
     requires few { AllByRecursion (λ share. share ≤ MOST_SLOTS) shares.now }
@@ -232,7 +232,7 @@ fn add_idle(places: &mut Vec<Place>, client: u8, share: u8) -> Result<(), AllocE
     Ok(())
 }
 
-/// All slots take a run, one behind the other, and put in by time what they tell.
+/// Each slot in turn takes a run, and inserts its events by time.
 pub fn run_all<S: SampleSource>(
     places: &mut [Place],
     run: &Planes,

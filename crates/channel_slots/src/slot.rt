@@ -1,4 +1,4 @@
-//! One slot: what it tells of the samples, and what it answers to its client.
+//! One slot: what it emits with the samples, and what it answers to its client.
 
 ghost use Rattle.std.specs.Prelude.{◌≡◌, ◌≤◌, ◌<◌, ◌+◌, ◌-◌};
 ghost use Rattle.channel_slots.specs.declared.bank.TheConstants.{MOST_TIME};
@@ -12,7 +12,7 @@ use ca_codes::CodeBook;
 use oscillators::Settings;
 use sample_planes::{Planes, SampleSource};
 
-/// The most events that a slot tells of a run of samples: the answer of an acquisition, and those
+/// The most events that a slot emits over a run of samples: the answer of an acquisition, and those
 /// of a dump.
 pub const SLOT_EVENTS: usize = 7;
 
@@ -53,7 +53,7 @@ impl Slot {
     }
 
     /// Takes samples of a run, from sample `from` on, up to the slot's next event or the end of the
-    /// run. It answers how many these are, and what is told with the last of them. The source holds
+    /// run. It answers how many these are, and what comes with the last of them. The source holds
     /// the samples of the recording to the end of the run, from the first one on that a search
     /// looks at. The book is any book of codes.
     pub fn take<S: SampleSource>(
@@ -94,7 +94,7 @@ impl Slot {
         (count, Some(news))
     }
 
-    /// How many cells its search has done, if it searches.
+    /// The number of cells that the search has done, if the slot searches.
     pub fn cells_done(&self) -> Option<u64>
         ensures { result ≡ cells_done_of self.now }
     {
@@ -104,7 +104,7 @@ impl Slot {
         }
     }
 
-    /// What it shows of itself.
+    /// What the slot shows.
     fn state(&self) -> SlotState
         ensures { (settings : DefinedSettings) (xs : List Sample) (commands : List TimedRequest)
             → StandsFor settings xs commands self.now
@@ -116,7 +116,7 @@ impl Slot {
         }
     }
 
-    /// Begins to follow a stage, if it is idle.
+    /// Makes the slot follow a stage, if it is idle.
     fn start(&mut self, stage: Stage) -> Answer
         ensures answer { (settings : DefinedSettings) (xs : List Sample)
             (commands : List TimedRequest) (start : Start)

@@ -13,18 +13,18 @@ use tracking_loops::News;
 /// and a set of almanacs.
 pub const DUMP_EVENTS: usize = 6;
 
-/// What a slot tells with a dump, in this order.
+/// What a slot emits with a dump, in this order.
 #[derive(Clone, Copy, Debug, PartialEq, Eq)]
 pub struct DumpNews {
     /// The six sums, where they are to be printed.
     pub count: Option<Counts>,
-    /// What the loops tell of their lock. Where the signal is lost the slot is idle.
+    /// The loops' news of their lock. Where the signal is lost the slot is idle.
     pub lock: News,
-    /// What the message tells.
+    /// The message's news.
     pub message: MessageNews,
 }
 
-/// What a slot tells with a sample.
+/// What a slot emits with a sample.
 #[derive(Clone, Copy, Debug, PartialEq, Eq)]
 pub enum SlotNews {
     /// What an acquisition names. Where nothing was found the slot is idle.

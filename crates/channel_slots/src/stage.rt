@@ -65,7 +65,7 @@ impl Stage {
         Stage::Searching(Sought::start(settings, plan, start))
     }
 
-    /// What it shows.
+    /// What a slot with the stage shows.
     pub fn state(&self) -> SlotState
         ensures { (settings : DefinedSettings) (xs : List Sample) (life : Life)
             → Follows settings xs life self.now
@@ -91,7 +91,7 @@ impl Stage {
         }
     }
 
-    /// How many cells its search has done, if it searches.
+    /// The number of cells that the search has done, if the stage searches.
     pub fn cells_done(&self) -> Option<u64>
         ensures { result ≡ cells_done_of self.now }
     {

@@ -159,7 +159,7 @@ fn held(settings: &Settings, prn: u8, doppler: i32) -> Result<Slot, Fail>
     Ok(slot)
 }
 
-/// What samples of value 1 make it tell at a time, where it is to take `count` of `len` of them.
+/// What it emits at a time, with samples of value 1, where it is to take `count` of `len` of them.
 fn told(slot: &mut Slot, time: u64, len: usize, count: usize) -> Result<Option<Counts>, Fail>
     requires some { 0 < len }
     requires sound { (reach : ℕ) × IsSound 0 time reach slot.old }

@@ -1,4 +1,4 @@
--- A follower that takes a block stands for the samples with that block behind them.
+-- A follower that takes a block stands for the samples with that block after them.
 use Rattle.std.proofs.Common.{◌≡◌, ℕ, ◌+◌, ◌-◌, ◌*◌, ◌%◌, ◌^◌, ◌<◌, ◌≤◌, List, [], ◌∷◌, ◌++◌}
 use Rattle.std.proofs.Common.{length, take, sym, ap, ◌∙◌, arith, length-append}
 use Rattle.std.proofs.lemmas.List.{length-take}
@@ -164,7 +164,7 @@ module _ (settings : Settings) (channel : Channel) (xs ys : List Sample) (f : Fo
           };
         }
 
-    -- the segment behind it
+    -- the segment after it
     closed : Progress
     closed = record {
       dumps =

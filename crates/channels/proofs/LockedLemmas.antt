@@ -9,7 +9,7 @@ use Rattle.definitions.specs.Lock.{is_locked}
 use Rattle.definitions.proofs.PushLemmas.{pushes-more}
 use Rattle.definitions.proofs.LockEndLemmas.{snoc}
 
--- the loops aren't locked before the first dump, and with no push no message tells anything
+-- the loops aren't locked before the first dump, and with no push no message reports anything
 pub not-locked : is_locked [] ≡ false
 unfolding is_locked
 not-locked = refl

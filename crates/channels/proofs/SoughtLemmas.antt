@@ -20,7 +20,7 @@ use Rattle.channels.specs.Cells.{done_before}
 use Rattle.channels.specs.Following.{BeginsAfter}
 use Rattle.channels.specs.Searching.{Searches, Answers}
 
--- behind a dwell's end, by the samples that have come and by those that are left
+-- after a dwell's end, by the samples that have come and by those that are left
 done-by : (cells end left time : ℕ) → time + left ≡ end + 4 * cells
     → cells - (left + 3) / 4 ≡ min cells ((time - end) / 4)
 done-by cells end left time h = omega (arith, h)
@@ -59,7 +59,7 @@ module _ (settings : Settings) (plan : Plan) (start left : ℕ) (search : Search
 
 module _ (settings : Settings) (plan : Plan) (begun : ℕ) (xs ys : List Sample) (old : Sought)
     (s : Searches settings plan begun xs old) where
-  -- the cells that it has done are the same behind more samples
+  -- the cells that it has done are the same after more samples
   stands-on : (n : ℕ) → done_of old.search ≡ n
       → StandsFor settings plan begun (xs ++ ys) old.search
   stands-on zero none = stands-begun settings plan begun xs (xs ++ ys) old.search none s.search

@@ -1,4 +1,4 @@
--- What dumps tell beside their sums.
+-- The news that dumps bring beside their sums.
 use Rattle.std.specs.Prelude.{Bool, true, false, List, ◌++◌}
 use Rattle.definitions.specs.Events.{Event, news_events}
 use Rattle.lane_correlator.specs.declared.counts.Counts.{Counts}
@@ -13,7 +13,7 @@ use Rattle.channels.specs.declared.dump.Dump.{Dump}
 abbrev pub plain_dump : Counts → Dump
 plain_dump counts = record { counts = counts; lock = locks.Nothing; message = messages.Nothing }
 
--- what a dump tells beside its sums
+-- the news that a dump brings beside its sums
 abbrev pub steered_events_in : Dump → List Event
 steered_events_in d = news_events (news_in d.lock) ++ events_in d.message
 

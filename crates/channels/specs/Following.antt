@@ -54,7 +54,7 @@ pub record Follows (settings : Settings) (channel : Channel) (xs : List Sample)
   pub carrier_step : f.carrier.step
       ≡ (open_phases settings channel (progress settings channel xs)).carrier_step
 
--- a channel begins behind n samples with this shift: its code was at the half chip so many samples
+-- a channel begins after n samples with this shift: its code was at the half chip so many samples
 -- ago, and has gone on since
 pub record BeginsAfter (settings : Settings) (prn : ℕ) (doppler : ℤ) (half_chip ago n : ℕ)
     (channel : Channel) : Type 0 where
@@ -77,7 +77,7 @@ QuietInside settings channel xs ys =
     (j : ℕ) → j < length ys
     → progress settings channel (xs ++ take j ys) ≡ progress settings channel xs
 
--- with ys behind xs the segment stays open
+-- with ys after xs the segment stays open
 pub record Stays (settings : Settings) (channel : Channel) (xs ys : List Sample)
     (f : Follower) : Type 0 where
   pub inside : QuietInside settings channel xs ys
@@ -99,7 +99,7 @@ pub record Closes (settings : Settings) (channel : Channel) (xs ys : List Sample
   pub carrier_step : f.carrier.step
       ≡ (open_phases settings channel (progress settings channel xs)).carrier_step
 
--- with ys behind xs it goes on, or has ended with the last of them where its sums were answered
+-- with ys after xs it goes on, or has ended with the last of them where its sums were answered
 abbrev pub Goes : Settings → Channel → List Sample → List Sample → Option Sums → Follower → Type 0
 Goes settings channel xs ys None f = Stays settings channel xs ys f
 Goes settings channel xs ys (Some c) f = Closes settings channel xs ys (counts_in c) f

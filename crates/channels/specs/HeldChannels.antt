@@ -32,7 +32,7 @@ pub record Holds (settings : Settings) (channel : Channel) (xs : List Sample) (h
   pub follows : Follows settings channel xs h.follower
   pub dumps : dumps_of h ≡ length (progress settings channel xs).dumps
 
--- what ys behind xs bring is what was answered: no dump, or one with the last of them
+-- what ys after xs bring is what was answered: no dump, or one with the last of them
 abbrev pub Brings : Settings → Channel → List Sample → List Sample → Option Counts → Type 0
 Brings settings channel xs ys None =
     progress settings channel (xs ++ ys) ≡ progress settings channel xs
@@ -41,7 +41,7 @@ Brings settings channel xs ys (Some c) =
     ≡ (progress settings channel xs).dumps
     ++ record { time = length (xs ++ ys); counts = counts_in c } ∷ []
 
--- with ys behind xs there is no dump before the last of them, and then what was answered
+-- with ys after xs there is no dump before the last of them, and then what was answered
 pub record Takes (settings : Settings) (channel : Channel) (xs ys : List Sample) (h : Held)
     (counts : Option Counts) : Type 0 where
   pub inside : QuietInside settings channel xs ys

@@ -37,7 +37,7 @@ pub record Searches (settings : Settings) (plan : Plan) (begun : ℕ) (xs : List
   pub due : length xs + to_due_of s ≡ due_time settings plan begun
   pub done : done_of s ≡ cells_done settings plan begun (length xs)
 
--- what was answered behind the samples zs: nothing where the answer isn't due yet, and where it is
+-- what was answered after the samples zs: nothing where the answer isn't due yet, and where it is
 -- due with the last of them, the cell that the acquisition names
 abbrev pub Answers : Settings → Plan → ℕ → List Sample → Option Cell → Type 0
 Answers settings plan begun zs None = length zs < due_time settings plan begun

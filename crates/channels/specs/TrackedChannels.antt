@@ -44,8 +44,7 @@ pub record Tracks (settings : Settings) (channel : Channel) (xs : List Sample) (
   pub loops : StandsFor shift (counts_so_far settings channel xs) t.loops
   pub message : messages.StandsFor (counts_so_far settings channel xs) t.message
 
--- what ys behind xs bring is what was answered: no dump, or one with the last of them, with what it
--- tells
+-- what ys after xs bring is what was answered: no dump, or one with the last of them, with its news
 abbrev pub Brings : Settings → Channel → List Sample → List Sample → Option Dump → Type 0
 Brings settings channel xs ys None =
     progress settings channel (xs ++ ys) ≡ progress settings channel xs
@@ -56,7 +55,7 @@ Brings settings channel xs ys (Some d) =
     × (news_in d.lock ≡ news_of (counts_so_far settings channel (xs ++ ys)))
     × (steered_events_in d ≡ steered_events (counts_so_far settings channel (xs ++ ys)))
 
--- with ys behind xs there is no dump before the last of them, and then what was answered
+-- with ys after xs there is no dump before the last of them, and then what was answered
 pub record Takes (settings : Settings) (channel : Channel) (xs ys : List Sample) (t : Tracked)
     (dump : Option Dump) : Type 0 where
   pub inside : QuietInside settings channel xs ys

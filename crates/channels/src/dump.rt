@@ -1,4 +1,4 @@
-//! A dump, and what it tells beside its sums.
+//! A dump, and the news that come with it.
 
 ghost use Rattle.std.specs.Prelude.{◌≡◌};
 ghost use Rattle.channels.specs.Dumps.{plain_dump};
@@ -7,19 +7,19 @@ use lane_correlator::Counts;
 use nav_message::MessageNews;
 use tracking_loops::News;
 
-/// The six sums of a segment, and what they tell beside.
+/// The six sums of a segment, and the news that come with them.
 #[derive(Clone, Copy, Debug, PartialEq, Eq)]
 pub struct Dump {
     /// The sums of the segment.
     pub counts: Counts,
-    /// What the loops tell of their lock.
+    /// The loops' news of their lock.
     pub lock: News,
-    /// What the message tells, where the loops are locked.
+    /// The message's news, where the loops are locked.
     pub message: MessageNews,
 }
 
 impl Dump {
-    /// A dump that tells its sums and nothing else.
+    /// A dump with its sums alone, without news.
     pub fn plain(counts: Counts) -> Dump
         ensures { result ≡ plain_dump counts }
     {

@@ -59,8 +59,8 @@ impl Follower {
         }
     }
 
-    /// The same, but the code was at the half chip `ago` samples before the next one, and has gone
-    /// on since at this shift.
+    /// Starts like `start`. But the code was at the half chip `ago` samples before the next one,
+    /// and has gone on since at this shift.
     pub fn start_after(
         settings: &Settings,
         prn: Prn,

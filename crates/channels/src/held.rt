@@ -50,7 +50,7 @@ impl Held {
         self.follower.prn()
     }
 
-    /// How many dumps it has had.
+    /// The number of dumps that the satellite has had.
     pub fn dumps(&self) -> u64
         ensures { result ≡ dumps_of self.now }
     {

@@ -1,16 +1,24 @@
 //! One satellite followed over samples. A `Follower` has the open segment of a channel: its code
 //! and carrier at the next sample, and its sums so far. A `Held` is a channel at a fixed Doppler
 //! shift, with the number of its dumps. A `Tracked` one is steered by its loops, and its message is
-//! read while they are locked: that is a `LockedMessage`. Each stands for the samples that it took. Its dumps, and what these
-//! tell, are proved to be those of the definition, however the samples are cut into runs. Nothing
-//! here knows a command or a client.
+//! read while they are locked: that is a `LockedMessage`. Each stands for the samples that it took.
+//! Its dumps and their news are proved to be those of the definition, however the samples are cut
+//! into runs. Nothing here knows a command or a client.
 //!
+//!     use ca_codes::{CodeBook, Prn};
 //!     use channels::Held;
+//!     use oscillators::{Doppler, HalfChip, Settings};
+//!     use sample_planes::{Format, PackedSamples};
 //!
 //!     // Satellite 5 at a shift of 1,250 Hz, from half chip 700 on.
+//!     let settings = Settings::new(2_046_000, 511_500, Format::Real1)?;
+//!     let prn = Prn::new(5).ok_or("no satellite")?;
+//!     let doppler = Doppler::new(1_250).ok_or("no shift")?;
+//!     let half = HalfChip::new(700).ok_or("no half chip")?;
 //!     let mut held = Held::start(&settings, prn, doppler, half);
 //!     // As far as the next dump, or to the end of this run.
-//!     let (count, dump) = held.take(&run, 0, &mut book);
+//!     let run = PackedSamples::new(settings.format(), &[0x5a; 128]).unpack();
+//!     let (count, dump) = held.take(&run, 0, &mut CodeBook::new());
 //!     if let Some(counts) = dump {
 //!         let (prompt, nth) = (counts.ip, held.dumps());
 //!     }

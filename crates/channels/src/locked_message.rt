@@ -14,7 +14,7 @@ use lane_correlator::Counts;
 use nav_message::{Message, MessageNews};
 
 /// What is read of a message while the loops are locked. Each lock begins a new one, to which the
-/// prompt sums of the dumps behind it are pushed; where the lock ends it is dropped. It stands for
+/// prompt sums of the dumps after it are pushed; where the lock ends it is dropped. It stands for
 /// the dumps of the loops.
 #[derive(Debug, Drop)]
 pub struct LockedMessage {
@@ -33,7 +33,7 @@ impl LockedMessage {
     }
 
     /// Takes the sums of the next dump, each at most `MOST_SUM` in size, and whether the loops are
-    /// locked with it. It gives what the message tells.
+    /// locked with it. It gives the message's news.
     pub fn take(&mut self, counts: &Counts, is_locked: bool) -> MessageNews
         requires small { AreWithin MOST_SUM (counts_in counts.now) }
         requires room { bit_count self.old < MOST_BITS }

@@ -15,7 +15,7 @@ use oscillators::Settings;
 use sample_planes::SampleSource;
 
 /// A satellite that is searched for from a sample on. One more cell of its plan is done with every
-/// four samples behind the dwell, so that its answer is due at a sample that depends on the plan
+/// four samples after the dwell, so that its answer is due at a sample that depends on the plan
 /// alone. It stands for its acquisition and the samples so far.
 #[derive(Debug, Drop)]
 pub struct Sought {
@@ -70,14 +70,14 @@ impl Sought {
         self.search.plan().prn()
     }
 
-    /// How many cells it has done.
+    /// The number of cells that the search has done.
     pub fn done(&self) -> u64
         ensures { result ≡ done_of self.now }
     {
         self.search.done()
     }
 
-    /// How many cells there are.
+    /// The number of cells of the search's plan.
     pub fn cells(&self) -> u64
         ensures { result ≡ cell_count (plan_of self.now) }
     {

@@ -55,8 +55,8 @@ impl Tracked {
         )
     }
 
-    /// The same, but the code was at the half chip `ago` samples before the next one, and has gone
-    /// on since at this shift.
+    /// Starts like `start`. But the code was at the half chip `ago` samples before the next one,
+    /// and has gone on since at this shift.
     pub fn start_after(
         settings: &Settings,
         prn: Prn,
@@ -102,7 +102,7 @@ impl Tracked {
         self.follower.prn()
     }
 
-    /// How many dumps it has had.
+    /// The number of dumps that the satellite has had.
     pub fn dumps(&self) -> u64
         ensures counted { result ≡ dumps_of self.now }
         ensures is { (settings : DefinedSettings) (channel : Channel) (xs : List Sample)
@@ -112,7 +112,7 @@ impl Tracked {
         self.loops.dumps()
     }
 
-    /// The Doppler shift at which it goes on, in 1/65536 Hz.
+    /// The carrier's Doppler shift from the last dump on, in 1/65536 Hz.
     pub fn v(&self) -> i64
         ensures small { unsigned_abs result ≤ MOST_SHIFT }
         ensures is { (settings : DefinedSettings) (channel : Channel) (xs : List Sample)

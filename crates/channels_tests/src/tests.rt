@@ -39,7 +39,7 @@ fn held(settings: &Settings, prn: u8, doppler: i32, half: u16) -> Result<Held, F
 }
 
 /// Takes samples of the recording from a place on, as far as the next dump, and gives the place
-/// behind them and the dump.
+/// after them and the dump.
 fn next(held: &mut Held, place: usize) -> Result<(usize, Option<Counts>), Fail>
     requires few { dumps_of held.old < 8 }
     ensures few { dumps_of held.new ≤ dumps_of held.old + 1 }

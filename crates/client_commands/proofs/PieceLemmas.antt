@@ -8,7 +8,7 @@ use Rattle.std.proofs.lemmas.Option.{cond_some}
 use Rattle.std.proofs.lemmas.List.{take_rest}
 use Rattle.definitions.specs.Lines.{pieces_ended_by, in_front}
 
--- one more byte in front of a text whose first piece is found
+-- one more byte before a text whose first piece is found
 more_in_front : (pieces : List ℕ → List (List ℕ)) (t : Bool) (b : ℕ) (text : List ℕ) (n : ℕ)
     → nat_lt (cond (not t) (1 + n) 0) (length (b ∷ text)) ≡ true
     → (nat_lt n (length text) ≡ true → pieces text ≡ take n text ∷ pieces (drop (n + 1) text))

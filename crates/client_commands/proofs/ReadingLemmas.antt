@@ -156,7 +156,7 @@ taken_before range (Some number) value others is =
     by_range true refusal is = let e : value ≡ number = cc in rw e refl
     by_range false refusal is = cc
 
--- a word that is refused, whatever stands behind it
+-- a word that is refused, whatever follows it
 pub refused_first : (range : Range) (ranges : List Range) (words : List (List ℕ)) (refusal : ℕ)
     → length words ≡ length (range ∷ ranges) → Err refusal ≡ values_in (range ∷ []) words
     → Err refusal ≡ values_in (range ∷ ranges) words
@@ -189,7 +189,7 @@ no_slot verb share count line words refusal all is refused =
     rw (eq-eqb (length line) (length verb.ranges + 1) whole, sym is.1)
     (ap (meant verb) (refused_first (up_to 0 (share - 1)) verb.ranges words refusal many refused))
 
--- what a verb asks of a slot with the words behind it
+-- what a verb asks of a slot with the words after it
 pub asked : (verb : Verb) (share count : ℕ) (line words left : List (List ℕ)) (slot : ℕ)
     (values : Result (List ℤ) ℕ) → count ≡ length verb.ranges + 1
     → (length line ≡ count) × (words ≡ line)

@@ -6,13 +6,15 @@
 //!
 //!     use client_commands::Script;
 //!
-//!     let mut script = Script::new(text, 4);
+//!     let mut script = Script::new(b"0 hold 0 5 1250 700\n9 halt\n", 4);
+//!     let (mut commands, mut refusals) = (0, 0);
 //!     while let Some(timed) = script.next() {
 //!         match timed.what {
-//!             Ok(command) => carry_out(timed.time, command),
-//!             Err(refusal) => println!(rt; "{} err {}", timed.time, refusal.number())?,
+//!             Ok(_) => commands += 1,
+//!             Err(_) => refusals += 1,
 //!         }
 //!     }
+//!     assert_eq!((commands, refusals), (1, 1));
 #![tactic(auto)]
 
 mod line;

@@ -22,8 +22,8 @@ const LINE_BYTES: usize = 80;
 /// The latest time of a command, in samples.
 const LAST_TIME: u64 = 1 << 40;
 
-/// The entry of a line that stands behind one of time `before`, in the script of a client with a
-/// share of the slots. A line without words has none.
+/// The entry of a line that follows one of time `before`, in the script of a client with a share of
+/// the slots. A line without words has none.
 #[tactic(auto, unfolding(definitions::specs::Scripts::entry_of))]
 pub(crate) fn entry(line: &[u8], before: u64, share: u8) -> Option<Timed>
     requires some { 1 ≤ share }
@@ -71,7 +71,7 @@ fn refusal_at(time: u64, refusal: Refusal) -> Option<Timed>
     })
 }
 
-/// The command that the words behind the time ask for.
+/// The command that the words after the time ask for.
 fn command(words: &[u8], share: u8) -> Result<Command, Refusal>
     requires some { 1 ≤ share }
     requires most { share ≤ MOST_SLOTS }

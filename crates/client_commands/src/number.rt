@@ -25,7 +25,7 @@ pub(crate) fn number_in(word: &[u8]) -> Option<u64>
     Some(number)
 }
 
-/// The same, with a `-` in front or not.
+/// The number, with or without a leading `-`.
 pub(crate) fn signed_number_in(word: &[u8]) -> Option<i64>
     ensures { result ≡ defined_signed_number_in word.now }
 {

@@ -10,7 +10,7 @@ use ca_codes::Prn;
 use channel_slots::{Command, SlotNo};
 use oscillators::{Doppler, HalfChip};
 
-/// What the words behind the slot of a `hold` or a `track` write.
+/// The values of the words after the slot of a `hold` or a `track`.
 pub(crate) struct Start {
     /// The satellite.
     pub(crate) prn: Prn,
@@ -34,7 +34,7 @@ impl Start {
         })
     }
 
-    /// A slot is to follow it at a fixed Doppler shift.
+    /// The command by which a slot holds the satellite, at this fixed Doppler shift.
     pub(crate) fn hold(self, slot: SlotNo) -> Command
         ensures { result ≡ Command.Hold slot self.prn self.doppler self.half }
     {
@@ -47,7 +47,7 @@ impl Start {
         }
     }
 
-    /// A slot is to track it.
+    /// The command by which a slot tracks the satellite, from this Doppler shift on.
     pub(crate) fn track(self, slot: SlotNo) -> Command
         ensures { result ≡ Command.Track slot self.prn self.doppler self.half }
     {

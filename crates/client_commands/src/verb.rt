@@ -1,4 +1,4 @@
-//! The verbs, and the commands that they ask for with the words behind them.
+//! The verbs, and the commands that they ask for with the words after them.
 
 ghost use Rattle.std.specs.Prelude.{◌≡◌, ◌≤◌, ◌+◌, Some, find, option_map, length, bytes_eq};
 ghost use Rattle.definitions.specs.Scripts.{command_with, verbs};
@@ -47,7 +47,7 @@ impl Verb {
         }
     }
 
-    /// How many words stand behind it.
+    /// How many words follow the verb.
     fn word_count(self) -> usize
         ensures same { result ≡ length (verb_in self).ranges + 1 }
         ensures few { result ≤ MOST_WORDS }
@@ -60,7 +60,7 @@ impl Verb {
         }
     }
 
-    /// The command that the words behind it ask for, of a client with a share of the slots.
+    /// The command that the words after the verb ask for, of a client with a share of the slots.
     pub(crate) fn command(self, line: &[u8], share: u8) -> Result<Command, Refusal>
         requires some { 1 ≤ share }
         requires most { share ≤ MOST_SLOTS }

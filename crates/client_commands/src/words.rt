@@ -1,4 +1,4 @@
-//! Lines of a script, words of a line, and the values that the words behind a verb write.
+//! Lines of a script, words of a line, and the values of the words after a verb.
 
 ghost use Rattle.std.specs.Prelude.{◌≡◌, ◌≤◌, ◌<◌, ◌==◌, ◌∷◌, [], length, position, MatchOption};
 ghost use Rattle.definitions.specs.Lines.{pieces_ended_by, lines_of, words_of};
@@ -12,7 +12,7 @@ use channel_slots::SlotNo;
 use oscillators::{Doppler, HalfChip};
 use std::marker::Model;
 
-/// The most words behind a verb: those of `acquire`.
+/// The most words after a verb: those of `acquire`.
 pub(crate) const MOST_WORDS: usize = 6;
 
 /// The most dumps that a client can ask for at once.
@@ -25,8 +25,8 @@ fn place_of(end: u8, text: &[u8]) -> Option<usize>
     text.iter().position(|b| *b == end)
 }
 
-/// What stands before the first byte `end` of a text, or all of it, and what stands behind. An
-/// empty text has no piece.
+/// What comes before the first byte `end` of a text, or all of it, and what comes after. An empty
+/// text has no piece.
 fn next_piece(end: u8, text: &[u8]) -> Option<(&[u8], &[u8])>
     ensures { MatchOption result (pieces_ended_by end text.now ≡ [])
         (λ found. pieces_ended_by end text.now
@@ -41,8 +41,7 @@ fn next_piece(end: u8, text: &[u8]) -> Option<(&[u8], &[u8])>
     }
 }
 
-/// The first line of a text and what stands behind its line feed, or `None` where the text is
-/// empty.
+/// The first line of a text and what follows its line feed, or `None` where the text is empty.
 pub(crate) fn next_line(text: &[u8]) -> Option<(&[u8], &[u8])>
     ensures { MatchOption result (lines_of text.now ≡ [])
         (λ found. lines_of text.now ≡ found.0.now ∷ lines_of found.1.now) }
@@ -50,7 +49,7 @@ pub(crate) fn next_line(text: &[u8]) -> Option<(&[u8], &[u8])>
     next_piece(b'\n', text)
 }
 
-/// The first word of a line and what stands behind it, or `None` where there is none.
+/// The first word of a line and what follows it, or `None` where there is none.
 pub(crate) fn next_word(line: &[u8]) -> Option<(&[u8], &[u8])>
     ensures { MatchOption result (words_of line.now ≡ [])
         (λ found. words_of line.now ≡ found.0.now ∷ words_of found.1.now) }
@@ -65,12 +64,12 @@ pub(crate) fn next_word(line: &[u8]) -> Option<(&[u8], &[u8])>
     None
 }
 
-/// The words behind a verb that are still to be read. Clauses see them as lists of bytes.
+/// The words after a verb that are still to be read. Clauses see them as lists of bytes.
 #[derive(Drop)]
 pub(crate) struct Words<'a> {
-    /// All words behind the verb.
+    /// All words after the verb.
     words: ArrayVec<&'a [u8], MOST_WORDS>,
-    /// How many of them are read.
+    /// The number of words that are read.
     read: usize,
 }
 

@@ -27,7 +27,7 @@ pub enum Failure {
     Run(RunFault),
 }
 
-/// The status of the program: 0 behind a run that came to its end, 2 where what was asked for is at
+/// The status of the program: 0 after a run that came to its end, 2 where what was asked for is at
 /// fault, and 1 where the run or memory is.
 pub fn status(ended: Result<u64, Failure>) -> u8
     ensures { result ≡ status_of ended }

@@ -1,13 +1,15 @@
-//! The program behind its command line: scripts of timed commands in, lines of what the channels
-//! tell out. `carry_out` takes the words of the command line, has the option parser read them,
+//! The program with its command line: scripts of timed commands in, lines of what the channels
+//! report out. `carry_out` takes the words of the command line, has the option parser read them,
 //! reads the script files that they name, and runs them, in their order, over a reader and a
-//! writer. It tells on standard error what went wrong, and gives the status. The crate `receiver`
+//! writer. It reports on standard error what went wrong, and gives the status. The crate `receiver`
 //! has the run.
 //!
 //!     use command_line::{Stored, carry_out};
 //!     use receiver::Plain;
+//!     use std::io;
+//!     use std::process::ExitCode;
 //!
-//!     fn main(rt: HostRuntime) -> ExitCode {
+//!     fn program(rt: HostRuntime) -> ExitCode {
 //!         let (mut reader, mut writer) = (Plain::new(rt.reader()), Plain::new(io::writer(&rt)));
 //!         carry_out(&rt, &Stored::new(&rt), &mut reader, &mut writer)
 //!     }

@@ -230,7 +230,7 @@ pub fn shares(alloc: Global, matches: &ArgMatches, clients: usize) -> Result<Vec
     }
 }
 
-/// Shares by their digits.
+/// The shares that digits write: one digit, 1 to 8, for each client.
 fn shares_of(alloc: Global, digits: &[u8], clients: usize) -> Result<Vec<u8>, Failure>
     ensures given { IfOk result (λ shares.
         shares_by clients (Some digits.now) ≡ Some shares.items) }

@@ -20,9 +20,9 @@ use std::io::{Eprint, Print};
 use std::process::ExitCode;
 
 /// Does what the words of the command line ask for, with these script files, reader and writer:
-/// shows the help, or refuses an option, or runs the scripts. It tells on standard error what went
-/// wrong, and gives the status: 0, or 1 where the run or memory is at fault, or 2 where what was
-/// asked for is.
+/// shows the help, or refuses an option, or runs the scripts. It reports on standard error what
+/// went wrong, and gives the status: 0, or 1 where the run or memory is at fault, or 2 where what
+/// was asked for is.
 pub fn carry_out<T, S, R, W>(rt: &T, files: &S, reader: &mut R, writer: &mut W) -> ExitCode
 where
     T: AllocGlobal + Env + Print + Eprint,
@@ -51,7 +51,7 @@ fn refuse<P: Print + Eprint>(rt: &P, error: &Error) -> ExitCode
     match error.kind() {
         ErrorKind::OutOfMemory => tell(rt, Err(Failure::NoMemory)),
         kind => {
-            // Where printing fails too, the status alone tells.
+            // Where printing fails too, only the status shows it.
             let _ = error.print(rt);
             let is_shown = matches!(kind, ErrorKind::DisplayHelp | ErrorKind::DisplayVersion);
             ExitCode::from(if is_shown { 0 } else { 2 })
@@ -59,12 +59,12 @@ fn refuse<P: Print + Eprint>(rt: &P, error: &Error) -> ExitCode
     }
 }
 
-/// Tells what went wrong, where something did, and gives the status.
+/// Reports what went wrong, where something did, and gives the status.
 fn tell<E: Eprint>(rt: &E, ended: Result<u64, Failure>) -> ExitCode
     ensures status { exit_status result ≡ status_of ended }
 {
     if let Err(failure) = ended {
-        // Where standard error fails too, the status alone tells.
+        // Where standard error fails too, only the status shows it.
         let _ = eprintln!(rt; "receiver: {failure}");
     }
     ExitCode::from(status(ended))

@@ -14,7 +14,7 @@ const MOST_BYTES: usize = 16 << 20;
 
 /// What keeps script files.
 pub trait ScriptFiles {
-    /// The bytes of the file of a name, where they are known.
+    /// The bytes of the file with a name, where they are known.
     ghost bytes_of: { Self → List ℕ → Option (List ℕ) };
 
     /// Reads a file whole, of 16 MiB at most.
@@ -24,14 +24,14 @@ pub trait ScriptFiles {
             ⊎ ((failure ≡ Failure.Script) × MayBeRefused (bytes_of self.now path.now))) };
 }
 
-/// The files of a file system, whose bytes nothing tells.
+/// The files of a file system. No contract knows their bytes.
 #[derive(Clone, Copy)]
 pub struct Stored<'a, F> {
     files: &'a F,
 }
 
 impl<'a, F> Stored<'a, F> {
-    /// These files.
+    /// The script files in some files of a system.
     pub fn new(files: &'a F) -> Self
         ensures { result.files.now ≡ files.now }
     {

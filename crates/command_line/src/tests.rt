@@ -1,4 +1,4 @@
-//! The program behind its command line.
+//! The program with its command line.
 
 mod command_lines;
 mod endings;

@@ -11,7 +11,7 @@ use Rattle.definitions.specs.Pages.{Kind, Page}
 use Rattle.definitions.specs.DataSets.{is_of, last_page}
 use Rattle.data_sets.specs.Standing.{last_values}
 
--- the last of a list is the one that stands behind all others
+-- the last of a list is the one that comes after all others
 pub slice_get-last : {A : Type 0} (xs : List A) (x : A)
     → slice_get (xs ++ x ∷ []) (length (xs ++ x ∷ []) - 1) ≡ Some x
 slice_get-last {A = A} xs x =

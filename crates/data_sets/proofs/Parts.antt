@@ -5,13 +5,13 @@ use Rattle.std.specs.Prelude.{ℤ}
 use Rattle.std.proofs.lemmas.List.{take_at, drop_at}
 use borrow.Rule.Slice.PartMut.{put_mid}
 
--- a write right behind the first elements
+-- a write right after the first elements
 written_behind : (a k : ℕ) (xs ys zs : List ℤ) → length xs ≡ a
     → put_mid a k (xs ++ zs) ys ≡ xs ++ ys ++ drop k zs
 written_behind a k xs ys zs e =
     rw (take_at xs zs a e, drop_at xs zs a e) (sym (append_assoc xs ys (drop k zs)))
 
--- two parts leave as much as there was behind them
+-- two parts leave as much as there was after them
 pub two_written : (xs ys zs c e2 : List ℤ) → xs ≡ c → ys ≡ e2 → length c ≡ 11 → length e2 ≡ 11
     → length zs ≡ 20 → 31 ≤ length (put_mid 11 11 (xs ++ zs) ys)
 two_written xs ys zs c e2 x y n m k =

@@ -36,7 +36,7 @@ last_almanacs pages =
     map (λ sv. option_map (λ (page : Page). page.values) (last_almanac pages sv))
     (range_with_len 1 32)
 
--- the values of these almanacs one behind another, where all are there for one time
+-- the values of these almanacs one after another, where all are there for one time
 unfoldable pub almanac_values : List (Option (List ℤ)) → Option (List ℤ)
 almanac_values almanacs =
     option_and_then values_for_one_toa (all_there (map (option_map (page_with almanac)) almanacs))

@@ -11,7 +11,7 @@ use subframes::AlmanacField;
 /// Where the time of applicability stands among the numbers of an almanac.
 const TOA: usize = AlmanacField::Toa as usize;
 
-/// Where the health stands among them.
+/// Where the health stands among the numbers of an almanac.
 const HEALTH: usize = AlmanacField::Health as usize;
 
 /// The almanacs of satellites 1 to 32, which are all for one time (IS-GPS-200, section

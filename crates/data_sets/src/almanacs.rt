@@ -23,7 +23,7 @@ pub struct Almanacs {
 impl Almanacs {
     ghost use Rattle.data_sets.specs.Standing.{FollowsAlmanacs};
 
-    /// Stands for no pages.
+    /// The almanacs of no pages.
     pub fn new() -> Self
         ensures { FollowsAlmanacs [] result }
     {

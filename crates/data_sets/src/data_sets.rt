@@ -12,17 +12,17 @@ use crate::report::Report;
 use crate::reports::Reports;
 use subframes::Page;
 
-/// What is kept of a channel's pages to tell what the next one makes reported.
+/// What is kept of a channel's pages, to decide which reports the next page makes.
 ///
 /// A clock page and the two ephemeris pages (subframes 1, 2 and 3) belong together where the low
 /// eight bits of the clock's issue of data are the issue of data of both others (IS-GPS-200,
 /// section 20.3.3.4.1). When their set is reported is this project's own. With each page of the
-/// three kinds the last of each are looked at. They are reported where they belong together and
+/// three kinds the last of each are compared. They are reported where they belong together and
 /// differ in any number from the set that was reported last, or none was. A report uses no page up.
 ///
 /// The almanacs of satellites 1 to 32 belong together where they have one time of applicability
 /// (section 20.3.3.5.1.2). When they are reported is this project's own too. With each almanac the
-/// last of each satellite are looked at. They are reported where all are there, belong together and
+/// last of each satellite are compared. They are reported where all are there, belong together and
 /// differ in any number from the set that was reported last, or none was.
 #[derive(Debug, Drop)]
 pub struct DataSets {
@@ -33,7 +33,7 @@ pub struct DataSets {
 impl DataSets {
     ghost use Rattle.data_sets.specs.Standing.{Follows, StandsFor};
 
-    /// Stands for no pages.
+    /// The state before the first page.
     pub fn new() -> Self
         ensures { StandsFor [] result }
     {
@@ -44,8 +44,8 @@ impl DataSets {
     }
 
     /// Takes the next page and gives what it makes reported. With a clock or ephemeris page that is
-    /// the set, if there is a new one, and with any other page that page. Behind an almanac it is
-    /// the almanacs of all satellites too, if they are a new set. There may be any number of pages.
+    /// the set, if there is a new one, and with any other page that page. With an almanac it is the
+    /// almanacs of all satellites too, if they are a new set. There may be any number of pages.
     pub fn take(&mut self, page: &Page) -> Reports
         ensures stands { (pages : List DefinedPage) → StandsFor pages self.old
             → StandsFor (pages ++ page_in page.now ∷ []) self.new }

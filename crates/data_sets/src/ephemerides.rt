@@ -18,7 +18,7 @@ pub struct Ephemerides {
 impl Ephemerides {
     ghost use Rattle.data_sets.specs.Standing.{Follows};
 
-    /// Stands for no pages.
+    /// The state before the first page.
     pub fn new() -> Self
         ensures { Follows [] result }
     {

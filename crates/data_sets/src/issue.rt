@@ -9,10 +9,10 @@ use subframes::{ClockField, Eph2Field, Eph3Field};
 /// Where the issue of data stands among the numbers of a clock page (ten bits).
 const IODC: usize = ClockField::Iodc as usize;
 
-/// Where it stands among those of a subframe 2 (eight bits).
+/// Where the issue of data stands among the numbers of a subframe 2 (eight bits).
 const IODE: usize = Eph2Field::Iode as usize;
 
-/// Where it stands among those of a subframe 3 (eight bits).
+/// Where the issue of data stands among the numbers of a subframe 3 (eight bits).
 const IODE3: usize = Eph3Field::Iode as usize;
 
 /// Says whether the low eight bits of the clock's issue of data are that of both ephemeris pages.
@@ -23,7 +23,7 @@ pub fn are_of_one_issue(clock: &[i64; 11], eph2: &[i64; 11], eph3: &[i64; 9]) ->
     clock[IODC].rem_euclid(256) == eph2[IODE] && eph2[IODE] == eph3[IODE3]
 }
 
-/// The numbers of the three pages, one page behind the other.
+/// The numbers of the three pages, one page after the other.
 #[tactic(auto, using(crate::proofs::Parts::two_written, crate::proofs::Parts::three_written))]
 pub fn numbers_of_pages(clock: &[i64; 11], eph2: &[i64; 11], eph3: &[i64; 9]) -> [i64; 31]
     ensures { result ≡ clock.now ++ eph2.now ++ eph3.now }

@@ -19,7 +19,7 @@ pub struct LastPages {
 impl LastPages {
     ghost use Rattle.data_sets.specs.Standing.{AreLast, set_in};
 
-    /// Stands for no pages.
+    /// The state before the first page.
     pub fn new() -> Self
         ensures { AreLast [] result }
     {

@@ -2,17 +2,18 @@
 //!
 //! [`DataSets`] takes the pages of a channel one by one. The clock and the two ephemeris pages are
 //! reported as one set where they are of one issue of data, and once as long as it stays the same.
-//! A page of any other kind is reported each time. Behind an almanac the almanacs of all satellites
+//! A page of any other kind is reported each time. After an almanac the almanacs of all satellites
 //! are reported as an [`AlmanacSet`], where they are all for one time and not those reported last.
 //! The crate promises that the [`Reports`] of each page are what the definition makes of all the
-//! pages so far, however many there are. A [`Report`] tells its numbers in the order of its fields,
+//! pages so far, however many there are. A [`Report`] gives its numbers in the order of its fields,
 //! or one by the name of its field.
 //!
 //!     use data_sets::DataSets;
+//!     use frame_sync::Subframe;
 //!     use subframes::{ClockField, Field, Page};
 //!
-//!     let mut sets = DataSets::new();
-//!     if let Some(page) = Page::read(&subframe) {
+//!     fn show(sets: &mut DataSets, subframe: &Subframe) {
+//!         let Some(page) = Page::read(subframe) else { return };
 //!         let reports = sets.take(&page);
 //!         // The clock and ephemeris come with the last of their three pages.
 //!         if let Some(report) = reports.page {

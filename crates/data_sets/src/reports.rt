@@ -3,8 +3,8 @@
 use crate::almanac_set::AlmanacSet;
 use crate::report::Report;
 
-/// What a page makes reported: a report of its own, and behind it perhaps the almanacs of all
-/// satellites.
+/// What a page makes reported: a report of its own, and perhaps the almanacs of all satellites
+/// after it.
 #[derive(Clone, Copy, Debug, PartialEq, Eq)]
 pub struct Reports {
     /// The page itself, or the set of clock and ephemeris that it completes.
@@ -14,7 +14,7 @@ pub struct Reports {
 }
 
 impl Reports {
-    /// Nothing.
+    /// No report, and no set of almanacs.
     pub const NONE: Reports = Reports {
         page: None,
         set: None,

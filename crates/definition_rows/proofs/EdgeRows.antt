@@ -1,4 +1,4 @@
--- Worked examples of pushes, of the bit edge and of the bits behind it.
+-- Worked examples of pushes, of the bit edge and of the bits after it.
 use Rattle.std.proofs.Common.{◌≡◌, List, [], ◌∷◌, ◌++◌, refl}
 use Rattle.std.specs.Prelude.{◌%◌, ◌==◌, ℤ, pos, negsuc, map, true, false, Some, replicate, ◌/◌}
 use Rattle.std.specs.Prelude.{if◌then◌else◌}
@@ -17,7 +17,7 @@ use Rattle.definitions.proofs.SixteenthLemmas.{sixteenth}
 use Rattle.std.specs.Prelude.{nat_lt}
 use Rattle.definitions.specs.BitEdge.{is_crowded}
 
--- pushes begin with the dump behind a lock
+-- pushes begin with the dump after a lock
 abbrev dump : ℤ → ℤ → Counts
 dump i q = record { ie = pos 0; qe = pos 0; ip = i; qp = q; il = pos 0; ql = pos 0 }
 
@@ -29,7 +29,7 @@ pushes_behind_lock = refl
 abbrev square_wave : List ℤ
 square_wave = map (λ i. if i / 20 % 2 == 0 then pos 1 else negsuc 0) (range_with_len 0 361)
 
--- the bits behind an edge at push 320
+-- the bits after an edge at push 320
 bits_behind_edge : bits_behind square_wave (Some 320) ≡ false ∷ true ∷ []
 bits_behind_edge = refl
 

@@ -68,7 +68,7 @@ unfolding found_by starts_of starts_from is_candidate checked_at checked_data pa
     least_below subframe_at page_of
 damaged_has_no_page = refl
 
--- a bare preamble isn't taken: the start is behind it
+-- a bare preamble isn't taken: the start is after it
 abbrev false_preamble : List Bool
 false_preamble = false ∷ false ∷ map (λ i. bit_at 0x8b (7 - i) == 1) (range_with_len 0 8)
     ++ replicate 52 false ++ subframe_bits
@@ -86,14 +86,14 @@ unfolding starts_of starts_from is_candidate checked_at checked_data passes hold
     least_below
 one_start = refl
 
--- five bits behind a subframe, and another one: the gap is five
+-- five bits after a subframe, and another one: the gap is five
 found_with_gap : gap_found (example ++ replicate 5 false ++ subframe_bits) ≡ Some 5
 unfolding found_by starts_of starts_from is_candidate checked_at checked_data passes holds data_of
     least_below subframe_at
 found_with_gap = refl
 
 -- all bits from word 6 on inverted: its parity is that of other last bits, so it is missing, and
--- the words behind it pass
+-- the words after it pass
 found_inverted_tail : words_found (false ∷ false ∷ header ++ replicate 90 false
     ++ replicate 150 true)
     ≡ Some (Some 0x8b0000 ∷ Some 0x84 ∷ Some 0 ∷ Some 0 ∷ Some 0 ∷ None ∷ replicate 4 (Some 0))

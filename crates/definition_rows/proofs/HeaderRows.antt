@@ -1,4 +1,4 @@
--- Worked examples of false headers, and of the order of what a bit tells.
+-- Worked examples of false headers, and of the order of what a bit reports.
 use Rattle.std.proofs.Common.{◌≡◌, ℕ, List, [], ◌∷◌, ◌++◌, refl}
 use Rattle.std.specs.Prelude.{◌-◌, ◌==◌, option_and_then, map, Bool, false, Some, replicate}
 use Rattle.std.specs.List.{range_with_len}
@@ -24,7 +24,7 @@ abbrev whole : List Bool
 whole = header ++ replicate 240 false
 
 -- a false header is taken as a start, and the true one inside its 300 bits is not; the subframe
--- behind has a gap
+-- after it has a gap
 behind_false_header : option_and_then (λ (f : Found). f.gap)
     (found_by (false ∷ false ∷ header ++ replicate 90 false ++ whole ++ whole)) ≡ Some 150
 unfolding found_by starts_of starts_from is_candidate checked_at checked_data passes holds data_of

@@ -57,7 +57,7 @@ unfolding full full_lines body_lines end_lines at_each_time lines_at event_lines
     answer_at_end view_of event_text answer_text sample samples_from
 empty_run = refl
 
--- each refusal once; the last line is behind the end
+-- each refusal once; the last line is after the end
 every_refusal : run usual (0 ∷ []) (client 4 (codes "5 hold 0 1 0 0" ∷ codes "4 stop 0" ∷ codes "x"
     ∷ codes "6 fly 0" ∷ codes "6 stop" ∷ codes "6 stop z" ∷ codes "6 hold 4 z 0 0"
     ∷ codes "6 hold 0 z 0 0" ∷ codes "6 hold 0 1 0 0" ∷ codes "6 stop 1" ∷ codes "9 stop 0" ∷ [])
@@ -252,7 +252,7 @@ unfolding body taken_samples full full_lines body_lines end_lines at_each_time l
     life_events is_over answer_at_end view_of event_text answer_text sample samples_from
 at_limit = refl
 
--- a failed read behind eight samples
+-- a failed read after eight samples
 failed_read : due_text (task 64 (codes "8 state 0" ∷ codes "9 state 0" ∷ [])) (input (0 ∷ [])
     failed) ≡ text (codes "1 8 state 0 idle" ∷ [])
 unfolding body taken_samples full full_lines body_lines end_lines at_each_time lines_at event_lines

@@ -30,7 +30,7 @@ done_at = refl
 abbrev smallest : Plan
 smallest = record { prn = 1; centre = pos 0; bins = 0; dwell = 1; threshold = 10 }
 
--- 2,050 samples behind the start the first cell of the smallest plan is done
+-- 2,050 samples after the start the first cell of the smallest plan is done
 one_cell_done : answer_at_end usual (replicate 2050 (real (pos 1))) (record {
   time = 0;
   request =

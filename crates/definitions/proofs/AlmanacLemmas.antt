@@ -90,7 +90,7 @@ unmapped [] k o e = cc
 unmapped (p ∷ ps) zero o e = (p, cc, refl)
 unmapped (p ∷ ps) (suc k) o e = unmapped ps k o e
 
--- ---- values one behind another
+-- ---- values one after another
 get_or-first : (xs ys : List ℤ) (n : ℕ) (d : ℤ) → n < length xs
     → get_or (xs ++ ys) n d ≡ get_or xs n d
 get_or-first [] ys n d h = absurd (omega arith)

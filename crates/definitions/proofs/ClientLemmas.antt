@@ -39,7 +39,7 @@ of_client-flat_map c f (t ∷ ts) =
     of_client-append c (f t) (flat_map f ts)
     ∙ ap (λ r. lines_of_client c (f t) ++ r) (of_client-flat_map c f ts)
 
--- a word and a space, in front of a line
+-- a word and a space, before a line
 begins-own : (w line : List ℕ) → starts_with nat_eq (w ++ 32 ∷ line) (w ++ 32 ∷ []) ≡ true
 begins-own [] line = refl
 begins-own (b ∷ w) line = rw (same b) (begins-own w line)

@@ -1,4 +1,4 @@
--- What an acquiring life tells.
+-- What an acquiring life emits.
 use Rattle.std.proofs.Common.{◌≡◌, ℕ, ◌-◌, ◌*◌, ◌<◌, ◌^◌, List, [], ◌∷◌, ◌++◌, length, refl, sym}
 use Rattle.std.proofs.Common.{ap, ◌∙◌, arith, append-nil}
 use Rattle.std.specs.Prelude.{pos, ◌+ℤ◌, ◌*ℤ◌, Bool, true, false, Some, None, nat_le, ◌&&◌}
@@ -41,7 +41,7 @@ unfolding dumps_of_life
 acquire-no_dumps settings xs life plan is h =
     no_channel settings xs life.begun life.start plan is h
 
--- before the due time it tells nothing
+-- before the due time it emits nothing
 pub acquire-quiet : (settings : Settings) (xs : List Sample) (life : Life) (plan : Plan)
     → life.start ≡ acquire plan → length xs < due_time settings plan life.begun
     → life_events settings xs (Some life) ≡ []
@@ -55,7 +55,7 @@ acquire-quiet settings xs life plan is h =
     ∙ append-nil (due_events settings xs life.begun life.start)
     ∙ none_due settings xs life.begun life.start plan is h
 
--- at the due time the cell is told; a channel that starts there has no dump yet
+-- at the due time the cell is emitted; a channel that starts there has no dump yet
 due_told : (settings : Settings) (xs : List Sample) (begun : ℕ) (start : Start) (plan : Plan)
     → start ≡ acquire plan → length xs ≡ due_time settings plan begun
     → due_events settings xs begun start ≡ acquired plan.prn (result_of settings plan xs begun) ∷ []

@@ -71,7 +71,7 @@ module _ (settings : Settings) (channel : Channel) where
   start-is ds zero = refl
   start-is ds (suc k) = refl
 
-  -- the segment behind all of the dumps, when one more is pushed
+  -- the segment after all of the dumps, when one more is pushed
   segment-push : (ds : List Dump) (d : Dump)
       → segment_behind settings channel (ds ++ d ∷ []) (suc (length ds))
       ≡ next_segment (segment_behind settings channel ds (length ds))
@@ -92,7 +92,7 @@ module _ (settings : Settings) (channel : Channel) (xs : List Sample) where
     each : (k : ℕ) (d : Dump) → slice_get p.dumps k ≡ Some d → Is p.dumps k d
     behind : p.open_segment ≡ segment_behind settings channel p.dumps (length p.dumps)
 
-  -- a dump is what it was when others come behind it
+  -- a dump is what it was when others come after it
   still : (ds more : List Dump) (k : ℕ) (d : Dump) → k ≤ length ds → Is ds k d → Is (ds ++ more) k d
   unfolding Is
   still ds more k d h it =
@@ -129,7 +129,7 @@ module _ (settings : Settings) (channel : Channel) (xs : List Sample) where
       none : (k : ℕ) (d : Dump) → None ≡ Some d → Is [] k d
       none k d e = cc
 
-  -- the dump that ends the open segment, behind the others
+  -- the dump that ends the open segment, after the others
   new-dump : (p : Progress) (e : ℕ) → Stands p → next_end settings channel xs p ≡ Some e
       → Is p.dumps (length p.dumps)
       (record {
@@ -203,7 +203,7 @@ module _ (settings : Settings) (channel : Channel) (xs : List Sample) where
   later p e some =
       (end_by-above p.open_segment (open_phases settings channel p).code_step (length xs) e some).0
 
-  -- behind k segments either no other ends, or k samples at least have passed since the start
+  -- after k segments either no other ends, or k samples at least have passed since the start
   passed : (k : ℕ)
       → (next_end settings channel xs (behind_segments settings channel xs k) ≡ None)
       ⊎ (k + channel.start ≤ (behind_segments settings channel xs k).open_segment.start)
@@ -225,7 +225,7 @@ module _ (settings : Settings) (channel : Channel) (xs : List Sample) where
       by_end p (Some e) some (inr far) =
           inr (rw (closed-some settings channel xs p e some) (omega (arith, far, later p e some)))
 
-  -- behind as many segments as there are samples since the start no other ends
+  -- after as many segments as there are samples since the start no other ends
   progress-done : next_end settings channel xs (progress settings channel xs) ≡ None
   unfolding progress next_end
   progress-done = elim (passed (length xs - channel.start)) [

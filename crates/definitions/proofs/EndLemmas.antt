@@ -120,7 +120,7 @@ until_lost-is : (ds : List Dump) (o : Option ℕ) → lost_after (counts_of ds) 
     → until_lost ds ≡ elim o [ Some k ↦ take k ds | None ↦ ds ]
 until_lost-is ds o e = ap (λ (p : Option ℕ). elim p [ Some k ↦ take k ds | None ↦ ds ]) e
 
--- dumps behind a lost signal don't matter
+-- dumps after a lost signal don't matter
 until_lost-append : (ds more : List Dump) (k : ℕ) → lost_after (counts_of ds) ≡ Some k
     → until_lost (ds ++ more) ≡ until_lost ds
 until_lost-append ds more k e =

@@ -65,12 +65,12 @@ entry_of-later known slots before line =
     (entry_of_words known slots before (words_of line))
     (words-later known slots before (words_of line))
 
--- the entries of lines, behind one of time before
+-- the entries of lines, after one of time before
 pub record ComeAfter (before : ℕ) (entries : List Entry) : Type 0 where
   pub later : NoneBefore before entries
   pub by_time : AreByTime entries
 
--- an entry or none, and those of the lines behind it
+-- an entry or none, and those of the lines after it
 join : (before : ℕ) (here rest : List Entry) → length here ≤ 1 → NoneBefore before here
     → ComeAfter (last_time before here) rest → ComeAfter before (here ++ rest)
 join before [] rest one later after = after

@@ -1,4 +1,4 @@
--- Each event that a slot tells says what holds of the life that is on.
+-- Each event that a slot emits says what holds of the life that is on.
 use Rattle.std.proofs.Common.{◌≡◌, ℕ, zero, suc, ◌-◌, ◌*◌, ◌≤◌, List, [], ◌∷◌, ◌++◌, length, map}
 use Rattle.std.proofs.Common.{refl, sym, ap, ◌∙◌, arith}
 use Rattle.std.specs.Prelude.{Bool, true, false, ℤ, ◌&&◌, Option, Some, None, slice_get, not}

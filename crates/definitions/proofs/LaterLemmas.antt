@@ -17,7 +17,7 @@ all-append : (P : List ℕ → Type 0) (xs ys : List (List ℕ)) → AllByRecurs
 all-append P [] ys hx hy = hy
 all-append P (x ∷ xs) ys hx hy = (hx.0, all-append P xs ys hx.1 hy)
 
--- texts at the last time, behind a client's number
+-- texts at the last time, after a client's number
 texts-later : (t client : ℕ) (xs : List Sample) → t < length xs → (texts : List (List ℕ))
     → AllByRecursion (IsLaterThan t) (map (for_client client) (timed_texts xs texts))
 texts-later t client xs h [] = tt

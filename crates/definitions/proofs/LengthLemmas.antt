@@ -43,7 +43,7 @@ small-length (negsuc n) h =
     let all = length-decimal-le 10 (suc n) (omega arith) (omega (arith, h)) (omega (arith, h)) in
     omega (arith, all)
 
--- ---- words with a space behind each
+-- ---- words with a space after each
 unfoldable pub size : List (List ℕ) → ℕ
 size [] = 0
 size (w ∷ ws) = suc (length w) + size ws

@@ -1,4 +1,4 @@
--- Lives, and what they tell, when samples or commands are added.
+-- Lives, and what they emit, when samples or commands are added.
 use Rattle.std.proofs.Common.{◌≡◌, ℕ, suc, ◌+◌, ◌-◌, ◌<◌, ◌≤◌, List, [], ◌∷◌, ◌++◌, length, take}
 use Rattle.std.proofs.Common.{refl, sym, ap, ◌∙◌, arith, length-append, append-nil, true, false}
 use Rattle.std.specs.Prelude.{ℤ, Option, Some, None, slice_get, nat_eq, nat_lt, filter, ◌&&◌, ◌||◌}
@@ -95,7 +95,7 @@ LastEnds-progress settings channel xs h =
     (record { within = h; last = λ d e. no_dump d channel.start e; all = tt })
     (LastEnds-closed settings channel xs) (length xs - channel.start)
 
--- ---- what a channel's dumps tell
+-- ---- what a channel's dumps emit
 same : (n : ℕ) → nat_eq n n ≡ true
 same n = true_from_ne_false (nat_eq n n) (λ e. eqb-false n n e refl)
 
@@ -134,7 +134,7 @@ life_events-hold settings xs life prn doppler half_chip e =
     (last_of (dumps_of_life settings xs life)))
     (due_none settings xs life.begun life.start prn doppler half_chip e)
 
--- a held dump tells its sums and no more
+-- a held dump emits its sums and no more
 dump_events-hold : (life : Life) (prn : ℕ) (doppler : ℤ) (half_chip : ℕ) (dumps : List Dump)
     (d : Dump) → life.start ≡ hold prn doppler half_chip
     → dump_events life dumps d
@@ -165,7 +165,7 @@ event_lines : (life : Life) (n : ℕ) (dumps : List Dump) (d : Dump) → d.time 
     → last_dump_events life n dumps (Some d) ≡ dump_events life dumps d
 event_lines life n dumps d e = let t : nat_eq d.time n ≡ true = eq-eqb d.time n e in rw t
 
--- a segment ends with it: its sums are told, where they are wanted
+-- a segment ends with it: its sums are emitted, where they are wanted
 pub hold-tells : (settings : Settings) (xs : List Sample) (life : Life) (prn : ℕ) (doppler : ℤ)
     (half_chip : ℕ) → life.start ≡ hold prn doppler half_chip → (dumps : List Dump) (d : Dump)
     → (progress settings (held_channel life.begun prn doppler half_chip) xs).dumps ≡ dumps ++ d ∷ []
@@ -225,7 +225,7 @@ life_of-command settings xs commands request =
     ∙ ap (λ ys. life_with (life_of settings xs commands)
     (still_on settings ys (life_of settings xs commands)) (length xs) request) (take-all xs)
 
--- what samples tell, in terms of the life that is on before the last
+-- what samples bring, in terms of the life that is on before the last
 pub events-behind : (settings : Settings) (xs ys : List Sample) (commands : List TimedRequest)
     → 0 < length ys
     → events_at_end settings (xs ++ ys) commands

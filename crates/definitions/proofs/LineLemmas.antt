@@ -192,7 +192,7 @@ almanacs-line slot set =
       all-map OneLine signed_decimal set.health signed-line,
     )
 
--- what a slot tells, whatever it is
+-- what a slot emits, whatever it is
 pub event-line : (slot : ℕ) (event : Event) → OneLine (event_text slot event)
 unfolding event_text OneLines
 event-line slot (acquired prn cell) =

@@ -91,7 +91,7 @@ lost-unlocked ds n e =
     not-any true e = cc
     not-any false e = refl
 
--- a dump with news is the last of a window, and the loops are not locked behind it, or were not
+-- a dump with news is the last of a window, and the loops are not locked after it, or were not
 -- before
 pub record IsNews (ds : List Counts) : Type 0 where
   pub enough : 219 ≤ length ds
@@ -129,7 +129,7 @@ news-is ds = by_window (nat_le 219 (length ds)) ((length ds - 199) % 20 == 0) re
         by_locks (leb-true 219 (length ds) f) (eqb-true ((length ds - 199) % 20) 0 g)
         (is_lost_after ds n) (is_locked_after ds n) (is_locked_after ds (n - 1)) refl refl refl
 
--- the loops were not locked before it or are not behind it
+-- the loops were not locked before it or are not after it
 off : (ys : List Counts) (y : Counts) → IsNews (ys ++ y ∷ [])
     → (is_locked ys && is_locked (ys ++ y ∷ [])) ≡ false
 unfolding is_locked

@@ -53,7 +53,7 @@ over-stays settings xs t life over =
     ∙ is_over-append settings (take t xs) (drop t xs) life over
 
 module _ (settings : Settings) (xs : List Sample) where
-  -- a command began the life, and where a `stop` stands behind it the life was over
+  -- a command began the life, and where a `stop` comes after it the life was over
   StoppedLate : List TimedRequest → ℕ → Life → Type 0
   StoppedLate commands i life =
       (j : ℕ) (c : TimedRequest) → i < j → slice_get commands j ≡ Some c → c.request ≡ stop

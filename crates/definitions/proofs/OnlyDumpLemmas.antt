@@ -29,7 +29,7 @@ take-none xs k e =
     let short = none-there xs k e in
     take_all (suc k) xs (omega (arith, short)) ∙ sym (take_all k xs short)
 
--- ---- what lies behind the first dumps rests on them alone
+-- ---- what comes after the first dumps rests on them alone
 module _ (settings : Settings) (channel : Channel) where
   time-take : (ds : List Dump) (k : ℕ) → k ≤ length ds
       → time_behind channel ds k ≡ time_behind channel (take k ds) k

@@ -99,7 +99,7 @@ answer_lines-none settings clients xs none = among 1 clients none
     among b (c ∷ cs) none =
         rw (answered-none settings c xs none.0) (among (b + 1) cs none.1)
 
--- ---- before the first sample nothing is told
+-- ---- before the first sample nothing is emitted
 told-first : (settings : Settings) (client : Client)
     → event_texts settings client [] ≡ []
 unfolding event_texts events_at_end life_of life_now life_events commands_to

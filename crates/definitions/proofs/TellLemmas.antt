@@ -1,4 +1,4 @@
--- What slots side by side tell is, line by line, what the receiver writes of them.
+-- What slots side by side emit is, line by line, what the receiver writes of them.
 use Rattle.std.proofs.Common.{◌≡◌, ℕ, suc, ◌+◌, ◌<◌, ◌≤◌, List, [], ◌∷◌, ◌++◌, length, take, refl}
 use Rattle.std.proofs.Common.{sym, ap, ◌∙◌, append_assoc, arith}
 use Rattle.std.specs.Prelude.{map, flat_map, replicate, Some, slice_get}
@@ -101,7 +101,7 @@ module _ (settings : Settings) (xs : List Sample)
       (λ k c found s. let e : b + 1 + k ≡ b + suc k = omega arith in
       rw e (own (suc k) c found s)))
 
--- what the last sample makes the slots tell are the receiver's lines, where asked gives each slot
+-- what the last sample makes the slots emit are the receiver's lines, where asked gives each slot
 -- the commands that its client's script has for it before the last sample
 pub told-lines : (settings : Settings) (xs : List Sample)
     (asked : ℕ → ℕ → List TimedRequest) (clients : List Client)
@@ -119,7 +119,7 @@ AreAsked clients asked xs =
     (k : ℕ) (client : Client) → slice_get clients k ≡ Some client → (s : ℕ)
     → asked (1 + k) s ≡ commands_to s (entries_before (length xs) (entries_of client))
 
--- the same for what many samples tell, one after another
+-- the same for what many samples bring, one after another
 pub at_each_sample-lines : (settings : Settings)
     (asked : ℕ → ℕ → List TimedRequest) (clients : List Client) (xs ys : List Sample)
     → ((j : ℕ) → 0 < j → j ≤ length ys → AreAsked clients asked (xs ++ take j ys))

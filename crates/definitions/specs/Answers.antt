@@ -1,4 +1,4 @@
--- What one slot answers to a request behind the last sample. (This project's own.)
+-- What one slot answers to a request after the last sample. (This project's own.)
 --
 -- Time is the number of samples so far: at time T samples 0 to T - 1 are known, and `xs` is always
 -- those. A command at time T acts before sample T; what the last sample causes comes before the
@@ -63,7 +63,7 @@ answer_with settings xs on state = shown (view_of settings xs on)
 answer_with settings xs None stop = refused 10
 answer_with settings xs (Some life) stop = accepted
 
--- the answer to a command after the last sample, behind commands that all came before it
+-- the answer to a command after the last sample, where all earlier commands came before it
 unfoldable pub answer_at_end : Settings → List Sample → List TimedRequest → Request → Answer
 answer_at_end settings xs commands request =
     answer_with settings xs (life_now settings xs commands) request

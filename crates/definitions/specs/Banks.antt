@@ -1,4 +1,4 @@
--- What many slots side by side tell, before it is text. A slot is named by its client, of those
+-- What many slots side by side emit, before it is text. A slot is named by its client, of those
 -- numbered from 1, and its number. (This project's own.)
 use Rattle.std.specs.Prelude.{ℕ, ◌==◌, ◌&&◌, if◌then◌else◌, List, [], ◌∷◌, ◌++◌}
 use Rattle.std.specs.Prelude.{length, map, flat_map}
@@ -9,7 +9,7 @@ use Rattle.definitions.specs.Commands.{TimedRequest, Request}
 use Rattle.definitions.specs.Events.{Event, events_at_end}
 use Rattle.definitions.specs.Texts.{event_text, at_time, for_client}
 
--- whose slot tells, when, and what
+-- whose slot emits, when, and what
 pub record SlotEvent : Type 0 where
   pub client : ℕ
   pub slot : ℕ
@@ -25,7 +25,7 @@ abbrev pub slot_events : ℕ → ℕ → ℕ → List Event → List SlotEvent
 slot_events client slot time events =
     map (λ event. record { client = client; slot = slot; time = time; event = event }) events
 
--- what the last sample makes these slots tell, in their order, each pair being a client and a slot;
+-- what the last sample makes these slots emit, in their order, each pair being a client and a slot;
 -- asked gives the commands of each
 unfoldable pub bank_events_at_end : Settings → List (ℕ × ℕ) → (ℕ → ℕ → List TimedRequest)
     → List Sample → List SlotEvent

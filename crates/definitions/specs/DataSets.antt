@@ -178,7 +178,7 @@ almanac_set values = record {
   health = map (λ k. value_of_almanac values k (codes "health")) (range_with_len 0 32);
 }
 
--- what a page makes reported: a report of its own, and behind it perhaps a set of almanacs
+-- what a page makes reported: a report of its own, and after it perhaps a set of almanacs
 pub record Reports : Type 0 where
   pub page : Option Report
   pub set : Option AlmanacSet

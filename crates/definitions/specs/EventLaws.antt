@@ -1,4 +1,4 @@
--- What holds of the events that a slot tells, by what the definitions make of the samples and
+-- What holds of the events that a slot emits, by what the definitions make of the samples and
 -- commands so far. Each law is promised by a function of the same name in this crate. (This
 -- project's own.)
 use Rattle.std.specs.Prelude.{ℕ, ◌≡◌, ◌+◌, ◌-◌, ◌*◌, ◌^◌, ◌<◌, ◌≤◌, ◌↔◌, Bool, true, ℤ, pos, List}
@@ -56,7 +56,7 @@ abbrev pub total_power : Settings → List Sample → Plan → ℕ → ℕ
 total_power settings xs plan start =
     sum (map (power_of settings plan xs start) (range_with_len 0 (cell_count plan)))
 
--- The first greatest of the plan's cells over the dwell behind a start, found exactly where it has
+-- The first greatest of the plan's cells over the dwell after a start, found exactly where it has
 -- the threshold or more.
 pub record IsNamed (settings : Settings) (xs : List Sample) (plan : Plan) (start named : ℕ)
     (cell : Cell) : Type 0 where
@@ -143,14 +143,14 @@ found_step settings xs plan start =
 
 -- ---- laws
 
--- Each event that a slot tells is right.
+-- Each event that a slot emits is right.
 abbrev pub EventsAreRight : Type 0
 EventsAreRight = (settings : Settings) (xs : List Sample) (commands : List TimedRequest) (i : ℕ)
     (event : Event)
     → slice_get (events_at_end settings xs commands) i ≡ Some event
     → IsRight settings xs commands event
 
--- Of these, one by one: each count that is told is a dump of the channel that the slot follows,
+-- Of these, one by one: each count that is emitted is a dump of the channel that the slot follows,
 -- ended by the last sample.
 abbrev pub CountsAreDumps : Type 0
 CountsAreDumps = (settings : Settings) (xs : List Sample) (commands : List TimedRequest) (i : ℕ)
@@ -159,7 +159,7 @@ CountsAreDumps = (settings : Settings) (xs : List Sample) (commands : List Timed
     → (life : Life) × (life_now settings (front_of xs) commands ≡ Some life) × (channel : Channel)
     × (k : ℕ) × IsCount settings xs life channel k c
 
--- Each acquisition that is told names the first greatest cell of its plan, over the dwell behind
+-- Each acquisition that is emitted names the first greatest cell of its plan, over the dwell after
 -- its start.
 abbrev pub AcquisitionsNameTheGreatest : Type 0
 AcquisitionsNameTheGreatest =
@@ -169,7 +169,7 @@ AcquisitionsNameTheGreatest =
     → (life : Life) × (life_now settings (front_of xs) commands ≡ Some life)
     × IsAcquisition settings xs life prn cell
 
--- Each word that is shown of a subframe that is told passes.
+-- Each word that is shown of an emitted subframe passes.
 abbrev pub WordsToldPass : Type 0
 WordsToldPass = (settings : Settings) (xs : List Sample) (commands : List TimedRequest) (i : ℕ)
     (s : Subframe)

@@ -1,4 +1,4 @@
--- What the last sample makes one slot tell, behind the requests made to it before. (This project's
+-- What the last sample makes one slot emit, after the requests made to it before. (This project's
 -- own.)
 --
 -- Time is the number of samples so far: at time T samples 0 to T - 1 are known, and `xs` is always
@@ -20,7 +20,7 @@ use Rattle.definitions.specs.DataSets.{Report, AlmanacSet, Reports, reports_of}
 use Rattle.definitions.specs.Commands.{Start, TimedRequest, hold, track, acquire}
 use Rattle.definitions.specs.Lives.{Life, is_steered, dumps_of_life, life_now}
 
--- what a slot tells
+-- what a slot emits
 pub data Event : Type 0 where
   acquired : ℕ → Cell → Event
   count : Counts → Event
@@ -40,7 +40,7 @@ abbrev pub events_of : {A : Type 0} → (A → Event) → Option A → List Even
 events_of f None = []
 events_of f (Some x) = f x ∷ []
 
--- behind such dumps, how many are still to be printed: as many as were asked for, less those that
+-- after such dumps, how many are still to be printed: as many as were asked for, less those that
 -- have come since
 unfoldable pub unprinted_count : Life → List Dump → ℕ
 unprinted_count life dumps =
@@ -58,9 +58,9 @@ news_events lock = locked ∷ []
 news_events unlock = unlocked ∷ []
 news_events lost = signal_lost ∷ []
 
--- of the first k dumps, the prompt sums of those behind the last that answered with a lock, where
--- the loops are locked by then: a dump is pushed where they are locked before it and behind it.
--- Each lock begins a new list, and the dump that ends the lock is not among them
+-- of the first k dumps, the prompt sums of those after the last that answered with a lock, where
+-- the loops are locked by then: a dump is pushed where they are locked before it and after it. Each
+-- lock begins a new list, and the dump that ends the lock is not among them
 unfoldable pub pushes_by : List Counts → ℕ → List ℤ
 pushes_by dumps zero = []
 pushes_by dumps (suc k) = if is_locked (take k dumps) && is_locked (take (suc k) dumps)
@@ -84,21 +84,21 @@ abbrev pub page_events : List Bool → Option Page → List Event
 page_events bits None = []
 page_events bits (Some last) = report_events (reports_of (pages_among bits))
 
--- what the last of the bits tells
+-- what the last of the bits reports
 abbrev pub bit_events : List Bool → Option Found → List Event
 bit_events bits None = []
 bit_events bits (Some found) =
     events_of gap found.gap ++ subframe found.subframe ∷ []
     ++ page_events bits (page_of found.subframe)
 
--- what the last of the pushes tells: the edge, or a bit that is whole with it
+-- what the last of the pushes reports: the edge, or a bit that is whole with it
 unfoldable pub push_events : List ℤ → List Event
 push_events pushes = let bits = bits_of pushes in
     when (has_edge pushes && not (has_edge (front_of pushes))) edge
     ++ (if nat_lt (length (bits_of (front_of pushes))) (length bits)
     then bit_events bits (found_by bits) else [])
 
--- what the last dump of a tracking slot tells beside its sums
+-- what the last dump of a tracking slot reports beside its sums
 unfoldable pub steered_events : List Counts → List Event
 steered_events dumps = news_events (news_of dumps) ++ push_events (pushes_of dumps)
 
@@ -106,12 +106,12 @@ abbrev pub dump_events : Life → List Dump → Dump → List Event
 dump_events life dumps d = when (nat_lt 0 (unprinted_count life (front_of dumps))) (count d.counts)
     ++ (if is_steered life.start then steered_events (counts_of dumps) else [])
 
--- what a dump tells, where it ends with the last sample
+-- what a dump emits, where it ends with the last sample
 abbrev pub last_dump_events : Life → ℕ → List Dump → Option Dump → List Event
 last_dump_events life n dumps None = []
 last_dump_events life n dumps (Some d) = if d.time == n then dump_events life dumps d else []
 
--- what an acquisition tells, where it is due with the last sample
+-- what an acquisition emits, where it is due with the last sample
 abbrev pub due_events : Settings → List Sample → ℕ → Start → List Event
 due_events settings xs begun (hold prn doppler half_chip) = []
 due_events settings xs begun (track prn doppler half_chip) = []
@@ -125,8 +125,8 @@ life_events settings xs (Some life) = let dumps = dumps_of_life settings xs life
     due_events settings xs life.begun life.start
     ++ last_dump_events life (length xs) dumps (last_of dumps)
 
--- what the last sample makes the slot tell, behind commands that all came before it. The life that
--- is on just before that sample tells it, its own end too; a life that is over by then tells
+-- what the last sample makes the slot emit, after commands that all came before it. The life that
+-- is on just before that sample emits it, and its own end too. A life that is over by then emits
 -- nothing
 unfoldable pub events_at_end : Settings → List Sample → List TimedRequest → List Event
 events_at_end settings xs commands =

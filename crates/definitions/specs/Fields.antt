@@ -90,7 +90,7 @@ eph3_fields = signed (codes "cic") (bits 61 76 ∷ []) (minus 29)
     ∷ signed (codes "idot") (bits 279 292 ∷ []) (minus 43)
     ∷ []
 
--- an almanac: section 20.3.3.5.1.2, table 20-VI. Its af0 stands in two parts, before and behind af1
+-- an almanac: section 20.3.3.5.1.2, table 20-VI. Its af0 stands in two parts, before and after af1
 abbrev pub almanac_fields : List Field
 almanac_fields = unsigned (codes "data") (bits 61 62 ∷ []) (pos 0)
     ∷ unsigned (codes "sv") (bits 63 68 ∷ []) (pos 0)

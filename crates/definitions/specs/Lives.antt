@@ -129,7 +129,7 @@ is_over settings xs life =
     found_nothing settings xs life.begun life.start || is_lost settings xs life
 
 -- the life that has not been ended by the samples so far. An end that comes with the last sample
--- comes before the commands behind it
+-- comes before the commands after it
 abbrev pub still_on : Settings → List Sample → Option Life → Option Life
 still_on settings xs None = None
 still_on settings xs (Some life) = if is_over settings xs life then None else Some life
@@ -170,6 +170,6 @@ life_after settings xs latest command =
 unfoldable pub life_of : Settings → List Sample → List TimedRequest → Option Life
 life_of settings xs commands = fold (life_after settings xs) None commands
 
--- the life that is on behind the last sample, and behind commands that have all come by then
+-- the life that is on after the last sample, and after commands that have all come by then
 unfoldable pub life_now : Settings → List Sample → List TimedRequest → Option Life
 life_now settings xs commands = still_on settings xs (life_of settings xs commands)

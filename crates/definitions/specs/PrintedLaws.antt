@@ -29,7 +29,7 @@ commands_before client slot xs =
 abbrev pub IsAmong : {A : Type 0} → List A → A → Type 0
 IsAmong xs x = (i : ℕ) × (slice_get xs i ≡ Some x)
 
--- The last of the samples makes a slot of client number 1 + k tell the event, and it is right.
+-- The last of the samples makes a slot of client number 1 + k emit the event, and it is right.
 pub record Tells (settings : Settings) (clients : List Client)
     (xs : List Sample) (k slot : ℕ) (client : Client) (event : Event) : Type 0 where
   pub is_client : slice_get clients k ≡ Some client
@@ -37,14 +37,14 @@ pub record Tells (settings : Settings) (clients : List Client)
   pub is_told : IsAmong (events_at_end settings xs (commands_before client slot xs)) event
   pub is_right : IsRight settings xs (commands_before client slot xs) event
 
--- The line is that of an event, told at a time from 0 to the number of samples.
+-- The line is that of an event, emitted at a time from 0 to the number of samples.
 abbrev pub IsLineOf : Settings → List Client → List Sample → List ℕ → Event → Type 0
 IsLineOf settings clients xs line event =
     (t : ℕ) × (k : ℕ) × (slot : ℕ) × (client : Client) × (t ≤ length xs)
     × Tells settings clients (take t xs) k slot client event
     × (line ≡ for_client (1 + k) (at_time t (event_text slot event)))
 
--- the text of the answer to an entry of a client's script, behind the i entries before it
+-- the text of the answer to an entry of a client's script, after the i entries before it
 abbrev pub reply_to : Settings → Client → List Sample → ℕ → Entry → List ℕ
 reply_to settings client xs i entry =
     reply_text settings (take entry.time xs) (take i (entries_of client)) entry.what
@@ -67,7 +67,7 @@ IsOneOf settings clients xs line =
     ((event : Event) × IsLineOf settings clients xs line event)
     ⊎ (IsAnswerLine settings clients xs line ⊎ IsEndLine clients xs line)
 
--- Each line of the whole text is that of an event that a slot tells, or that of an answer, or an
+-- Each line of the whole text is that of an event that a slot emits, or that of an answer, or an
 -- end.
 abbrev pub LinesComeFromEvents : Type 0
 LinesComeFromEvents =
@@ -78,7 +78,7 @@ LinesComeFromEvents =
 
 -- ---- lines by their verbs
 
--- the word of a line behind its client and its time
+-- the word of a line after its client and its time
 abbrev pub verb_of : List ℕ → Option (List ℕ)
 verb_of line = slice_get (words_of line) 2
 

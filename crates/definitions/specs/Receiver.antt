@@ -39,19 +39,19 @@ commands_to slot entries = filter_map (λ (e : Entry). command_to slot e.time e.
 abbrev pub entries_before : ℕ → List Entry → List Entry
 entries_before time entries = filter (λ (e : Entry). nat_lt e.time time) entries
 
--- what the last sample makes one slot tell
+-- what the last sample makes one slot emit
 abbrev pub slot_event_texts : Settings → List Sample → List Entry → ℕ → List (List ℕ)
 slot_event_texts settings xs entries slot =
     map (event_text slot)
     (events_at_end settings xs (commands_to slot (entries_before (length xs) entries)))
 
--- the texts of what the last sample makes a client's slots tell, slot by slot
+-- the texts of what the last sample makes a client's slots emit, slot by slot
 unfoldable pub event_texts : Settings → Client → List Sample → List (List ℕ)
 event_texts settings client xs =
     flat_map (slot_event_texts settings xs (entries_of client))
     (range_with_len 0 client.slots)
 
--- the answer to an entry, behind those before it
+-- the answer to an entry, after those before it
 abbrev pub reply_text : Settings → List Sample → List Entry → Result Command ℕ → List ℕ
 reply_text settings xs before (Ok c) =
     answer_text c.slot (answer_at_end settings xs (commands_to c.slot before) c.request)
@@ -74,13 +74,13 @@ answer_texts settings client xs =
 unfoldable pub at_each_time : (List Sample → List (List ℕ)) → List Sample → List (List ℕ)
 at_each_time lines xs = flat_map (λ t. lines (take t xs)) (range_with_len 0 (length xs + 1))
 
--- texts behind the last time
+-- texts after the last time
 abbrev pub timed_texts : List Sample → List (List ℕ) → List (List ℕ)
 timed_texts xs texts = map (at_time (length xs)) texts
 
 -- ---- one client alone
 
--- the lines at the last time: what the samples make the slots tell, and then the answers
+-- the lines at the last time: what the samples make the slots emit, and then the answers
 unfoldable pub lines_alone_at : Settings → Client → List Sample → List (List ℕ)
 lines_alone_at settings client xs =
     timed_texts xs (event_texts settings client xs)
@@ -99,12 +99,12 @@ alone_to_end settings xs client = alone settings xs client ++ end_line xs ∷ []
 
 -- ---- several clients
 
--- the lines of each client in turn, behind its number; clients are numbered from 1
+-- the lines of each client in turn, after its number; clients are numbered from 1
 unfoldable pub for_each_client : (Client → List (List ℕ)) → List Client → List (List ℕ)
 for_each_client lines clients =
     flat_map (λ (number, client). map (for_client number) (lines client)) (enumerate_from 1 clients)
 
--- at the last time: what the samples tell each client
+-- at the last time: what the samples bring each client
 unfoldable pub event_lines : Settings → List Client → List Sample → List (List ℕ)
 event_lines settings clients xs =
     for_each_client (λ client. timed_texts xs (event_texts settings client xs)) clients
@@ -114,13 +114,13 @@ unfoldable pub answer_lines : Settings → List Client → List Sample → List 
 answer_lines settings clients xs =
     for_each_client (λ client. timed_texts xs (answer_texts settings client xs)) clients
 
--- what the samples tell, and then the answers
+-- what the samples bring, and then the answers
 unfoldable pub lines_at : Settings → List Client → List Sample → List (List ℕ)
 lines_at settings clients xs =
     event_lines settings clients xs ++ answer_lines settings clients xs
 
--- what each of the samples ys behind xs adds, time after time, where tells gives what the last
--- sample tells
+-- what each of the samples ys after xs adds, time after time, where tells gives what the last
+-- sample adds
 unfoldable pub at_each_sample : {A : Type 0} → (List Sample → List A) → List Sample → List Sample
     → List A
 at_each_sample tells xs [] = []

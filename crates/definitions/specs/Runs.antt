@@ -57,7 +57,7 @@ abbrev pub full_text : Task → Input → List ℕ
 full_text task input = full task.settings (taken_samples task input) (clients_of task)
 
 -- the text that is due for what came: with the ends where reading came to its end within the limit,
--- and without them behind a failed read, past the limit, and while reading goes on
+-- and without them after a failed read, past the limit, and while reading goes on
 abbrev pub due_text : Task → Input → List ℕ
 due_text task input = if is_too_long task input then body_text task input
     else elim input.end [
@@ -87,7 +87,7 @@ IsUntouched input written = (input.end ≡ unfinished) × (input.bytes ≡ []) �
 abbrev pub AreRight : Task → Type 0
 AreRight task = (are_clients task.scripts ≡ true) × (are_shares task.shares task.scripts ≡ true)
 
--- which answer goes with what came and what was written. The scripts are looked at first, then the
+-- which answer goes with what came and what was written. The scripts are checked first, then the
 -- shares; then memory is taken, all before anything is read
 unfoldable pub IsAnswer : Task → Input → List ℕ → RunAnswer → Type 0
 IsAnswer task input written wrong_clients =

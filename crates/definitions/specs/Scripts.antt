@@ -20,7 +20,7 @@ is_number word = nat_le 1 (length word) && nat_le (length word) 13 && list_all i
 abbrev pub number_in : List ℕ → Option ℕ
 number_in word = if is_number word then Some (digits_value 10 word) else None
 
--- the same, with `-` in front or not
+-- the number, with or without a leading `-`
 abbrev pub signed_number_in : List ℕ → Option ℤ
 signed_number_in word =
     if slice_index word 0 == 45 then option_map (λ (n : ℕ). neg_ℤ (pos n)) (number_in (drop 1 word))
@@ -48,7 +48,7 @@ number values i = natural (get_or values i (pos 0))
 abbrev pub integer : List ℤ → ℕ → ℤ
 integer values i = get_or values i (pos 0)
 
--- the values of the words behind the slot
+-- the values of the words after the slot
 abbrev pub plan_of : List ℤ → Plan
 plan_of values = record {
   prn = number values 0;
@@ -101,7 +101,7 @@ stop_verb = record { name = codes "stop"; ranges = []; meaning = λ v. stop }
 abbrev pub verbs : List Verb
 verbs = hold_verb ∷ track_verb ∷ acquire_verb ∷ counts_verb ∷ state_verb ∷ stop_verb ∷ []
 
--- a value behind the others, or the refusal that came first
+-- a value after the others, or the refusal that came first
 abbrev pub with_value : ℤ → Result (List ℤ) ℕ → Result (List ℤ) ℕ
 with_value value (Ok values) = Ok (value ∷ values)
 with_value value (Err refusal) = Err refusal
@@ -124,7 +124,7 @@ meant verb (Ok []) = Err 6
 meant verb (Ok (slot ∷ values)) = Ok (record { slot = natural slot; request = verb.meaning values })
 meant verb (Err refusal) = Err refusal
 
--- refusal 5 for no known verb, 6 for another number of words; the first word behind a verb is the
+-- refusal 5 for no known verb, 6 for another number of words; the first word after a verb is the
 -- slot
 abbrev pub command_with : ℕ → Option Verb → List (List ℕ) → Result Command ℕ
 command_with slots None words = Err 5
@@ -163,8 +163,8 @@ entry_of_words known slots before (word ∷ words) =
 abbrev pub is_printable : ℕ → Bool
 is_printable b = nat_le 0x20 b && nat_le b 0x7e
 
--- the entry of a line that stands behind one of time before; a line without words has none. A line
--- that is refused by 1 to 4 has the time of the line before it
+-- the entry of a line that follows one of time before; a line without words has none. A line that
+-- is refused by 1 to 4 has the time of the line before it
 unfoldable pub entry_of : List Verb → ℕ → ℕ → List ℕ → List Entry
 entry_of known slots before line =
     if nat_lt 80 (length line) then record { time = before; what = Err 1 } ∷ []
@@ -175,7 +175,7 @@ abbrev pub last_time : ℕ → List Entry → ℕ
 last_time before [] = before
 last_time before (e ∷ es) = e.time
 
--- the entries of lines, the first of which stands behind one of time before
+-- the entries of lines, the first of which follows one of time before
 unfoldable pub entries_after : List Verb → ℕ → ℕ → List (List ℕ) → List Entry
 entries_after known slots before [] = []
 entries_after known slots before (line ∷ lines) =

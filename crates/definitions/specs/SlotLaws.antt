@@ -58,8 +58,8 @@ pub record IsDump (channel : Channel) (xs : List Sample) (start : ℕ) (p : Phas
   pub not_sooner : (e : ℕ) → start < e → e < d.time → code_by p (e - start) < code_cycle
   pub sums : d.counts ≡ counts_over channel.prn p xs start d.time
 
--- Each is the dump of the segment behind those before it, and behind the last of them no segment
--- ends within the samples.
+-- Each is the dump of the segment after those before it, and after the last of them no segment ends
+-- within the samples.
 pub record AreDumps (settings : Settings) (channel : Channel) (xs : List Sample) (dumps : List Dump)
     : Type 0 where
   pub each : (k : ℕ) (d : Dump) → slice_get dumps k ≡ Some d
@@ -116,7 +116,7 @@ abbrev pub sums_behind : List Counts → Option ℕ → List ℤ
 sums_behind dumps None = []
 sums_behind dumps (Some k) = prompt_sums (drop k dumps)
 
--- While the loops are locked, the prompt sums of the dumps behind the one with which they last
+-- While the loops are locked, the prompt sums of the dumps after the one with which they last
 -- answered with a lock are pushed, and otherwise none.
 abbrev pub PushesAreBehindLock : Type 0
 PushesAreBehindLock = (dumps : List Counts)
@@ -133,8 +133,8 @@ pub record Begins (settings : Settings) (xs : List Sample) (commands : List Time
   pub was_idle : still_on settings (take life.begun xs) (life_of settings xs (take i commands))
       ≡ None
 
--- The life that is on was begun by a command for which the slot was idle, no `stop` came behind
--- that command, and the samples have not ended it.
+-- The life that is on was begun by a command for which the slot was idle, no `stop` came after that
+-- command, and the samples have not ended it.
 abbrev pub LifeIsOn : Type 0
 LifeIsOn = (settings : Settings) (xs : List Sample) (commands : List TimedRequest) (life : Life)
     → life_now settings xs commands ≡ Some life
@@ -145,7 +145,7 @@ LifeIsOn = (settings : Settings) (xs : List Sample) (commands : List TimedReques
 
 -- ---- events
 
--- A slot tells at most four events with one sample, and a set of almanacs beside them at most.
+-- A slot emits at most four events with one sample, and a set of almanacs beside them at most.
 abbrev pub is_set : Event → Bool
 is_set event = elim event [
   | almanacs set ↦ true

@@ -30,8 +30,8 @@ ClientsAreAloneInBody =
     → lines_of_client (1 + k) (lines_of (body settings xs clients))
     ≡ alone settings xs client
 
--- A run with one client writes what that client gets alone, and then its end, behind its number,
--- which is 1.
+-- A run with one client writes what that client gets alone, and then its end, each line after the
+-- client's number, which is 1.
 abbrev pub OneClientRuns : Type 0
 OneClientRuns = (settings : Settings) (xs : List Sample) (client : Client)
     → full settings xs (client ∷ [])

@@ -65,7 +65,7 @@ almanacs_text slot set =
     words_text (codes "als" ∷ decimal slot ∷ (codes "toa=" ++ signed_decimal set.toa ++ codes ":12")
     ∷ map signed_decimal set.health)
 
--- what a slot tells
+-- what a slot emits
 unfoldable pub event_text : ℕ → Event → List ℕ
 event_text slot (acquired prn cell) =
     words_text (codes "acq" ∷ decimal slot ∷ decimal prn ∷ (if cell.found then codes "found"
@@ -103,10 +103,10 @@ answer_text slot accepted = codes "ok"
 answer_text slot (refused n) = refusal_text n
 answer_text slot (shown view) = view_text slot view
 
--- a text behind its time
+-- a text after its time
 abbrev pub at_time : ℕ → List ℕ → List ℕ
 at_time time text = decimal time ++ 32 ∷ text
 
--- a line behind the number of its client
+-- a line after the number of its client
 abbrev pub for_client : ℕ → List ℕ → List ℕ
 for_client client line = decimal client ++ 32 ∷ line

@@ -6,7 +6,7 @@ ghost use Rattle.definitions.specs.PrintedLaws.{PrintedAcquisitionsNameTheGreate
 ghost use Rattle.definitions.specs.PrintedLaws.{PrintedWordsPass, PrintedPagesPass};
 ghost use Rattle.definitions.specs.PrintedLaws.{PrintedAlmanacsAgree, LinesAreShort};
 
-/// Each line of the whole text is that of an event that a slot tells, or that of an answer, or an
+/// Each line of the whole text is that of an event that a slot emits, or that of an answer, or an
 /// end.
 pub fn lines_come_from_events()
     ensures { LinesComeFromEvents }

@@ -1,4 +1,4 @@
-//! Laws of what one slot tells.
+//! Laws of what one slot emits.
 
 ghost use Rattle.definitions.specs.SlotLaws.{PushesAreBehindLock};
 ghost use Rattle.definitions.specs.SlotLaws.{DumpsArePlainSums, NoOtherDumps, CellsComeWithSamples};
@@ -28,7 +28,7 @@ pub fn pages_pass()
     ensures { PagesPass }
 {}
 
-/// While the loops are locked, the prompt sums behind the last dump that brought a lock are pushed.
+/// While the loops are locked, the prompt sums after the last dump that brought a lock are pushed.
 pub fn pushes_are_behind_lock()
     ensures { PushesAreBehindLock }
 {}
@@ -39,30 +39,29 @@ pub fn edge_is_sixteenth_change()
     ensures { EdgeIsSixteenthChange }
 {}
 
-/// The life that is on was begun by a command for which the slot was idle, no `stop` came behind
-/// it, and the samples haven't ended it.
+/// The life that is on was begun by a command for which the slot was idle, no `stop` came after it,
+/// and the samples haven't ended it.
 pub fn life_is_on()
     ensures { LifeIsOn }
 {}
 
-/// Each event that a slot tells says what holds of the life that is on.
+/// Each event that a slot emits says what holds of the life that is on.
 pub fn events_are_right()
     ensures { EventsAreRight }
 {}
 
-/// Each count that is told is a dump of the channel that the slot follows, ended by the last
-/// sample.
+/// Each emitted count is a dump of the channel that the slot follows, ended by the last sample.
 pub fn counts_are_dumps()
     ensures { CountsAreDumps }
 {}
 
-/// Each acquisition that is told names the first greatest cell of its plan, and is found exactly at
-/// the threshold.
+/// Each emitted acquisition names the first greatest cell of its plan, and is found exactly at the
+/// threshold.
 pub fn acquisitions_name_the_greatest()
     ensures { AcquisitionsNameTheGreatest }
 {}
 
-/// Each word that is shown of a subframe that is told passes with the two bits before it.
+/// Each word that is shown of an emitted subframe passes with the two bits before it.
 pub fn words_told_pass()
     ensures { WordsToldPass }
 {}
@@ -79,7 +78,7 @@ pub fn found_code_goes_on()
     ensures { FoundCodeGoesOn }
 {}
 
-/// A slot tells at most four events with one sample, and beside them at most one set of almanacs.
+/// A slot emits at most four events with one sample, and beside them at most one set of almanacs.
 pub fn slot_tells_few()
     ensures { SlotTellsFew }
 {}

@@ -51,7 +51,7 @@ past bits n far =
     (number_at bits (n + 58) 2))
     (and_right (nat_le 2 n) (nat_le (n + 60) (length bits)) (lt-leb (n + 60) (length bits) far))
 
--- the place that is awaited behind these starts
+-- the place that is awaited after these starts
 abbrev pub next_behind : ℕ → List ℕ → ℕ
 next_behind from [] = from
 next_behind from (n ∷ ns) = next_behind (n + 300) ns

@@ -62,7 +62,7 @@ number_of-append bits more =
       length-map-bits more,
     ) refl
 
--- what stands between the bits before and those behind
+-- what stands between the bits before and those after
 between : (before some behind : List Bool)
     → number_of (before ++ (some ++ behind)) / 2 ^ length behind % 2 ^ length some ≡ number_of some
 between before some behind =
@@ -91,7 +91,7 @@ the_number : (bits : List Bool) → number_of bits ≡ number_from_digits 2 (map
 unfolding number_of
 the_number bits = refl
 
--- the number at a place, by how far behind it the bits end
+-- the number at a place, by how many bits come after it
 pub number_at-is : (bits : List Bool) (n count behind : ℕ) → length bits ≡ n + count + behind
     → number_at bits n count ≡ number_of bits / 2 ^ behind % 2 ^ count
 number_at-is bits n count behind long =

@@ -82,7 +82,7 @@ pub next_behind-push : (place : ℕ) (starts : List ℕ) (start : ℕ)
 next_behind-push place [] start = refl
 next_behind-push place (s ∷ starts) start = next_behind-push (s + 300) starts start
 
--- it is 0 where there was no start, and then none is awaited, or behind a whole subframe
+-- it is 0 where there was no start, and then none is awaited, or after a whole subframe
 pub awaited-cases : (starts : List ℕ)
     → ((awaited_behind None starts ≡ None) × (next_behind 0 starts ≡ 0))
     ⊎ ((awaited_behind None starts ≡ Some (next_behind 0 starts))

@@ -9,12 +9,13 @@ use Rattle.definitions.specs.Frames.{bit_number, is_header}
 unfoldable pub number_of : List Bool → ℕ
 number_of bits = number_from_digits 2 (map bit_number bits)
 
--- the number that some bits of a window write, of which the newest is this far behind the newest of
--- all
+-- the number that some bits of a window write, the last of which came this many bits before the
+-- newest of all
 abbrev pub bits_in : ℕ → ℕ → ℕ → ℕ
 bits_in window behind count = window / 2 ^ behind % 2 ^ count
 
--- the data of the word that ends this far behind, where it passes with the two bits before it
+-- the data of the word that ends this many bits before the newest, where it passes with the two
+-- bits before it
 unfoldable pub word_in : ℕ → ℕ → Option ℕ
 word_in window behind = checked_data (bits_in window behind 30) (bits_in window (behind + 30) 2)
 

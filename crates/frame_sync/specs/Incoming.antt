@@ -4,7 +4,7 @@ use Rattle.std.specs.Prelude.{unwrap_or, slice_set}
 use Rattle.frame_sync.specs.Bits.{word_in, has_header_in, header_words_in}
 use Rattle.frame_sync.specs.declared.incoming.Incoming.{Incoming}
 
--- the newest 60 of the bits that were pushed are a header, at or behind the place that is awaited,
+-- the newest 60 of the bits that were pushed are a header, at or after the place that is awaited,
 -- or 2 where none is
 abbrev pub StartsHere : ℕ → ℕ → Option ℕ → Type 0
 StartsHere window pushed awaited =

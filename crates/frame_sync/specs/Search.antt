@@ -37,7 +37,7 @@ abbrev pub open_start : Option Incoming → List ℕ
 open_start None = []
 open_start (Some incoming) = incoming.start ∷ []
 
--- the place behind the last of these subframes, from where the next one is awaited
+-- the place after the last of these subframes, from where the next one is awaited
 abbrev pub awaited_behind : Option ℕ → List ℕ → Option ℕ
 awaited_behind place [] = place
 awaited_behind place (start ∷ starts) = awaited_behind (Some (start + 300)) starts

@@ -5,7 +5,7 @@ ghost use Rattle.std.specs.Prelude.{◌≡◌, ◌+◌, ◌<◌, ◌≤◌, Some
 use crate::subframe::Subframe;
 use crate::window::Window;
 
-/// The bits that a start is told by: words 1 and 2.
+/// The bits by which a start is recognised: words 1 and 2.
 const HEADER_BITS: u64 = 60;
 
 /// The bits of a word (IS-GPS-200, section 20.3.2).
@@ -14,8 +14,8 @@ const WORD_BITS: u64 = 30;
 /// The first place that has the two bits before it which its word is checked with.
 const FIRST_PLACE: u64 = 2;
 
-/// A subframe of which the header is there, and the words behind it as far as their bits are: the
-/// place of its first bit, from 0, and the words.
+/// A subframe whose header is there, and the words after the header as far as their bits have come:
+/// the place of its first bit, from 0, and the words.
 #[derive(Clone, Copy, Debug)]
 pub(crate) struct Incoming {
     pub(crate) start: u64,

@@ -2,13 +2,14 @@
 //!
 //! [`FrameSync`] takes bits one at a time, damaged ones too, and gives each [`Subframe`] with the
 //! last of its 300 bits: a word is there exactly where its parity holds, and a start is the least
-//! header at or behind the end of the subframe before. It keeps a window of 64 bits, and promises
+//! header at or after the end of the subframe before. It keeps a window of 64 bits, and promises
 //! what the definition says of the whole list of bits that were pushed.
 //!
 //!     use frame_sync::FrameSync;
 //!
+//!     // A subframe is found among bits where its header and its parity are. Here is none.
 //!     let mut sync = FrameSync::new();
-//!     for bit in bits {
+//!     for bit in [true, false, false, false, true, false, true, true] {
 //!         if let Some(found) = sync.push(bit) {
 //!             let (id, time_of_week) = (found.subframe.id(), found.subframe.tow());
 //!         }

@@ -96,7 +96,7 @@ impl FrameSync {
     }
 }
 
-/// How far behind the place where it was awaited a subframe starts.
+/// How many bits after the awaited place a subframe starts.
 fn gap_between(awaited: Option<u64>, start: u64) -> Option<u64>
     requires { ForSome awaited (λ place. place ≤ start) }
     ensures { result ≡ gap_from awaited start }

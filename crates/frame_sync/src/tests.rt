@@ -15,7 +15,7 @@ use fixture::{
 };
 
 /// The telemetry word and the handover word of subframe 1 at the time count 1, as they are sent
-/// behind two bits 0.
+/// after two bits 0.
 const TELEMETRY: u32 = 0x22c0_0012;
 
 const HANDOVER: u32 = 0x0000_2104;

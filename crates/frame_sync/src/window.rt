@@ -55,7 +55,7 @@ impl Window {
         (before == 0 || before == 3) && self.number(0, 2) == before
     }
 
-    /// The data of the word that ends this many bits behind the newest one, where it passes with
+    /// The data of the word that ends this many bits before the newest one, where it passes with
     /// the two bits before it (IS-GPS-200, section 20.3.5).
     #[tactic(auto, unfolding(crate::specs::Bits::word_in))]
     pub(crate) fn word(&self, behind: u32) -> Option<u32>
@@ -68,8 +68,8 @@ impl Window {
         check(word as u32, prior as u8)
     }
 
-    /// The number that `count` bits write, of which the newest is this far behind the newest of
-    /// all.
+    /// The number that `count` bits write, the last of which came this many bits before the newest
+    /// of all.
     #[tactic(auto, using(crate::proofs::Windows::masked))]
     fn number(&self, behind: u32, count: u32) -> u64
         requires within { behind + count ≤ 64 }

@@ -273,7 +273,7 @@ pub turned_bits : (n t : ℕ) → n < 2 → t < 2 → pos 0 -ℤ signed n t ≡ 
 turned_bits n t hn ht = by_two (λ (n t : ℕ). pos 0 -ℤ signed n t ≡ signed (1 - n) t) refl refl refl
     refl n t hn ht
 
--- a part that is 1 at most in size has no size to be told
+-- a part that is 1 at most in size needs no plane of sizes
 pub flat_part : (x : ℤ) (s m i : ℕ) → s < 2 → m < 2 → x ≡ part_of s m → unsigned_abs x ≤ 1
     → x ≡ part_of s (bit_at 0 i)
 flat_part x s m i hs hm is small = is ∙ ap (part_of s) (flat m s hm hs (rw is at small) ∙ sym

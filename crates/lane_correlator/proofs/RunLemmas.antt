@@ -1,4 +1,4 @@
--- What words of samples, carrier and chips tell of their places of a run.
+-- What words of samples, carrier and chips say of their places of a run.
 use Rattle.std.proofs.Common.{◌≡◌, ℕ, ◌+◌, ◌-◌, ◌*◌, ◌<◌, ◌≤◌, List, length, arith}
 use Rattle.std.specs.Prelude.{ℤ, pos, ◌-ℤ◌, unsigned_abs}
 use Rattle.std.specs.Int.{bit_at}

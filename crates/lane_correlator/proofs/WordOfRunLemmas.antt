@@ -16,7 +16,7 @@ use Rattle.lane_correlator.proofs.PartLemmas.{chips_are_signs, six-small}
 use Rattle.lane_correlator.proofs.RunLemmas.{part_of_run, quadrature_of_run, real_in_run}
 
 -- word w of a run of samples, a replica, and the places first to end - 1 as a mask; and the words
--- by which its samples in phase, the carrier and the chips are told
+-- that give its samples in phase, the carrier and the chips
 pub record RunWord : Type 0 where
   pub run : List Sample
   pub replica : Replica
@@ -35,7 +35,7 @@ pub record RunWord : Type 0 where
   pub minus_sin : AreWave (λ j. pos 0 -ℤ replica.sin j) (64 * w) end wave.minus_sin
   pub three : AreThreeChips replica (64 * w) end chips
 
--- its first place in the run, and that behind its last
+-- its first place in the run, and that after its last
 abbrev pub from : RunWord → ℕ
 from d = 64 * d.w + d.first
 

@@ -35,7 +35,7 @@ impl Factors {
         Factors { negative, large }
     }
 
-    /// Their parts in quadrature, or None where the samples are real.
+    /// The factors of the samples' parts in quadrature, or None where the samples are real.
     pub(crate) fn quadrature(samples: &Planes, w: usize, has_sizes: bool) -> Option<Factors>
         requires word { w < WORDS }
         requires one_bit { has_sizes ≡ false → AreOneBit samples.now }

@@ -6,11 +6,19 @@
 //! range of the run, for real and for complex samples. (IS-GPS-200 has the signal alone; how a
 //! receiver correlates with it is this project's own.)
 //!
+//!     use ca_codes::{CodeBook, Prn};
 //!     use lane_correlator::replica_sums;
+//!     use oscillators::{CarrierOsc, CodeOsc, HalfChip, Settings};
+//!     use sample_planes::{Format, PackedSamples};
 //!
-//!     // A carrier and a code that begin with the run's first sample.
-//!     let (carrier, code) = (CarrierOsc::new(carrier_step), CodeOsc::new(half, code_step));
-//!     let counts = replica_sums(&run, 0, run.len(), &carrier, &code, &mut book, prn);
+//!     // A carrier and a code that begin with the run's first sample, at no Doppler shift.
+//!     let settings = Settings::new(2_046_000, 511_500, Format::Real1)?;
+//!     let prn = Prn::new(5).ok_or("no satellite")?;
+//!     let half = HalfChip::new(700).ok_or("no half chip")?;
+//!     let carrier = CarrierOsc::new(settings.carrier_step(0));
+//!     let code = CodeOsc::new(half, settings.code_step(0, 0));
+//!     let run = PackedSamples::new(settings.format(), &[0x5a; 128]).unpack();
+//!     let counts = replica_sums(&run, 0, run.len(), &carrier, &code, &mut CodeBook::new(), prn);
 #![tactic(auto)]
 
 mod counts;

@@ -32,7 +32,7 @@ pub(crate) fn pair_of_run(
     ensures small_quadrature { unsigned_abs result.1 ≤ 9 * (to - from) }
 {
     let mut sums = (0, 0);
-    // None lies behind the run.
+    // No place is past the end of the run.
     for w in from / 64..(to.min(samples.len()) + 63) / 64 {
         let first = from.max(64 * w) - 64 * w;
         let end = to.min(64 * w + 64) - 64 * w;

@@ -36,7 +36,7 @@ pub(crate) fn six_of_run(
     ensures small { AreWithin (9 * (to - from)) (counts_in result) }
 {
     let mut sums = Counts::NONE;
-    // None lies behind the run.
+    // No place is past the end of the run.
     for w in from / 64..(to.min(samples.len()) + 63) / 64 {
         let first = from.max(64 * w) - 64 * w;
         let end = to.min(64 * w + 64) - 64 * w;

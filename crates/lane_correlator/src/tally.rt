@@ -17,7 +17,8 @@ pub(crate) struct Tally {
     /// All sizes, in phase and in quadrature.
     pub(crate) all_i: u32,
     pub(crate) all_q: u32,
-    /// Those below 0 with the early, prompt and late chips, in phase (i) and in quadrature (q).
+    /// The sizes of the products below 0 with the early, prompt and late chips, in phase (i) and in
+    /// quadrature (q).
     pub(crate) ie: u32,
     pub(crate) qe: u32,
     pub(crate) ip: u32,

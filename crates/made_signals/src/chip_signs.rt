@@ -50,7 +50,8 @@ pub struct ChipSigns {
 }
 
 impl ChipSigns {
-    /// Those of a satellite, 1 to 32, by two shift registers of ten stages that begin with ones.
+    /// The signs of the chips of a satellite, 1 to 32, by two shift registers of ten stages that
+    /// begin with ones.
     pub fn of(satellite: u8) -> Self {
         let place = usize::from(satellite).wrapping_sub(1);
         let stages = STAGES.get(place).copied().unwrap_or((1, 1));

@@ -7,9 +7,11 @@
 //!     use made_signals::{MadeSignal, PlainTracker, SampleStream};
 //!
 //!     let signal = MadeSignal::with_tail(&[]);
-//!     let mut stream = SampleStream::new(signal, 2_000_000);
+//!     let mut stream = SampleStream::new(signal, 10_000);
 //!     let mut tracker = PlainTracker::follow(&signal);
-//!     let dump = tracker.take(stream.next_value());
+//!     while let Some(value) = stream.next_value() {
+//!         let dump = tracker.take(value);
+//!     }
 #![tactic(auto)]
 
 mod chip_signs;

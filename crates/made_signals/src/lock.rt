@@ -45,8 +45,8 @@ impl PlainLock {
         self.answer(window)
     }
 
-    /// What the end of a window tells. It is locked where the last good window is at most nine
-    /// before it; it is lost where there are 50 windows, and none of the last 50 is good.
+    /// What the end of a window makes of the lock. It is locked where the last good window is at
+    /// most nine before it; it is lost where there are 50 windows, and none of the last 50 is good.
     fn answer(&mut self, window: u64) -> PlainNews {
         let was_locked = self.is_locked;
         let bad = match self.last_good {
@@ -65,7 +65,7 @@ impl PlainLock {
         }
     }
 
-    /// Whether it is locked after the dumps so far.
+    /// Whether the satellite is locked after the dumps so far.
     pub fn is_locked(&self) -> bool {
         self.is_locked
     }

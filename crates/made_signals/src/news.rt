@@ -1,6 +1,6 @@
-//! What a dump tells of the lock.
+//! What a dump reports of the lock.
 
-/// What a dump tells of the lock, by the plain reference.
+/// What a dump reports of the lock, by the plain reference.
 #[derive(Clone, Copy, Debug, Default, PartialEq, Eq)]
 pub enum PlainNews {
     /// Nothing new.

@@ -87,7 +87,8 @@ pub fn code_file() -> [u8; 256] {
     code_bytes()
 }
 
-/// The same, gone on with: 12,288 samples, six periods of the code and twelve samples.
+/// The recording of `code_file`, with more samples: 12,288, which are six periods of the code and
+/// twelve samples.
 pub fn long_code_file() -> [u8; 1_536] {
     code_bytes()
 }
@@ -101,7 +102,7 @@ fn code_bytes<const BYTES: usize>() -> [u8; BYTES] {
     bytes
 }
 
-/// Eight samples of it. The code comes to the next half chip with each.
+/// Eight samples of the code's file. The code comes to the next half chip with each.
 fn code_byte(signs: &ChipSigns, place: u64) -> u8 {
     let mut byte = 0u8;
     for n in 0..8u64 {

@@ -23,7 +23,7 @@ pub struct MadeSignal<'a> {
     pub half_chip: u16,
     /// How many data bits 0, 1, 0, 1, .. come before those of the list.
     pub alternations: u64,
-    /// The data bits behind them, of 20 code periods each. Behind these all are 0.
+    /// The data bits after them, of 20 code periods each. After these all are 0.
     pub bits: &'a [bool],
 }
 

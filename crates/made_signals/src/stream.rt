@@ -7,7 +7,7 @@ use crate::noise::Noise;
 use crate::signal::MadeSignal;
 
 /// The samples of a signal from number 0 on, up to an end. In some stretches there may be noise in
-/// place of the signal, which goes on behind them as if it had been there.
+/// place of the signal, which goes on after them as if it had been there.
 #[derive(Clone, Copy)]
 pub struct SampleStream<'a> {
     signal: MadeSignal<'a>,

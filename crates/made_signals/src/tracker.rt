@@ -10,17 +10,17 @@ use crate::steps::{carrier_step, code_step, cosine, sine};
 /// A dump of the plain reference.
 #[derive(Clone, Copy, Debug, PartialEq, Eq)]
 pub struct PlainDump {
-    /// Its number, from 1 on.
+    /// The dump's number, from 1 on.
     pub number: u64,
-    /// The number of samples up to its end.
+    /// The number of samples up to the dump's end.
     pub time: u64,
     /// The early, prompt and late sums, each in phase and in quadrature.
     pub counts: [i32; 6],
-    /// What it tells of the lock.
+    /// What the dump reports of the lock.
     pub news: PlainNews,
-    /// Whether the satellite is locked after it.
+    /// Whether the satellite is locked after the dump.
     pub is_locked: bool,
-    /// The shift after it, in 1/65536 Hz.
+    /// The shift after the dump, in 1/65536 Hz.
     pub v: i64,
     /// The correction of the code after it, in 1/65536 chip a second.
     pub w: i64,
@@ -46,7 +46,7 @@ pub struct PlainTracker {
 
 impl PlainTracker {
     /// Tracks with the rate and offset of a signal, from its satellite, shift and half chip on. Its
-    /// data bits aren't looked at.
+    /// data bits aren't used.
     pub fn follow(signal: &MadeSignal) -> Self {
         PlainTracker {
             rate: signal.rate,
@@ -63,8 +63,8 @@ impl PlainTracker {
         }
     }
 
-    /// Takes the value of the next sample, and gives the dump that it ends. Behind a dump that
-    /// tells that the satellite is lost there is none.
+    /// Takes the value of the next sample, and gives the dump that it ends. After a dump that
+    /// reports the satellite lost there is none.
     pub fn take(&mut self, value: i32) -> Option<PlainDump> {
         if self.is_lost {
             return None;

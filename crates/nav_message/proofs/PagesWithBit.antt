@@ -149,7 +149,7 @@ module _ (bits : List Bool) (bit : Bool) where
           (added-open (next_behind 0 (starts_of bits)))
           ∙ append-nil (filter (ends_by (length bits)) (starts_of bits))
 
-  -- ---- what the bit tells
+  -- ---- what the bit reports
 
   pub none-read : None ≡ found_by (bits ++ bit ∷ [])
       → pages_among (bits ++ bit ∷ []) ≡ pages_among bits

@@ -1,4 +1,4 @@
--- What one more push tells.
+-- What one more push reports.
 use Rattle.std.proofs.Common.{◌≡◌, ℕ, ◌<◌, List, [], ◌∷◌, ◌++◌, length, refl, ◌∙◌}
 use Rattle.std.proofs.Common.{arith, append-nil, length-append}
 use Rattle.std.specs.Prelude.{Bool, true, false, ℤ, not, ◌&&◌, Some, None, is_some, nat_lt}

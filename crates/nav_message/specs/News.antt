@@ -1,4 +1,4 @@
--- What a push tells, as the definitions have it.
+-- What a push reports, as the definitions have it.
 use Rattle.std.specs.Prelude.{List, [], ◌∷◌, ◌++◌}
 use Rattle.definitions.specs.Events.{Event, edge, gap, subframe, events_of, report_events}
 use Rattle.data_sets.specs.Reports.{reports_in}

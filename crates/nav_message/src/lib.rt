@@ -1,16 +1,20 @@
 //! The navigation message of one satellite, from the lock of its loops on (IS-GPS-200, section 20).
 //!
 //! [`Message`] takes the prompt sums of a locked channel one by one. It finds the data bits, their
-//! subframes, the pages of these and the sets that the pages make. What each push tells is proved
+//! subframes, the pages of these and the sets that the pages make. What each push reports is proved
 //! to be what the definition makes of all pushes so far.
 //!
 //!     use nav_message::{Message, MessageNews};
 //!
+//!     // The prompt sums of dumps since the lock.
 //!     let mut message = Message::new();
-//!     match message.push(counts.ip) {
-//!         MessageNews::Nothing => {}
-//!         MessageNews::Edge => bits_are_found(),
-//!         MessageNews::Frame { found, reports } => show(&found.subframe, reports.page),
+//!     let (mut edges, mut pages) = (0, 0);
+//!     for ip in [900, 870, 910, -880, -905] {
+//!         match message.push(ip) {
+//!             MessageNews::Nothing => {}
+//!             MessageNews::Edge => edges += 1,
+//!             MessageNews::Frame { found, reports } => pages += u32::from(reports.page.is_some()),
+//!         }
 //!     }
 #![tactic(auto)]
 

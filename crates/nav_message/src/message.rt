@@ -41,10 +41,10 @@ impl Message {
         }
     }
 
-    /// Takes the prompt sum in phase of the next dump, at most 2^18 in size. Gives what it tells:
+    /// Takes the prompt sum in phase of the next dump, at most 2^18 in size. Gives what it reports:
     /// nothing, the edge of the bits, or a subframe with the gap before it and what its page makes
-    /// reported. A bit is 20 dumps (IS-GPS-200, section 3.2.2), and a subframe 300 bits
-    /// (section 20.3.2). A message takes up to [`MOST_BITS`] bits. A push brings one at most.
+    /// reported. A bit is 20 dumps (IS-GPS-200, section 3.2.2), and a subframe 300 bits (section
+    /// 20.3.2). A message takes up to [`MOST_BITS`] bits. A push brings one at most.
     pub fn push(&mut self, ip: i32) -> MessageNews
         requires small { unsigned_abs ip ≤ 2 ^ 18 }
         requires room { bit_count self.old < MOST_BITS }
@@ -61,7 +61,7 @@ impl Message {
         }
     }
 
-    /// Takes the next bit, and gives what it makes told.
+    /// Takes the next bit, and gives what it makes reported.
     fn take_bit(&mut self, bit: bool) -> MessageNews
         requires room { bit_count self.old < MOST_BITS }
         ensures counted { bit_count self.new ≡ bit_count self.old + 1 }

@@ -1,12 +1,12 @@
-//! What a push makes a message tell.
+//! What a push makes a message report.
 
 use data_sets::Reports;
 use frame_sync::Found;
 
-/// What a prompt sum makes a message tell.
+/// What a prompt sum makes a message report.
 #[derive(Clone, Copy, Debug, PartialEq, Eq)]
 pub enum MessageNews {
-    /// Nothing that is told.
+    /// Nothing is reported.
     Nothing,
     /// The edge of the data bits is found.
     Edge,
@@ -14,7 +14,7 @@ pub enum MessageNews {
     Frame {
         /// The subframe, and the gap before it.
         found: Found,
-        /// What its page makes reported.
+        /// What the subframe's page makes reported.
         reports: Reports,
     },
 }

@@ -11,17 +11,17 @@ mod fixture;
 
 use fixture::{Pushed, subframe};
 
-/// The telemetry word, behind two bits 0.
+/// The telemetry word, after two bits 0.
 const TELEMETRY: u32 = 0x22c0_0012;
 
-/// The handover words of subframes 1, 2, 3 and 5 behind it, at the time count 1.
+/// The handover words of subframes 1, 2, 3 and 5 after it, at the time count 1.
 const HANDOVERS: [u32; 4] = [0x2104, 0x22bc, 0x23e4, 0x2528];
 
 /// The data of these words.
 const DATA: [u32; 5] = [0x8b_0000, 0x84, 0x8a, 0x8f, 0x94];
 
-// The edge is told once, with push 320, the sixteenth change. Bits are whole from push 339 on; they
-// tell nothing.
+// The edge is reported once, with push 320, the sixteenth change. Bits are whole from push 339 on;
+// they report nothing.
 #[test]
 fn edge_of_alternating_bits(rt: HostRuntime) {
     let mut pushed = Pushed::new();
@@ -65,8 +65,8 @@ fn gap_between_subframes(rt: HostRuntime) {
     assert_eq!(rt; pushed.push_words(&rt, &sent), second);
 }
 
-// Subframes 1, 2 and 3 of zeros, one behind the other, are of one issue: the third makes their set
-// reported, and the three of them again don't.
+// Subframes 1, 2 and 3 of zeros, one after the other, are of one issue. The third makes their set
+// reported. The same three again make no set.
 #[test]
 fn set_with_the_third_subframe(rt: HostRuntime) {
     let mut pushed = Pushed::with_edge(&rt);
@@ -124,8 +124,8 @@ fn almanac_page(rt: HostRuntime) {
     }
 }
 
-// With a damaged bit in word 7 the subframe is told without that word, and has no page: the set of
-// three waits for the whole subframe 3.
+// With a damaged bit in word 7 the subframe is reported without that word, and has no page: the set
+// of three waits for the whole subframe 3.
 #[test]
 fn damaged_word(rt: HostRuntime) {
     let mut pushed = Pushed::with_edge(&rt);
@@ -166,7 +166,7 @@ fn zero_data(handover: u32) -> [Option<u32>; 10] {
     words
 }
 
-/// What is told with a subframe whose page makes this reported, and no set of almanacs.
+/// What is reported with a subframe whose page makes this reported, and no set of almanacs.
 fn told(found: Found, page: Option<Report>) -> MessageNews {
     MessageNews::Frame {
         found,

@@ -8,7 +8,7 @@
 //!
 //!     use nav_parity::{check, encode};
 //!
-//!     // The word behind one whose last two bits are 0.
+//!     // The word after one whose last two bits are 0.
 //!     let word = encode(0x8b_0000, 0);
 //!     let data = check(word, 0);
 #![tactic(auto)]

@@ -62,7 +62,7 @@ fn changed(bits: u32) -> u32
     (TELEMETRY ^ bits) & 0x3fff_ffff
 }
 
-/// What `check` answers to `encode`: the contracts of the two tell it.
+/// What `check` answers to `encode`, as the contracts of the two say.
 fn checked_code(data: u32, prior: u8) -> Option<u32>
     requires is_data { «data» < 2 ^ 24 }
     requires is_prior { prior < 4 }
@@ -71,7 +71,7 @@ fn checked_code(data: u32, prior: u8) -> Option<u32>
     check(encode(data, prior), prior)
 }
 
-/// What `encode` makes of the data that `check` finds: the contracts of the two tell it.
+/// What `encode` makes of the data that `check` finds, as the contracts of the two say.
 fn recoded_word(word: u32, prior: u8) -> Option<u32>
     requires is_word { word < 2 ^ 30 }
     requires is_prior { prior < 4 }

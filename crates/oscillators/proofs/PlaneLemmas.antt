@@ -55,7 +55,7 @@ pub carrier_advanced : (phase n step : ℕ) → (phase + n % 2 ^ 32 * step % 2 ^
 carrier_advanced phase n step = rw (mul-mod_first n step (2 ^ 32))
     (add-mod-mod phase (n * step) (2 ^ 32))
 
--- the phase r samples behind another
+-- the phase r samples after another
 pub carrier_behind : (phase step j r here : ℕ) → here ≡ carrier_phase_after phase step j
     → (here + r * step) % 2 ^ 32 ≡ carrier_phase_after phase step (j + r)
 carrier_behind phase step j r here e =
@@ -106,7 +106,7 @@ sine_by_bits p h = sym (get_or-map (λ (b : ℕ). signed (bit_at b 6) (bit_at b 
 
 -- ---- the code
 
--- the phase r samples behind another
+-- the phase r samples after another
 pub code_behind : (phase step j r here : ℕ) → here ≡ code_phase_after phase step j
     → (here + r * step) % (1023 * 2 ^ 32) ≡ code_phase_after phase step (j + r)
 code_behind phase step j r here e =
@@ -125,7 +125,7 @@ code_behind_ahead phase step j r here e =
     ∙ rw e (mod-add-mod (phase + j * step) (1023 * 2 ^ 32) (2 ^ 31 + r * step)
     ∙ ap (λ (n : ℕ). n % (1023 * 2 ^ 32)) more)
 
--- n samples behind where it was n samples ago
+-- n samples after where it was n samples ago
 pub code_back : (phase way : ℕ) → phase < 4393751543808 → way ≤ 4393751543808
     → ((phase + (4393751543808 - way)) % 4393751543808 + way) % 4393751543808 ≡ phase
 code_back phase way below short = omega arith
@@ -147,7 +147,7 @@ pub code_on : (phase step : ℕ) → (phase + 4 * (16 * step)) % (1023 * 2 ^ 32)
     ≡ code_phase_after phase step 64
 code_on phase step = let way : 4 * (16 * step) ≡ 64 * step = omega arith in rw way refl
 
--- chips are told apart by their numbers within a period
+-- chips differ by their numbers within a period
 pub same_chip : (prn m n : ℕ) → m % 1023 ≡ n % 1023 → chip prn m ≡ chip prn n
 unfolding chip
 same_chip prn m n e = ap (chip_after prn) e

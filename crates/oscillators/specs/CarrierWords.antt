@@ -1,4 +1,4 @@
--- The carrier at 64 samples in a row, place j of a word being the sample j behind the first.
+-- The carrier at 64 samples in a row, place j of a word being the sample j after the first.
 use Rattle.std.specs.Prelude.{◌≡◌, ℕ, ◌-◌, ◌<◌}
 use Rattle.std.specs.Int.{bit_at}
 use Rattle.definitions.specs.Oscillators.{carrier_phase_after, cosine, sine}

@@ -1,4 +1,4 @@
--- The chips of a satellite at 64 samples in a row, place j of a word being the sample j behind the
+-- The chips of a satellite at 64 samples in a row, place j of a word being the sample j after the
 -- first.
 use Rattle.std.specs.Prelude.{◌≡◌, ℕ, ◌+◌, ◌-◌, ◌/◌, ◌^◌, ◌<◌}
 use Rattle.std.specs.Int.{bit_at}
@@ -16,7 +16,8 @@ pub record AreChips (prn phase step : ℕ) (w : ChipWord) : Type 0 where
   pub late : (j : ℕ) → j < 64 → sign_of (bit_at w.late (63 - j))
       ≡ late_sign prn (code_phase_after phase step j)
 
--- and the chips themselves, those ahead and behind by the phase half a chip ahead
+-- and the chips themselves; the phase half a chip ahead gives the early ones, and the late ones,
+-- which come one chip before these
 pub record AreChipBits (prn phase step : ℕ) (w : ChipWord) : Type 0 where
   pub early : (j : ℕ) → j < 64 → bit_at w.early (63 - j)
       ≡ chip prn (code_phase_after (phase + 2 ^ 31) step j / 2 ^ 32)

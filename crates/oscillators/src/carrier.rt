@@ -69,7 +69,7 @@ impl CarrierOsc {
         self.phase = self.phase.wrapping_add(turns.wrapping_mul(self.step));
     }
 
-    /// Where it was `n` samples ago, if it has had this step since.
+    /// The oscillator `n` samples ago, if it has had this step since.
     pub fn earlier(&self, n: u32) -> CarrierOsc
         ensures now { carrier_phase_after result.phase result.step n ≡ self.now.phase }
         ensures step { result.step ≡ self.now.step }

@@ -111,7 +111,7 @@ impl CodeOsc {
         self.phase = (phase % CODE_CYCLE as u128) as u64;
     }
 
-    /// Where it was `n` samples ago, at most 1,023, if it has had this step since.
+    /// The oscillator `n` samples ago, at most 1,023, if it has had this step since.
     pub fn earlier(&self, n: u32) -> CodeOsc
         requires { n ≤ 1023 }
         ensures now { code_phase_after result.phase result.step n ≡ self.now.phase }
@@ -124,9 +124,9 @@ impl CodeOsc {
         }
     }
 
-    /// The chips of a satellite at this sample and the 63 that follow: at the phase, half a chip
-    /// ahead of it and half a chip behind. The oscillator goes on by 64 samples, and the book
-    /// stands for the codes as before.
+    /// The chips of a satellite at this sample and the 63 that follow: at the phase (prompt), half
+    /// a chip ahead of it (early) and half a chip behind it (late). The oscillator goes on by 64
+    /// samples, and the book stands for the codes as before.
     pub fn next_word(&mut self, book: &mut CodeBook, prn: Prn) -> ChipWord
         ensures word { AreChips prn self.old.phase self.old.step result }
         ensures moved { self.new
@@ -135,7 +135,7 @@ impl CodeOsc {
         self.next_chips(book, prn)
     }
 
-    /// The same, by the bits of the chips.
+    /// Does what `next_word` does. Contracts see the bits of the chips here, and their signs there.
     fn next_chips(&mut self, book: &mut CodeBook, prn: Prn) -> ChipWord
         ensures word { AreChipBits prn self.old.phase self.old.step result }
         ensures moved { self.new
@@ -158,17 +158,18 @@ impl CodeOsc {
         self.phase = in_cycle(self.phase + 4 * turn);
         ChipWord {
             early,
-            // Half a chip behind the second half of a chip is the same chip, and behind the first
-            // half the one before.
+            // The prompt phase lies half a chip before the early one. Where the early phase is in
+            // the second half of its chip, the prompt chip is that chip. Else it is the chip before
+            // it, the late one.
             prompt: late ^ ((early ^ late) & second_half),
             late,
         }
     }
 
-    /// The signs of a satellite's chips at this sample and the `n` - 1 that follow: at the phase,
-    /// half a chip ahead of it and half a chip behind; `n` is at most 1,024. The code goes round as
-    /// often as the samples take it round. The oscillator stays where it is, and the book stands
-    /// for the codes as before.
+    /// The signs of a satellite's chips at this sample and the `n` - 1 that follow: at the phase
+    /// (prompt), half a chip ahead of it (early) and half a chip behind it (late); `n` is at most
+    /// 1,024. The code goes round as often as the samples take it round. The oscillator stays where
+    /// it is, and the book stands for the codes as before.
     pub fn planes(&self, n: usize, book: &mut CodeBook, prn: Prn) -> CodePlanes
         requires { n ≤ PLACES }
         ensures early_len { length result.early ≡ n }
@@ -204,11 +205,11 @@ impl CodeOsc {
 /// The chips of a satellite at 64 samples, the first of them in the top bits.
 #[derive(Clone, Copy, Debug)]
 pub struct ChipWord {
-    /// Half a chip ahead.
+    /// The chips half a chip ahead of the phase.
     pub early: u64,
-    /// In time.
+    /// The chips at the phase.
     pub prompt: u64,
-    /// Half a chip behind.
+    /// The chips half a chip behind the phase.
     pub late: u64,
 }
 
@@ -258,7 +259,7 @@ impl CodePlanes {
         self.len
     }
 
-    /// The sign of the chip half a chip ahead at sample `i`, counted from 0: 1 or -1.
+    /// The sign of the early chip, half a chip ahead, at sample `i`, counted from 0: 1 or -1.
     pub fn early(&self, i: usize) -> i8
         requires { i < length self.now.early }
         ensures value { result ≡ get_or self.now.early i (pos 0) }
@@ -276,7 +277,7 @@ impl CodePlanes {
         sign(self.prompt.bit(i))
     }
 
-    /// The sign of the chip half a chip behind at sample `i`, counted from 0: 1 or -1.
+    /// The sign of the late chip, half a chip behind, at sample `i`, counted from 0: 1 or -1.
     pub fn late(&self, i: usize) -> i8
         requires { i < length self.now.late }
         ensures value { result ≡ get_or self.now.late i (pos 0) }

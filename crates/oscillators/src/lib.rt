@@ -6,11 +6,12 @@
 //! to be that of its definition, for every step of 32 bits.
 //!
 //!     use oscillators::{CarrierOsc, CodeOsc, Doppler, HalfChip, Settings};
+//!     use sample_planes::Format;
 //!
 //!     let settings = Settings::new(2_046_000, 511_500, Format::Real1)?;
-//!     let shift = i64::from(Doppler::new(1_250).ok_or("a shift")?.get()) * 65_536;
+//!     let shift = i64::from(Doppler::new(1_250).ok_or("no shift")?.get()) * 65_536;
 //!     let carrier = CarrierOsc::new(settings.carrier_step(shift));
-//!     let start = HalfChip::new(700).ok_or("a half chip")?;
+//!     let start = HalfChip::new(700).ok_or("no half chip")?;
 //!     let code = CodeOsc::new(start, settings.code_step(shift, 0));
 #![tactic(auto)]
 

@@ -25,7 +25,7 @@ pub(crate) struct Strides {
 impl Strides {
     ghost use Rattle.oscillators.specs.Strides.{IsStrides};
 
-    /// For a step, and cells of that many steps of a phase.
+    /// The strides of a step, with cells of `cell` units of phase.
     pub(crate) fn new(step: u32, cell: u32) -> Strides
         requires { (cell ≡ 2 ^ 29) ⊎ (cell ≡ 2 ^ 31) }
         ensures { IsStrides step cell result }
@@ -55,7 +55,8 @@ impl Strides {
         self.whole + carries(cell - 1 - part, self.low)
     }
 
-    /// The same mod 16.
+    /// The numbers of the cells in which sixteen samples lie, modulo 16, where the first lies at
+    /// `part` of cell 0.
     pub(crate) fn cells_mod_16(&self, part: u32, cell: u32) -> u8x16
         requires part { part < cell }
         requires cell { (cell ≡ 2 ^ 29) ⊎ (cell ≡ 2 ^ 31) }

@@ -13,7 +13,7 @@ use std::io::{self, Eprint, Print, Read, Write};
 use std::process::ExitCode;
 
 /// Does what the words of the command line ask for, with this reader and writer, and gives the
-/// status. It tells on standard error what went wrong, and what is left out at the end.
+/// status. It reports on standard error what went wrong, and which bytes at the end are left out.
 pub fn carry_out<T, R, W>(rt: &T, reader: R, writer: W) -> ExitCode
 where
     T: AllocGlobal + Env + Print + Eprint,
@@ -69,10 +69,10 @@ where
     Ok(())
 }
 
-/// Tells what is left out at the end.
+/// Reports what is left out at the end.
 fn tell_rest<E: Eprint>(rt: &E, packer: &Packer) {
     let samples = packer.samples_held();
-    // Where standard error fails, there is nobody to tell it to.
+    // Where standard error fails, there is nowhere else to report it.
     if samples > 0 {
         let _ = eprintln!(rt;
             "pack: left out at the end: samples that don't fill a byte: {samples}"
@@ -88,7 +88,7 @@ fn refuse<P: Print + Eprint>(rt: &P, error: &Error) -> ExitCode {
     match error.kind() {
         ErrorKind::OutOfMemory => tell(rt, Err(Failure::NoMemory)),
         kind => {
-            // Where printing fails too, the status alone tells.
+            // Where printing fails too, only the status shows it.
             let _ = error.print(rt);
             let is_shown = matches!(kind, ErrorKind::DisplayHelp | ErrorKind::DisplayVersion);
             ExitCode::from(if is_shown { 0 } else { 2 })
@@ -96,7 +96,7 @@ fn refuse<P: Print + Eprint>(rt: &P, error: &Error) -> ExitCode {
     }
 }
 
-/// Tells what went wrong, where something did, and gives the status.
+/// Reports what went wrong, where something did, and gives the status.
 fn tell<E: Eprint>(rt: &E, ended: Result<(), Failure>) -> ExitCode {
     if let Err(failure) = ended {
         let _ = eprintln!(rt; "pack: {failure}");

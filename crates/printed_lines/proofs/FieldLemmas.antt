@@ -62,7 +62,7 @@ pub field-words : (line : List ℕ) (f : fields.Field) (value : ℤ)
     ++ signed_decimal f.exponent ≡ line ++ 32 ∷ field_text f value
 field-words line f value = simp append_assoc
 
--- fields behind a word
+-- fields after a word
 pub fields-words : (word : List ℕ) (fs : List Field) (values : List ℤ)
     → word ++ with_spaces (λ (field, value). field_text (entry_of field) value) (zip fs values)
     ≡ words_text (word ∷ field_texts (map entry_of fs) values)
@@ -87,7 +87,7 @@ more-fields line now fs values i f value within same is =
     rw both at (with_spaces-more (λ (p : Field × ℤ). field_text (entry_of p.0) p.1) line now
     (zip fs values) i (f, value) room is)
 
--- the words of a report behind those of its kind
+-- the words of a report after those of its kind
 abbrev page_words : List ℕ → ℕ → Report → List ℕ
 page_words kind slot r =
     words_text (kind ∷ decimal slot

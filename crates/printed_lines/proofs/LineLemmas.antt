@@ -1,4 +1,4 @@
--- Lines put together from their words, each behind a space.
+-- Lines put together from their words, a space before each.
 use Rattle.std.proofs.Common.{◌≡◌, ℕ, pos, ◌+◌, ◌<◌, List, [], ◌∷◌, ◌++◌, ◌∙◌, refl, ap}
 use Rattle.std.proofs.Common.{append_assoc, append-nil, length, map, take, get_or}
 use Rattle.std.specs.Prelude.{Bool, codes, if◌then◌else◌}
@@ -18,7 +18,7 @@ use Rattle.definitions.specs.Texts.{words_text, word_text, hex_of_bytes, event_t
 use Rattle.definitions.specs.Texts.{answer_text, refusal_text}
 use Rattle.printed_lines.specs.SpacedWords.{with_spaces}
 
--- ---- words behind a word
+-- ---- words after a word
 pub with_spaces-words : {A : Type 0} (f : A → List ℕ) (word : List ℕ) (xs : List A)
     → word ++ with_spaces f xs ≡ words_text (word ∷ map f xs)
 with_spaces-words f word [] = append-nil word
@@ -32,7 +32,7 @@ with_spaces-more f line now xs i d within is =
     rw (is, take_more xs i d within)
     (flat_map_more (λ x. 32 ∷ f x) line (take i xs) (get_or xs i d))
 
--- words behind a kind and a slot
+-- words after a kind and a slot
 pub kind-text : (line kind : List ℕ) (slot : ℕ) (rest : List ℕ) (words : List (List ℕ))
     → decimal slot ++ rest ≡ words_text (decimal slot ∷ words)
     → ((line ++ 32 ∷ kind) ++ 32 ∷ decimal slot) ++ rest
@@ -55,7 +55,7 @@ four_parts : (line a b c d : List ℕ)
     → (((line ++ a) ++ b) ++ c) ++ d ≡ line ++ (((a ++ b) ++ c) ++ d)
 four_parts line a b c d = simp append_assoc
 
--- the six sums, each behind a space
+-- the six sums, a space before each
 abbrev sums_text : Counts → List ℕ
 sums_text c =
     (((((32 ∷ signed_decimal c.ie) ++ 32 ∷ signed_decimal c.qe) ++ 32 ∷ signed_decimal c.ip)

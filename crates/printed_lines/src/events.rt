@@ -1,4 +1,4 @@
-//! The words of what slots tell.
+//! The words of the events that slots emit.
 
 ghost use Rattle.std.specs.Prelude.{◌≡◌, ◌++◌, ◌∷◌, ◌+◌, ◌*◌};
 ghost use Rattle.definitions.specs.Texts.{event_text};
@@ -30,7 +30,7 @@ pub const ACQUIRED_BYTES: usize = KIND_BYTES + 5 * WORD_BYTES;
 /// The most bytes that the words of a dump take up.
 pub const COUNTS_BYTES: usize = KIND_BYTES + 6 * WORD_BYTES;
 
-/// Adds the words of what a slot tells.
+/// Adds the words of an event.
 pub(crate) fn put_event(line: &mut Line, slot: u8, event: &Event)
     requires room { HasRoom EVENT_BYTES line.old }
     ensures text { line.new ≡ line.old ++ 32 ∷ event_text slot (event_in event.now) }

@@ -1,13 +1,15 @@
-//! Printed lines: what a slot tells, what it answers, the refusal of a script's line and a client's
+//! Printed lines: what a slot emits, what it answers, the refusal of a script's line and a client's
 //! last line, each with its end, are proved to be the texts of their definitions. None has more
 //! than LINE_BYTES bytes.
 //!
+//!     use channel_slots::SlotEvent;
 //!     use printed_lines::{end_line, event_line};
 //!
-//!     for event in &events {
-//!         output.extend_from_slice(&event_line(event))?;
+//!     // How long the lines of a client are that end at a time.
+//!     fn bytes_of(events: &[SlotEvent], end: u64) -> usize {
+//!         let before = events.iter().map(|event| event_line(event).len());
+//!         before.sum::<usize>() + end_line(1, end).len()
 //!     }
-//!     output.extend_from_slice(&end_line(client, time))?;
 #![tactic(auto)]
 
 mod almanacs;

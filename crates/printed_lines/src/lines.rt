@@ -11,7 +11,7 @@ use crate::events::put_event;
 use crate::words::Line;
 use channel_slots::{Answer, SlotEvent};
 
-/// The line of what a slot tells, with its end.
+/// The line of an event, with its end.
 pub fn event_line(event: &SlotEvent) -> Line
     ensures { result ≡ ended_line (line_of event.now) }
 {

@@ -1,4 +1,4 @@
-//! A line in the making, word by word. Each word behind the first stands behind one space.
+//! A line in the making, word by word. One space stands before each word but the first.
 
 ghost use Rattle.std.specs.Prelude.{◌≡◌, ◌≤◌, ◌<◌, ◌+◌, List, ℕ, ◌++◌, ◌∷◌, [], length};
 ghost use Rattle.std.specs.Fmt.{decimal};
@@ -28,7 +28,7 @@ pub const KIND_LETTERS: usize = 6;
 /// The most bytes that a line begins with: a client and a time.
 pub const HEAD_BYTES: usize = BYTE_DIGITS + WORD_BYTES;
 
-/// The most bytes that a kind and a slot take up, each behind a space.
+/// The most bytes that a kind and a slot take up, each with a space before it.
 pub const KIND_BYTES: usize = KIND_LETTERS + BYTE_DIGITS + 2;
 
 /// A line in the making, or one with its end. Clauses see its bytes.

@@ -65,7 +65,7 @@ pub events-done : (events : List SlotEvent) (i : ℕ) → length events ≤ i
 unfolding as_bytes
 events-done events i h = rw (drop_of_length-le events h) refl
 
--- ---- a stretch: what was told, and then the answers
+-- ---- a stretch: what was emitted, and then the answers
 pub stretch-text : (before told answers all : List (List ℕ)) → all ≡ before ++ told ++ answers
     → as_bytes all ≡ as_bytes before ++ (as_bytes told ++ as_bytes answers)
 unfolding as_bytes

@@ -83,7 +83,7 @@ moved a b c bytes sent n k p =
     Keeps-trans a _ _ k
     (append_known-moved b c (take n (drop sent bytes)) rest (drop sent bytes) p cut)
 
--- a line is held back behind the others
+-- a line is held back after the others
 pub held-more : (a b : Option (List ℕ)) (bytes line : List ℕ) (sent : ℕ) → sent ≤ length bytes
     → Keeps a (append_known b (drop sent bytes))
     → Appends a (append_known b (drop sent (bytes ++ line))) line

@@ -1,4 +1,4 @@
--- Before the first sample, and behind the last.
+-- Before the first sample, and after the last.
 use Rattle.std.proofs.Common.{◌≡◌, ℕ, suc, ◌+◌, ◌-◌, ◌<◌, ◌≤◌, List, [], ◌∷◌, ◌++◌, length, drop}
 use Rattle.std.proofs.Common.{refl, sym, ap, ◌∙◌, append-nil, arith, get_or}
 use Rattle.std.specs.Prelude.{false, map, flat_map, nat_lt, codes}
@@ -118,7 +118,7 @@ pub waiting-open : (settings : Settings) (clients : List Client) (qs : List Queu
 unfolding answer_lines for_each_client
 waiting-open settings clients qs e = waiting-from settings 1 clients qs e
 
--- ---- behind the last sample
+-- ---- after the last sample
 
 ends-from : (time b : ℕ) (xs : List Sample) (clients : List Client) → length xs ≡ time
     → flat_map (λ (p : ℕ × Client). map (for_client p.0) (end_line xs ∷ []))

@@ -136,7 +136,7 @@ module _ (settings : Settings) (shares : List ℕ) (scripts : List (List ℕ)) (
     written = subst (AppendsPart old.contents new.contents) (sym (due-unfinished task read)) p;
   }
 
-  -- a write or the flush failed behind the lines
+  -- a write or the flush failed after the lines
   pub breaks-in-end : (read : List ℕ) (old new : Devices) (stop : Stop)
       → Consumes old.remaining new.remaining read → new.write_failed ≡ true
       → StopsFor limit (length (samples settings.packing read)) old.read_failed new.read_failed

@@ -25,14 +25,14 @@ use Rattle.receiver.specs.declared.faults.RunFault.TheVariants.{Read, Write, Too
 use Rattle.receiver.specs.declared.faults.Stop.{Stop}
 use Rattle.receiver.specs.declared.faults.Stop.TheVariants.{AtEnd, ReadFailed, PastLimit}
 
--- what a reader and a writer tell: the bytes to come and those held, and whether a call has failed
+-- what a reader and a writer show: the bytes to come and those held, and whether a call has failed
 pub record Devices : Type 0 where
   pub remaining : Option (List ℕ)
   pub read_failed : Bool
   pub contents : Option (List ℕ)
   pub write_failed : Bool
 
--- what they tell at one moment, by the members of their traits
+-- what they show at one moment, by the members of their traits
 abbrev pub devices_at : {R W : Type 0} → Source R → Sink W → R → W → Devices
 devices_at source sink reader writer = record {
   remaining = source.remaining reader;
@@ -88,7 +88,7 @@ answer_of (Err Read) = runs.read_failed
 answer_of (Err Write) = runs.write_failed
 answer_of (Err TooLong) = runs.too_long
 
--- reading came so to an end, as the reader tells it: no byte is left, a read failed, or neither
+-- reading came so to an end, as the reader reports it: no byte is left, a read failed, or neither
 abbrev pub EndedAs : InputEnd → Devices → Devices → Type 0
 EndedAs runs.exhausted old new = IsAtEnd new.remaining × (new.read_failed ≡ old.read_failed)
 EndedAs runs.failed old new = new.read_failed ≡ true
@@ -132,7 +132,7 @@ pub record IsWrittenTo (settings : Settings) (clients : List Client) (start : Op
   pub stands : StandsFor settings clients session xs []
   pub written : Appends start contents (body settings xs clients)
 
--- a run of samples was taken: all that is to be written by its end is written behind what was
+-- a run of samples was taken: all that is to be written by its end is written after what was
 abbrev pub TakesOn : List Sample → Session → Session → Option (List ℕ) → Option (List ℕ) → Type 0
 TakesOn run before after old new =
     (settings : Settings) (clients : List Client) (start : Option (List ℕ)) (xs : List Sample)
@@ -146,7 +146,7 @@ TakesFront run before old new =
     → IsWrittenTo settings clients start before old xs
     → AppendsPart start new (body settings (xs ++ run) clients)
 
--- behind what was to be written so far, the whole text for a stop is written
+-- after what was to be written so far, the whole text for a stop is written
 abbrev pub WritesAll : Stop → Session → Option (List ℕ) → Option (List ℕ) → Type 0
 WritesAll stop session old new =
     (settings : Settings) (clients : List Client) (start : Option (List ℕ)) (xs : List Sample)

@@ -20,7 +20,7 @@ pub trait Source {
     /// Whether a call has failed.
     ghost has_failed: { Self → Bool };
 
-    /// Whether there was a call behind one that had failed.
+    /// Whether there was a call after one that had failed.
     ghost was_asked_again: { Self → Bool };
 
     /// Reads some bytes into the front of the buffer, which has room for one, and answers how many:
@@ -48,7 +48,7 @@ pub trait Sink {
         ensures bytes { WriteAppends (contents self.old) (contents self.new) result bytes.now }
         ensures failure { TellsFailure (has_failed self.old) (has_failed self.new) result };
 
-    /// Passes on what it may hold back.
+    /// Passes on what the sink holds back.
     fn flush(&mut self) -> Result<(), DeviceFault>
         ensures bytes { Keeps (contents self.old) (contents self.new) }
         ensures failure { TellsFailure (has_failed self.old) (has_failed self.new) result };
@@ -63,7 +63,7 @@ pub struct Plain<T> {
 }
 
 impl<T> Plain<T> {
-    /// No call on it has failed yet.
+    /// A device of std, on which no call has failed yet.
     pub fn new(inner: T) -> Self
         ensures inner { result.inner ≡ inner }
         ensures has_failed { result.has_failed ≡ false }

@@ -17,7 +17,7 @@ pub struct Due {
 }
 
 impl Due {
-    /// Answers it, by the line of the answer with its end. A refused line never reaches the bank.
+    /// Gives the line of the answer, with its end. A refused line never reaches the bank.
     pub fn answer(self, bank: &mut Bank) -> Line
         requires first { 1 ≤ self.client }
         requires slot { IfOk self.what (λ command.

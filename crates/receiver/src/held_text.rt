@@ -25,7 +25,7 @@ impl HeldText {
     ghost use Rattle.receiver.specs.Texts.{Grows};
     ghost use Rattle.printed_lines.specs.declared.words.TheConstants.{LINE_BYTES};
 
-    /// Nothing is held back.
+    /// The empty text.
     pub fn new() -> Self
         ensures { held_text result ≡ [] }
     {

@@ -3,14 +3,16 @@
 //! client as if it were alone, whatever the reads cut.
 //!
 //!     use oscillators::Settings;
-//!     use receiver::{Plain, run};
-//!     use sample_planes::Format;
+//!     use receiver::{Plain, RunFault, run};
+//!     use std::io;
 //!
-//!     let settings = Settings::new(2_046_000, 511_500, Format::Real1)?;
-//!     let mut reader = Plain::new(rt.reader());
-//!     let mut writer = Plain::new(io::writer(&rt));
-//!     let script: &[u8] = b"0 hold 0 5 1250 700\n0 counts 0 5\n";
-//!     let samples = run(rt.alloc(), settings, &[script], &mut reader, &mut writer)?;
+//!     // From standard input to standard output: the first five sums of satellite 5.
+//!     fn first_sums(rt: HostRuntime, settings: Settings) -> Result<u64, RunFault> {
+//!         let mut reader = Plain::new(rt.reader());
+//!         let mut writer = Plain::new(io::writer(&rt));
+//!         let script: &[u8] = b"0 hold 0 5 1250 700\n0 counts 0 5\n";
+//!         run(rt.alloc(), settings, &[script], &mut reader, &mut writer)
+//!     }
 #![tactic(auto)]
 
 mod devices;

@@ -4,7 +4,7 @@ ghost use Rattle.std.specs.Prelude.{◌≡◌, [], IsNone};
 
 use client_commands::{Script, Timed};
 
-/// What is left of a client's script: the entry that is next, and the lines behind it.
+/// What is left of a client's script: the entry that is next, and the lines after it.
 #[derive(Drop)]
 pub struct Queue<'a> {
     next: Option<Timed>,

@@ -56,7 +56,7 @@ fn run_session<R: Source, W: Sink>(
 const FOUR_EACH: [u8; MOST_CLIENTS] = [4; MOST_CLIENTS];
 
 /// Runs one to eight scripts over all samples that a reader gives, at most `MOST_TIME` of them:
-/// writes the lines of all clients, time by time, with an `end` for each behind the last, and
+/// writes the lines of all clients, time by time, with an `end` for each after the last, and
 /// answers the number of samples. However reads cut the bytes, and whatever the other clients ask,
 /// each client's lines are those of a receiver with that client alone. Each count is the plain sum
 /// over its samples, each acquisition names a greatest cell, and each data word that is shown
@@ -82,7 +82,8 @@ pub fn run<R: Source, W: Sink>(
     run_to(alloc, settings, scripts, MOST_TIME, reader, writer)
 }
 
-/// The same over at most `limit` samples, a multiple of 8 of at most `MOST_TIME`.
+/// Runs scripts as `run` does, over at most `limit` samples, a multiple of 8 of at most
+/// `MOST_TIME`.
 pub fn run_to<R: Source, W: Sink>(
     alloc: Global,
     settings: Settings,
@@ -110,8 +111,9 @@ pub fn run_to<R: Source, W: Sink>(
     run_shares(alloc, settings, scripts, shares, limit, reader, writer)
 }
 
-/// The same for clients with these shares of the slots, one for each script, of 1 to `MOST_SLOTS`
-/// slots. The scripts are looked at first, then the shares, and then memory is taken.
+/// Runs scripts as `run_to` does, for clients with these shares of the slots: one share for each
+/// script, of 1 to `MOST_SLOTS` slots. The scripts are checked first, then the shares, and then
+/// memory is taken.
 pub fn run_shares<R: Source, W: Sink>(
     alloc: Global,
     settings: Settings,

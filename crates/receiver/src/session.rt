@@ -76,7 +76,7 @@ impl<'a> Session<'a> {
         self.bank.time()
     }
 
-    /// How many clients it has.
+    /// The number of clients.
     pub fn clients(&self) -> u8
         ensures number { result ≡ length (shares_of self.now.bank) }
         ensures few { result ≤ MOST_CLIENTS }
@@ -99,8 +99,8 @@ impl<'a> Session<'a> {
         self.bank.format()
     }
 
-    /// Takes a run of samples, none of them past the next command's time, and puts what they make
-    /// the slots tell into an empty list.
+    /// Takes a run of samples, none of them past the next command's time, and puts the slots'
+    /// events over it into an empty list.
     pub fn feed(&mut self, run: &PackedSamples, events: &mut ArrayVec<SlotEvent, RUN_EVENTS>)
         requires packing { run.now.packing ≡ packing_in self.old }
         requires some { 0 < length run.now.samples }

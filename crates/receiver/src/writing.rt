@@ -1,4 +1,4 @@
-//! The lines of a run, in their order. Each is put behind the text that is held back.
+//! The lines of a run, in their order. Each is appended to the text that is held back.
 
 ghost use Rattle.std.specs.Prelude.{◌≡◌, ◌<◌, ℕ, List, [], map, OnOk, OnErr};
 ghost use Rattle.std.specs.Io.KnownBytes.{Appends};
@@ -20,7 +20,7 @@ use crate::session::Session;
 use channel_slots::SlotEvent;
 use printed_lines::{end_line, event_line};
 
-/// Puts the lines of what the slots tell.
+/// Puts the lines of the slots' events.
 pub fn put_events<W: Sink>(
     events: &[SlotEvent],
     text: &mut HeldText,
@@ -68,7 +68,7 @@ pub fn put_answers<W: Sink>(
     Ok(())
 }
 
-/// Puts `end` for each client, behind all lines.
+/// Puts `end` for each client, after all lines.
 fn put_ends<W: Sink>(
     session: &Session,
     text: &mut HeldText,

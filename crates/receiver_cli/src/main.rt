@@ -1,5 +1,5 @@
 //! A receiver bank for recorded GPS L1 C/A samples: scripts of timed commands in, lines of what the
-//! channels tell out. The crate `command_line` is the program; this one has the standard devices.
+//! channels report out. The crate `command_line` is the program; this one has the standard devices.
 //! Its stored run ends with status 0: two scripts over the beginning of a recording.
 #![tactic(auto)]
 

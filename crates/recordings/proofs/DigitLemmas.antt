@@ -21,7 +21,7 @@ no_digits w digit = record {
   each = λ k r h l. absurd (omega (arith, h));
 }
 
--- one more behind them
+-- one more after them
 pub more_digits : (w n byte x : ℕ) (digit : ℕ → ℕ) → HasDigits w n byte digit → x ≡ digit n
     → x < 2 ^ w → HasDigits w (n + 1) (byte * 2 ^ w + x) digit
 more_digits w n byte x digit d e small = record {

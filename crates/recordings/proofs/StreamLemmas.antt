@@ -68,7 +68,7 @@ reading-front Bits1Low front back i h =
 reading-front Bits1High front back i h =
     let a = byte_front front back (i / 8) (omega arith) in rw a refl
 
--- a value behind the front, which has m values
+-- a value after the front, which has m values
 reading-back : (kind : Kind) (front back : List ℕ) (m i : ℕ)
     → bits_of kind * m ≡ 8 * length front
     → reading kind (front ++ back) (m + i) ≡ reading kind back i
@@ -176,7 +176,7 @@ matched f g a b (suc n) same =
           rw (x, y) (same (i + 1) (omega (arith, h)))),
     ) refl
 
--- the samples of bytes behind others
+-- the samples of bytes after others
 samples_of-split : (recipe : Recipe) (bytes : List ℕ) (m n : ℕ)
     → samples_of recipe bytes (m + n)
     ≡ samples_of recipe bytes m ++ map (sample_of recipe bytes) (range_with_len m n)

@@ -11,7 +11,7 @@ recipe_in packer = packer.recipe
 abbrev pub held_in : Packer → List ℕ
 held_in packer = packer.held.items
 
--- the bytes of a recording came so far, and others were written: their packing. Those behind the
+-- the bytes of a recording came so far, and others were written: their packing. Those after the
 -- packed ones are held.
 pub record StandsFor (bytes written : List ℕ) (packer : Packer) : Type 0 where
   pub packed : IsPacked (recipe_in packer) bytes written

@@ -21,7 +21,7 @@ bits_of SignSizeLow = 2
 bits_of Bits1Low = 1
 bits_of Bits1High = 1
 
--- the number of two bytes of which the low one is named first, and that of four behind one another
+-- the number of two bytes of which the low one is named first, and that of four in a row
 abbrev pub two_bytes : ℕ → ℕ → ℕ
 two_bytes low high = low + 256 * high
 
@@ -61,7 +61,7 @@ reading SignSizeLow bytes i =
 reading Bits1Low bytes i = pos 2 *ℤ sign_of (bit_at (slice_index bytes (i / 8)) (i % 8))
 reading Bits1High bytes i = pos 2 *ℤ sign_of (bit_in bytes i)
 
--- a float is a number unless all bits of its exponent are set and one behind them
+-- a float is a number unless all bits of its exponent are set and one after them
 abbrev pub IsNumber : ℕ → Type 0
 IsNumber bits = bits % 2 ^ 31 ≤ 0x7f80_0000
 

@@ -13,9 +13,9 @@ use thiserror::Error;
 /// readings are, but for floats.
 #[derive(Clone, Copy, Debug, PartialEq, Eq)]
 pub struct Choice {
-    /// The kind of its values.
+    /// The kind of the recording's values.
     pub kind: Kind,
-    /// Whether its values are pairs, in phase and in quadrature.
+    /// Whether the recording's values are pairs, in phase and in quadrature.
     pub is_paired: bool,
     /// The packing to write.
     pub format: Format,
@@ -42,7 +42,7 @@ pub enum ChoiceFault {
     /// A packing with two bits a part is asked of values of one bit.
     #[error("values of one bit have no sizes")]
     Sizes,
-    /// One part is asked for, and both.
+    /// Only one part is asked for, but the packing has both.
     #[error("one part makes real samples alone")]
     Part,
 }
@@ -53,7 +53,7 @@ impl Choice {
     ghost use Rattle.recordings.specs.Choices.{IsInPhase, IsQuadrature, CanBeMade};
     ghost use Rattle.recordings.specs.Choices.{NeedsPairs};
 
-    /// The recipe that makes it.
+    /// The recipe that makes what is asked, or why there is none.
     pub fn recipe(&self) -> Result<Recipe, ChoiceFault>
         ensures makes { IfOk result (λ recipe. Makes self.now recipe) }
         ensures pairs { (result ≡ Err ChoiceFault.Pairs) ↔ LacksPairs self.now }
@@ -66,7 +66,7 @@ impl Choice {
         }
     }
 
-    /// Why it can't be made.
+    /// Why there is no recipe for what is asked.
     fn fault(&self) -> Option<ChoiceFault>
         ensures none { result ≡ None → CanBeMade self.now }
         ensures pairs { (result ≡ Some ChoiceFault.Pairs) ↔ LacksPairs self.now }
@@ -84,7 +84,7 @@ impl Choice {
         }
     }
 
-    /// Whether it asks for what only pairs have.
+    /// Whether something is asked that only pairs have.
     fn needs_pairs(&self) -> bool
         ensures { (result ≡ true) ↔ NeedsPairs self.now }
     {
@@ -168,7 +168,7 @@ fn is_complex(format: Format) -> bool
     }
 }
 
-/// Whether their parts have sizes.
+/// Whether the parts of samples of a format have sizes.
 fn has_sizes(format: Format) -> bool
     ensures { result ≡ has_sizes (packing_of format) }
 {

@@ -15,7 +15,7 @@ pub enum Kind {
     I8,
     /// Numbers of 16 bits and two's complement, the low byte first.
     I16,
-    /// The same, the high byte first.
+    /// Numbers of 16 bits and two's complement, the high byte first.
     I16Be,
     /// Floats of 32 bits of IEEE 754, the low byte first.
     F32,
@@ -26,7 +26,7 @@ pub enum Kind {
     SignSizeLow,
     /// One bit, 0 for 1 and 1 for -1, the earliest in a byte's low bit.
     Bits1Low,
-    /// The same, the earliest in a byte's high bit.
+    /// One bit, 0 for 1 and 1 for -1, the earliest in a byte's high bit.
     Bits1High,
 }
 

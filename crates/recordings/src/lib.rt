@@ -3,13 +3,28 @@
 //! A `Choice` says what a recording is and what is asked of it, and gives the `Recipe` that makes
 //! it. A `Packer` takes the recording piece by piece: what it writes is proved to be the packing of
 //! all that came, however it was cut, by the definition that the receiver reads by. A `Window`
-//! shows the stretch that is wanted, and `Recipe::measure` tells what the values are like.
+//! shows the stretch that is wanted, and `Recipe::measure` shows what the values are like.
 //!
-//!     use recordings::{Choice, Packer, Window};
+//!     use recordings::{Choice, Kind, Packer, Window};
+//!     use sample_planes::Format;
 //!
-//!     let mut packer = Packer::new(alloc, choice.recipe()?)?;
-//!     let mut window = Window::new(skip, most);
-//!     packer.take(window.part(piece), &mut written)?;
+//!     // Bytes without a sign around 127.5, as two bits each: those farther off than 60 are large.
+//!     let choice = Choice {
+//!         kind: Kind::U8,
+//!         is_paired: false,
+//!         format: Format::Real2,
+//!         threshold: 120,
+//!         centre: 255,
+//!         centre_q: 255,
+//!         is_swapped: false,
+//!         is_conjugate: false,
+//!         takes_quadrature: false,
+//!     };
+//!     let mut packer = Packer::new(rt.alloc(), choice.recipe()?)?;
+//!     let mut written = Vec::new(rt.alloc());
+//!     // All but the first two bytes, and at most a million.
+//!     let mut window = Window::new(2, 1_000_000);
+//!     packer.take(window.part(&[0, 0, 120, 140, 200, 30]), &mut written)?;
 #![tactic(auto)]
 
 mod choice;

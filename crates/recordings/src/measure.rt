@@ -13,13 +13,13 @@ use crate::recipe::Recipe;
 pub struct Measure {
     /// How many samples there are.
     pub count: u64,
-    /// The sum of their readings.
+    /// The sum of the samples' readings.
     pub sum: i64,
     /// The sum of the squares of their distances from the part's centre.
     pub squares: u64,
-    /// How many of them stand at an end of their kind's range.
+    /// How many samples stand at an end of their kind's range.
     pub at_ends: u64,
-    /// How many have these bits about the part's centre: neither, size, sign, or both.
+    /// How many samples have these bits about the part's centre: neither, size, sign, or both.
     pub shares: [u64; 4],
 }
 

@@ -16,9 +16,9 @@ pub const MOST_BYTES: usize = 1 << 20;
 /// How a recording's samples are packed.
 #[derive(Clone, Copy, Debug, PartialEq, Eq)]
 pub struct Recipe {
-    /// The kind of its values.
+    /// The kind of the recording's values.
     pub kind: Kind,
-    /// Whether its values are pairs.
+    /// Whether the recording's values are pairs.
     pub is_paired: bool,
     /// The packing to write.
     pub format: Format,
@@ -26,7 +26,7 @@ pub struct Recipe {
     pub threshold: u64,
     /// The part in phase.
     pub in_phase: Part,
-    /// The part in quadrature. Where the packing is real it isn't looked at.
+    /// The part in quadrature. Where the packing is real it isn't used.
     pub quadrature: Part,
     ghost in_phase_is_there: { in_phase.place < (if is_paired then 2 else 1) },
     ghost quadrature_is_there: { quadrature.place < (if is_paired then 2 else 1) },
@@ -137,7 +137,7 @@ impl Recipe {
         part.sign(self.value(part, bytes, n))
     }
 
-    /// The bits of its sign and its size.
+    /// The bits of a part's sign and size.
     fn sign_and_size(&self, part: &Part, bytes: &[u8], n: usize) -> u8
         requires place { part.now.place < parts_of self.now }
         requires few { length bytes.now ≤ MOST_BYTES }
@@ -149,7 +149,7 @@ impl Recipe {
         2 * part.sign(value) + part.size(self.threshold, value)
     }
 
-    /// The value that it is made of.
+    /// The value that a part is made of.
     pub(crate) fn value(&self, part: &Part, bytes: &[u8], n: usize) -> i64
         requires place { part.now.place < parts_of self.now }
         requires few { length bytes.now ≤ MOST_BYTES }

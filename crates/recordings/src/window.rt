@@ -2,13 +2,13 @@
 
 ghost use Rattle.std.specs.Prelude.{◌≡◌, ◌≤◌, ◌↔◌, true, length};
 
-/// Which bytes of a recording that comes in pieces are wanted: those behind some bytes, and at most
+/// Which bytes of a recording that comes in pieces are wanted: those after some bytes, and at most
 /// so many.
 #[derive(Clone, Copy, Debug, PartialEq, Eq)]
 pub struct Window {
     /// How many bytes are still to come before the first that is wanted.
     skip: u64,
-    /// How many are still wanted at most.
+    /// How many bytes are still wanted at most.
     left: u64,
 }
 
@@ -16,8 +16,8 @@ impl Window {
     ghost use Rattle.std.specs.Prelude.{ℕ, List, [], ◌++◌};
     ghost use Rattle.recordings.specs.Windows.{Shows, left_in};
 
-    /// The bytes behind `skip` bytes, at most `most` of them, of a recording of which nothing came
-    /// yet.
+    /// The bytes after the first `skip` bytes, at most `most` of them, of a recording of which
+    /// nothing came yet.
     pub fn new(skip: u64, most: u64) -> Window
         ensures shows { Shows skip most [] [] result }
     {

@@ -78,7 +78,7 @@ fn twice(kind: Kind, bytes: &[u8], i: usize) -> i64
     2 * value
 }
 
-/// Bits behind one another, the first in the top of its byte.
+/// Bits in a row, the first in the top of its byte.
 #[derive(Drop)]
 struct Bits {
     bytes: Vec<u8>,

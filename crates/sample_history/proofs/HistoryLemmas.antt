@@ -1,4 +1,4 @@
--- What a history holds behind one more run.
+-- What a history holds after one more run.
 use Rattle.std.proofs.Common.{inl, inr, ◌≡◌, ℕ, ◌+◌, ◌-◌, ◌*◌, ◌/◌, ◌%◌, ◌<◌, ◌≤◌, List, []}
 use Rattle.std.proofs.Common.{◌∷◌, ◌++◌}
 use Rattle.std.proofs.Common.{length, drop, sym, ap, ◌∙◌, arith}
@@ -18,7 +18,7 @@ use Rattle.sample_history.proofs.ShiftLemmas.{begun-bit, behind-bit}
 use Rattle.sample_history.proofs.PlaceLemmas.{first_in, used_bits, old_place, new_place}
 use Rattle.sample_history.proofs.PlaceLemmas.{few_used, some_bits}
 
--- ---- bits of bytes behind one another
+-- ---- bits of bytes after bytes
 
 bit_in-front : (front back : List ℕ) (place : ℕ) → place < 8 * length front
     → bit_in (front ++ back) place ≡ bit_in front place
@@ -42,7 +42,7 @@ bit_in-drop d bytes place =
     rw (byte, bit)
     (ap (λ (x : ℕ). bit_at x (7 - place % 8)) (get_or-drop d bytes (place / 8) 0))
 
--- ---- the bytes behind one more run
+-- ---- the bytes after one more run
 
 old_bit : (ring : List ℕ) (partial : ℕ) (bytes : List ℕ) (start used whole q : ℕ) → used < 8
     → q < 8 * length ring + used
@@ -74,7 +74,7 @@ new_bit ring partial bytes start used whole m few h =
     ∙ behind-bit partial bytes start used whole (used + m) few (omega arith) h
     ∙ ap (bit_in bytes) place
 
--- ---- the samples behind one more run
+-- ---- the samples after one more run
 
 pub held_on : (packing : Packing) (xs : List Sample) (ring : List ℕ) (partial : ℕ)
     (bytes : List ℕ) (taken first len d whole : ℕ)

@@ -79,7 +79,7 @@ width_from real2 per e = rw e (omega arith)
 width_from iq1 per e = rw e (omega arith)
 width_from iq2 per e = rw e (omega arith)
 
--- the room is kept behind a run, where old bytes become new
+-- the room is kept after a run, where old bytes become new
 pub room_kept : (packing : Packing) (taken len whole room old new : ℕ)
     → whole ≡ (taken % samples_per_byte packing + len) / samples_per_byte packing
     → old ≡ min room (taken / samples_per_byte packing) → new ≡ min room (old + whole)

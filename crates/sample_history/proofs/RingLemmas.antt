@@ -27,7 +27,7 @@ grows-none ring head bytes place =
     let none : length ring + 0 - length ring ≡ 0 = omega arith in
     rw (none, bytes_from-none bytes place) refl
 
--- one is full, and n behind it
+-- one is full, and n after it
 pub grows : (c : ℕ) (ring : List ℕ) (head : ℕ) (bytes : List ℕ) (place n count : ℕ)
     (kept : List ℕ)
     → kept ≡ keep_last c (keep_last c (ring ++ head ∷ []) ++ bytes_from bytes place n)

@@ -85,7 +85,7 @@ begun-bit before behind count q rest inside few =
     let bit : q % 8 ≡ q = omega (arith, inside, few) in
     rw (byte, bit) (byte_of_two-front before behind count q inside few)
 
--- and behind them come those of the run, in the bytes behind it too
+-- and after them come those of the run, in the bytes after it too
 pub behind-bit : (before : ℕ) (bytes : List ℕ) (start count whole q : ℕ) → count < 8 → count ≤ q
     → q < 8 * (1 + whole)
     → bit_in (byte_of_two before (byte_from bytes start) count

@@ -7,7 +7,7 @@ use Rattle.std.specs.List.{range_with_len}
 unfoldable pub eight_bits : ℕ → ℕ → ℕ → ℕ
 eight_bits high low place = (high * 256 + low % 256) / 2 ^ (8 - place) % 256
 
--- the eight bits of bytes from a bit on; behind the bytes there are zeros
+-- the eight bits of bytes from a bit on; after the bytes there are zeros
 unfoldable pub byte_from : List ℕ → ℕ → ℕ
 byte_from bytes place =
     eight_bits (slice_index bytes (place / 8)) (slice_index bytes (place / 8 + 1)) (place % 8)
@@ -16,12 +16,12 @@ byte_from bytes place =
 unfoldable pub bytes_from : List ℕ → ℕ → ℕ → List ℕ
 bytes_from bytes place count = map (λ k. byte_from bytes (place + 8 * k)) (range_with_len 0 count)
 
--- the first bits of one byte, as many as are said, and behind them the first ones of another
+-- the first bits of one byte, as many as are said, and after them the first ones of another
 unfoldable pub byte_of_two : ℕ → ℕ → ℕ → ℕ
 byte_of_two before behind count = (before / 2 ^ (8 - count) * 256 + behind % 256) / 2 ^ count % 256
 
--- bytes, and behind them a byte of which the first bits stand, as many as are said, filled up from
--- bit `start` of others on, and so many bytes of their bits behind it
+-- bytes, then a byte whose first bits stay, as many as are said, filled up from bit `start` of
+-- others on, and then so many bytes of the bits that follow
 abbrev pub with_bits_behind : List ℕ → ℕ → ℕ → List ℕ → ℕ → ℕ → List ℕ
 with_bits_behind ring begun used bytes start whole =
     ring

@@ -23,7 +23,7 @@ pub struct SampleHistory {
     format: Format,
     /// The last whole bytes of the stream.
     whole: HeapCircularBuffer<u8>,
-    /// The samples behind those of the whole bytes, fewer than a byte holds.
+    /// The samples after those of the whole bytes, fewer than a byte holds.
     partial: u8,
     taken: u64,
     ghost few: { taken ≤ MOST_TAKEN },
@@ -77,7 +77,7 @@ impl SampleHistory {
         self.take_bytes(place.bytes, place.first, place.len);
     }
 
-    /// The same for the `len` samples of `bytes` from sample `first` of the first byte on.
+    /// Takes the `len` samples of `bytes` from sample `first` of the first byte on, as `take` does.
     fn take_bytes(&mut self, bytes: &[u8], first: usize, len: usize)
         requires first { first < samples_per_byte (packing_in self.old) }
         requires within { first + len ≤ sample_count (packing_in self.old) bytes.now }
@@ -104,8 +104,8 @@ impl SampleHistory {
         self.taken += len as u64;
     }
 
-    /// `count` of its bytes from byte `from` of the ring on, and zeros behind them. The byte that
-    /// isn't full stands behind those of the ring.
+    /// `count` of its bytes from byte `from` of the ring on, and zeros after them. The byte that
+    /// isn't full comes after those of the ring.
     fn near_bytes(&self, from: usize, count: usize) -> [u8; NEAR_BYTES]
         requires from { from ≤ length self.now.whole.items }
         requires within { from + count ≤ length self.now.whole.items + 1 }

@@ -8,8 +8,8 @@
 //!     use sample_history::SampleHistory;
 //!     use sample_planes::{Format, PackedSamples, SampleSource};
 //!
-//!     let mut history = SampleHistory::open(alloc, Format::Real2, 40_000)?;
-//!     history.take(&PackedSamples::new(Format::Real2, bytes));
+//!     let mut history = SampleHistory::open(rt.alloc(), Format::Real2, 40_000)?;
+//!     history.take(&PackedSamples::new(Format::Real2, &[0x5a; 100]));
 //!     let planes = history.planes(history.end() - 10, 10);
 #![tactic(auto)]
 

@@ -30,9 +30,9 @@ pub(crate) fn append_bits(
     }
 }
 
-/// Appends the bits of `bytes` from bit `start` on: first those that fill up the byte `begun`,
-/// whose first `used` bits stand, then so many bytes that `whole` are full. It returns the byte
-/// behind these. The ring keeps its last bytes.
+/// Appends the bits of `bytes` from bit `start` on. The first of them fill up the byte `begun`,
+/// whose first `used` bits stay. With those that follow `whole` bytes get full. It returns the byte
+/// after these. The ring keeps its last bytes.
 pub(crate) fn grow(
     ring: &mut HeapCircularBuffer<u8>,
     begun: u8,

@@ -15,7 +15,7 @@ fn bits_of_two(high: u8, low: u8, place: usize) -> u8
     (((high as u32 * 256 + low as u32) >> (8 - place)) % 256) as u8
 }
 
-/// The eight bits of some bytes from bit `place` on. Behind the bytes there are zeros.
+/// The eight bits of some bytes from bit `place` on. After the bytes there are zeros.
 pub(crate) fn shifted_byte(bytes: &[u8], place: usize) -> u8
     ensures { result ≡ byte_from bytes.now place }
 {
@@ -38,7 +38,7 @@ pub(crate) fn filled_byte(before: u8, behind: u8, place: usize) -> u8
     ((((before as u32 >> (8 - place)) * 256 + behind as u32) >> place) % 256) as u8
 }
 
-/// `count` bytes, which are the bits of some bytes from bit `place` on. Zeros stand behind them.
+/// `count` bytes, which are the bits of some bytes from bit `place` on. Zeros follow them.
 pub(crate) fn shifted_bytes(bytes: &[u8], place: usize, count: usize) -> [u8; MOST_BYTES]
     requires few { count ≤ MOST_BYTES }
     requires within { place / 8 + count < length bytes.now }

@@ -72,7 +72,8 @@ fn stream_bytes(format: Format, from: u64, first: usize) -> [u8; 520] {
     bytes
 }
 
-/// The history takes `len` samples of some bytes from sample `first` on. It tells whether it could.
+/// The history takes `len` samples of some bytes from sample `first` on. It answers whether it
+/// could.
 fn take_part(history: &mut SampleHistory, bytes: &[u8], first: usize, len: usize) -> bool {
     if 520 < bytes.len() || 1024 < len || MOST_TAKEN - 1024 < history.end() {
         return false;
@@ -86,7 +87,7 @@ fn take_part(history: &mut SampleHistory, bytes: &[u8], first: usize, len: usize
 }
 
 /// The history takes the next `len` samples of the stream, which begin at place `first` of a byte.
-/// It tells whether it could.
+/// It answers whether it could.
 fn take_next(history: &mut SampleHistory, first: usize, len: usize) -> bool {
     let bytes = stream_bytes(history.format(), history.end(), first);
     take_part(history, &bytes, first, len)
@@ -155,7 +156,7 @@ fn runs_of_any_length_at_any_place(rt: HostRuntime) -> Result<(), AllocError> {
     Ok(())
 }
 
-// The ring has 4 bytes of 4 samples. Behind 21 samples 5 bytes were full, so the first is gone.
+// The ring has 4 bytes of 4 samples. After 21 samples 5 bytes were full, so the first is gone.
 #[test]
 fn the_oldest_byte_goes_first(rt: HostRuntime) -> Result<(), AllocError> {
     let mut history = SampleHistory::open(rt.alloc(), Format::Real2, 10)?;

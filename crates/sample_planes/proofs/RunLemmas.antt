@@ -10,7 +10,7 @@ use Rattle.definitions.specs.Samples.{sample_at, sample_count, samples_per_byte}
 use Rattle.definitions.proofs.SampleLemmas.{samples_from-length, samples_from-split}
 use Rattle.sample_planes.proofs.ByteLemmas.{samples_from-drop, place_of}
 
--- the first n samples of a run, and those behind them
+-- the first n samples of a run, and those after them
 parts : (packing : Packing) (bytes : List ℕ) (first len n : ℕ) → n ≤ len
     → samples_from packing bytes first len
     ≡ samples_from packing bytes first n ++ samples_from packing bytes (first + n) (len - n)

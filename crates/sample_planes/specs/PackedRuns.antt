@@ -7,7 +7,7 @@ pub record PackedRun : Type 0 where
   pub packing : Packing
   pub samples : List Sample
 
--- the first n of them, and those behind these
+-- the first n of them, and those after these
 abbrev pub front_of : ℕ → PackedRun → PackedRun
 front_of n run = record { packing = run.packing; samples = take n run.samples }
 

@@ -27,7 +27,7 @@ impl<'a> Model for NumberedSamples<'a> {
 
 impl<'a> NumberedSamples<'a> {
     /// The samples of a run, the first of them being sample `first` of the recording. The number
-    /// behind the last fits in a `u64`.
+    /// after the last fits in a `u64`.
     pub fn new(samples: PackedSamples<'a>, first: u64) -> NumberedSamples<'a>
         requires { first + length samples.samples < 2 ^ 64 }
         ensures { result ≡ record { first = first; samples = samples.entry.samples } }

@@ -14,7 +14,7 @@ use std::marker::Model;
 /// Where a run of packed samples lies among bytes.
 #[derive(Clone, Copy, Debug)]
 pub struct RunPlace<'a> {
-    /// The bytes that the samples lie in, and any behind them.
+    /// The bytes that the samples lie in, and perhaps more bytes after these.
     pub bytes: &'a [u8],
     /// The place of the first sample in the first byte, counted from 0.
     pub first: usize,
@@ -27,7 +27,7 @@ pub struct RunPlace<'a> {
 #[derive(Debug, Drop)]
 pub struct PackedSamples<'a> {
     format: Format,
-    /// The bytes that the samples lie in, and any behind them.
+    /// The bytes that the samples lie in, and perhaps more bytes after these.
     bytes: &'a [u8],
     /// The place of the first sample in the first byte.
     first: usize,
@@ -100,7 +100,7 @@ impl<'a> PackedSamples<'a> {
         }
     }
 
-    /// The first `n` samples, and those behind them. There are at least `n`.
+    /// The first `n` samples, and those after them. There are at least `n`.
     pub fn split_at(&self, n: usize) -> (PackedSamples<'a>, PackedSamples<'a>)
         requires { n ≤ length self.now.samples }
         ensures front { result.0 ≡ front_of n self.now }

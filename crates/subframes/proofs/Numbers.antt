@@ -15,7 +15,7 @@ use Rattle.definitions.specs.Fields as fields
 use Rattle.definitions.specs.Fields.{bit_at_place, places_of, all_places}
 use Rattle.subframes.specs.Layouts.{size_of, is_in_one_word, number_of_bits}
 
--- n digits that are neighbouring bits of a number, the first of them behind h - 1 others
+-- n digits that are neighbouring bits of a number, the first of them after h - 1 others
 number-of_neighbours : (d : ℕ → ℕ) (x a h n : ℕ) → n ≤ h
     → ((i : ℕ) → i < n → d (a + i) ≡ bit_at x (h - 1 - i))
     → number_from_digits 2 (map d (range_with_len a n)) ≡ x / 2 ^ (h - n) % 2 ^ n

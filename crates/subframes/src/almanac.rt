@@ -40,7 +40,7 @@ pub enum AlmanacField {
     Af1,
 }
 
-/// The rows of table 20-VI: the parts of af0 stand before and behind af1.
+/// The rows of table 20-VI: the parts of af0 stand before and after af1.
 macro_rules! almanac_rows {
     ($maker:ident $($given:tt)*) => {
         $maker! { $($given)* { Almanac(AlmanacField)

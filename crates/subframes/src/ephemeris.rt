@@ -128,7 +128,7 @@ pub(crate) static EPH3_FIELDS: [Field; 9] = eph3_rows!(fields_of);
 /// The fields of a clock and ephemeris.
 static EPHEMERIS_FIELDS: [Field; 31] = clock_rows!(eph2_rows eph3_rows fields_of);
 
-/// The fields of a clock and ephemeris, those of the three pages one behind the other: subframe 1,
+/// The fields of a clock and ephemeris, those of the three pages one after the other: subframe 1,
 /// subframe 2, subframe 3 (IS-GPS-200, sections 20.3.3.3.1 and 20.3.3.4.1).
 #[tactic(auto, unfolding(crate::specs::Entries::entry_of, crate::specs::Entries::name_of))]
 pub fn ephemeris_fields() -> &'static [Field]

@@ -17,7 +17,7 @@ use crate::utc::UtcField;
 
 /// A field of the message, by the table that it stands in (IS-GPS-200, sections 20.3.3.3 to
 /// 20.3.3.5). Its number times two to the power of [`Field::exponent`] is its value, in the unit
-/// that its variant tells.
+/// that its variant names.
 #[derive(Clone, Copy, Debug, PartialEq, Eq)]
 pub enum Field {
     /// Subframe 1, the clock (section 20.3.3.3.1).
@@ -64,7 +64,7 @@ impl Field {
         }
     }
 
-    /// Its place among the fields of its kind, from 0.
+    /// The field's place among the fields of its kind, from 0.
     #[tactic(auto, using(crate::proofs::Written::place), unfolding(crate::specs::Entries::name_of))]
     pub(crate) fn place(self) -> usize
         ensures place { result ≡ place_of (name_of self) (fields_of (kind_with self)) }
@@ -80,7 +80,7 @@ impl Field {
         }
     }
 
-    /// Its line of its table.
+    /// The field's line of its table.
     #[tactic(auto, unfolding(crate::specs::Entries::entry_of, crate::specs::Entries::name_of))]
     pub(crate) fn layout(self) -> Layout
         ensures name { result.name.now ≡ name_of self }

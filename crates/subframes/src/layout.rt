@@ -8,7 +8,7 @@ ghost use Rattle.subframes.specs.Layouts.{number_of_bits, number_of_parts};
 
 use frame_sync::Subframe;
 
-/// The bits of a word that are data; the parity stands behind them.
+/// The bits of a word that are data; the parity follows them.
 const DATA_WIDTH: usize = 24;
 
 /// Bits first to last of a subframe, counted from 1, parity places included (IS-GPS-200, figure
@@ -31,7 +31,7 @@ pub(crate) struct Layout {
 }
 
 impl Bits {
-    /// How many they are.
+    /// The number of bits.
     fn len(self) -> usize
         requires { IsTrue (is_in_one_word (bits_in self)) }
         ensures { result ≡ size_of (bits_in self) }
@@ -39,7 +39,7 @@ impl Bits {
         self.last + 1 - self.first
     }
 
-    /// The word that holds them, from 1.
+    /// The number, from 1, of the word that holds the bits.
     fn word(self) -> usize
         requires { IsTrue (is_in_one_word (bits_in self)) }
         ensures from_one { 1 ≤ result }
@@ -49,7 +49,7 @@ impl Bits {
         (self.first - 1) / 30 + 1
     }
 
-    /// Whether the word that holds them is.
+    /// Whether the word that holds the bits is present.
     fn is_there(self, subframe: &Subframe) -> bool
         requires { IsTrue (is_in_one_word (bits_in self)) }
         ensures { result ≡ is_some (word_at_place subframe.now self.first) }
@@ -57,7 +57,7 @@ impl Bits {
         subframe.word(self.word()).is_some()
     }
 
-    /// The number that they write, the first of them highest; 0 where their word is missing.
+    /// The number that the bits write, the first of them highest; 0 where their word is missing.
     pub(crate) fn number(self, subframe: &Subframe) -> u64
         requires { IsTrue (is_in_one_word (bits_in self)) }
         ensures number { result ≡ number_of_bits subframe.now (bits_in self) }
@@ -109,7 +109,7 @@ impl Layout {
         }
     }
 
-    /// How many bits it has.
+    /// The number of bits of the field.
     fn len(&self) -> usize
         requires { IsTrue (is_readable (layout_in self.now)) }
         ensures len { result ≡ sum_by size_of (parts_in self.now.head self.now.tail) }

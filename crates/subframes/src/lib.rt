@@ -5,15 +5,18 @@
 //! and promise the number that the bits of the definitions' table write, in two's complement where
 //! the standard marks it.
 //!
+//!     use frame_sync::Subframe;
 //!     use subframes::{ClockField, Field, Page, field};
 //!
-//!     // The group delay in 2^-31 s, wherever its own word is there.
-//!     let delay = field(&subframe, Field::Clock(ClockField::Tgd));
-//!     // The numbers of a complete subframe: one by its name, and all in their fields' order.
-//!     if let Some(page) = Page::read(&subframe) {
-//!         let week = page.value(Field::Clock(ClockField::Wn));
-//!         for (field, number) in page.kind().fields().iter().zip(page.values()) {
-//!             let unit = field.exponent();
+//!     fn show(subframe: &Subframe) {
+//!         // The group delay in 2^-31 s, wherever its own word is there.
+//!         let delay = field(subframe, Field::Clock(ClockField::Tgd));
+//!         // The numbers of a complete subframe: one by its name, and all in their fields' order.
+//!         if let Some(page) = Page::read(subframe) {
+//!             let week = page.value(Field::Clock(ClockField::Wn));
+//!             for (field, number) in page.kind().fields().iter().zip(page.values()) {
+//!                 let unit = field.exponent();
+//!             }
 //!         }
 //!     }
 #![tactic(auto)]

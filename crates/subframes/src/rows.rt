@@ -49,7 +49,7 @@ macro_rules! layout_of {
     };
 }
 
-/// The fields of one table, or of some, one behind the other.
+/// The fields of one table, or of some, one after the other.
 macro_rules! fields_of {
     ($({ $table:ident($names:ident) $($name:ident: $layout:expr,)* })*) => {
         [$($(Field::$table($names::$name),)*)*]

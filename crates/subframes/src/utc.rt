@@ -19,19 +19,19 @@ pub enum UtcField {
     Sv,
     /// The amplitude of the ionosphere's delay, in seconds.
     Al0,
-    /// Its term in seconds per semicircle.
+    /// The term of the amplitude of the ionosphere's delay, in seconds per semicircle.
     Al1,
-    /// Its term in seconds per semicircle squared.
+    /// The term of the amplitude of the ionosphere's delay, in seconds per semicircle squared.
     Al2,
-    /// Its term in seconds per semicircle cubed.
+    /// The term of the amplitude of the ionosphere's delay, in seconds per semicircle cubed.
     Al3,
     /// The period of the ionosphere's delay, in seconds.
     Be0,
-    /// Its term in seconds per semicircle.
+    /// The term of the period of the ionosphere's delay, in seconds per semicircle.
     Be1,
-    /// Its term in seconds per semicircle squared.
+    /// The term of the period of the ionosphere's delay, in seconds per semicircle squared.
     Be2,
-    /// Its term in seconds per semicircle cubed.
+    /// The term of the period of the ionosphere's delay, in seconds per semicircle cubed.
     Be3,
     /// The drift of GPS time against UTC, in seconds per second.
     A1,
@@ -47,7 +47,7 @@ pub enum UtcField {
     Wnlsf,
     /// The day of the next leap second, from 1 for Sunday.
     Dn,
-    /// The leap seconds from then on.
+    /// The leap seconds from the next leap second on.
     Dtlsf,
 }
 

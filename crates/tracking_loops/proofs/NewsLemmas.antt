@@ -35,7 +35,7 @@ some_window ds good e = by_test (ends_window ds) (is_good ds (window_count ds - 
     by_test true g e = (refl, cc)
     by_test false g e = cc
 
--- ---- the run and the lock behind one more window, in plain numbers
+-- ---- the run and the lock after one more window, in plain numbers
 
 pub run_kept : (good : Bool) (r : ℕ) → (if good then 0 else min 50 (min 50 r + 1))
     ≡ min 50 (if good then 0 else suc r)

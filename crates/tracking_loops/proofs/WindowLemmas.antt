@@ -169,7 +169,7 @@ list_any-push p (y ∷ xs) x = ap (λ (b : Bool). p y || b) (list_any-push p xs 
     or_assoc true b c = refl
     or_assoc false b c = refl
 
--- the run behind one more window
+-- the run after one more window
 run_step : (b : Bool) (r n k : ℕ) → (nat_lt r (min n k) || b)
     ≡ nat_lt (if b then 0 else suc r) (min (suc n) (suc k))
 run_step true r n k = or_right (nat_lt r (min n k)) true refl

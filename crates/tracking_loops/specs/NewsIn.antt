@@ -10,8 +10,8 @@ news_in Lock = lock
 news_in Unlock = unlock
 news_in Lost = lost
 
--- what a whole window tells: whether the signal is lost with it, and whether the channel is locked
--- before it and with it
+-- what a whole window reports: whether the signal is lost with it, and whether the channel is
+-- locked before it and with it
 abbrev pub news_by : Bool → Bool → Bool → DefinedNews
 news_by is_lost before now =
     if is_lost then lost

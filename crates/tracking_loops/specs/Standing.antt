@@ -14,7 +14,7 @@ use Rattle.tracking_loops.specs.declared.loops.Loops.{Loops}
 abbrev pub steering_in : Steering → DefinedLoops
 steering_in s = record { taken = s.dumps; last = counts_in s.last; u = s.u; v = s.v; w = s.w }
 
--- what is kept of the dumps behind the last whole window
+-- what is kept of the dumps after the last whole window
 pub record IsFilling (dumps : List Counts) (window : Window) : Type 0 where
   pub count : window.count ≡ (length dumps - 199) % 20
   pub in_phase : window.in_phase ≡ sum_by (λ (d : Counts). unsigned_abs d.ip)

@@ -11,7 +11,7 @@ ghost use Rattle.tracking_loops.specs.declared.limits.TheConstants.{MOST_ERROR};
 
 use lane_correlator::Counts;
 
-/// An error is a quotient of -1 to 1, in so many units of one.
+/// The units of an error: it is a quotient from -1 to 1, times this number.
 const UNITS: i64 = 4096;
 
 /// The turn of the carrier from one dump to the next.
@@ -80,7 +80,7 @@ fn cross(before: &Counts, counts: &Counts) -> i64
     product(before.ip, counts.qp) - product(counts.ip, before.qp)
 }
 
-/// Their scalar product.
+/// The scalar product of two prompt sums.
 fn dot(before: &Counts, counts: &Counts) -> i64
     requires before_small { AreWithin MOST_SUM (counts_in before.now) }
     requires counts_small { AreWithin MOST_SUM (counts_in counts.now) }

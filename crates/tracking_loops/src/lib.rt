@@ -3,11 +3,13 @@
 //! with quotients that round toward minus infinity. The crate promises that the channel's shift,
 //! its count of dumps and its news are what the definition says of the list of all dumps taken.
 //!
+//!     use lane_correlator::Counts;
 //!     use tracking_loops::{Loops, News};
 //!
 //!     // Begins with a shift of 1,250 Hz, in 1/65536 Hz.
 //!     let mut loops = Loops::start(1_250 * 65_536);
-//!     for counts in dumps {
+//!     let counts = Counts { ie: 450, qe: 0, ip: 900, qp: 10, il: 440, ql: 0 };
+//!     for _ in 0..1_000 {
 //!         if loops.take(counts) == News::Lost {
 //!             break;
 //!         }

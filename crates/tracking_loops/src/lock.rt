@@ -12,10 +12,10 @@ use crate::news::News;
 use crate::window::Window;
 use lane_correlator::Counts;
 
-/// So many bad windows in a row end the lock.
+/// This many bad windows in a row end the lock.
 const UNLOCK_WINDOWS: u8 = 10;
 
-/// After so many the signal is lost.
+/// After this many bad windows in a row the signal is lost.
 const LOST_WINDOWS: u8 = 50;
 
 /// The lock, over the dumps by which the phase is held.
@@ -31,7 +31,7 @@ pub struct Lock {
 impl Lock {
     ghost use Rattle.tracking_loops.specs.Standing.{IsWatching};
 
-    /// Isn't locked.
+    /// The state before the first window: not locked.
     pub fn new() -> Self
         ensures { IsWatching [] result }
     {
@@ -83,7 +83,7 @@ impl Lock {
     }
 }
 
-/// What a change of the lock is told as.
+/// What a change of the lock is reported as.
 fn change(was_locked: bool, is_locked: bool) -> News
     ensures { news_in result ≡ news_by false was_locked is_locked }
 {

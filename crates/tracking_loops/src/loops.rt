@@ -43,7 +43,7 @@ impl Loops {
         }
     }
 
-    /// Takes the sums of the next dump, each at most `MOST_SUM` in size, and tells what they make
+    /// Takes the sums of the next dump, each at most `MOST_SUM` in size, and gives what they make
     /// of the lock. After `Lost` the rules stay the same; a channel ends there.
     pub fn take(&mut self, counts: Counts) -> News
         requires small { AreWithin MOST_SUM (counts_in counts) }

@@ -1,6 +1,6 @@
 //! What a dump changes of the lock.
 
-/// What a dump tells of the lock.
+/// What a dump reports of the lock.
 #[derive(Debug, Clone, Copy, PartialEq, Eq)]
 pub enum News {
     /// The lock is as it was.

@@ -22,7 +22,7 @@ const PULLING_GAIN: i64 = 160;
 /// What a phase error of one unit moves the shift by for good.
 const SLOW_GAIN: i64 = 6;
 
-/// And what it moves it by until the next dump.
+/// What a phase error of one unit adds to the shift until the next dump.
 const FAST_GAIN: i64 = 170;
 
 /// What a code error of one unit makes the correction of the code's rate.
@@ -31,9 +31,9 @@ const CODE_GAIN: i64 = 16;
 /// What the dumps so far make of the shift.
 #[derive(Debug, Drop)]
 pub struct Steering {
-    /// How many were taken.
+    /// The number of dumps taken.
     pub dumps: u64,
-    /// The last of them; before the first all six sums are 0.
+    /// The last dump. Before the first all six of its sums are 0.
     last: Counts,
     /// The part of `v` that stays until the next dump.
     u: i64,

@@ -102,9 +102,8 @@ fn loop_steps_locked_once(rt: HostRuntime) {
     }
 }
 
-// A good window after nine bad ones begins the run anew, so that the lock ends ten windows behind
-// it: 219 + (9 + 1 + 10) * 20. A window
-// of zeros is good.
+// A good window after nine bad ones begins the run anew, so that the lock ends ten windows after
+// it: 219 + (9 + 1 + 10) * 20. A window of zeros is good.
 #[test]
 fn good_window_ends_the_run(rt: HostRuntime) {
     let mut loops = Loops::start(0);

@@ -1,4 +1,4 @@
-//! The windows of dumps by which a lock is told.
+//! The windows of dumps that decide the lock.
 
 ghost use Rattle.std.specs.Prelude.{◌≡◌, ◌^◌, ◌≤◌, ◌<◌, ◌*◌, List, [], ◌∷◌, ◌++◌, length};
 ghost use Rattle.std.specs.Prelude.{unsigned_abs, ◌+◌};
@@ -14,11 +14,11 @@ const DUMPS_OF_WINDOW: u8 = 20;
 /// The window that isn't whole yet.
 #[derive(Debug, Drop)]
 pub struct Window {
-    /// How many dumps it has.
+    /// The number of dumps of the window, fewer than 20.
     count: u8,
-    /// The sum of the sizes of their prompt sums in phase.
+    /// The sum of the sizes of the window's prompt sums in phase.
     in_phase: u32,
-    /// And in quadrature.
+    /// The sum of the sizes of the window's prompt sums in quadrature.
     quadrature: u32,
     ghost count_in_range: { count < 20 },
     ghost in_phase_in_range: { in_phase ≤ count * MOST_SUM },
@@ -29,7 +29,7 @@ impl Window {
     ghost use Rattle.tracking_loops.specs.Windows.{good_window};
     ghost use Rattle.tracking_loops.specs.Standing.{IsFilling};
 
-    /// Has no dump.
+    /// A window without dumps.
     pub fn new() -> Self
         ensures { IsFilling [] result }
     {

@@ -1,4 +1,4 @@
-//! Bits behind a lock: which prompt sums are pushed, the edge among them, and the bits.
+//! Bits after a lock: which prompt sums are pushed, the edge among them, and the bits.
 
 use crate::dumps::Dump;
 use crate::lock::is_locked;
@@ -14,7 +14,7 @@ pub struct Stretch {
 }
 
 /// All stretches of pushes among the dumps of a channel. A dump is pushed where the loops are
-/// locked before it and behind it.
+/// locked before it and after it.
 pub fn stretches_of(
     alloc: Global,
     dumps: &[Dump],
@@ -45,7 +45,7 @@ fn stretch_of(dumps: &[Dump], first: usize, end: usize) -> Stretch {
 }
 
 /// The push at which the edge is found: the sixteenth change at its place modulo 20 since the last
-/// reset. Where two places have four changes or more, all begin anew behind that push.
+/// reset. Where two places have four changes or more, all begin anew after that push.
 fn edge_among(pushes: &[Dump]) -> Option<usize> {
     let mut reset = 0usize;
     for push in 1..pushes.len() {

@@ -22,7 +22,7 @@ pub struct Channel {
     pub is_steered: bool,
 }
 
-/// The sums of a segment, the time of its end, and what the loops ask for behind it.
+/// The sums of a segment, the time of its end, and what the loops ask for after it.
 #[derive(Clone, Copy)]
 pub struct Dump {
     pub time: usize,
@@ -83,7 +83,7 @@ fn all_dumps(
     Ok(dumps)
 }
 
-/// The least time behind the start by which the code has run through, if it is within the
+/// The least time after the start by which the code has run through, if it is within the
 /// recording.
 fn end_of_segment(recording: &Recording, phases: &Phases, start: usize) -> Option<usize> {
     (start.wrapping_add(1)..=recording.samples())

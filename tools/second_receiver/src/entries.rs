@@ -27,7 +27,7 @@ pub fn entries_of(alloc: Global, script: &[u8], slots: usize) -> Result<Vec<Entr
     Ok(entries)
 }
 
-/// The entry of a line behind one of a time; a line without words has none.
+/// The entry of a line after one of a time; a line without words has none.
 fn entry_of(
     alloc: Global,
     line: &[u8],

@@ -5,7 +5,7 @@ use crate::recording::Recording;
 use crate::slot::Slot;
 use std::alloc::{AllocError, Global};
 
-/// A line: its text, behind the client's number and the time. The key says where it stands among
+/// A line: its text, after the client's number and the time. The key says where it stands among
 /// all lines: its time, whether samples caused it (0) or a command (1) or the end (2), its client,
 /// then its slot or the place of its command, and its rank among the lines of one dump.
 pub struct Line {

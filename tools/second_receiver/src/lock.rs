@@ -3,7 +3,7 @@
 use crate::dumps::Dump;
 use std::alloc::{AllocError, Global};
 
-/// What a dump tells of the lock.
+/// What a dump reports of the lock.
 #[derive(Clone, Copy, PartialEq, Eq)]
 pub enum News {
     Nothing,
@@ -53,7 +53,7 @@ pub fn is_locked(good: &[bool], dumps: usize) -> bool {
     any_good(good, window_count(dumps), 10)
 }
 
-/// What the last of so many dumps tells.
+/// What the last of so many dumps reports.
 pub fn news_of(good: &[bool], dumps: usize) -> News {
     let windows = window_count(dumps);
     if dumps < 219 || dumps.wrapping_sub(199) % 20 != 0 {

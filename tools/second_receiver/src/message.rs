@@ -1,4 +1,4 @@
-//! What the bits of one lock tell: subframes, pages and sets.
+//! What the bits of one lock make reported: subframes, pages and sets.
 
 use crate::bits::{Stretch, bits_of};
 use crate::dumps::Dump;
@@ -8,21 +8,21 @@ use crate::sets::{almanacs_of, ephemeris_of, values_of_almanacs, values_of_ephem
 use crate::subframes::{SUBFRAME, Subframe, subframes_of};
 use std::alloc::{AllocError, Global};
 
-/// A text that a slot tells with a dump. Among those of one dump the rank puts them in order.
+/// A text that a slot emits with a dump. Among those of one dump the rank puts them in order.
 pub struct Told {
     pub dump: usize,
     pub rank: usize,
     pub text: String,
 }
 
-/// The pages so far, and the values of the sets that were told last.
+/// The pages so far, and the values of the sets that were reported last.
 struct Reading {
     pages: Vec<Subframe>,
     ephemeris: Vec<i64>,
     almanacs: Vec<i64>,
 }
 
-/// Adds what the pushes of one lock tell.
+/// Adds what the pushes of one lock make reported.
 pub fn add_message(
     alloc: Global,
     slot: usize,
@@ -69,8 +69,8 @@ fn add_subframe(
     tell(told, dump, 4, subframe_text(alloc, slot, subframe)?)
 }
 
-/// Adds what the last page tells: itself, or the set of clock and ephemeris that it makes new; and
-/// behind an almanac perhaps a new set of almanacs.
+/// Adds what the last page makes reported: itself, or the set of clock and ephemeris that it makes
+/// new; and after an almanac perhaps a new set of almanacs.
 fn add_page(
     alloc: Global,
     slot: usize,

@@ -5,7 +5,7 @@ use crate::pages::{Kind, fields_of, value_named};
 use crate::subframes::Subframe;
 use std::alloc::{AllocError, Global};
 
-/// The text of a page that is told by itself; none for clock and ephemeris pages.
+/// The text of a page that is reported by itself; none for clock and ephemeris pages.
 pub fn page_text(
     alloc: Global,
     slot: usize,

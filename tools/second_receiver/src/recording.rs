@@ -71,7 +71,7 @@ impl Recording<'_> {
         if self.bit(place) { -1 } else { 1 }
     }
 
-    /// A sign, and behind it a magnitude that is 1 for 0 and 3 for 1.
+    /// A sign, and after it a magnitude that is 1 for 0 and 3 for 1.
     fn value(&self, place: usize) -> i64 {
         let size = if self.bit(place.wrapping_add(1)) {
             3

@@ -30,12 +30,12 @@ impl Plan {
             .wrapping_mul(HALF_CHIPS)
     }
 
-    /// The sample behind the dwell.
+    /// The sample after the dwell.
     fn dwell_end(&self, recording: &Recording, begun: usize) -> usize {
         begun.wrapping_add(self.periods.wrapping_mul(recording.samples_of_period()))
     }
 
-    /// When the answer is due: four samples for each cell behind the dwell.
+    /// When the answer is due: four samples for each cell after the dwell.
     pub fn due(&self, recording: &Recording, begun: usize) -> usize {
         self.dwell_end(recording, begun)
             .wrapping_add(self.cells().wrapping_mul(4))

@@ -19,7 +19,7 @@ pub struct Slot<'a> {
 
 impl Slot<'_> {
     /// Adds the lines of the slot, which are its answers to the commands among these entries and
-    /// what its lives tell.
+    /// what its lives emit.
     pub fn add_lines(
         &self,
         alloc: Global,
@@ -45,7 +45,7 @@ impl Slot<'_> {
         Ok(())
     }
 
-    /// The life that is on at a time. One that is over is told, up to its end.
+    /// The life that is on at a time. Adds the lines of one that is over, up to its end.
     fn still_on(
         &self,
         alloc: Global,
@@ -62,7 +62,7 @@ impl Slot<'_> {
         }
     }
 
-    /// The life behind a request, and the answer.
+    /// The life after a request, and the answer.
     fn carry_out(
         &self,
         alloc: Global,
@@ -102,7 +102,7 @@ impl Slot<'_> {
         Ok((life, text))
     }
 
-    /// Adds the lines that a life tells up to a time.
+    /// Adds the lines that a life emits up to a time.
     fn add_life(
         &self,
         alloc: Global,
@@ -143,7 +143,7 @@ impl Slot<'_> {
         Ok(())
     }
 
-    /// What all dumps of a life tell.
+    /// What all dumps of a life emit.
     fn told_by(&self, alloc: Global, life: &Life) -> Result<Vec<Told>, AllocError> {
         let mut told = Vec::new(alloc);
         self.add_counts(alloc, life, &mut told)?;

@@ -118,8 +118,8 @@ fn one_to_eight_slots(rt: HostRuntime) -> Result<(), Fail> {
     Ok(())
 }
 
-// Satellite 1 in client 1's one slot, and satellite 7 in the last of client 2's eight slots: what
-// they tell is what the first slots of two equal shares tell.
+// Satellite 1 in client 1's one slot, and satellite 7 in the last of client 2's eight slots: they
+// emit what the first slots of two equal shares emit.
 #[test]
 fn shares_may_differ(rt: HostRuntime) -> Result<(), Fail> {
     let last = SlotNo::new(7).ok_or("a slot")?;

@@ -31,7 +31,7 @@ fn bank_of_one(alloc: Global) -> Result<Bank, Fail>
     Ok(Bank::open(alloc, plain_settings()?, &[4])?)
 }
 
-/// Feeds a bank the samples of a recording up to a time, in pieces, and gives what it tells.
+/// Feeds a bank the samples of a recording up to a time, in pieces, and gives its events.
 fn feed_to(
     bank: &mut Bank,
     recording: &PackedSamples,
@@ -65,7 +65,7 @@ fn feed_to(
     Ok(told)
 }
 
-/// The same, and sees that it tells just what is wanted.
+/// The same, and sees that its events are just those that are wanted.
 fn hear(
     rt: &impl Abort,
     bank: &mut Bank,
@@ -103,7 +103,7 @@ fn found_at_two() -> Result<Event, Fail> {
     })
 }
 
-/// What slot 0 of client 1 tells at a time.
+/// What slot 0 of client 1 emits at a time.
 fn told_at(time: u64, event: Event) -> SlotEvent {
     SlotEvent {
         client: 1,
@@ -181,7 +181,7 @@ fn equal_cells(rt: HostRuntime) -> Result<(), Fail> {
     Ok(())
 }
 
-// The dwell ends at 2,046, and one cell is done with every four samples behind it.
+// The dwell ends at 2,046, and one cell is done with every four samples after it.
 #[test]
 fn cells_come_with_samples(rt: HostRuntime) -> Result<(), Fail> {
     let bytes = long_code_file();
@@ -242,7 +242,7 @@ fn hear_in_turn(rt: &impl Abort, told: &[SlotEvent]) {
 }
 
 // Whatever 31 other slots search for, the dwell of client 1's slot 0 ends at 20,460, and one cell
-// is done with the fourth sample behind it.
+// is done with the fourth sample after it.
 #[test]
 fn cells_among_strangers(rt: HostRuntime) -> Result<(), Fail> {
     let zeros = [0; 2_558];
@@ -299,7 +299,7 @@ fn counts_outlast_the_search(rt: HostRuntime) -> Result<(), Fail> {
     Ok(())
 }
 
-// A search that is stopped tells nothing. At the due time its answer comes first: then a found
+// A search that is stopped emits nothing. At the due time its answer comes first: then a found
 // signal is tracked, and is stopped, and where nothing was found the slot is idle.
 #[test]
 fn stop_at_the_due_time(rt: HostRuntime) -> Result<(), Fail> {
@@ -323,7 +323,7 @@ fn stop_at_the_due_time(rt: HostRuntime) -> Result<(), Fail> {
     Ok(())
 }
 
-/// The same samples behind so many others, fewer than a byte has.
+/// The same samples after a number of others, fewer than a byte has.
 fn behind(bytes: &[u8; 1_536], first: usize) -> [u8; 1_537]
     requires { first < 8 }
 {
@@ -341,7 +341,7 @@ fn behind(bytes: &[u8; 1_536], first: usize) -> [u8; 1_537]
     moved
 }
 
-/// Sees that a bank tells the same in pieces, wherever in a byte the recording begins.
+/// Sees that a bank emits the same in pieces, wherever in a byte the recording begins.
 fn hear_from_each_place(rt: &impl Abort, alloc: Global, piece: usize) -> Result<(), Fail>
     requires some { 0 < piece }
     requires short { piece ≤ MAX_SAMPLES }

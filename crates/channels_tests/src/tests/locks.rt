@@ -10,7 +10,7 @@ use nav_message::{MOST_BITS, MessageNews};
 use nav_parity::encode;
 use std::process::Abort;
 
-/// The telemetry word behind two bits 0, and the handover word of a subframe 5 behind it. They were
+/// The telemetry word after two bits 0, and the handover word of a subframe 5 after it. They were
 /// worked out by the parity equations (IS-GPS-200, section 20.3.5).
 const HEADER: [u32; 2] = [0x22c0_0012, 0x2528];
 
@@ -47,7 +47,7 @@ impl Reading {
         self.message.take(&counts, is_locked)
     }
 
-    /// Takes the dump of a lock and 360 behind it. Their bits alternate up to the edge, which is
+    /// Takes the dump of a lock and 360 after it. Their bits alternate up to the edge, which is
     /// found with the sixteenth change and not before, and end in two bits 0.
     fn lock(&mut self, rt: &impl Abort) {
         assert_eq!(rt; self.take(rt, true, true), MessageNews::Nothing);
@@ -64,7 +64,7 @@ impl Reading {
         assert!(rt; !self.message.has_edge());
     }
 
-    /// Takes the dumps of a word's bits, the highest first. Only the last may tell something.
+    /// Takes the dumps of a word's bits, the highest first. Only the last may bring news.
     fn take_word(&mut self, rt: &impl Abort, word: u32) -> MessageNews {
         let mut news = MessageNews::Nothing;
         for k in 0..600u32 {
@@ -91,7 +91,7 @@ impl Reading {
     }
 }
 
-/// The words of a satellite's almanac, as they are sent. The satellite stands in word 3 behind the
+/// The words of a satellite's almanac, as they are sent. The satellite stands in word 3 after the
 /// data ID 1, and the time in word 4. The last two data bits are such that the subframe ends in two
 /// bits 0.
 fn almanac_words(satellite: u8) -> [u32; 10] {
@@ -112,12 +112,12 @@ fn almanac_words(satellite: u8) -> [u32; 10] {
     words
 }
 
-/// The word with these data behind another one.
+/// The word with these data after another one.
 fn behind(source: u32, before: u32) -> u32 {
     encode(source & 0xff_ffff, (before % 4) as u8)
 }
 
-// The header and 90 bits of a subframe come before the unlock, and 300 bits behind it. The subframe
+// The header and 90 bits of a subframe come before the unlock, and 300 bits after it. The subframe
 // would end among these, if its start were kept.
 #[test]
 fn start_ends_with_the_lock(rt: HostRuntime) {

@@ -10,7 +10,7 @@ use oscillators::{HalfChip, Settings};
 use sample_planes::{Format, NumberedSamples, PackedSamples, unpack};
 use std::test::Fail;
 
-/// The file of a code, and zeros as far as a run behind the due time.
+/// The file of a code, and zeros up to one run after the due time.
 fn padded() -> [u8; 1_408] {
     let mut bytes = [0; 1_408];
     let file = code_file();

@@ -12,7 +12,7 @@ use tracking_loops::News;
 /// The bytes of 600,000 two-bit samples: 240 segments, or a little less.
 const BYTES: usize = 150_000;
 
-/// The reference's dump behind so many samples more.
+/// The reference's dump after so many samples more.
 fn plain_dump(
     stream: &mut SampleStream,
     tracker: &mut PlainTracker,
@@ -34,8 +34,8 @@ fn news_of(news: PlainNews) -> News {
     }
 }
 
-// Each dump sets the steps of the segment behind it. From dump 200 on they come by another law, and
-// dump 219 is the first that tells a lock.
+// Each dump sets the steps of the segment after it. From dump 200 on they come by another law, and
+// dump 219 is the first that brings a lock.
 #[test]
 fn tracked_dumps_are_those_of_the_reference(rt: HostRuntime) -> Result<(), Fail> {
     let signal = MadeSignal::with_tail(&[]);

@@ -10,7 +10,7 @@ fn shifted(register: u16) -> u16 {
     if register & 1 == 1 { low ^ 0xb400 } else { low }
 }
 
-/// Ten thousand runs of 0 to 96 bytes, each with a line feed behind it.
+/// Ten thousand runs of 0 to 96 bytes, each followed by a line feed.
 fn any_bytes(alloc: Global) -> Result<Vec<u8>, AllocError> {
     let mut register = 0xace1;
     let mut text = Vec::new(alloc);

@@ -5,7 +5,7 @@ ghost use Rattle.std.specs.Prelude.{Some, None};
 use receiver::{DeviceFault, Sink, Source};
 use std::test::Fail;
 
-/// Gives bytes, as many a read as there is room for, and fails behind them where that is wanted.
+/// Gives bytes, as many a read as there is room for, and fails after them where that is wanted.
 #[derive(Drop)]
 pub struct Giving<'a> {
     bytes: &'a [u8],
@@ -16,7 +16,7 @@ pub struct Giving<'a> {
 }
 
 impl<'a> Giving<'a> {
-    /// Comes to its end behind the bytes.
+    /// Comes to its end after the bytes.
     pub fn whole(bytes: &'a [u8]) -> Self {
         Giving {
             bytes,
@@ -27,7 +27,7 @@ impl<'a> Giving<'a> {
         }
     }
 
-    /// Fails behind the bytes.
+    /// Fails after the bytes.
     pub fn faulty(bytes: &'a [u8]) -> Self {
         let mut device = Giving::whole(bytes);
         device.fails = true;
@@ -59,7 +59,7 @@ impl Source for Giving<'_> {
 /// The most bytes that a `Holding` has room for.
 const ROOM: usize = 4096;
 
-/// Keeps what is written, up to so many bytes; the write behind them fails.
+/// Keeps what is written, up to so many bytes; the write after them fails.
 #[derive(Drop)]
 pub struct Holding {
     bytes: [u8; ROOM],
@@ -76,7 +76,7 @@ impl Holding {
         Holding::faulty(ROOM)
     }
 
-    /// Takes `room` bytes, and fails behind them.
+    /// Takes `room` bytes, and fails after them.
     pub fn faulty(room: usize) -> Self {
         Holding {
             bytes: [0; ROOM],

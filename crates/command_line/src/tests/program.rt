@@ -1,4 +1,4 @@
-//! The program behind its command line: options, scripts in files, statuses and texts.
+//! The program with its command line: options, scripts in files, statuses and texts.
 
 use crate::failure::{Failure, status};
 use crate::tests::endings::{ending_of, ends, prints, refuses};
@@ -163,8 +163,8 @@ fn shares_of_the_slots(rt: HostRuntime) -> Result<(), Fail> {
     Ok(())
 }
 
-// There is a digit from 1 to 8 for each script, and one where there is none. The offset is looked
-// at before the shares, and the scripts behind them.
+// There is a digit from 1 to 8 for each script, and one where there is none. The offset is checked
+// before the shares, and the shares before the scripts.
 #[test]
 fn shares_that_are_none(rt: HostRuntime) {
     for digits in ["0", "9", "44", "4x", "+4", " 4", "x"] {

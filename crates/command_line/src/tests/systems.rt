@@ -31,7 +31,7 @@ impl<'a> System<'a> {
         (self.output.into_inner(), self.error.into_inner())
     }
 
-    /// Puts a text behind another.
+    /// Appends a text to another.
     fn keep<D: Display + Drop>(
         &self,
         kept: &RefCell<String>,

@@ -3,8 +3,8 @@
 use crate::{AlmanacSet, DataSets, Report, Reports};
 use subframes::Page;
 
-// The row of the specification: each almanac is told, the last of 32 makes the set, another time of
-// applicability takes it away, the same set isn't told again, and a changed health is.
+// The row of the specification: each almanac is reported, the last of 32 makes the set, another
+// time of applicability takes it away, the same set isn't reported again, and a changed health is.
 #[test]
 fn almanac_set(rt: HostRuntime) {
     let mut sets = DataSets::new();
@@ -51,8 +51,8 @@ fn next_time(rt: HostRuntime) {
     assert_eq!(rt; sets.take(&page(32, 6, 0)).set, Some(expected));
 }
 
-// A set is compared with the one that was told last: a health that changes and changes back makes
-// two more. So does a number that the set doesn't show.
+// A set is compared with the one that was reported last: a health that changes and changes back
+// makes two more. So does a number that the set doesn't show.
 #[test]
 fn changes_and_back(rt: HostRuntime) {
     let mut sets = sets_but_32();
@@ -74,7 +74,8 @@ fn changes_and_back(rt: HostRuntime) {
     );
 }
 
-// An almanac of no satellite from 1 to 32, which no subframe holds, is told and changes nothing.
+// An almanac of no satellite from 1 to 32, which no subframe holds, is reported and changes
+// nothing.
 #[test]
 fn no_satellite(rt: HostRuntime) {
     let mut sets = sets_but_32();
@@ -89,7 +90,7 @@ fn no_satellite(rt: HostRuntime) {
     assert_eq!(rt; sets.take(&page(32, 5, 0)).set, None);
 }
 
-// Pages of other kinds leave the almanacs as they are, and tell no set of them.
+// Pages of other kinds leave the almanacs as they are, and bring no set of them.
 #[test]
 fn between_other_pages(rt: HostRuntime) {
     let mut sets = DataSets::new();

@@ -17,7 +17,7 @@ struct Damage {
     len: u32,
 }
 
-/// Damage behind the subframe.
+/// Damage after the subframe.
 const NONE: Damage = Damage {
     tail: 300,
     bit: 300,
@@ -120,7 +120,7 @@ impl Mixture {
         add_bits(&mut self.bits, 0, 26)
     }
 
-    /// A subframe of data at random, behind two bits of this kind.
+    /// A subframe of data at random, after two bits of this kind.
     fn add_subframe(
         &mut self,
         id: u32,

@@ -20,7 +20,7 @@ fn first_chips(rt: HostRuntime) {
 }
 
 // The first chips of satellite 1 are 1100100000, each of them in two samples, and chips 1021 and
-// 1022 are 0. Behind them the code begins anew.
+// 1022 are 0. After them the code begins anew.
 #[test]
 fn code_file_begins_with_the_code(rt: HostRuntime) {
     let bytes = code_file();
@@ -46,7 +46,7 @@ fn first_bytes(rt: HostRuntime) {
     assert_eq!(rt; stream.next_value(), None);
 }
 
-// The same program gives these, too: the first bit 1 begins with sample 49,878, and the list behind
+// The same program gives these, too: the first bit 1 begins with sample 49,878, and the list after
 // the bits that alternate with sample 1,999,877. Its first bit is 1 here, which turns the values
 // from there on.
 #[test]

@@ -22,9 +22,9 @@ impl Almanac {
         Report::Alm([1, sv, 0, toa, 0, 0, health, 0, 0, 0, 0, 0, 0])
     }
 
-    /// The words of its subframe 5, as they are sent. The satellite stands in word 3 behind the
-    /// data ID 1, the time of applicability begins word 4, and the health ends word 5. The last two
-    /// data bits are such that the subframe ends in two bits 0.
+    /// The words of its subframe 5, as they are sent. The satellite stands in word 3 after the data
+    /// ID 1, the time of applicability begins word 4, and the health ends word 5. The last two data
+    /// bits are such that the subframe ends in two bits 0.
     fn words(&self) -> [u32; 10] {
         let mut words = [0; 10];
         words[0] = TELEMETRY;
@@ -45,7 +45,7 @@ impl Almanac {
     }
 }
 
-/// The word with these data behind another one.
+/// The word with these data after another one.
 fn behind(source: u32, before: u32) -> u32 {
     encode(source & 0xff_ffff, (before % 4) as u8)
 }

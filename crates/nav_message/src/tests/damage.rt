@@ -7,7 +7,7 @@ use crate::MessageNews;
 use frame_sync::Found;
 use std::process::Abort;
 
-/// What is told with a subframe of these words that has no gap and no page.
+/// What is reported with a subframe of these words that has no gap and no page.
 fn damaged(rt: &impl Abort, words: [Option<u32>; 10]) -> MessageNews {
     let found = Found {
         subframe: subframe(rt, words),
@@ -24,7 +24,7 @@ fn behind_two_zeros(rt: &impl Abort) -> Pushed {
 }
 
 // From word 6 on all bits are inverted. Word 6 has the two bits 0 before it and doesn't pass. The
-// words behind it have two bits 1 before them, and pass with the data that were sent.
+// words after it have two bits 1 before them, and pass with the data that were sent.
 #[test]
 fn inverted_tail(rt: HostRuntime) {
     let mut pushed = behind_two_zeros(&rt);
@@ -51,7 +51,7 @@ fn changed_last_bit(rt: HostRuntime) {
 
 // A header and three words of zeros, and then the subframe that they would have been. The header is
 // taken as a start, so the first five words of that subframe are words 6 to 10 of the one that is
-// told. Its other 150 bits are a gap, and the next subframe is whole.
+// reported. Its other 150 bits are a gap, and the next subframe is whole.
 #[test]
 fn false_header(rt: HostRuntime) {
     let mut pushed = behind_two_zeros(&rt);

@@ -47,7 +47,7 @@ impl Pushed {
         self.message.push(if is_negative { -1 } else { 1 })
     }
 
-    /// Pushes the 20 sums of a bit, of which only the last may tell something.
+    /// Pushes the 20 sums of a bit, of which only the last may make something reported.
     pub fn push_bit(&mut self, rt: &impl Abort, bit: bool) -> MessageNews {
         for _ in 0..19 {
             assert_eq!(rt; self.push(rt, bit), MessageNews::Nothing);
@@ -55,7 +55,8 @@ impl Pushed {
         self.push(rt, bit)
     }
 
-    /// Pushes the bits of words of 30, the highest first. Only the last of them may tell something.
+    /// Pushes the bits of words of 30, the highest first. Only the last of them may make something
+    /// reported.
     pub fn push_words(&mut self, rt: &impl Abort, words: &[u32; 10]) -> MessageNews {
         let mut last = MessageNews::Nothing;
         for k in 0..300usize {

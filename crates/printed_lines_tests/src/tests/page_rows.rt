@@ -3,7 +3,7 @@
 use super::*;
 use data_sets::{AlmanacSet, Report};
 
-/// A client's text of what its slot tells at the latest time.
+/// A client's text of what its slot emits at the latest time.
 fn line_of(event: Event) -> Line {
     event_line(&SlotEvent {
         client: 8,

@@ -9,10 +9,9 @@ use std::test::Fail;
 /// cells.
 const DUE_BYTES: usize = 1_279;
 
-// The code stands at the third half chip where the search begins: there all products of samples
-// and chips are 1, so that the sums are 2,046 times 2 and -1, and the power is 5 times the square
-// of 2,046.
-// It is due behind a period and four samples for each of the 2,046 cells.
+// The code stands at the third half chip where the search begins: there all products of samples and
+// chips are 1, so that the sums are 2,046 times 2 and -1, and the power is 5 times the square of
+// 2,046. It is due after a period and four samples for each of the 2,046 cells.
 #[test]
 fn acquire_code_file(rt: HostRuntime) -> Result<(), Fail> {
     let bytes = long_code_file();
@@ -40,7 +39,7 @@ fn equal_cells(rt: HostRuntime) -> Result<(), Fail> {
     writes(&rt, &[script], &[0; DUE_BYTES], usize::MAX, 10_232, none)
 }
 
-// One cell is done with every fourth sample behind the dwell.
+// One cell is done with every fourth sample after the dwell.
 #[test]
 fn waiting_state(rt: HostRuntime) -> Result<(), Fail> {
     let bytes = long_code_file();

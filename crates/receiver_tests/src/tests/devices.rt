@@ -12,7 +12,7 @@ use std::test::Fail;
 /// What the client gets before the first sample.
 const ANSWERS: &str = "1 0 ok\n1 0 ok\n";
 
-/// Sees that a run of the first count fails so, behind so many bytes, and wrote this.
+/// Sees that a run of the first count fails so, after so many bytes, and wrote this.
 fn fails(
     rt: &(impl Abort + Alloc<A = Global>),
     reader: &mut Giving,
@@ -27,7 +27,7 @@ fn fails(
     Ok(())
 }
 
-/// Sees what a run does whose reader fails behind so many bytes.
+/// Sees what a run does whose reader fails after so many bytes.
 fn reader_fails(
     rt: &(impl Abort + Alloc<A = Global>),
     code: &[u8],
@@ -47,7 +47,7 @@ fn reader_fails(
     Ok(())
 }
 
-/// Sees what a run does whose writer takes at most so many bytes a write, and fails behind so many.
+/// Sees what a run does whose writer takes at most so many bytes a write, and fails after so many.
 /// Gives the number of writes.
 fn writer_fails(
     rt: &(impl Abort + Alloc<A = Global>),
@@ -101,7 +101,7 @@ fn flush_fails_past_limit(
     Ok(writer.writes)
 }
 
-// The reader and the writer would go on behind their fault, and aren't asked: the last call on them
+// The reader and the writer would go on after their fault, and aren't asked: the last call on them
 // is the one that failed. The dump comes with the last of the 256 bytes, which has sample 2,046.
 #[test]
 fn failing_device(rt: HostRuntime) -> Result<(), Fail> {

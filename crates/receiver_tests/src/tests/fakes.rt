@@ -31,7 +31,7 @@ impl<'a> Giving<'a> {
         Giving::faulty(bytes, at_once, usize::MAX)
     }
 
-    /// Fails once behind `until_fault` bytes.
+    /// Fails once after `until_fault` bytes.
     pub fn faulty(bytes: &'a [u8], at_once: usize, until_fault: usize) -> Self {
         Giving {
             bytes,
@@ -112,7 +112,7 @@ pub struct Holding {
     flush_fails: bool,
     pub writes: u64,
     pub flushes: u64,
-    /// Whether a flush came behind the last write.
+    /// Whether a flush came after the last write.
     pub is_flushed: bool,
     has_failed: bool,
 }
@@ -123,7 +123,7 @@ impl Holding {
         Holding::faulty(usize::MAX, usize::MAX)
     }
 
-    /// Takes at most `at_once` bytes a write, and fails once behind `until_fault` bytes.
+    /// Takes at most `at_once` bytes a write, and fails once after `until_fault` bytes.
     pub fn faulty(at_once: usize, until_fault: usize) -> Self {
         Holding {
             bytes: ArrayVec::new(),

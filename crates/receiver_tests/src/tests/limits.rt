@@ -88,8 +88,7 @@ fn reads_past_limit(
     Ok(())
 }
 
-// 4,096 samples are 512 bytes. With one byte a read, the read behind them shows that there are
-// more.
+// 4,096 samples are 512 bytes. With one byte a read, the read after them shows that there are more.
 #[test]
 fn endless_reader(rt: HostRuntime) -> Result<(), Fail> {
     reads_past_limit(&rt, 1, 513)?;

@@ -15,10 +15,10 @@ const TRACK: &[u8] = b"0 track 0 7 1000 100\n";
 /// The most bits of a list.
 const MOST_BITS: usize = 2_000;
 
-/// The telemetry word, behind two bits 0.
+/// The telemetry word, after two bits 0.
 const TELEMETRY: u32 = 0x22c0_0012;
 
-/// The handover words behind it of subframe 1 at the time count 1, of 2 at 2, and of 3 at 3. Their
+/// The handover words after it, of subframe 1 at the time count 1, of 2 at 2, and of 3 at 3. Their
 /// data are 000084, 00010a and 00018c: the last two bits let the word end in 0, 0.
 const HANDOVERS: [u32; 3] = [0x2104, 0x4294, 0x631c];
 
@@ -53,8 +53,8 @@ fn add_word(bits: &mut ArrayVec<bool, MOST_BITS>, word: u32) -> Result<(), Fail>
     Ok(())
 }
 
-/// Sees what a run writes that tracks the satellite over so many samples of its signal. Its data
-/// bits are these, behind 40 that alternate.
+/// Sees what a run writes that tracks the satellite over so many samples of its signal. The
+/// signal's data bits are 40 that alternate, and then these.
 fn tracks(
     rt: &(impl Abort + Alloc<A = Global>),
     bits: &[bool],
@@ -110,7 +110,7 @@ fn inverted_tail() -> Result<ArrayVec<bool, MOST_BITS>, Fail> {
 }
 
 // From word 6 on all bits are inverted. Word 6 has two bits 0 before it and doesn't pass. Those
-// behind it have two bits 1 before them, and pass with the data that were sent.
+// after it have two bits 1 before them, and pass with the data that were sent.
 #[test]
 fn inverted_tail_of_a_made_signal(rt: HostRuntime) -> Result<(), Fail> {
     let bits = inverted_tail()?;
@@ -168,7 +168,7 @@ const LINES_AROUND_A_CUT: &str = "1 0 ok\n\
     crc=0:-5 w=0:-31 omdot=0:-43 iode3=0:0 idot=0:-43\n\
     1 79150000 end\n";
 
-// Noise hides the signal for 260 milliseconds, behind the first 70 bits of a subframe. Nothing that
+// Noise hides the signal for 260 milliseconds, after the first 70 bits of a subframe. Nothing that
 // was read before is used again. The edge is found anew. No subframe comes with the 300th bit from
 // the old start on, and the next one has no gap before it. Subframe 3 makes no set with 1 and 2 of
 // before, and a set like the one that was reported is reported again.

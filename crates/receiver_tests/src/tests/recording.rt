@@ -46,7 +46,7 @@ const SCRIPTS: [&[u8]; 8] = [
         1007 hold 3 32 -15854 1147\n1007 counts 3 3\n",
 ];
 
-/// How many dumps each client is told: five or three of each slot, as far as they come within the
+/// How many dumps each client gets: five or three of each slot, as far as they come within the
 /// samples.
 const DUMPS: [usize; 8] = [15, 15, 14, 15, 15, 14, 15, 14];
 
@@ -107,7 +107,7 @@ fn number_of_lines(writer: &Holding) -> Result<usize, Fail> {
     Ok(writer.text()?.lines().count())
 }
 
-/// Sees that the client at this place is told the same alone.
+/// Sees that the client at this place gets the same alone.
 fn is_told_alone(
     rt: &(impl Abort + Alloc<A = Global>),
     together: &Holding,

@@ -88,12 +88,12 @@ impl<'a> Reference<'a> {
         self.text.text()
     }
 
-    /// What the dumps told of the lock, in their order.
+    /// What the dumps reported of the lock, in their order.
     pub fn news(&self) -> &[PlainNews] {
         self.news.as_slice()
     }
 
-    /// Adds the lines of a dump: its sums, where they are asked for, and then what it tells.
+    /// Adds the lines of a dump: its sums, where they are asked for, and then what it reports.
     fn add_dump(&mut self, alloc: Global, dump: &PlainDump) -> Result<(), Fail> {
         if dump.number <= self.counts {
             let [ie, qe, ip, qp, il, ql] = dump.counts;

@@ -12,7 +12,7 @@ use std::process::Abort;
 use std::test::Fail;
 
 /// Sees that a run of a script, over a reader that gives at most so many bytes and a writer that
-/// takes at most so many at once, comes to its end behind so many reads.
+/// takes at most so many at once, comes to its end after so many reads.
 fn reads_and_writes(
     rt: &(impl Abort + Alloc<A = Global>),
     script: &[u8],
@@ -77,7 +77,7 @@ fn early_wraps(rt: HostRuntime) -> Result<(), Fail> {
     writes(&rt, &[script], &code_file(), usize::MAX, 2_048, text)
 }
 
-/// Sees what the first dump of four samples tells: at four samples a chip, with the carrier a
+/// Sees the line of the first dump of four samples: at four samples a chip, with the carrier a
 /// quarter of a cycle a sample, and the slot at the last chip's begin.
 fn counts_four_samples(
     rt: &(impl Abort + Alloc<A = Global>),
@@ -121,7 +121,7 @@ fn complex_bytes(rt: HostRuntime) -> Result<(), Fail> {
     counts_four_samples(&rt, Format::Iq2, &[0x4b, 0x2d], text)
 }
 
-// Three lines come before the first read, three with the last of 256 bytes, and the end behind the
+// Three lines come before the first read, three with the last of 256 bytes, and the end after the
 // read that gives none.
 #[test]
 fn lines_are_written_before_the_next_read(rt: HostRuntime) -> Result<(), Fail> {

@@ -46,7 +46,7 @@ fn slots_of_each_share(rt: HostRuntime) -> Result<(), Fail> {
     writes_with(&rt, &scripts, &[8, 1], &[], 0, text)
 }
 
-/// Adds a digit and what stands behind it.
+/// Adds a digit and what follows it.
 fn add_digit(text: &mut Holding, digit: u8, behind: &[u8]) -> Result<(), Fail> {
     text.add(&[digit])?;
     text.add(behind)
@@ -74,7 +74,7 @@ fn lines_of_searches() -> Result<Holding, Fail> {
 
 // With samples that are all 1 each cell's sums are 2 and -1 times two samples for each chip, of
 // which all chips of satellite 1 add up to -1. So all powers are 20, and none of them reaches a
-// hundred times the mean. All searches are due behind a period and four samples for each of 2,046
+// hundred times the mean. All searches are due after a period and four samples for each of 2,046
 // cells.
 #[test]
 fn sixty_four_searches(rt: HostRuntime) -> Result<(), Fail> {
@@ -112,7 +112,7 @@ fn refuses(
     Ok(())
 }
 
-// The scripts are looked at before the shares, and both before anything is read or written.
+// The scripts are checked before the shares, and both before anything is read or written.
 #[test]
 fn share_faults(rt: HostRuntime) -> Result<(), Fail> {
     let nine = [FIRST_COUNT; 9];
@@ -128,7 +128,7 @@ fn share_faults(rt: HostRuntime) -> Result<(), Fail> {
     Ok(())
 }
 
-/// Sees what a client with eight slots is told beside one with this share and script.
+/// Sees what a client with eight slots gets beside one with this share and script.
 fn tells_beside(
     rt: &(impl Abort + Alloc<A = Global>),
     code: &[u8],

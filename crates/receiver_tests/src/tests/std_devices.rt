@@ -134,8 +134,8 @@ fn interrupted_writer(rt: HostRuntime) -> Result<(), Fail> {
     Ok(())
 }
 
-// The reader fails behind 100 bytes; but the first line comes before the first read, and nothing
-// takes it.
+// The reader fails after 100 bytes. But the first line is written before the first read, and the
+// writer doesn't take it.
 #[test]
 fn writer_takes_nothing(rt: HostRuntime) -> Result<(), Fail> {
     let code = code_file();

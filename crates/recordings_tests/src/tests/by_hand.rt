@@ -127,8 +127,8 @@ fn what_is_left(rt: HostRuntime) -> Result<(), Fail> {
     Ok(())
 }
 
-// -1, -0.25, 0.5 and the float behind 0.5; then -0, 0, minus infinity and the greatest float below
-// 0; about 0, with the threshold 0.5.
+// -1, -0.25, 0.5 and the next float after 0.5; then -0, 0, minus infinity and the greatest float
+// below 0; about 0, with the threshold 0.5.
 #[test]
 fn floats(rt: HostRuntime) -> Result<(), Fail> {
     let words: [u32; 8] = [

@@ -93,7 +93,7 @@ impl<'a> Command<'a> {
         Ok(())
     }
 
-    /// Whether the word behind an option is its value.
+    /// Whether the word after an option is its value.
     fn is_value_behind(&self, word: &str, next: &str) -> bool {
         let is_word = !next.starts_with('-') || next == "-";
         self.named(word)

@@ -25,7 +25,7 @@ impl Error {
         Error { kind, text }
     }
 
-    /// A word that isn't taken, and the usage where that tells more.
+    /// A word that isn't taken, and the usage where that says more.
     pub(crate) fn refused(why: String, usage: Option<&str>) -> Error {
         let usage = usage
             .map(|usage| format!("Usage: {usage}\n\n"))

@@ -14,7 +14,7 @@ impl Arg<'_> {
         }
     }
 
-    /// What stands behind its name in the help.
+    /// What follows its name in the help.
     fn about(&self) -> String {
         let default = self
             .default

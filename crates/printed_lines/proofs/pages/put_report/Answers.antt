@@ -14,7 +14,7 @@ known : (line : List ℕ) (slot : ℕ) (report now : Report) → now ≡ report
 known line slot report now e =
     ap (λ (x : Report). line ++ 32 ∷ event_text slot (reported (report_in x))) (sym e)
 
--- the words behind a line
+-- the words after a line
 behind : (line a b : List ℕ) → a ≡ b → line ++ 32 ∷ a ≡ line ++ 32 ∷ b
 behind line a b e = ap (λ (x : List ℕ). line ++ 32 ∷ x) e
 

@@ -16,14 +16,14 @@ use Rattle.receiver.proofs.reading.take_piece.Goals as goal
 same-samples : (r s : PackedRun) → r ≡ s → r.samples ≡ s.samples
 same-samples r s e = ap (λ (t : PackedRun). t.samples) e
 
--- a part of the piece behind those before it
+-- a part of the piece after those before it
 behind : (xs piece : List Sample) (n m : ℕ)
     → (xs ++ take n piece) ++ take m (drop n piece) ≡ xs ++ take (n + m) piece
 behind xs piece n m =
     append_assoc xs (take n piece) (take m (drop n piece))
     ∙ ap (λ (l : List Sample). xs ++ l) (sym (take_part piece n m))
 
--- and the rest of it behind that part
+-- and the rest of it after that part
 all-of : (xs piece : List Sample) (n : ℕ) → (xs ++ take n piece) ++ drop n piece ≡ xs ++ piece
 all-of xs piece n =
     append_assoc xs (take n piece) (drop n piece)

@@ -1,7 +1,7 @@
 //! Compares the receiver, as the plain build of the proved sources has it, with the second
 //! receiver, byte for byte, over cases that a seed makes: random scripts of one to eight clients,
 //! over random samples, made signals and messages, read in random pieces. It prints how many runs
-//! and lines there were and how many runs differ, and behind that how many lines of each kind were
+//! and lines there were and how many runs differ, and after that how many lines of each kind were
 //! compared.
 //!
 //! Without arguments it compares some runs. `receivers_compared SEED RUNS MESSAGES` compares more

@@ -6,7 +6,7 @@ use Rattle.client_commands.specs.declared.script.Timed.{Timed}
 use Rattle.client_commands.specs.Entries.{entry_in, entries_in}
 use Rattle.receiver.proofs.queue.Queue.new.Goals as goal
 
--- the entry that is next and those behind it
+-- the entry that is next and those after it
 left-next : (next : Option Timed) (old new : List Entry)
     → IfSome next (λ (timed : Timed). old ≡ entry_in timed ∷ new) → (IsNone next → old ≡ [])
     → (IsNone next → new ≡ []) → entries_in next ++ new ≡ old

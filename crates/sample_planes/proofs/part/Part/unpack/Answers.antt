@@ -21,7 +21,7 @@ unfolding Holds
 bit_is l plane near len width at start i holds layout is h = holds at start layout i h
     ∙ ap (λ (w : ℕ). bit_in near (w * (start + i) + at)) is
 
--- the bit behind it
+-- the bit after it
 next_is : (l : Layout) (plane : Plane) (near : List ℕ) (len width at start i : ℕ)
     → Holds l plane near len → IsLayout (at + 1) start l → l.width ≡ width → i < len
     → bit plane i ≡ bit_in near (width * (start + i) + at + 1)

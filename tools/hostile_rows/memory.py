@@ -1,0 +1,158 @@
+"""Rows of too little stack, too little address space, and memory that is refused."""
+import os
+import re
+import signal
+import subprocess
+
+from .cases import Case, packed, searches
+from .runs import Wanted, run
+
+# The KiB of stack that are enough for every run.
+STACK = 560
+# The KiB of address space that a sweep begins with, its step, and where the last run is whole.
+LEAST_SPACE, STEP, MOST_SPACE = 2048, 16, 20480
+# How many runs behind the first whole one a sweep goes on.
+BEHIND = 24
+
+# What Rust's own std says before it aborts.
+ABORTED = re.compile(rb'[^\0]*')
+
+# A library that refuses one request for memory, and then makes a file that says so.
+REFUSER = r'''
+#include <errno.h>
+#include <fcntl.h>
+#include <stdlib.h>
+#include <unistd.h>
+void *__libc_malloc(size_t), *__libc_calloc(size_t, size_t), *__libc_realloc(void *, size_t);
+void *__libc_memalign(size_t, size_t);
+static long count, last;
+static int refused(void) {
+    if (!last) last = getenv("REFUSE") ? atol(getenv("REFUSE")) : -1;
+    if (++count != last) return 0;
+    close(open(getenv("REFUSED"), O_CREAT | O_WRONLY, 0600));
+    errno = ENOMEM;
+    return 1;
+}
+void *malloc(size_t n) { return refused() ? 0 : __libc_malloc(n); }
+void *calloc(size_t n, size_t m) { return refused() ? 0 : __libc_calloc(n, m); }
+void *realloc(void *p, size_t n) { return refused() ? 0 : __libc_realloc(p, n); }
+int posix_memalign(void **p, size_t a, size_t n) {
+    *p = refused() ? 0 : __libc_memalign(a, n);
+    return *p ? 0 : ENOMEM;
+}
+'''
+
+
+def cases_of(programs):
+    """What is run with too little of everything."""
+    many = searches(programs, 8, 8)
+    yield '64 slots that search', many
+    yield 'a slot that searches', searches(programs, 1, 1)
+    yield 'pack', packed(programs, 1000)
+    for name, program in ('--help', programs.receiver), ('pack --help', programs.pack):
+        command = [program, '--help']
+        yield name, Case(command, b'', run('exec "$@"', command).lines)
+
+
+def called(case, programs):
+    """What a program calls itself."""
+    return 'pack' if case.command[0] == programs.pack else 'receiver'
+
+
+def stack(programs, rows):
+    """The stack that is enough."""
+    for name, case in cases_of(programs):
+        line = f'ulimit -s {STACK}; exec "$@"'
+        rows.see(f'{STACK} KiB of stack, {name}', run(line, case.command, case.given),
+                 Wanted(0, b'', case.lines))
+
+
+def answers(programs, case):
+    """What may come of a run with too little memory: one line on standard error and no other, or
+    all lines. Rust's own std aborts the plain build instead, and writes no line either."""
+    text = f'{called(case, programs)}: no memory\n'.encode()
+    allowed = [Wanted(1, text), Wanted(0, b'', case.lines)]
+    return allowed + [Wanted(-signal.SIGABRT, ABORTED)] * programs.is_plain
+
+
+def differs(outcome, wanted):
+    """Whether an outcome is none of those that are wanted."""
+    return all(any(one.faults(outcome)) for one in wanted)
+
+
+def told(outcome):
+    """An outcome in words."""
+    return (f'status {outcome.status}, {len(outcome.lines)} bytes of lines, '
+            f'{outcome.errors[:60]!r}')
+
+
+def of_the_system(outcome):
+    """Whether the system had no room for the program itself: its loader ends with 127."""
+    return outcome.status in (127, -signal.SIGKILL) and not outcome.lines
+
+
+def swept(case, wanted):
+    """The outcomes that aren't wanted, with their limits, and whether a run was whole."""
+    wrong, whole = {}, 0
+    for space in range(LEAST_SPACE, MOST_SPACE, STEP):
+        outcome = run(f'ulimit -v {space}; exec "$@"', case.command, case.given)
+        if not of_the_system(outcome) and differs(outcome, wanted):
+            wrong.setdefault(told(outcome), []).append(space)
+        whole += outcome.status == 0
+        if whole > BEHIND:
+            break
+    return wrong, whole > 0
+
+
+def address_space(programs, rows):
+    """Limits of the address space, from too little up to enough."""
+    for name, case in cases_of(programs):
+        # Where the address space has no room for the stack, a signal ends a run, perhaps after lines.
+        wanted = [*answers(programs, case), Wanted(-signal.SIGSEGV, b'', case.lines, False)]
+        wrong, is_whole = swept(case, wanted)
+        faults = [f'{spaces[0]} to {spaces[-1]} KiB: {text}' for text, spaces in wrong.items()]
+        rows.say(f'address space, {name}', faults if is_whole else [*faults, 'no run was whole'])
+
+
+def refuser(programs):
+    """The library that refuses memory; nothing where no compiler makes it."""
+    library = os.path.join(programs.folder, 'refuser.so')
+    source = programs.file('refuser.c', REFUSER.encode())
+    try:
+        subprocess.run(['cc', '-shared', '-fPIC', '-O1', '-o', library, source], check=True,
+                       stderr=subprocess.DEVNULL)
+    except (OSError, subprocess.CalledProcessError):
+        return None
+    return library
+
+
+def refused_in_turn(case, library, mark):
+    """The outcomes with one request for memory refused, the first, the second and so on."""
+    number = 0
+    while True:
+        number += 1
+        line = (f'ulimit -c 0; export REFUSE={number} REFUSED={mark} LD_PRELOAD={library}; '
+                'exec "$@"')
+        outcome = run(line, case.command, case.given)
+        if not os.path.exists(mark):
+            return
+        os.remove(mark)
+        yield number, outcome
+
+
+def refusals(programs, rows):
+    """Each request for memory refused in turn."""
+    library = refuser(programs)
+    if library is None:
+        print('hostile: no cc makes a library here, so no memory is refused in turn')
+        return
+    for name, case in cases_of(programs):
+        wanted, wrong, number = answers(programs, case), [], 0
+        for number, outcome in refused_in_turn(case, library, f'{library}.mark'):
+            if differs(outcome, wanted):
+                wrong.append(f'request {number}: {told(outcome)}')
+        rows.say(f'memory refused in turn, {name}, {number} requests',
+                 wrong if number else ['none was refused'])
+
+
+ROWS = stack, address_space, refusals

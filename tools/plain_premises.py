@@ -1,0 +1,70 @@
+"""The simple premises of functions as conditions of Rust, which a debug build checks."""
+import re
+
+# A term of a clause that Rust can say: a power, a list's length, a size, a number or a name.
+TERM = re.compile(r'2 \^ (\d+)|length (\w+)\.(?:now|old|entry)|unsigned_abs (\w+)(?![.\w])'
+                  r'|(\d+)(?![.\w])|(\w+)(?![.\w])')
+
+CONSTANT = re.compile(r'\bconst (\w+): ([ui]\d+|usize)\b')
+
+
+def constant_types(texts):
+    """The types of all constants of sources; i128 where two of one name have two types."""
+    types = {}
+    for name, kind in CONSTANT.findall('\n'.join(texts)):
+        types[name] = kind if types.get(name, kind) == kind else 'i128'
+    return types
+
+
+def types_in(head, code, constants):
+    """The types of the numbers and lists that a function's premises can name."""
+    types = {name: kind for name, kind in constants.items()
+             if re.search(rf'^use [^;]*\b{name}\b', code, re.M)}
+    types.update(CONSTANT.findall(code))
+    types.update(re.findall(r'(\w+): ([ui]\d+|usize)\b', head))
+    types.update((name, 'list') for name in re.findall(r"(\w+): &(?:mut )?(?:'\w+ )?\[", head))
+    return types
+
+
+def term(found, types):
+    """A term in Rust, and its type or its value; None where Rust can't say it."""
+    power, of_list, of_size, digits, name = found.groups()
+    if power:
+        return f'1 << {power}', 1 << int(power)
+    if digits:
+        return digits, int(digits)
+    kind = types.get(of_list or of_size or name)
+    if (kind == 'list') != bool(of_list) or not kind:
+        return None
+    if of_list:
+        return f'{of_list}.len()', 'usize'
+    return (f'{of_size}.unsigned_abs()', 'u' + kind[1:]) if of_size else (name, kind)
+
+
+def greatest(kind):
+    """The greatest number of a type."""
+    bits = 64 if kind == 'usize' else int(kind[1:])
+    return (1 << bits - (kind[0] == 'i')) - 1
+
+
+def wide(said):
+    """A term in a type that no sum of terms leaves."""
+    text, kind = said
+    return text if text.isdigit() else f'({text} as i128)' if isinstance(kind, str) else f'({text})'
+
+
+def condition(premise, types):
+    """A premise as `place + 16 ≤ length table.now` as a condition of Rust, in the type of both
+    sides where each is one term. None where Rust can't say it, or it always holds."""
+    sides = re.split(' [≤<] ', premise)
+    terms = [term(found, types) for side in sides for found in TERM.finditer(side)]
+    if len(sides) != 2 or None in terms or re.search('[^ +*()]', TERM.sub('', ' '.join(sides))):
+        return None
+    sign = '<=' if '≤' in premise else '<'
+    kinds = {kind for _, kind in terms if isinstance(kind, str)}
+    if len(terms) == 2 and len(kinds) == 1:
+        (left, _), (right, most) = terms
+        is_bound = isinstance(most, int) and greatest(kinds.pop()) < most + (sign == '<=')
+        return None if is_bound else f'{left} {sign} {right}'
+    left, right = (TERM.sub(lambda found: wide(term(found, types)), side) for side in sides)
+    return f'{left} {sign} {right}' if kinds else None
