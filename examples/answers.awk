@@ -1,5 +1,6 @@
+#!/usr/bin/awk -f
 # Prints each line of a script with its number and the answer that it got.
-#   awk -f examples/answers.awk [-v client=K] SCRIPT [LINES]
+#   examples/answers.awk [-v client=K] SCRIPT [LINES]
 # SCRIPT is the script of client K, 1 where none is named. LINES is what the receiver printed, and
 # standard input where none is named. Lines without words get no answer and are left out.
 
