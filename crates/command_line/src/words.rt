@@ -27,8 +27,8 @@ pub fn words<E: Env>(alloc: Global, env: &E) -> Result<Vec<String>, Failure>
     Ok(words)
 }
 
-/// A word as text. One that isn't UTF-8 gets U+FFFD for what isn't, so that it is no option's value,
-/// and a slash at its end, so that no file has it as its name.
+/// A word as text. One that isn't UTF-8 gets U+FFFD for what isn't, so that it is no option's
+/// value, and a slash at its end, so that no file has it as its name.
 fn word(alloc: Global, bytes: &[u8]) -> Result<String, AllocError>
     ensures { IfOk result (λ word. IsUtf8 bytes.now → string_bytes word ≡ bytes.now) }
 {

@@ -1,5 +1,5 @@
--- The tables of fields: of each its sign (1 for two's complement), the first and the last bit of each
--- of its parts, and its exponent.
+-- The tables of fields (IS-GPS-200, sections 20.3.3.3 to 20.3.3.5): of each field its sign, 1 for
+-- two's complement, the first and the last bit of each of its parts, and its exponent.
 use Rattle.std.proofs.Common.{◌≡◌, ℕ, List, [], ◌∷◌, refl}
 use Rattle.std.specs.Prelude.{ℤ, pos, neg_ℤ, map, if◌then◌else◌}
 use Rattle.definitions.specs.Fields.{Field, Bits, clock_fields, eph2_fields, eph3_fields}

@@ -44,7 +44,8 @@ started = refl
 
 first_shifts : map (λ channel. channel.steering []) (held_channel 9 1 (neg_ℤ (pos 3)) 5
     ∷ tracked_channel 9 1 (neg_ℤ (pos 3)) 5 ∷ [])
-    ≡ record { v = neg_ℤ (pos 196608); w = pos 0 } ∷ record { v = neg_ℤ (pos 196608); w = pos 0 } ∷ []
+    ≡ record { v = neg_ℤ (pos 196608); w = pos 0 }
+    ∷ record { v = neg_ℤ (pos 196608); w = pos 0 } ∷ []
 unfolding loops_after
 first_shifts = refl
 

@@ -375,7 +375,8 @@ module _ {A : Type 0} (text : A → List ℕ) (settings : Settings) (shares : Li
   pub opened-for : (opened : Result Session OpenFault) (session : Session) → opened ≡ Ok session
       → (opened ≡ Err Faults.Share) ↔ ((0 < length handed) × (length handed ≤ 8)
       × (list_all is_share shares ≡ false))
-      → IfOk opened (λ (s : Session). StandsFor settings (clients_with shares (map text handed)) s []
+      → IfOk opened (λ (s : Session).
+      StandsFor settings (clients_with shares (map text handed)) s []
       (answer_lines settings (clients_with shares (map text handed)) []))
       → IsOpened settings shares (map text handed) limit session
   opened-for opened session is when stands =

@@ -105,8 +105,8 @@ WriterTells (Err Write) old new = new.write_failed ≡ true
 WriterTells (Err TooLong) old new = new.write_failed ≡ old.write_failed
 
 -- a run: the bytes that its reads gave and how they ended, and the text that it wrote. Its result
--- is the answer that the definitions' table has for them. Where it came to its end, the lines of the
--- text are each client's alone, and what each of them names is right
+-- is the answer that the definitions' table has for them. Where it came to its end, the lines of
+-- the text are each client's alone, and what each of them names is right
 pub record IsRun (task : Task) (old new : Devices) (result : Result ℕ RunFault) : Type 0 where
   pub input : Input
   pub text : List ℕ

@@ -33,8 +33,8 @@ pub returns-in-Err-NoMemory-clause-run : goal.returns-in-Err-NoMemory-clause-run
 returns-in-Err-NoMemory-clause-run g c =
     let a = c.args in
     refused-memory (λ script. script.now) a.settings a.shares.now a.scripts.now a.limit
-    c.if-is_empty.ensures c.if-scripts-gt-MOST_CLIENTS.false c.if-shares-scripts.false c.open-opened.result
-    _
+    c.if-is_empty.ensures c.if-scripts-gt-MOST_CLIENTS.false c.if-shares-scripts.false
+    c.open-opened.result _
     (c.in-Err-NoMemory.is ∙ ap (λ (fault : OpenFault). Err fault)
     (rw c.in-Err-NoMemory.is at c.in-Err-NoMemory.field-0-is))
     c.open-opened.ensures.share
