@@ -28,8 +28,6 @@ REWRITTEN = [(re.compile(pattern, re.M), new) for pattern, new in [
     (r'\bFail::new\(', 'Fail::from('),
     # The stable std has no vectors of sixteen numbers.
     (r'\bstd::simd::prelude\b', 'lanes'),
-    # The same value. LLVM keeps the branch, and a search was 7 times slower with it.
-    (r'\bif sign < 0 \{ value \} else \{ 0 \}', 'value & (sign >> 31)'),
     (r'\bstd::ops::DerefSlice\b', 'core::ops::Deref'),
     (r'\bDerefSlice for\b', 'Deref for'),
     (r'\btype Elem = (\w+);', r'type Target = [\1];'),

@@ -1,9 +1,16 @@
 -- The signs of chips, set one after another.
-use Rattle.std.proofs.Common.{inl, inr, ◌≡◌, ℕ, zero, suc, ◌+◌, ◌*◌, ◌<◌, ◌≤◌, refl, ◌∙◌, arith}
+use Rattle.std.proofs.Common.{inl, inr, ◌≡◌, ℕ, zero, suc, ◌+◌, ◌*◌, ◌<◌, ◌≤◌, ◌^◌, ◌-◌, refl, ap}
+use Rattle.std.proofs.Common.{◌∙◌, arith, rules}
 use Rattle.std.proofs.Common.{to_z, of_z, w32}
 use Rattle.std.specs.Prelude.{ℤ, pos, negsuc, ◌-ℤ◌, ◌==◌, true, false, ◌⊎◌, List, get_or, length}
 use Rattle.std.proofs.Math.ListN.{set}
+use Rattle.std.specs.Prelude.{◌*ℤ◌, unsigned_abs, bit_and, FitsSigned}
+use Rattle.std.specs.Int.{int_shr}
+use Rattle.std.specs.Int.Bits.{and_zero_r}
+use Rattle.std.proofs.Math.Nat.{mod-eq_of_lt}
 use Rattle.std.proofs.lemmas.Bool.{eqb-true}
+use Rattle.std.proofs.lemmas.Int.{to_z-of_z, ints}
+use Rattle.std.proofs.lemmas.Nat.{and_mask}
 use Rattle.std.proofs.lemmas.List.{get_or-set_same, get_or-set_other, length-set}
 use Rattle.definitions.specs.Codes.{chip, chip_after, chip_sign}
 
@@ -78,3 +85,28 @@ sign_set prn k values new first h sign is = rw is (record {
 
     apart_above : (j k : ℕ) → k < j → j ≡ k → ⊥
     apart_above j k h e = absurd (omega (arith, h, e))
+
+-- a value times a sign is the value less twice what is masked by the sign
+pub record IsMasked (value sign masked : ℤ) : Type 0 where
+  pub product : value *ℤ sign ≡ value -ℤ pos 2 *ℤ masked
+  pub small : unsigned_abs masked ≤ unsigned_abs value
+
+-- the mask of a sign has all bits where it is -1, and none where it is 1
+pub masked : (value sign : ℤ) → FitsSigned w32 value → (sign ≡ pos 1) ⊎ (sign ≡ negsuc 0)
+    → IsMasked value sign
+    (to_z w32 (bit_and (of_z w32 value) (of_z w32 (int_shr (to_z w32 (of_z w32 sign)) 31))))
+masked value sign fits cases = elim cases [
+  | inl one ↦ rw (one, and_zero_r (of_z w32 value)) (none value)
+  | inr less ↦
+      let below : of_z w32 value < 2 ^ 32 = search rules in
+      let all : to_z w32 (bit_and (of_z w32 value) (2 ^ 32 - 1)) ≡ value =
+      ap (to_z w32) (and_mask (of_z w32 value) 32 ∙ mod-eq_of_lt below)
+      ∙ to_z-of_z w32 value fits in
+      rw (less, all) (same value)
+]
+  where
+    none : (v : ℤ) → IsMasked v (pos 1) (pos 0)
+    none v = record { product = omega (arith, ints); small = omega arith }
+
+    same : (v : ℤ) → IsMasked v (negsuc 0) v
+    same v = record { product = omega (arith, ints); small = omega arith }

@@ -100,12 +100,14 @@ impl Fold {
     }
 }
 
-/// A value where a sign is below 0, and 0 where it isn't.
+/// A value where a sign is below 0, and 0 where it isn't. It is a mask, since LLVM would make a
+/// branch of an `if` where there is no instruction that blends lanes, and that took seven times
+/// as long.
 #[inline(always)]
 fn if_below(value: i32, sign: i32) -> i32
     requires { (sign ≡ pos 1) ⊎ (sign ≡ negsuc 0) }
     ensures value { value *ℤ sign ≡ value -ℤ pos 2 *ℤ result }
     ensures small { unsigned_abs result ≤ unsigned_abs value }
 {
-    if sign < 0 { value } else { 0 }
+    value & (sign >> 31)
 }

@@ -14,41 +14,52 @@ use Rattle.definitions.specs.Answers.{answer_at_end, answer_with}
 use Rattle.definitions.proofs.CellLemmas.{cells-come}
 use Rattle.definitions.proofs.BodyLemmas.{life_of-append}
 use Rattle.channel_slots.specs.declared.stage.Stage.{Stage}
-use Rattle.channel_slots.specs.declared.stage.Stage.TheVariants.{Searching, Holding, Tracking}
+use Rattle.channel_slots.specs.declared.stage.Stage.TheVariants.{Idle, Searching, Holding, Tracking}
 use Rattle.channel_slots.specs.declared.slot.Slot.{Slot}
-use Rattle.channel_slots.specs.declared.slot.Slot.TheVariants.{Idle, On}
 use Rattle.channel_slots.specs.declared.place.Place.{Place}
 use Rattle.channel_slots.specs.Answers.{cells_shown}
 use Rattle.channel_slots.specs.Stages as stages
 use Rattle.channel_slots.specs.Stages.{Follows, IsSought}
-use Rattle.channel_slots.specs.Slots.{StandsFor, cells_done_of}
+use Rattle.channel_slots.specs.Slots.{StandsFor, is_idle, cells_done_of}
 use Rattle.channel_slots.specs.Banks.{cells_done_at, keys_of, IsAt}
 use Rattle.channel_slots.proofs.SearchLemmas.{shows-sought}
 use Rattle.channel_slots.proofs.StageLemmas.{shows-held, tracked-view}
-use Rattle.channel_slots.proofs.SlotLemmas.{has-life, answers, idle-shown}
+use Rattle.channel_slots.proofs.SlotLemmas.{has-life, life-now, answers, idle-shown}
 use Rattle.channel_slots.proofs.CommandLemmas.{Once, once-tail, not-first, found}
 
 -- ---- what is shown
 
 shown-of : (settings : Settings) (xs : List Sample) (life : Life) (stage : Stage)
-    → Follows settings xs life stage
+    → Follows settings xs life stage → stages.is_idle stage ≡ false
     → stages.cells_done_of stage ≡ cells_shown (answer_with settings xs (Some life) state)
-shown-of settings xs life (Searching a) s =
+shown-of settings xs life Idle s e = cc
+shown-of settings xs life (Searching a) s e =
     ap cells_shown (shows-sought settings xs life a s _ _ _ refl refl refl)
-shown-of settings xs life (Holding h) s =
+shown-of settings xs life (Holding h) s e =
     ap cells_shown (shows-held settings xs life h _ _ s refl refl)
-shown-of settings xs life (Tracking t) s =
+shown-of settings xs life (Tracking t) s e =
     sym (ap cells_shown (tracked-view settings xs life s.channel s.steered s.given _ refl))
 
 pub cells-shown : (settings : Settings) (xs : List Sample) (commands : List TimedRequest)
     (slot : Slot) → StandsFor settings xs commands slot
     → cells_done_of slot ≡ cells_shown (answer_at_end settings xs commands state)
-cells-shown settings xs commands Idle s =
-    ap cells_shown (idle-shown settings xs commands Idle s refl)
-cells-shown settings xs commands (On l) s =
-    let i = has-life settings xs commands (On l) s l refl in
-    shown-of settings xs i.life l.stage i.stands.stage
-    ∙ ap cells_shown (answers settings xs commands (On l) s state (Some i.life) i.now)
+cells-shown settings xs commands slot s = by_test (is_idle slot) refl
+  where
+    none : (stage : Stage) → stages.is_idle stage ≡ true → stages.cells_done_of stage ≡ None
+    none Idle e = refl
+    none (Searching a) e = cc
+    none (Holding h) e = cc
+    none (Tracking t) e = cc
+
+    by_test : (b : Bool) → is_idle slot ≡ b
+        → cells_done_of slot ≡ cells_shown (answer_at_end settings xs commands state)
+    by_test true e =
+        none slot.stage e ∙ ap cells_shown (idle-shown settings xs commands slot s e)
+    by_test false e =
+        let i = has-life settings xs commands slot s e in
+        shown-of settings xs i.life slot.stage i.follows e
+        ∙ ap cells_shown (answers settings xs commands slot s state (Some i.life)
+        (life-now settings xs commands slot s e))
 
 -- ---- the slot of a client among all
 
@@ -104,8 +115,10 @@ more : (settings : Settings) (xs ys : List Sample) (life : Life) (old new : Stag
     (before after : ℕ) → Follows settings xs life old → Follows settings (xs ++ ys) life new
     → stages.cells_done_of old ≡ Some before → stages.cells_done_of new ≡ Some after
     → after ≤ before + (length ys / 4 + 1)
+more settings xs ys life Idle new before after s t b a = cc
 more settings xs ys life (Holding h) new before after s t b a = cc
 more settings xs ys life (Tracking h) new before after s t b a = cc
+more settings xs ys life (Searching p) Idle before after s t b a = cc
 more settings xs ys life (Searching p) (Holding h) before after s t b a = cc
 more settings xs ys life (Searching p) (Tracking h) before after s t b a = cc
 more settings xs ys life (Searching p) (Searching q) before after s t b a =
@@ -119,16 +132,21 @@ pub more-of : (settings : Settings) (xs ys : List Sample) (commands : List Timed
     (old new : Slot) (before after : ℕ) → StandsFor settings xs commands old
     → StandsFor settings (xs ++ ys) commands new → cells_done_of old ≡ Some before
     → cells_done_of new ≡ Some after → after ≤ before + (length ys / 4 + 1)
-more-of settings xs ys commands Idle new before after s t b a = cc
-more-of settings xs ys commands (On l) Idle before after s t b a = cc
-more-of settings xs ys commands (On l) (On m) before after s t b a =
-    let i = has-life settings xs commands (On l) s l refl in
-    let j = has-life settings (xs ++ ys) commands (On m) t m refl in
+more-of settings xs ys commands old new before after s t b a =
+    let i = has-life settings xs commands old s (not-idle old.stage before b) in
+    let j = has-life settings (xs ++ ys) commands new t (not-idle new.stage after a) in
     let same : Some j.life ≡ Some i.life =
     sym j.of ∙ life_of-append settings xs ys commands s.early ∙ i.of in
     let one : j.life ≡ i.life = cc in
-    more settings xs ys i.life l.stage m.stage before after i.stands.stage
-    (rw one at j.stands.stage) b a
+    more settings xs ys i.life old.stage new.stage before after i.follows
+    (rw one at j.follows) b a
+  where
+    not-idle : (stage : Stage) (n : ℕ) → stages.cells_done_of stage ≡ Some n
+        → stages.is_idle stage ≡ false
+    not-idle Idle n e = cc
+    not-idle (Searching a) n e = refl
+    not-idle (Holding h) n e = cc
+    not-idle (Tracking t) n e = cc
 
 -- the same of all places
 module _ (settings : Settings) (xs ys : List Sample) (asked : ℕ → ℕ → List TimedRequest)

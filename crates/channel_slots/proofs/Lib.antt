@@ -1,7 +1,6 @@
 pub mod BankLemmas
 pub mod CellLemmas
 pub mod CommandLemmas
-pub mod LifeLemmas
 pub mod NewsLemmas
 pub mod OrderLemmas
 pub mod PlaceLemmas
@@ -14,5 +13,6 @@ pub mod SlotLemmas
 pub mod StageLemmas
 pub mod SteeredLemmas
 pub mod TakenLemmas
+pub mod TakesLemmas
 pub mod TellingLemmas
 pub mod TrackLemmas

@@ -1,10 +1,11 @@
 -- The events that come with a dump, as the definitions have them, and how many they are.
 use Rattle.std.proofs.Common.{◌≡◌, ℕ, ◌+◌, ◌≤◌, [], ◌∷◌, ◌++◌, length, refl, ap, ◌∙◌, arith}
 use Rattle.std.proofs.Common.{length-append}
-use Rattle.std.specs.Prelude.{map, Option, Some, None, option_map}
+use Rattle.std.specs.Prelude.{Bool, true, false, map, Option, Some, None, option_map}
 use Rattle.std.proofs.lemmas.List.{map-append}
 use Rattle.definitions.specs.Events.{events_of}
-use Rattle.definitions.specs.Events.{gap, subframe, news_events, report_events}
+use Rattle.definitions.specs.Events.{gap, subframe, news_events, report_events, count, when}
+use Rattle.lane_correlator.specs.Counting.{counts_in}
 use Rattle.lane_correlator.specs.declared.counts.Counts.{Counts}
 use Rattle.tracking_loops.specs.NewsIn.{news_in}
 use Rattle.tracking_loops.specs.declared.news.News.{News}
@@ -18,17 +19,18 @@ use Rattle.nav_message.specs.declared.news.MessageNews.{MessageNews}
 use Rattle.nav_message.specs.declared.news.MessageNews.TheVariants as messages
 use Rattle.channel_slots.specs.declared.event.Event.{Event}
 use Rattle.channel_slots.specs.declared.event.Event.TheVariants as events
-use Rattle.channel_slots.specs.declared.slot_news.DumpNews.{DumpNews}
+use Rattle.channels.specs.declared.dump.Dump.{Dump}
+use Rattle.channels.specs.Dumps.{steered_events_in}
 use Rattle.channel_slots.specs.declared.slot_news.SlotNews.{SlotNews}
 use Rattle.channel_slots.specs.declared.slot_news.SlotNews.TheVariants as slot_news
 use Rattle.channel_slots.specs.Events.{event_in}
-use Rattle.channel_slots.specs.NewsEvents.{if_any, count_in, lock_events, message_events}
-use Rattle.channel_slots.specs.NewsEvents.{dump_events, events_with}
+use Rattle.channel_slots.specs.NewsEvents.{if_any, count_events, lock_events, message_events}
+use Rattle.channel_slots.specs.NewsEvents.{events_with}
 
-counts-are : (o : Option Counts)
-    → map event_in (if_any (option_map events.Count o)) ≡ count_in o
-counts-are None = refl
-counts-are (Some c) = refl
+counts-are : (is_shown : Bool) (c : Counts)
+    → map event_in (count_events is_shown c) ≡ when is_shown (count (counts_in c))
+counts-are true c = refl
+counts-are false c = refl
 
 locks-are : (news : News) → map event_in (lock_events news) ≡ news_events (news_in news)
 locks-are locks.Nothing = refl
@@ -58,16 +60,17 @@ messages-are (messages.Frame found reports) =
     frames-are found.gap found.subframe reports.page reports.set
 
 -- all that comes with a dump
-pub all-are : (news : DumpNews) → map event_in (dump_events news)
-    ≡ count_in news.count ++ (news_events (news_in news.lock) ++ events_in news.message)
-all-are news =
-    map-append event_in (if_any (option_map events.Count news.count))
-    (lock_events news.lock ++ message_events news.message)
+pub all-are : (d : Dump) (is_shown : Bool)
+    → map event_in (events_with (slot_news.Dump d is_shown))
+    ≡ when is_shown (count (counts_in d.counts)) ++ steered_events_in d
+all-are d is_shown =
+    map-append event_in (count_events is_shown d.counts)
+    (lock_events d.lock ++ message_events d.message)
     ∙ rw (
-      counts-are news.count,
-      map-append event_in (lock_events news.lock) (message_events news.message),
-      locks-are news.lock,
-      messages-are news.message,
+      counts-are is_shown d.counts,
+      map-append event_in (lock_events d.lock) (message_events d.message),
+      locks-are d.lock,
+      messages-are d.message,
     ) refl
 
 -- ---- how many they are
@@ -99,23 +102,24 @@ few-messages (messages.Frame found reports) =
     few-frames (option_map events.Gap found.gap) (option_map events.Page reports.page)
     (option_map events.Almanacs reports.set) found.subframe
 
+few-counts : (is_shown : Bool) (c : Counts) → length (count_events is_shown c) ≤ 1
+few-counts true c = omega arith
+few-counts false c = omega arith
+
 -- six at most
-pub few-dump : (news : DumpNews) → length (dump_events news) ≤ 6
-few-dump news =
-    let parts : length (dump_events news)
-    ≡ length (if_any (option_map events.Count news.count)) + (length (lock_events news.lock)
-    + length (message_events news.message)) =
-    length-append (if_any (option_map events.Count news.count)) _
-    ∙ ap (λ n. length (if_any (option_map events.Count news.count)) + n)
-    (length-append (lock_events news.lock) _) in
+pub few-events : (news : SlotNews) → length (events_with news) ≤ 6
+few-events (slot_news.Acquired prn cell) = omega arith
+few-events (slot_news.Dump d is_shown) =
+    let parts : length (events_with (slot_news.Dump d is_shown))
+    ≡ length (count_events is_shown d.counts) + (length (lock_events d.lock)
+    + length (message_events d.message)) =
+    length-append (count_events is_shown d.counts) _
+    ∙ ap (λ n. length (count_events is_shown d.counts) + n)
+    (length-append (lock_events d.lock) _) in
     omega (
       arith,
       parts,
-      few-any (option_map events.Count news.count),
-      few-locks news.lock,
-      few-messages news.message,
+      few-counts is_shown d.counts,
+      few-locks d.lock,
+      few-messages d.message,
     )
-
-pub few-events : (news : SlotNews) → length (events_with news) ≤ 6
-few-events (slot_news.Acquired prn cell) = omega arith
-few-events (slot_news.Dump dump) = few-dump dump

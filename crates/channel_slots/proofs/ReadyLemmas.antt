@@ -6,79 +6,65 @@ use Rattle.channels.specs.Searching.{due_of, start_of, to_due_of}
 use Rattle.channels.specs.HeldChannels as held
 use Rattle.channels.specs.TrackedChannels as tracked
 use Rattle.channel_slots.specs.declared.stage.Stage.{Stage}
-use Rattle.channel_slots.specs.declared.stage.Stage.TheVariants.{Searching, Holding, Tracking}
-use Rattle.channel_slots.specs.declared.slot.Slot.{Slot}
-use Rattle.channel_slots.specs.declared.slot.Slot.TheVariants.{Idle, On}
+use Rattle.channel_slots.specs.declared.stage.Stage.TheVariants.{Idle, Searching, Holding, Tracking}
 use Rattle.channel_slots.specs.Stages as stages
 use Rattle.channel_slots.specs.declared.place.Place.{Place}
-use Rattle.channel_slots.specs.Slots.{IsSound, is_sound}
+use Rattle.channel_slots.specs.Slots.{is_sound}
 use Rattle.channel_slots.specs.Banks.{AllSound, are_sound}
 
 -- a source may hold fewer samples before a search's first one than it did
-pub sound-from : (reach time first : ℕ) (slot : Slot) → IsSound 0 time reach slot
-    → first ≤ time - reach → IsSound first time reach slot
+sound-from : (reach time first : ℕ) (stage : Stage) → stages.IsSound 0 time reach stage
+    → first ≤ time - reach → stages.IsSound first time reach stage
 sound-from reach time first Idle sound late = tt
-sound-from reach time first (On life) sound late = of_stage life.stage sound
-  where
-    of_stage : (stage : Stage) → stages.IsSound 0 time reach stage
-        → stages.IsSound first time reach stage
-    of_stage (Searching a) sound =
-        (omega (arith, sound.1, sound.2, sound.3, late), sound.1, sound.2, sound.3)
-    of_stage (Holding h) sound = sound
-    of_stage (Tracking t) sound = sound
+sound-from reach time first (Searching a) sound late =
+    (omega (arith, sound.1, sound.2, sound.3, late), sound.1, sound.2, sound.3)
+sound-from reach time first (Holding h) sound late = sound
+sound-from reach time first (Tracking t) sound late = sound
 
 pub all-sound-from : (reach time first : ℕ) (places : List Place) → AllSound 0 time reach places
     → first ≤ time - reach → AllSound first time reach places
 all-sound-from reach time first [] sound late = tt
 all-sound-from reach time first (p ∷ places) sound late = (
-  sound-from reach time first p.slot sound.0 late,
+  sound-from reach time first p.slot.stage sound.0 late,
   all-sound-from reach time first places sound.1 late,
 )
 
 -- by the test and by the facts
-pub tested : (time reach : ℕ) (slot : Slot) → IsSound 0 time reach slot
-    → is_sound time reach slot ≡ true
+tested : (time reach : ℕ) (stage : Stage) → stages.IsSound 0 time reach stage
+    → stages.is_sound time reach stage ≡ true
 tested time reach Idle sound = refl
-tested time reach (On life) sound = of_stage life.stage sound
-  where
-    of_stage : (stage : Stage) → stages.IsSound 0 time reach stage
-        → stages.is_sound time reach stage ≡ true
-    of_stage (Searching a) sound =
-        rw (
-          eq-eqb (due_of a) (time + to_due_of a) sound.1,
-          lt-ltb 0 (to_due_of a) sound.2,
-          le-leb (due_of a) (start_of a + reach) sound.3,
-        ) refl
-    of_stage (Holding h) sound = le-leb (held.dumps_of h) time sound
-    of_stage (Tracking t) sound = le-leb (tracked.dumps_of t) time sound
+tested time reach (Searching a) sound =
+    rw (
+      eq-eqb (due_of a) (time + to_due_of a) sound.1,
+      lt-ltb 0 (to_due_of a) sound.2,
+      le-leb (due_of a) (start_of a + reach) sound.3,
+    ) refl
+tested time reach (Holding h) sound = le-leb (held.dumps_of h) time sound
+tested time reach (Tracking t) sound = le-leb (tracked.dumps_of t) time sound
 
-pub by-test : (time reach : ℕ) (slot : Slot) → is_sound time reach slot ≡ true
-    → IsSound 0 time reach slot
+by-test : (time reach : ℕ) (stage : Stage) → stages.is_sound time reach stage ≡ true
+    → stages.IsSound 0 time reach stage
 by-test time reach Idle test = tt
-by-test time reach (On life) test = of_stage life.stage test
-  where
-    of_stage : (stage : Stage) → stages.is_sound time reach stage ≡ true
-        → stages.IsSound 0 time reach stage
-    of_stage (Searching a) test =
-        let outer = and_parts (nat_eq (due_of a) (time + to_due_of a)) _ test in
-        let inner = and_parts (nat_lt 0 (to_due_of a)) _ outer.1 in (
-          omega arith,
-          eqb-true (due_of a) (time + to_due_of a) outer.0,
-          ltb-true 0 (to_due_of a) inner.0,
-          leb-true (due_of a) (start_of a + reach) inner.1,
-        )
-    of_stage (Holding h) test = leb-true (held.dumps_of h) time test
-    of_stage (Tracking t) test = leb-true (tracked.dumps_of t) time test
+by-test time reach (Searching a) test =
+    let outer = and_parts (nat_eq (due_of a) (time + to_due_of a)) _ test in
+    let inner = and_parts (nat_lt 0 (to_due_of a)) _ outer.1 in (
+      omega arith,
+      eqb-true (due_of a) (time + to_due_of a) outer.0,
+      ltb-true 0 (to_due_of a) inner.0,
+      leb-true (due_of a) (start_of a + reach) inner.1,
+    )
+by-test time reach (Holding h) test = leb-true (held.dumps_of h) time test
+by-test time reach (Tracking t) test = leb-true (tracked.dumps_of t) time test
 
 pub all-tested : (time reach : ℕ) (places : List Place) → AllSound 0 time reach places
     → are_sound time reach places ≡ true
 all-tested time reach [] sound = refl
 all-tested time reach (p ∷ places) sound =
-    rw (tested time reach p.slot sound.0) (all-tested time reach places sound.1)
+    rw (tested time reach p.slot.stage sound.0) (all-tested time reach places sound.1)
 
 pub all-sound : (time reach : ℕ) (places : List Place) → are_sound time reach places ≡ true
     → AllSound 0 time reach places
 all-sound time reach [] test = tt
 all-sound time reach (p ∷ places) test =
     let parts = and_parts (is_sound time reach p.slot) _ test in
-    (by-test time reach p.slot parts.0, all-sound time reach places parts.1)
+    (by-test time reach p.slot.stage parts.0, all-sound time reach places parts.1)

@@ -1,7 +1,7 @@
 -- What a life emits that searches.
 use Rattle.std.proofs.Common.{◌≡◌, ℕ, ◌+◌, ◌<◌, ◌≤◌, List, [], ◌∷◌, ◌++◌, length, take, refl, sym}
 use Rattle.std.proofs.Common.{ap, ◌∙◌, subst, arith, length-append, true, false}
-use Rattle.std.specs.Prelude.{Bool, ◌&&◌, nat_le, Option, Some, None}
+use Rattle.std.specs.Prelude.{Bool, ◌&&◌, ◌↔◌, nat_le, Option, Some, None}
 use Rattle.std.specs.Option.{is_some, IsSome}
 use Rattle.std.proofs.lemmas.Bool.{lt-leb, le-leb, not-true, not-false}
 use Rattle.std.proofs.lemmas.List.{length-take}
@@ -28,15 +28,22 @@ use Rattle.channels.specs.Searching as sought
 use Rattle.channels.specs.Searching.{Searches, Answers}
 use Rattle.channels.specs.TrackedChannels.{Tracks, counts_so_far}
 use Rattle.channel_slots.specs.declared.stage.Stage.{Stage}
-use Rattle.channel_slots.specs.declared.stage.Stage.TheVariants.{Searching}
-use Rattle.channel_slots.specs.declared.stage_news.StageNews.TheVariants as stage_news
-use Rattle.channel_slots.specs.Stages.{IsSought, IsTracked, Follows, Takes}
+use Rattle.channel_slots.specs.declared.stage.Stage.TheVariants.{Idle, Searching, Tracking}
+use Rattle.channel_slots.specs.declared.slot_news.SlotNews.TheVariants as news
+use Rattle.channel_slots.specs.Stages.{IsSought, IsTracked, Follows}
+use Rattle.channel_slots.proofs.TakesLemmas.{Takes}
 
-pub not-some : {A : Type 0} (o : Option A) → o ≡ None → IsSome o → ⊥
+not-some : {A : Type 0} (o : Option A) → o ≡ None → IsSome o → ⊥
 not-some o none some = clash (ap is_some none) some
   where
     clash : {b : Bool} → b ≡ false → b ≡ true → ⊥
     clash f t = cc
+
+-- where nothing is followed nothing was found
+pub none-found : {A : Type 0} (o : Option A) (found : Bool) → (IsSome o ↔ (found ≡ true))
+    → o ≡ None → found ≡ false
+none-found o true same none = absurd (not-some o none (same.1 refl))
+none-found o false same none = refl
 
 -- samples from a later one on
 pub from-later : (xs : List Sample) (first begun to : ℕ) (held : ℕ → Sample) → first ≤ begun
@@ -136,13 +143,12 @@ module _ (settings : Settings) (xs : List Sample) (life : Life) (a : Sought)
         acquire-no_dumps settings (xs ++ ys) life s.plan s.start later ∙ sym sought-dumps,
         acquire-quiet settings (xs ++ ys) life s.plan s.start later,
       );
-      stands = λ on. record {
+      follows = record {
         plan = s.plan;
         start = s.start;
         searches = searches;
         waits = omega (arith, later, searches.due);
       };
-      ends = λ e. cc;
     }
 
     -- where it is due with the last of them
@@ -174,8 +180,8 @@ module _ (settings : Settings) (xs : List Sample) (life : Life) (a : Sought)
           ≡ Some (found_channel settings s.plan life.begun named)
       given found = rw (s.start, come, ← found-is, found) refl
 
-      pub answers : (stage : Stage) → (cell.found ≡ true → Follows settings (xs ++ ys) life stage)
-          → Takes settings xs ys life stage (Some (stage_news.Acquired prn cell))
+      answers : (stage : Stage) → Follows settings (xs ++ ys) life stage
+          → Takes settings xs ys life stage (Some (news.Acquired prn cell))
       answers stage follows = record {
         inside = λ j first below. quiet (omega (arith, answer.0)) j below;
         on = stays-on (omega (arith, answer.0));
@@ -183,15 +189,15 @@ module _ (settings : Settings) (xs : List Sample) (life : Life) (a : Sought)
           due-no_dumps settings (xs ++ ys) life s.plan s.start answer.0 ∙ sym sought-dumps,
           tells,
         );
-        stands = λ e. follows (not-false cell.found e);
-        ends = λ e. over (not-true cell.found e);
+        follows = follows;
       }
 
       -- what was found is tracked
       pub found : (t : Tracked)
           → Tracks settings (found_channel settings s.plan life.begun (cell_in cell)) (xs ++ ys) t
-          → cell.found ≡ true → IsTracked settings (xs ++ ys) life t
-      found t tracks here = record {
+          → cell.found ≡ true
+          → Takes settings xs ys life (Tracking t) (Some (news.Acquired prn cell))
+      found t tracks here = answers (Tracking t) (record {
         channel = found_channel settings s.plan life.begun named;
         steered = rw s.start refl;
         given = given here;
@@ -199,7 +205,12 @@ module _ (settings : Settings) (xs : List Sample) (life : Life) (a : Sought)
             (found_channel settings s.plan life.begun c) (xs ++ ys) t) answer.1 tracks;
         not_lost = none-yet settings (xs ++ ys)
             (found_channel settings s.plan life.begun named) (omega (arith, answer.0));
-      }
+      })
+
+      -- where nothing was, the life is over
+      pub not-found : cell.found ≡ false
+          → Takes settings xs ys life Idle (Some (news.Acquired prn cell))
+      not-found none = answers Idle (over none)
 
 -- a life that begins now
 pub starts-sought : (settings : Settings) (xs : List Sample) (life : Life) (a : Sought)

@@ -14,11 +14,13 @@ use Rattle.std.proofs.lemmas.List.{append-nil, append_assoc}
 use Rattle.circular_buffer.proofs.Places.{slice_get-append_left, slice_get-append_right}
 use Rattle.definitions.specs.Banks.{layout}
 use Rattle.channel_slots.specs.declared.place.Place.{Place}
-use Rattle.channel_slots.specs.declared.slot.Slot.TheVariants.{Idle}
 use Rattle.channel_slots.specs.Banks.{total, keys_of, IsAt, row_of as row, AddsIdle, AllIdle}
 use Rattle.channel_slots.proofs.CommandLemmas.{Once}
 use Rattle.channel_slots.specs.Banks.{AllSound}
-use Rattle.channel_slots.specs.Slots.{StandsFor}
+use Rattle.channel_slots.specs.Slots.{StandsFor, is_idle}
+use Rattle.channel_slots.specs.Stages as stages
+use Rattle.channel_slots.specs.declared.stage.Stage.{Stage}
+use Rattle.channel_slots.specs.declared.stage.Stage.TheVariants.{Idle, Searching, Holding, Tracking}
 use Rattle.channel_slots.specs.declared.command.TheConstants.{MOST_SLOTS}
 use Rattle.channel_slots.proofs.SlotLemmas.{stands-new}
 use Rattle.definitions.specs.Oscillators.{Settings}
@@ -211,7 +213,8 @@ keys-more shares share index before after long keys adds =
 pub idle-more : (client share : ℕ) (before after : List Place) → AllIdle before
     → AddsIdle client share before after → AllIdle after
 idle-more client share before after idle adds =
-    rw adds.behind (all-append (λ (p : Place). p.slot ≡ Idle) before adds.added idle adds.idle)
+    rw adds.behind
+    (all-append (λ (p : Place). is_idle p.slot ≡ true) before adds.added idle adds.idle)
   where
     all-append : (P : Place → Type 0) (xs ys : List Place) → AllByRecursion P xs
         → AllByRecursion P ys → AllByRecursion P (xs ++ ys)
@@ -222,13 +225,19 @@ idle-more client share before after idle adds =
 
 pub idle-sound : (reach : ℕ) (ps : List Place) → AllIdle ps → AllSound 0 0 reach ps
 idle-sound reach [] idle = tt
-idle-sound reach (p ∷ ps) idle = (rw idle.0 tt, idle-sound reach ps idle.1)
+idle-sound reach (p ∷ ps) idle = (of_stage p.slot.stage idle.0, idle-sound reach ps idle.1)
+  where
+    of_stage : (stage : Stage) → stages.is_idle stage ≡ true → stages.IsSound 0 0 reach stage
+    of_stage Idle e = tt
+    of_stage (Searching a) e = cc
+    of_stage (Holding h) e = cc
+    of_stage (Tracking t) e = cc
 
 pub idle-stand : (settings : Settings) (ps : List Place) → AllIdle ps
     → AllByRecursion (λ (p : Place). StandsFor settings [] [] p.slot) ps
 idle-stand settings [] idle = tt
 idle-stand settings (p ∷ ps) idle =
-    (rw idle.0 (stands-new settings), idle-stand settings ps idle.1)
+    (stands-new settings p.slot idle.0, idle-stand settings ps idle.1)
 
 -- shares are few slots each
 pub few-each : (shares : List ℕ) → list_all is_share shares ≡ true

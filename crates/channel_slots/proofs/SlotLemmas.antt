@@ -1,32 +1,39 @@
 -- What a slot answers and becomes with a command, and what it emits with a block.
 use Rattle.std.proofs.Common.{refl, sym, ◌≡◌, ℕ, zero, suc, ◌+◌, ◌<◌, ◌≤◌, List, [], ◌∷◌, ◌++◌}
 use Rattle.std.proofs.Common.{length, take, ap, ◌∙◌, arith, length-append, append-nil, append_assoc}
-use Rattle.std.specs.Prelude.{Option, Some, None, map, true, false, ◌-◌}
+use Rattle.std.proofs.Common.{subst}
+use Rattle.std.specs.Prelude.{Bool, Option, Some, None, map, true, false, nat_lt, ◌-◌}
 use Rattle.std.specs.List.{AllByRecursion}
 use Rattle.std.proofs.lemmas.List.{length-take, length-take-le}
 use Rattle.definitions.specs.Samples.{Sample}
 use Rattle.definitions.specs.Oscillators.{Settings}
-use Rattle.definitions.specs.Commands.{TimedRequest, Request, state}
-use Rattle.definitions.specs.Lives.{Life, life_of, life_now, life_with, still_on, is_over}
-use Rattle.definitions.specs.Events.{events_at_end, life_events, front_of}
+use Rattle.definitions.specs.Commands.{TimedRequest, Request, counts, state}
+use Rattle.definitions.specs.Segments.{Dump as DefinedDump}
+use Rattle.definitions.specs.Lives.{Life, life_of, life_now, life_with, life_wanting, still_on}
+use Rattle.definitions.specs.Lives.{is_over, dumps_of_life}
+use Rattle.definitions.specs.Events.{events_at_end, life_events, front_of, unprinted_count, count}
+use Rattle.definitions.specs.Events.{when}
 use Rattle.definitions.specs.Answers.{answer_at_end, answer_with, view_of, shown, idle}
 use Rattle.definitions.proofs.BodyLemmas.{life_of-append}
-use Rattle.definitions.proofs.LifeLemmas.{life_of-command, events-behind}
+use Rattle.definitions.proofs.LifeLemmas.{life_of-command, events-behind, unprinted-more}
+use Rattle.definitions.proofs.LifeLemmas.{unprinted-all}
+use Rattle.lane_correlator.specs.Counting.{counts_in}
 use Rattle.definitions.proofs.EndLemmas.{is_over-append}
+use Rattle.channels.specs.Dumps.{steered_events_in}
 use Rattle.channel_slots.specs.declared.slot_news.SlotNews.{SlotNews}
 use Rattle.channel_slots.specs.declared.slot.Slot.{Slot}
-use Rattle.channel_slots.specs.declared.slot.Slot.TheVariants.{Idle, On}
-use Rattle.channel_slots.specs.declared.life.Life.{Life as Kept}
+use Rattle.channel_slots.specs.declared.slot_news.SlotNews.TheVariants.{Acquired, Dump}
 use Rattle.channel_slots.specs.Events.{event_in}
-use Rattle.channel_slots.specs.Lives as lives
-use Rattle.channel_slots.specs.Lives.{Steps}
-use Rattle.channel_slots.specs.NewsEvents.{events_of, ends_with}
+use Rattle.channel_slots.specs.NewsEvents.{events_of}
+use Rattle.channel_slots.specs.Stages.{Follows}
+use Rattle.channel_slots.specs.Slots.{StandsFor, Tells, IsOn, HasLife, is_idle}
+use Rattle.channel_slots.proofs.NewsLemmas.{all-are}
 use Rattle.channel_slots.proofs.QuietLemmas.{on-now, over-now}
-use Rattle.channel_slots.proofs.StageLemmas.{is-on}
-use Rattle.channel_slots.specs.Slots.{StandsFor, Tells, IsOn}
+use Rattle.channel_slots.proofs.StageLemmas.{dumps-by-now, follows-wanting, is-on, is-past}
+use Rattle.channel_slots.proofs.TakesLemmas.{Brings, Takes}
 
 -- ---- commands that have come by now
-HaveCome : ℕ → List TimedRequest → Type 0
+pub HaveCome : ℕ → List TimedRequest → Type 0
 HaveCome n commands = AllByRecursion (λ (c : TimedRequest). c.time ≤ n) commands
 
 one-more : (n : ℕ) (commands : List TimedRequest) (w : Request) → HaveCome n commands
@@ -56,32 +63,64 @@ front-take j xs h =
     take-fewer (suc i) (suc j) [] h = refl
     take-fewer (suc i) (suc j) (x ∷ xs) h = ap (λ l. x ∷ l) (take-fewer i j xs (omega (arith, h)))
 
--- ---- the life that is on in a slot
-pub record HasLife (settings : Settings) (xs : List Sample) (commands : List TimedRequest)
-    (l : Kept) : Type 0 where
-  pub life : Life
-  pub of : life_of settings xs commands ≡ Some life
-  pub now : life_now settings xs commands ≡ Some life
-  pub stands : lives.StandsFor settings xs life l
+-- ---- the life of a slot
+
+-- a slot whose life the commands have left; it is idle where the life is over
+module _ (settings : Settings) (xs : List Sample) (commands : List TimedRequest) (slot : Slot)
+    (early : HaveCome (length xs) commands) (life : Life)
+    (of : life_of settings xs commands ≡ Some life)
+    (follows : Follows settings xs life slot.stage)
+    (left : is_idle slot ≡ false
+    → slot.unprinted ≡ unprinted_count life (dumps_of_life settings xs life))
+    (asked : life.wanted_from ≤ length xs) where
+  pub stands-by : StandsFor settings xs commands slot
+  unfolding HaveCome
+  stands-by = record { early = early; on = by_test (is_idle slot) refl }
+    where
+      by_test : (b : Bool) → is_idle slot ≡ b → IsOn settings xs commands slot b
+      by_test true e = λ ys. over-now settings xs ys commands life early of
+          (is_over-append settings xs ys life (is-past settings xs life slot.stage follows e))
+      by_test false e = record {
+        life = life;
+        of = of;
+        follows = follows;
+        left = left e;
+        asked = asked;
+      }
+
+-- as many dumps as are wanted from now on are still to be printed
+pub all-to-print : (settings : Settings) (xs : List Sample) (life : Life) (slot : Slot)
+    → Follows settings xs life slot.stage → is_idle slot ≡ false
+    → life.wanted_from ≡ length xs → slot.unprinted ≡ life.wanted
+    → slot.unprinted ≡ unprinted_count life (dumps_of_life settings xs life)
+all-to-print settings xs life slot follows on from left =
+    left ∙ sym (unprinted-all life (dumps_of_life settings xs life)
+    (subst (λ n. AllByRecursion (λ (d : DefinedDump). d.time ≤ n) (dumps_of_life settings xs life))
+    (sym from) (dumps-by-now settings xs life slot.stage follows on)))
+
+-- what is left to print after samples that bring news
+abbrev pub Prints : ℕ → ℕ → Option SlotNews → Type 0
+Prints before after None = after ≡ before
+Prints before after (Some (Acquired prn cell)) = after ≡ before
+Prints before after (Some (Dump d is_shown)) =
+    (is_shown ≡ nat_lt 0 before) × (after ≡ before - 1)
 
 module _ (settings : Settings) (xs : List Sample) (commands : List TimedRequest) (slot : Slot)
     (s : StandsFor settings xs commands slot) where
-  idle-on : slot ≡ Idle → (ys : List Sample) → life_now settings (xs ++ ys) commands ≡ None
+  idle-on : is_idle slot ≡ true → (ys : List Sample) → life_now settings (xs ++ ys) commands ≡ None
   idle-on e = rw e at s.on
 
-  pub idle-now : slot ≡ Idle → life_now settings xs commands ≡ None
+  pub idle-now : is_idle slot ≡ true → life_now settings xs commands ≡ None
   idle-now e = rw (append-nil xs) at (idle-on e [])
 
-  pub has-life : (l : Kept) → slot ≡ On l → HasLife settings xs commands l
-  has-life l e =
-      let on : IsOn settings xs commands (On l) = rw e at s.on in
-      record {
-        life = on.0;
-        of = on.1;
-        stands = on.2;
-        now = rw (append-nil xs) at (on-now settings xs [] commands on.0 s.early on.1
-            (rw (append-nil xs) (is-on settings xs on.0 l.stage on.2.stage)));
-      }
+  pub has-life : is_idle slot ≡ false → HasLife settings xs commands slot
+  has-life e = rw e at s.on
+
+  pub life-now : (e : is_idle slot ≡ false)
+      → life_now settings xs commands ≡ Some (has-life e).life
+  life-now e = let i = has-life e in
+      rw (append-nil xs) at (on-now settings xs [] commands i.life s.early i.of
+      (rw (append-nil xs) (is-on settings xs i.life slot.stage i.follows e)))
 
   -- ---- what it answers, by the life that is on
   pub answers : (w : Request) (life : Option Life) → life_now settings xs commands ≡ life
@@ -90,7 +129,7 @@ module _ (settings : Settings) (xs : List Sample) (commands : List TimedRequest)
   answers w life now = rw now
 
   -- an idle slot shows that it is
-  pub idle-shown : slot ≡ Idle → shown idle ≡ answer_at_end settings xs commands state
+  pub idle-shown : is_idle slot ≡ true → shown idle ≡ answer_at_end settings xs commands state
   unfolding answer_at_end view_of
   idle-shown e = rw (idle-now e)
 
@@ -109,150 +148,170 @@ module _ (settings : Settings) (xs : List Sample) (commands : List TimedRequest)
   with-it w = commands ++ record { time = length xs; request = w } ∷ []
 
   -- an idle slot that the command changes nothing of
-  pub stays-idle : slot ≡ Idle → (w : Request)
+  pub stays-idle : (e : is_idle slot ≡ true) → (w : Request)
       → life_with (life_of settings xs commands) None (length xs) w
       ≡ life_of settings xs commands
-      → StandsFor settings xs (commands ++ record { time = length xs; request = w } ∷ []) Idle
+      → StandsFor settings xs (commands ++ record { time = length xs; request = w } ∷ []) slot
   unfolding life_now with-it HaveCome
   stays-idle e w is = record {
     early = one-more (length xs) commands w s.early;
-    on = λ ys. ap (still_on settings (xs ++ ys))
+    on = rw e (λ ys. ap (still_on settings (xs ++ ys))
         (life_of-append settings xs ys (with-it w) (one-more (length xs) commands w s.early)
         ∙ latest w _ None refl (idle-now e) ∙ is
-        ∙ sym (life_of-append settings xs ys commands s.early)) ∙ idle-on e ys;
+        ∙ sym (life_of-append settings xs ys commands s.early)) ∙ idle-on e ys);
   }
 
   -- one that the command makes idle
-  pub becomes-idle : (w : Request) (last life : Option Life) → life_of settings xs commands ≡ last
-      → life_now settings xs commands ≡ life → life_with last life (length xs) w ≡ None
-      → StandsFor settings xs (commands ++ record { time = length xs; request = w } ∷ []) Idle
+  pub becomes-idle : (w : Request) (last life : Option Life) (new : Slot)
+      → life_of settings xs commands ≡ last → life_now settings xs commands ≡ life
+      → life_with last life (length xs) w ≡ None → is_idle new ≡ true
+      → StandsFor settings xs (commands ++ record { time = length xs; request = w } ∷ []) new
   unfolding life_now with-it HaveCome
-  becomes-idle w last life of now none = record {
+  becomes-idle w last life new of now none e = record {
     early = one-more (length xs) commands w s.early;
-    on = λ ys. ap (still_on settings (xs ++ ys))
+    on = rw e (λ ys. ap (still_on settings (xs ++ ys))
         (life_of-append settings xs ys (with-it w) (one-more (length xs) commands w s.early)
-        ∙ latest w last life of now ∙ none);
+        ∙ latest w last life of now ∙ none));
   }
 
   -- one with a life after the command
-  pub becomes-on : (w : Request) (last life : Option Life) (new : Life) (l : Kept)
+  pub becomes-on : (w : Request) (last life : Option Life) (new : Life) (kept : Slot)
       → life_of settings xs commands ≡ last → life_now settings xs commands ≡ life
-      → life_with last life (length xs) w ≡ Some new → lives.StandsFor settings xs new l
-      → StandsFor settings xs (commands ++ record { time = length xs; request = w } ∷ []) (On l)
+      → life_with last life (length xs) w ≡ Some new
+      → Follows settings xs new kept.stage
+      → (is_idle kept ≡ false
+      → kept.unprinted ≡ unprinted_count new (dumps_of_life settings xs new))
+      → new.wanted_from ≤ length xs
+      → StandsFor settings xs (commands ++ record { time = length xs; request = w } ∷ []) kept
   unfolding HaveCome
-  becomes-on w last life new l of now some stands = record {
-    early = one-more (length xs) commands w s.early;
-    on = (new, latest w last life of now ∙ some, stands);
-  }
+  becomes-on w last life new kept of now some follows left asked =
+      stands-by settings xs (commands ++ record { time = length xs; request = w } ∷ []) kept
+      (one-more (length xs) commands w s.early) new (latest w last life of now ∙ some)
+      follows left asked
 
   -- one whose life the command changes nothing of
-  pub keeps-on : (l : Kept) → slot ≡ On l → (w : Request)
+  pub keeps-on : is_idle slot ≡ false → (w : Request)
       → ((life : Life) → life_with (Some life) (Some life) (length xs) w ≡ Some life)
       → StandsFor settings xs (commands ++ record { time = length xs; request = w } ∷ []) slot
-  keeps-on l e w same = let i = has-life l e in
-      rw e (becomes-on w (Some i.life) (Some i.life) i.life l i.of i.now (same i.life) i.stands)
+  keeps-on e w same = let i = has-life e in
+      becomes-on w (Some i.life) (Some i.life) i.life slot i.of (life-now e) (same i.life)
+      i.follows (λ on. i.left) i.asked
+
+  -- one that is asked to print other dumps
+  pub prints : is_idle slot ≡ false → (n : ℕ) (new : Slot) → new.stage ≡ slot.stage
+      → new.unprinted ≡ n
+      → StandsFor settings xs (commands ++ record { time = length xs; request = counts n } ∷ []) new
+  prints e n new same left =
+      let i = has-life e in
+      let life : Life = life_wanting i.life (length xs) n in
+      let follows : Follows settings xs life new.stage =
+      rw same (follows-wanting settings xs i.life slot.stage (length xs) n i.follows e) in
+      becomes-on (counts n) (Some i.life) (Some i.life) life new i.of (life-now e) refl
+      follows (λ on. all-to-print settings xs life new follows on refl left) (omega arith)
 
   -- one that is shown, whatever it is
   pub shown-stays : StandsFor settings xs (commands
       ++ record { time = length xs; request = state } ∷ []) slot
-  shown-stays = by-slot slot refl
+  shown-stays = by_test (is_idle slot) refl
     where
-      by-slot : (x : Slot) → slot ≡ x → StandsFor settings xs (commands
+      by_test : (b : Bool) → is_idle slot ≡ b → StandsFor settings xs (commands
           ++ record { time = length xs; request = state } ∷ []) slot
-      by-slot Idle e = rw e (stays-idle e state refl)
-      by-slot (On l) e = keeps-on l e state (λ life. refl)
+      by_test true e = stays-idle e state refl
+      by_test false e = keeps-on e state (λ life. refl)
 
   -- ---- what it emits with ys after xs
   module _ (ys : List Sample) (some : 0 < length ys) where
     both : length (xs ++ ys) ≡ length xs + length ys
     both = simp length-append (omega arith)
 
-    tells-none : (zs : List Sample) → 0 < length zs → slot ≡ Idle
+    come : HaveCome (length (xs ++ ys)) commands
+    unfolding HaveCome
+    come = by-later (length xs) (length (xs ++ ys)) commands (omega (arith, both)) s.early
+
+    tells-none : (zs : List Sample) → 0 < length zs → is_idle slot ≡ true
         → events_at_end settings (xs ++ zs) commands ≡ []
     unfolding life_events
     tells-none zs more e =
         events-behind settings xs zs commands more
         ∙ ap (life_events settings (xs ++ zs)) (idle-on e (front_of zs))
 
-    pub idle-tells : slot ≡ Idle → Tells settings xs ys commands slot []
+    pub idle-tells : is_idle slot ≡ true → Tells settings xs ys commands slot []
     unfolding HaveCome
     idle-tells e = record {
       inside = λ j first b. tells-none (take j ys) (omega (arith, length-take j ys)) e;
       told = sym (tells-none ys some e);
       stands = record {
-        early = by-later (length xs) (length (xs ++ ys)) commands (omega (arith, both)) s.early;
+        early = come;
         on = rw e (λ zs. rw (append_assoc xs ys zs) (idle-on e (ys ++ zs)));
       };
     }
 
-    -- what is emitted by a life that is on before the last of these
-    told-by : (old : Kept) (i : HasLife settings xs commands old) (zs : List Sample)
-        → 0 < length zs → is_over settings (xs ++ front_of zs) i.life ≡ false
-        → events_at_end settings (xs ++ zs) commands
-        ≡ life_events settings (xs ++ zs) (Some i.life)
-    told-by old i zs more on =
-        events-behind settings xs zs commands more
-        ∙ ap (life_events settings (xs ++ zs))
-        (on-now settings xs (front_of zs) commands i.life s.early i.of on)
+    -- what the stage brings is what the slot emits
+    module _ (e : is_idle slot ≡ false) (new : Slot) (news : Option SlotNews)
+        (takes : (life : Life) → Follows settings xs life slot.stage
+        → Takes settings xs ys life new.stage news)
+        (printed : Prints slot.unprinted new.unprinted news) where
+      own : HasLife settings xs commands slot
+      own = has-life e
 
-    module _ (old new : Kept) (news : Option SlotNews) (e : slot ≡ On old)
-        (steps : (life : Life) → lives.StandsFor settings xs life old
-        → Steps settings xs ys life new news) where
-      own : HasLife settings xs commands old
-      own = has-life old e
+      took : Takes settings xs ys own.life new.stage news
+      took = takes own.life own.follows
 
-      step : Steps settings xs ys own.life new news
-      step = steps own.life own.stands
+      -- what is emitted by a life that is on before the last of these
+      told-by : (zs : List Sample) → 0 < length zs
+          → is_over settings (xs ++ front_of zs) own.life ≡ false
+          → events_at_end settings (xs ++ zs) commands
+          ≡ life_events settings (xs ++ zs) (Some own.life)
+      told-by zs more on =
+          events-behind settings xs zs commands more
+          ∙ ap (life_events settings (xs ++ zs))
+          (on-now settings xs (front_of zs) commands own.life s.early own.of on)
 
       quiet : (j : ℕ) → 0 < j → j < length ys
           → events_at_end settings (xs ++ take j ys) commands ≡ []
       quiet j first b =
-          told-by old own (take j ys) (omega (arith, first, b, length-take j ys))
-          (rw (front-take j ys (omega (arith, b))) (step.on (j - 1) (omega (arith, b))))
-          ∙ step.inside j first b
+          told-by (take j ys) (omega (arith, first, b, length-take j ys))
+          (rw (front-take j ys (omega (arith, b))) (took.on (j - 1) (omega (arith, b))))
+          ∙ took.inside j first b
 
-      told : map event_in (events_of news) ≡ events_at_end settings (xs ++ ys) commands
+      emitted : (o : Option SlotNews) → Brings settings xs ys own.life o
+          → Prints slot.unprinted new.unprinted o
+          → map event_in (events_of o) ≡ life_events settings (xs ++ ys) (Some own.life)
+      emitted None brings left = sym brings.1
+      emitted (Some (Acquired prn cell)) brings left = sym brings.1
+      emitted (Some (Dump d is_shown)) brings left =
+          all-are d is_shown
+          ∙ ap (λ b. when b (count (counts_in d.counts)) ++ steered_events_in d)
+          (left.0 ∙ ap (nat_lt 0) own.left) ∙ sym brings.1
+
+      left-after : (o : Option SlotNews) → Brings settings xs ys own.life o
+          → Prints slot.unprinted new.unprinted o → new.unprinted
+          ≡ unprinted_count own.life (dumps_of_life settings (xs ++ ys) own.life)
+      left-after None brings left =
+          left ∙ own.left ∙ ap (unprinted_count own.life) (sym brings.0)
+      left-after (Some (Acquired prn cell)) brings left =
+          left ∙ own.left ∙ ap (unprinted_count own.life) (sym brings.0)
+      left-after (Some (Dump d is_shown)) brings left =
+          let now : DefinedDump =
+          record { time = length (xs ++ ys); counts = counts_in d.counts } in
+          left.1 ∙ ap (λ n. n - 1) own.left
+          ∙ sym (unprinted-more own.life (dumps_of_life settings xs own.life) now
+          (omega (arith, own.asked, both, some)))
+          ∙ ap (unprinted_count own.life) (sym brings.0)
+
+      pub tells : Tells settings xs ys commands new (events_of news)
       unfolding front_of
-      told = step.told
-          ∙ sym (told-by old own ys some (step.on (length ys - 1) (omega (arith, some))))
-
-      early : HaveCome (length (xs ++ ys)) commands
-      unfolding HaveCome
-      early = by-later (length xs) (length (xs ++ ys)) commands (omega (arith, both)) s.early
-
-      -- it goes on
-      pub life-tells : ends_with news ≡ false
-          → Tells settings xs ys commands (On new) (events_of news)
-      unfolding HaveCome
-      life-tells on = record {
+      tells = record {
         inside = quiet;
-        told = told;
-        stands = record {
-          early = early;
-          on = (
-            own.life,
-            life_of-append settings xs ys commands s.early ∙ own.of,
-            step.stands on,
-          );
-        };
-      }
-
-      -- or the slot is idle from then on
-      pub lost-tells : ends_with news ≡ true
-          → Tells settings xs ys commands Idle (events_of news)
-      unfolding HaveCome
-      lost-tells lost = record {
-        inside = quiet;
-        told = told;
-        stands = record {
-          early = early;
-          on = λ zs. rw (append_assoc xs ys zs) (over-now settings xs (ys ++ zs) commands own.life
-              s.early own.of (rw (← append_assoc xs ys zs) (is_over-append settings (xs ++ ys) zs
-              own.life (step.ends lost))));
-        };
+        told = emitted news took.brings printed
+            ∙ sym (told-by ys some (took.on (length ys - 1) (omega (arith, some))));
+        stands = stands-by settings (xs ++ ys) commands new come own.life
+            (life_of-append settings xs ys commands s.early ∙ own.of) took.follows
+            (λ on. left-after news took.brings printed) (omega (arith, own.asked, both));
       }
 
 -- before the first sample and command
-pub stands-new : (settings : Settings) → StandsFor settings [] [] Idle
+pub stands-new : (settings : Settings) (slot : Slot) → is_idle slot ≡ true
+    → StandsFor settings [] [] slot
 unfolding life_now life_of
-stands-new settings = record { early = tt; on = λ ys. refl }
+stands-new settings slot e = record { early = tt; on = rw e (λ ys. refl) }

@@ -13,7 +13,7 @@ use Rattle.definitions.specs.Commands.{hold, track, state}
 use Rattle.definitions.specs.Answers.{shown, holding, tracking, answer_with, view_of}
 use Rattle.definitions.specs.Answers.{life_view}
 use Rattle.definitions.specs.Lives.{Life, held_channel, tracked_channel, channel_of, is_steered}
-use Rattle.definitions.specs.Lives.{dumps_of_life, is_over, lost_after}
+use Rattle.definitions.specs.Lives.{dumps_of_life, is_over, lost_after, life_wanting}
 use Rattle.definitions.specs.Events.{unprinted_count, count, life_events, when, pushes_of}
 use Rattle.definitions.proofs.LifeLemmas.{hold-quiet, hold-tells, dumps-within}
 use Rattle.lane_correlator.specs.declared.counts.Counts.{Counts}
@@ -21,18 +21,18 @@ use Rattle.lane_correlator.specs.Counting.{counts_in}
 use Rattle.channels.specs.declared.dump.Dump.{Dump}
 use Rattle.channels.specs.declared.held.Held.{Held}
 use Rattle.channels.specs.declared.tracked.Tracked.{Tracked}
-use Rattle.channels.specs.Dumps.{plain_dump}
+use Rattle.channels.specs.Dumps.{plain_dump, is_loss}
 use Rattle.channels.specs.Following.{QuietInside}
 use Rattle.channels.specs.HeldChannels as held
 use Rattle.channels.specs.TrackedChannels as tracked
 use Rattle.channels.specs.TrackedChannels.{counts_so_far}
 use Rattle.channels.proofs.LockedLemmas.{edge-locked}
 use Rattle.channel_slots.specs.declared.stage.Stage.{Stage}
-use Rattle.channel_slots.specs.declared.stage.Stage.TheVariants.{Searching, Holding, Tracking}
-use Rattle.channel_slots.specs.declared.stage_news.StageNews.{StageNews}
-use Rattle.channel_slots.specs.declared.stage_news.StageNews.TheVariants as stage_news
-use Rattle.channel_slots.specs.Stages as stages
-use Rattle.channel_slots.specs.Stages.{IsHeld, IsTracked, Follows, Takes, Brings}
+use Rattle.channel_slots.specs.declared.stage.Stage.TheVariants.{Idle, Searching, Holding, Tracking}
+use Rattle.channel_slots.specs.declared.slot_news.SlotNews.{SlotNews}
+use Rattle.channel_slots.specs.declared.slot_news.SlotNews.TheVariants as slot_news
+use Rattle.channel_slots.specs.Stages.{IsHeld, IsTracked, Follows, is_idle, after_dump}
+use Rattle.channel_slots.proofs.TakesLemmas.{Takes, Brings}
 use Rattle.channel_slots.proofs.SearchLemmas.{none-yet, sought-dumps, sought-is-on}
 use Rattle.channel_slots.proofs.TrackLemmas.{own, more, tracked-dumps, tracked-by-now, tracked-on}
 use Rattle.channel_slots.proofs.TrackLemmas.{quiet-dumps, quiet-on, quiet-events, goes-on}
@@ -57,20 +57,56 @@ held-on settings xs ys life h s = rw s.start
 
 -- all dumps are among the samples
 pub dumps-by-now : (settings : Settings) (xs : List Sample) (life : Life) (stage : Stage)
-    → Follows settings xs life stage
+    → Follows settings xs life stage → is_idle stage ≡ false
     → AllByRecursion (λ (d : DefinedDump). d.time ≤ length xs) (dumps_of_life settings xs life)
-dumps-by-now settings xs life (Searching a) s = rw (sought-dumps settings xs life a s) tt
-dumps-by-now settings xs life (Holding h) s =
+dumps-by-now settings xs life Idle s e = cc
+dumps-by-now settings xs life (Searching a) s e = rw (sought-dumps settings xs life a s) tt
+dumps-by-now settings xs life (Holding h) s e =
     rw (held-dumps settings xs xs life h s)
     (dumps-within settings (own_channel settings xs life h s) xs s.holds.follows.at.begun)
-dumps-by-now settings xs life (Tracking t) s = tracked-by-now settings xs life t s
+dumps-by-now settings xs life (Tracking t) s e = tracked-by-now settings xs life t s
 
 -- a life that is followed is on
 pub is-on : (settings : Settings) (xs : List Sample) (life : Life) (stage : Stage)
-    → Follows settings xs life stage → is_over settings xs life ≡ false
-is-on settings xs life (Searching a) s = sought-is-on settings xs life a s
-is-on settings xs life (Holding h) s = held-on settings xs xs life h s
-is-on settings xs life (Tracking t) s = tracked-on settings xs life t s
+    → Follows settings xs life stage → is_idle stage ≡ false → is_over settings xs life ≡ false
+is-on settings xs life Idle s e = cc
+is-on settings xs life (Searching a) s e = sought-is-on settings xs life a s
+is-on settings xs life (Holding h) s e = held-on settings xs xs life h s
+is-on settings xs life (Tracking t) s e = tracked-on settings xs life t s
+
+-- and where the stage is idle it is over
+pub is-past : (settings : Settings) (xs : List Sample) (life : Life) (stage : Stage)
+    → Follows settings xs life stage → is_idle stage ≡ true → is_over settings xs life ≡ true
+is-past settings xs life Idle s e = s
+is-past settings xs life (Searching a) s e = cc
+is-past settings xs life (Holding h) s e = cc
+is-past settings xs life (Tracking t) s e = cc
+
+-- what a stage follows doesn't depend on what is wanted of the life
+pub follows-wanting : (settings : Settings) (xs : List Sample) (life : Life) (stage : Stage)
+    (time n : ℕ) → Follows settings xs life stage → is_idle stage ≡ false
+    → Follows settings xs (life_wanting life time n) stage
+follows-wanting settings xs life Idle time n s e = cc
+follows-wanting settings xs life (Searching a) time n s e = record {
+  plan = s.plan;
+  start = s.start;
+  searches = s.searches;
+  waits = s.waits;
+}
+follows-wanting settings xs life (Holding h) time n s e = record {
+  prn = s.prn;
+  doppler = s.doppler;
+  half_chip = s.half_chip;
+  start = s.start;
+  holds = s.holds;
+}
+follows-wanting settings xs life (Tracking t) time n s e = record {
+  channel = s.channel;
+  steered = s.steered;
+  given = s.given;
+  tracks = s.tracks;
+  not_lost = s.not_lost;
+}
 
 -- what is shown of it
 pub shows-held : (settings : Settings) (xs : List Sample) (life : Life) (h : Held) (n dumps : ℕ)
@@ -108,14 +144,19 @@ starts-tracked settings xs life t prn doppler half_chip begun start tracks = rec
       (omega arith);
 }
 
--- what a held dump is for a stage
-abbrev pub held_news : Option Counts → Option StageNews
-held_news None = None
-held_news (Some c) = Some (stage_news.Dump (plain_dump c))
+-- a dump as news of its slot
+abbrev pub held_news : Bool → Option Counts → Option SlotNews
+held_news is_shown None = None
+held_news is_shown (Some c) = Some (slot_news.Dump (plain_dump c) is_shown)
 
-abbrev pub dump_news : Option Dump → Option StageNews
-dump_news None = None
-dump_news (Some d) = Some (stage_news.Dump d)
+abbrev pub dump_news : Bool → Option Dump → Option SlotNews
+dump_news is_shown None = None
+dump_news is_shown (Some d) = Some (slot_news.Dump d is_shown)
+
+-- what is followed after a dump, if there is one
+abbrev pub stage_after : Option Dump → Stage → Stage
+stage_after None stage = stage
+stage_after (Some d) stage = after_dump d.lock stage
 
 -- a held life and what ys after xs bring to it
 module _ (settings : Settings) (xs ys : List Sample) (life : Life) (h : Held)
@@ -129,15 +170,15 @@ module _ (settings : Settings) (xs ys : List Sample) (life : Life) (h : Held)
       hold-quiet settings xs (take j ys) life s.prn s.doppler s.half_chip s.start
       s.holds.follows.at.begun (omega (arith, length-take j ys)) (inside j b)
 
-  held-brings : (r : Option Counts) (g : Held) → held.Takes settings channel xs ys g r
-      → Brings settings xs ys life (held_news r)
-  held-brings None g t = (
+  held-brings : (is_shown : Bool) (r : Option Counts) (g : Held)
+      → held.Takes settings channel xs ys g r → Brings settings xs ys life (held_news is_shown r)
+  held-brings is_shown None g t = (
     held-dumps settings xs (xs ++ ys) life h s
         ∙ ap (λ p. p.dumps) t.brings ∙ sym (held-dumps settings xs xs life h s),
     hold-quiet settings xs ys life s.prn s.doppler s.half_chip s.start
         s.holds.follows.at.begun some t.brings,
   )
-  held-brings (Some c) g t =
+  held-brings is_shown (Some c) g t =
       let d : DefinedDump = record { time = length (xs ++ ys); counts = counts_in c } in (
         held-dumps settings xs (xs ++ ys) life h s
             ∙ t.brings
@@ -149,25 +190,21 @@ module _ (settings : Settings) (xs ys : List Sample) (life : Life) (h : Held)
             ∙ sym (append-nil _),
       )
 
-  pub held-takes : (r : Option Counts) (g : Held) → held.Takes settings channel xs ys g r
-      → Takes settings xs ys life (Holding g) (held_news r)
-  held-takes r g t = record {
+  pub held-takes : (is_shown : Bool) (r : Option Counts) (g : Held)
+      → held.Takes settings channel xs ys g r
+      → Takes settings xs ys life (Holding g) (held_news is_shown r)
+  held-takes is_shown r g t = record {
     inside = quiet-inside t.inside;
     on = λ j b. held-on settings xs (xs ++ take j ys) life h s;
-    brings = held-brings r g t;
-    stands = λ on. record {
+    brings = held-brings is_shown r g t;
+    follows = record {
       prn = s.prn;
       doppler = s.doppler;
       half_chip = s.half_chip;
       start = s.start;
       holds = t.stands;
     };
-    ends = λ over. absurd (never r over);
   }
-    where
-      never : (r : Option Counts) → stages.ends_with (held_news r) ≡ true → ⊥
-      never None e = cc
-      never (Some c) e = cc
 
 pub tracked-view : (settings : Settings) (xs : List Sample) (life : Life) (channel : Channel)
     → is_steered life.start ≡ true
@@ -212,40 +249,44 @@ module _ (settings : Settings) (xs : List Sample) (life : Life) (t : Tracked)
           (progress settings (own settings xs life t s) xs).dumps
           (tracked-dumps settings xs life t s)
 
-  pub tracked-takes : (ys : List Sample) → 0 < length ys → (d : Option Dump) (g : Tracked)
-      → tracked.Takes settings (own settings xs life t s) xs ys g d
-      → Takes settings xs ys life (Tracking g) (dump_news d)
-  tracked-takes ys some d g r = record {
+  pub tracked-takes : (ys : List Sample) → 0 < length ys → (is_shown : Bool) (d : Option Dump)
+      (g : Tracked) → tracked.Takes settings (own settings xs life t s) xs ys g d
+      → Takes settings xs ys life (stage_after d (Tracking g)) (dump_news is_shown d)
+  tracked-takes ys some is_shown d g r = record {
     inside = λ j first b.
         quiet-events settings xs life t s ys some (take j ys) (r.inside j b)
         (omega (arith, first, b, length-take j ys));
     on = λ j b. quiet-on settings xs life t s ys some (take j ys) (r.inside j b);
     brings = by_dump d r;
-    stands = λ on. record {
-      channel = s.channel;
-      steered = s.steered;
-      given = (more settings xs life t s ys).given;
-      tracks = r.stands;
-      not_lost = still d r on;
-    };
-    ends = over d r;
+    follows = after d r;
   }
     where
       by_dump : (d : Option Dump) → tracked.Takes settings (own settings xs life t s) xs ys g d
-          → Brings settings xs ys life (dump_news d)
+          → Brings settings xs ys life (dump_news is_shown d)
       by_dump None r = (
         quiet-dumps settings xs life t s ys some ys r.brings,
         quiet-events settings xs life t s ys some ys r.brings some,
       )
-      by_dump (Some d) r = tracked-brings settings xs life t s ys some d g r
+      by_dump (Some d) r = tracked-brings settings xs life t s ys some d g r is_shown
 
-      still : (d : Option Dump) → tracked.Takes settings (own settings xs life t s) xs ys g d
-          → stages.ends_with (dump_news d) ≡ false
+      on-with : tracked.Tracks settings (own settings xs life t s) (xs ++ ys) g
           → lost_after (counts_so_far settings (own settings xs life t s) (xs ++ ys)) ≡ None
-      still None r on = rw r.brings s.not_lost
-      still (Some d) r on = goes-on settings xs life t s ys some d g r on
+          → IsTracked settings (xs ++ ys) life g
+      on-with tracks not_lost = record {
+        channel = s.channel;
+        steered = s.steered;
+        given = (more settings xs life t s ys).given;
+        tracks = tracks;
+        not_lost = not_lost;
+      }
 
-      over : (d : Option Dump) → tracked.Takes settings (own settings xs life t s) xs ys g d
-          → stages.ends_with (dump_news d) ≡ true → is_over settings (xs ++ ys) life ≡ true
-      over None r now = cc
-      over (Some d) r now = ends-here settings xs life t s ys some d g r now
+      by_loss : (d : Dump) (b : Bool) → is_loss d.lock ≡ b
+          → tracked.Takes settings (own settings xs life t s) xs ys g (Some d)
+          → Follows settings (xs ++ ys) life (after_dump d.lock (Tracking g))
+      by_loss d true e r = rw e (ends-here settings xs life t s ys some d g r e)
+      by_loss d false e r = rw e (on-with r.stands (goes-on settings xs life t s ys some d g r e))
+
+      after : (d : Option Dump) → tracked.Takes settings (own settings xs life t s) xs ys g d
+          → Follows settings (xs ++ ys) life (stage_after d (Tracking g))
+      after None r = on-with r.stands (rw r.brings s.not_lost)
+      after (Some d) r = by_loss d (is_loss d.lock) refl r

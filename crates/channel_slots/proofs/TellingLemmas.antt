@@ -6,10 +6,9 @@ use Rattle.std.proofs.Common.{append_assoc, subst}
 use Rattle.std.specs.Prelude.{Bool, true, false, map, nat_lt, if◌then◌else◌, pos}
 use Rattle.channels.proofs.ChanceLemmas.{one-chance as one-segment}
 use Rattle.channel_slots.specs.declared.stage.Stage.{Stage}
-use Rattle.channel_slots.specs.declared.stage.Stage.TheVariants.{Searching, Holding, Tracking}
+use Rattle.channel_slots.specs.declared.stage.Stage.TheVariants.{Idle, Searching, Holding, Tracking}
 use Rattle.channel_slots.specs.Stages.{chance}
 use Rattle.channel_slots.specs.declared.slot.Slot.{Slot}
-use Rattle.channel_slots.specs.declared.slot.Slot.TheVariants.{Idle, On}
 use Rattle.std.proofs.lemmas.List.{map-append, length-take-le}
 use Rattle.channels.specs.Parts.{part}
 use Rattle.channels.proofs.PartLemmas.{part-length}
@@ -193,10 +192,10 @@ goes-on run done count time first held p q r before mid after some within g a fe
 
 -- in a run of samples there is one dump of a slot at most, and the answer of an acquisition
 one-stage : (stage : Stage) → chance stage ≤ 7
+one-stage Idle = omega arith
 one-stage (Searching a) = omega arith
 one-stage (Holding h) = omega (arith, one-segment h.follower)
 one-stage (Tracking t) = omega (arith, one-segment t.follower)
 
 pub one-chance : (slot : Slot) → chances slot ≤ 7
-one-chance Idle = omega arith
-one-chance (On life) = one-stage life.stage
+one-chance slot = one-stage slot.stage

@@ -27,8 +27,9 @@ use Rattle.channels.specs.declared.tracked.Tracked.{Tracked}
 use Rattle.channels.specs.Dumps.{is_loss}
 use Rattle.channels.specs.TrackedChannels as tracked
 use Rattle.channels.specs.TrackedChannels.{counts_so_far}
-use Rattle.channel_slots.specs.declared.stage_news.StageNews.TheVariants as stage_news
-use Rattle.channel_slots.specs.Stages.{IsTracked, Brings}
+use Rattle.channel_slots.specs.declared.slot_news.SlotNews.TheVariants as slot_news
+use Rattle.channel_slots.specs.Stages.{IsTracked}
+use Rattle.channel_slots.proofs.TakesLemmas.{Brings}
 use Rattle.channel_slots.proofs.SteeredLemmas.{GoesOn, steered-on}
 use Rattle.channel_slots.proofs.QuietLemmas.{no-dump-now, dump-now, front-pushed}
 
@@ -201,8 +202,9 @@ module _ (settings : Settings) (xs : List Sample) (life : Life) (t : Tracked)
           ∙ ap (λ (ds : List DefinedDump). is_some (lost_after (counts_of ds))) all-dumps
           ∙ ap is_some (lost-here now)
 
-      pub tracked-brings : Brings settings xs ys life (Some (stage_news.Dump d))
-      tracked-brings =
+      pub tracked-brings : (is_shown : Bool)
+          → Brings settings xs ys life (Some (slot_news.Dump d is_shown))
+      tracked-brings is_shown =
           let all : dumps_of_life settings (xs ++ ys) life
           ≡ dumps_of_life settings xs life ++ now ∷ [] =
           all-dumps ∙ took.brings.0 ∙ ap (λ ds. ds ++ now ∷ []) (sym tracked-dumps) in (

@@ -3,7 +3,6 @@ pub mod BankStates
 pub mod Banks
 pub mod Commands
 pub mod Events
-pub mod Lives
 pub mod NewsEvents
 pub mod Orders
 pub mod Slots

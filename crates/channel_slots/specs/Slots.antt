@@ -1,51 +1,62 @@
 -- What a slot stands for: the samples so far and the commands that it was given.
-use Rattle.std.specs.Prelude.{◌≡◌, ◌≤◌, ◌<◌, ℕ, Bool, true, List, [], ◌++◌, length, take, map}
-use Rattle.std.specs.Prelude.{Option, Some, None}
+use Rattle.std.specs.Prelude.{◌≡◌, ◌≤◌, ◌<◌, ℕ, Bool, true, false, List, [], ◌++◌, length, take}
+use Rattle.std.specs.Prelude.{map, Option, Some, None}
 use Rattle.std.specs.List.{AllByRecursion}
 use Rattle.definitions.specs.Samples.{Sample}
 use Rattle.definitions.specs.Oscillators.{Settings}
-use Rattle.definitions.specs.Commands.{TimedRequest}
-use Rattle.definitions.specs.Lives.{Life, life_of, life_now}
-use Rattle.definitions.specs.Events.{events_at_end}
+use Rattle.definitions.specs.Commands.{TimedRequest, Start}
+use Rattle.definitions.specs.Lives.{Life, life_of, life_now, dumps_of_life}
+use Rattle.definitions.specs.Events.{events_at_end, unprinted_count}
 use Rattle.channel_slots.specs.declared.slot.Slot.{Slot}
-use Rattle.channel_slots.specs.declared.slot.Slot.TheVariants.{Idle, On}
 use Rattle.channel_slots.specs.declared.event.Event.{Event}
 use Rattle.channel_slots.specs.Events.{event_in}
 use Rattle.channel_slots.specs.Stages as stages
-use Rattle.channel_slots.specs.Lives as lives
+
+-- whether it follows nothing
+abbrev pub is_idle : Slot → Bool
+is_idle slot = stages.is_idle slot.stage
 
 -- how many events the slot may emit in a run of samples
 abbrev pub chances : Slot → ℕ
-chances Idle = 0
-chances (On life) = stages.chance life.stage
+chances slot = stages.chance slot.stage
 
 -- what is known of it at a time
 abbrev pub IsSound : ℕ → ℕ → ℕ → Slot → Type 0
-IsSound first time reach Idle = Unit
-IsSound first time reach (On life) = stages.IsSound first time reach life.stage
+IsSound first time reach slot = stages.IsSound first time reach slot.stage
 
 -- the same as a test, whatever sample a dwell begins with
 abbrev pub is_sound : ℕ → ℕ → Slot → Bool
-is_sound time reach Idle = true
-is_sound time reach (On life) = stages.is_sound time reach life.stage
+is_sound time reach slot = stages.is_sound time reach slot.stage
 
 -- how many cells its search has done: none where it doesn't search
 abbrev pub cells_done_of : Slot → Option ℕ
-cells_done_of Idle = None
-cells_done_of (On life) = stages.cells_done_of life.stage
+cells_done_of slot = stages.cells_done_of slot.stage
 
--- the life that is on after the samples and commands: none, whatever samples come, or its own
-abbrev pub IsOn : Settings → List Sample → List TimedRequest → Slot → Type 0
-IsOn settings xs commands Idle =
+-- a life that begins at a time, before any counts are asked for
+abbrev pub first_life : ℕ → Start → Life
+first_life time start =
+    record { begun = time; start = start; wanted = 0; wanted_from = time }
+
+-- a slot has this life, which the commands have left
+pub record HasLife (settings : Settings) (xs : List Sample) (commands : List TimedRequest)
+    (slot : Slot) : Type 0 where
+  pub life : Life
+  pub of : life_of settings xs commands ≡ Some life
+  pub follows : stages.Follows settings xs life slot.stage
+  pub left : slot.unprinted ≡ unprinted_count life (dumps_of_life settings xs life)
+  pub asked : life.wanted_from ≤ length xs
+
+-- the life that is on after the samples and commands: none, whatever samples come, where the slot
+-- is idle, and else its own
+abbrev pub IsOn : Settings → List Sample → List TimedRequest → Slot → Bool → Type 0
+IsOn settings xs commands slot true =
     (ys : List Sample) → life_now settings (xs ++ ys) commands ≡ None
-IsOn settings xs commands (On l) =
-    (life : Life) × (life_of settings xs commands ≡ Some life)
-    × lives.StandsFor settings xs life l
+IsOn settings xs commands slot false = HasLife settings xs commands slot
 
 pub record StandsFor (settings : Settings) (xs : List Sample) (commands : List TimedRequest)
     (slot : Slot) : Type 0 where
   pub early : AllByRecursion (λ (c : TimedRequest). c.time ≤ length xs) commands
-  pub on : IsOn settings xs commands slot
+  pub on : IsOn settings xs commands slot (is_idle slot)
 
 -- with ys after xs nothing is emitted before the last of them, and then the events that were
 -- answered

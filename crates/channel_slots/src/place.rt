@@ -17,20 +17,21 @@ ghost use Rattle.channel_slots.specs.declared.bank.TheConstants.{MOST_TIME};
 ghost use Rattle.channel_slots.specs.declared.command.TheConstants.{MOST_SLOTS};
 ghost use Rattle.channel_slots.specs.declared.place.TheConstants.{MOST_CLIENTS, RUN_EVENTS};
 ghost use Rattle.channel_slots.specs.declared.place.TheConstants.{FRAME_EVENTS};
-ghost use Rattle.channel_slots.specs.NewsEvents.{if_any, lock_events, frame_events, events_with};
-ghost use Rattle.channel_slots.specs.NewsEvents.{dump_events};
+ghost use Rattle.channel_slots.specs.NewsEvents.{if_any, count_events, lock_events, frame_events};
+ghost use Rattle.channel_slots.specs.NewsEvents.{events_with};
 ghost use Rattle.channel_slots.specs.declared.slot.TheConstants.{SLOT_EVENTS};
 
 use crate::answer::Answer;
 use crate::command::{Command, MOST_SLOTS};
 use crate::event::{Event, SlotEvent};
 use crate::slot::{SLOT_EVENTS, Slot};
-use crate::slot_news::{DUMP_EVENTS, DumpNews, SlotNews};
+use crate::slot_news::{DUMP_EVENTS, SlotNews};
 use crate::timeline::put_in_time;
 use arrayvec::ArrayVec;
 use ca_codes::CodeBook;
 use data_sets::Reports;
 use frame_sync::Found;
+use lane_correlator::Counts;
 use nav_message::MessageNews;
 use oscillators::Settings;
 use sample_planes::{Planes, SampleSource};
@@ -57,11 +58,6 @@ pub struct Place {
 
 impl Place {
     ghost use Rattle.std.specs.Prelude.{List, [], ◌∷◌, ◌++◌, length};
-    ghost use Rattle.definitions.specs.Samples.{Sample};
-    ghost use Rattle.definitions.specs.Commands.{TimedRequest};
-    ghost use Rattle.definitions.specs.Answers.{answer_at_end};
-    ghost use Rattle.channel_slots.specs.Answers.{answer_in, IsRefusal};
-    ghost use Rattle.channel_slots.specs.Slots.{StandsFor};
     ghost use Rattle.channel_slots.specs.Banks.{PlaceGoes, PutsIn};
 
     /// Inserts an event of the place's slot, if there is one.
@@ -95,21 +91,17 @@ impl Place {
                 };
                 self.put(Some(event), time, events);
             }
-            SlotNews::Dump(dump) => self.put_dump(dump, time, events),
-        }
-    }
-
-    /// Inserts all that comes with a dump.
-    fn put_dump(&self, news: &DumpNews, time: u64, events: &mut ArrayVec<SlotEvent, RUN_EVENTS>)
-        requires { array_vec_len events.old + DUMP_EVENTS ≤ RUN_EVENTS }
-        ensures { PutsIn self.now time (dump_events news.now) events.old.items events.new.items }
-    {
-        self.put(news.count.map(Event::Count), time, events);
-        self.put(lock_event(news.lock), time, events);
-        match &news.message {
-            MessageNews::Nothing => {}
-            MessageNews::Edge => self.put(Some(Event::Bits), time, events),
-            MessageNews::Frame { found, reports } => self.put_frame(found, reports, time, events),
+            SlotNews::Dump { dump, is_shown } => {
+                self.put(count_event(*is_shown, dump.counts), time, events);
+                self.put(lock_event(dump.lock), time, events);
+                match &dump.message {
+                    MessageNews::Nothing => {}
+                    MessageNews::Edge => self.put(Some(Event::Bits), time, events),
+                    MessageNews::Frame { found, reports } => {
+                        self.put_frame(found, reports, time, events);
+                    }
+                }
+            }
         }
     }
 
@@ -157,25 +149,16 @@ impl Place {
             }
         }
     }
+}
 
-    /// Does what a client asks of the place's slot, and answers it.
-    pub fn command(&mut self, settings: &Settings, time: u64, command: Command) -> Answer
-        requires { time ≤ MOST_START }
-        ensures client { self.new.client ≡ self.old.client }
-        ensures number { self.new.number ≡ self.old.number }
-        ensures answer { (xs : List Sample) (commands : List TimedRequest) → length xs ≡ time
-            → StandsFor settings.now xs commands self.old.slot
-            → answer_in result ≡ answer_at_end settings.now xs commands (request_in command) }
-        ensures stands { (xs : List Sample) (commands : List TimedRequest) → length xs ≡ time
-            → StandsFor settings.now xs commands self.old.slot
-            → StandsFor settings.now xs (commands
-            ++ record { time = length xs; request = request_in command } ∷ []) self.new.slot }
-        ensures refused { IsRefusal result → self.new ≡ self.old }
-        ensures sound { (first : ℕ) → first ≤ time
-            → IsSound first time (most_wait settings.now) self.old.slot
-            → IsSound first time (most_wait settings.now) self.new.slot }
-    {
-        self.slot.command(settings, time, command)
+/// The sums of a dump, if they are to be printed.
+fn count_event(is_shown: bool, counts: Counts) -> Option<Event>
+    ensures { if_any result ≡ count_events is_shown counts }
+{
+    if is_shown {
+        Some(Event::Count(counts))
+    } else {
+        None
     }
 }
 
@@ -266,7 +249,7 @@ pub fn command_at(
     requires time { time ≤ MOST_START }
     ensures { IsCommanded settings.now time (request_in command) places.old places.new at result }
 {
-    places[at].command(settings, time, command)
+    places[at].slot.command(settings, time, command)
 }
 
 /// How many cells the search of one of the slots has done, if it searches.

@@ -3,53 +3,56 @@
 ghost use Rattle.std.specs.Prelude.{◌≡◌, ◌≤◌, ◌<◌, ◌+◌, ◌-◌};
 ghost use Rattle.channel_slots.specs.declared.bank.TheConstants.{MOST_TIME};
 
-use crate::answer::{Answer, Refusal, SlotState};
+use crate::answer::{Answer, Phase, Refusal, SlotState};
 use crate::command::Command;
-use crate::life::Life;
 use crate::slot_news::SlotNews;
 use crate::stage::Stage;
 use ca_codes::CodeBook;
+use channels::{Dump, Held, Sought, Tracked};
 use oscillators::Settings;
 use sample_planes::{Planes, SampleSource};
+use tracking_loops::News;
 
 /// The most events that a slot emits over a run of samples: the answer of an acquisition, and those
 /// of a dump.
 pub const SLOT_EVENTS: usize = 7;
 
-/// A slot: idle, or with a life of its own.
+/// A slot: how many dumps are still to be printed, which only commands and dumps change, and what
+/// it follows.
 #[derive(Debug, Default, Drop)]
-pub enum Slot {
-    #[default]
-    Idle,
-    On(Life),
+pub struct Slot {
+    unprinted: u32,
+    stage: Stage,
 }
 
 impl Slot {
-    ghost use Rattle.std.specs.Prelude.{ℕ, List, [], ◌∷◌, ◌++◌, length, Some, IfSome};
+    ghost use Rattle.std.specs.Prelude.{ℕ, List, [], ◌∷◌, ◌++◌, length, IfSome, nat_lt, true};
     ghost use Rattle.definitions.specs.Samples.{Sample};
     ghost use Rattle.definitions.specs.Oscillators.{Settings as DefinedSettings};
     ghost use Rattle.definitions.specs.Commands.{TimedRequest, Start, begin, state};
     ghost use Rattle.definitions.specs.Answers.{answer_at_end, shown};
-    ghost use Rattle.channel_slots.specs.Commands.{request_in};
-    ghost use Rattle.channels.specs.Parts.{part, IsAsFar};
-    ghost use Rattle.channel_slots.specs.Answers.{answer_in, view_in, IsRefusal};
-    ghost use Rattle.channel_slots.specs.Slots.{chances, StandsFor, Tells};
-    ghost use Rattle.channel_slots.specs.Slots.{IsSound};
-    ghost use Rattle.channel_slots.specs.Slots.{cells_done_of};
     ghost use Rattle.sample_planes.specs.Sources.{AreSamplesOf};
-    ghost use Rattle.channel_slots.specs.Lives.{first_life};
-    ghost use Rattle.channel_slots.specs.NewsEvents.{events_of, events_with};
-    ghost use Rattle.channel_slots.specs.Stages.{Follows, most_wait};
     ghost use Rattle.acquisition.specs.declared.dwell.TheConstants.{MOST_START};
+    ghost use Rattle.channels.specs.Parts.{part, IsAsFar};
+    ghost use Rattle.channel_slots.specs.Commands.{request_in};
+    ghost use Rattle.channel_slots.specs.Answers.{answer_in, view_in, IsRefusal};
+    ghost use Rattle.channel_slots.specs.NewsEvents.{events_of, events_with};
+    ghost use Rattle.channel_slots.specs.declared.slot_news.SlotNews.TheVariants as news;
     ghost use Rattle.channel_slots.specs.Stages as stages;
+    ghost use Rattle.channel_slots.specs.Stages.{most_wait, after_dump};
+    ghost use Rattle.channel_slots.specs.Slots.{StandsFor, Tells, IsSound, chances, is_idle};
+    ghost use Rattle.channel_slots.specs.Slots.{cells_done_of, first_life};
 
     /// A slot that was never asked for anything.
     pub fn new() -> Slot
         ensures stands { (settings : DefinedSettings) → StandsFor settings [] [] result }
         ensures sound { (first time reach : ℕ) → IsSound first time reach result }
-        ensures idle { result ≡ Slot.Idle }
+        ensures idle { is_idle result ≡ true }
     {
-        Slot::Idle
+        Slot {
+            unprinted: 0,
+            stage: Stage::Idle,
+        }
     }
 
     /// Takes samples of a run, from sample `from` on, up to the slot's next event or the end of the
@@ -81,27 +84,67 @@ impl Slot {
         ensures sound { (first time reach : ℕ) → IsSound first time reach self.old
             → IsSound first (time + result.0) reach self.new }
     {
-        let Slot::On(life) = self else {
-            return (run.len() - from, None);
-        };
-        let (count, news) = life.take(run, from, source, book);
-        let Some(news) = news else {
-            return (count, None);
-        };
-        if news.is_end() {
-            *self = Slot::Idle;
+        match &mut self.stage {
+            Stage::Idle => (run.len() - from, None),
+            Stage::Searching(sought) => {
+                let (count, cell) = sought.take(run.len() - from, source, book);
+                let Some(cell) = cell else {
+                    return (count, None);
+                };
+                let prn = sought.prn();
+                self.stage = match sought.follow(&cell) {
+                    Some(tracked) => Stage::Tracking(tracked),
+                    None => Stage::Idle,
+                };
+                (count, Some(SlotNews::Acquired { prn, cell }))
+            }
+            Stage::Holding(held) => {
+                let (count, counts) = held.take(run, from, book);
+                let Some(counts) = counts else {
+                    return (count, None);
+                };
+                (count, Some(self.dump(Dump::plain(counts))))
+            }
+            Stage::Tracking(tracked) => {
+                let (count, dump) = tracked.take(run, from, book);
+                let Some(dump) = dump else {
+                    return (count, None);
+                };
+                (count, Some(self.dump(dump)))
+            }
         }
-        (count, Some(news))
+    }
+
+    /// What a dump of the slot's satellite is for its client: while dumps are to be printed it is
+    /// one of them, and where the signal is lost with it the slot is idle from here on.
+    fn dump(&mut self, dump: Dump) -> SlotNews
+        ensures news { result ≡ news.Dump dump (nat_lt 0 self.old.unprinted) }
+        ensures left { self.new.unprinted ≡ self.old.unprinted - 1 }
+        ensures stage { self.new.stage ≡ after_dump dump.lock self.old.stage }
+    {
+        let is_shown = self.unprinted > 0;
+        self.unprinted = self.unprinted.saturating_sub(1);
+        if matches!(dump.lock, News::Lost) {
+            self.stage = Stage::Idle;
+        }
+        SlotNews::Dump { dump, is_shown }
     }
 
     /// The number of cells that the search has done, if the slot searches.
     pub fn cells_done(&self) -> Option<u64>
         ensures { result ≡ cells_done_of self.now }
     {
-        match self {
-            Slot::Idle => None,
-            Slot::On(life) => life.cells_done(),
+        match &self.stage {
+            Stage::Searching(sought) => Some(sought.done()),
+            Stage::Idle | Stage::Holding(_) | Stage::Tracking(_) => None,
         }
+    }
+
+    /// Whether the slot follows nothing.
+    fn is_idle(&self) -> bool
+        ensures { result ≡ is_idle self.now }
+    {
+        matches!(self.stage, Stage::Idle)
     }
 
     /// What the slot shows.
@@ -110,13 +153,28 @@ impl Slot {
             → StandsFor settings xs commands self.now
             → shown (view_in result) ≡ answer_at_end settings xs commands state }
     {
-        match self {
-            Slot::Idle => SlotState::Idle,
-            Slot::On(life) => life.state(),
+        match &self.stage {
+            Stage::Idle => SlotState::Idle,
+            Stage::Searching(sought) => SlotState::Acquire {
+                prn: sought.prn(),
+                done: sought.done(),
+                cells: sought.cells(),
+            },
+            Stage::Holding(held) => SlotState::Hold {
+                prn: held.prn(),
+                dumps: held.dumps(),
+            },
+            Stage::Tracking(tracked) => SlotState::Track {
+                prn: tracked.prn(),
+                dumps: tracked.dumps(),
+                v: tracked.v(),
+                w: tracked.w(),
+                phase: Phase::of(tracked.is_locked(), tracked.has_edge()),
+            },
         }
     }
 
-    /// Makes the slot follow a stage, if it is idle.
+    /// Makes the slot follow a stage, and print no dump, if it is idle.
     fn start(&mut self, stage: Stage) -> Answer
         ensures answer { (settings : DefinedSettings) (xs : List Sample)
             (commands : List TimedRequest) (start : Start)
@@ -125,20 +183,19 @@ impl Slot {
         ensures stands { (settings : DefinedSettings) (xs : List Sample)
             (commands : List TimedRequest) (start : Start)
             → StandsFor settings xs commands self.old
-            → Follows settings xs (first_life (length xs) start) stage
+            → stages.Follows settings xs (first_life (length xs) start) stage
             → StandsFor settings xs (commands
             ++ record { time = length xs; request = begin start } ∷ []) self.new }
         ensures refused { IsRefusal result → self.new ≡ self.old }
         ensures sound { (first time reach : ℕ) → IsSound first time reach self.old
             → stages.IsSound first time reach stage → IsSound first time reach self.new }
     {
-        match self {
-            Slot::Idle => {
-                *self = Slot::On(Life::start(stage));
-                Answer::Accepted
-            }
-            Slot::On(_) => Answer::Refused(Refusal::Busy),
+        if !self.is_idle() {
+            return Answer::Refused(Refusal::Busy);
         }
+        self.unprinted = 0;
+        self.stage = stage;
+        Answer::Accepted
     }
 
     /// Does what a client asks of this slot, and answers it: a refused command changes nothing.
@@ -158,34 +215,36 @@ impl Slot {
             → IsSound first time (most_wait settings.now) self.new }
     {
         match command {
-            Command::Acquire { slot: _, plan } => self.start(Stage::search(settings, plan, time)),
+            Command::Acquire { slot: _, plan } => {
+                self.start(Stage::Searching(Sought::start(settings, plan, time)))
+            }
             Command::Hold {
                 slot: _,
                 prn,
                 doppler,
                 half,
-            } => self.start(Stage::hold(settings, prn, doppler, half)),
+            } => self.start(Stage::Holding(Held::start(settings, prn, doppler, half))),
             Command::Track {
                 slot: _,
                 prn,
                 doppler,
                 half,
-            } => self.start(Stage::track(settings, prn, doppler, half)),
-            Command::Counts { slot: _, n } => match self {
-                Slot::Idle => Answer::Refused(Refusal::Idle),
-                Slot::On(life) => {
-                    life.print(n);
-                    Answer::Accepted
-                }
-            },
+            } => self.start(Stage::Tracking(Tracked::start(settings, prn, doppler, half))),
             Command::State { .. } => Answer::State(self.state()),
-            Command::Stop { .. } => match self {
-                Slot::Idle => Answer::Refused(Refusal::Idle),
-                Slot::On(_) => {
-                    *self = Slot::Idle;
-                    Answer::Accepted
+            Command::Counts { slot: _, n } => {
+                if self.is_idle() {
+                    return Answer::Refused(Refusal::Idle);
                 }
-            },
+                self.unprinted = n;
+                Answer::Accepted
+            }
+            Command::Stop { .. } => {
+                if self.is_idle() {
+                    return Answer::Refused(Refusal::Idle);
+                }
+                *self = Slot::new();
+                Answer::Accepted
+            }
         }
     }
 }

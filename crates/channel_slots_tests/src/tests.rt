@@ -176,9 +176,14 @@ fn told(slot: &mut Slot, time: u64, len: usize, count: usize) -> Result<Option<C
     if taken != count {
         return Err(Fail::new("the next event is elsewhere"));
     }
+    Ok(shown(news))
+}
+
+/// The sums of a dump that are to be printed.
+fn shown(news: Option<SlotNews>) -> Option<Counts> {
     match news {
-        Some(SlotNews::Dump(dump)) => Ok(dump.count),
-        _ => Ok(None),
+        Some(SlotNews::Dump { dump, is_shown }) if is_shown => Some(dump.counts),
+        _ => None,
     }
 }
 

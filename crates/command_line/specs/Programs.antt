@@ -168,18 +168,18 @@ Receives asked files old new (Err (Settings Rate)) = ¬ IsRate asked.rate × (ne
 Receives asked files old new (Err (Settings Offset)) =
     IsRate asked.rate × (asked.rate < 2 * asked.offset) × (new ≡ old)
 
--- the program ended before it read or wrote: before its run, or where the run was refused
-abbrev pub IsBeforeRun : Failure → Type 0
-IsBeforeRun NoMemory = Unit {0}
-IsBeforeRun Shares = Unit {0}
-IsBeforeRun Script = Unit {0}
-IsBeforeRun (Settings fault) = Unit {0}
-IsBeforeRun (Run faults.Clients) = Unit {0}
-IsBeforeRun (Run faults.Share) = Unit {0}
-IsBeforeRun (Run faults.NoMemory) = Unit {0}
-IsBeforeRun (Run faults.Read) = ⊥
-IsBeforeRun (Run faults.Write) = ⊥
-IsBeforeRun (Run faults.TooLong) = ⊥
+-- the program ended before its run read or wrote: before the run, or where the run was refused
+abbrev pub IsBeforeReading : Failure → Type 0
+IsBeforeReading NoMemory = Unit {0}
+IsBeforeReading Shares = Unit {0}
+IsBeforeReading Script = Unit {0}
+IsBeforeReading (Settings fault) = Unit {0}
+IsBeforeReading (Run faults.Clients) = Unit {0}
+IsBeforeReading (Run faults.Share) = Unit {0}
+IsBeforeReading (Run faults.NoMemory) = Unit {0}
+IsBeforeReading (Run faults.Read) = ⊥
+IsBeforeReading (Run faults.Write) = ⊥
+IsBeforeReading (Run faults.TooLong) = ⊥
 
 -- the exit status: 2 where what was asked for is at fault, and 1 where the run or memory is
 abbrev pub status_of : Result ℕ Failure → ℕ

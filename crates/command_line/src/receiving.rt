@@ -3,8 +3,8 @@
 ghost use Rattle.std.specs.Prelude.{◌≡◌, map, IfOk, IfErr};
 ghost use Rattle.clap.specs.Matches.{found_of};
 ghost use Rattle.receiver.specs.Runs.{devices_at};
-ghost use Rattle.command_line.specs.Programs.{Receives, RunsTexts, IsBeforeRun, asked_in, paths_in};
-ghost use Rattle.command_line.specs.Programs.{one_or_more};
+ghost use Rattle.command_line.specs.Programs.{Receives, RunsTexts, IsBeforeReading, asked_in};
+ghost use Rattle.command_line.specs.Programs.{paths_in, one_or_more};
 
 use crate::failure::Failure;
 use crate::options;
@@ -24,7 +24,7 @@ pub fn receive<S: ScriptFiles, R: Source, W: Sink>(
     reader: &mut R,
     writer: &mut W,
 ) -> Result<u64, Failure>
-    ensures untouched { IfErr result (λ failure. IsBeforeRun failure
+    ensures untouched { IfErr result (λ failure. IsBeforeReading failure
         → (reader.new ≡ reader.old) × (writer.new ≡ writer.old)) }
     ensures receives { Receives
         (asked_in (found_of matches.now))
@@ -51,7 +51,7 @@ fn run_texts<R: Source, W: Sink>(
     reader: &mut R,
     writer: &mut W,
 ) -> Result<u64, Failure>
-    ensures untouched { IfErr result (λ failure. IsBeforeRun failure
+    ensures untouched { IfErr result (λ failure. IsBeforeReading failure
         → (reader.new ≡ reader.old) × (writer.new ≡ writer.old)) }
     ensures runs { RunsTexts settings shares.now (map (λ text. text.items) texts.now)
         (devices_at R.Source W.Sink reader.old writer.old)

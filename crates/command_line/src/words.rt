@@ -1,6 +1,6 @@
 //! The words of the command line, as text.
 
-ghost use Rattle.std.specs.Prelude.{◌≡◌, IfOk, IfErr, string_bytes};
+ghost use Rattle.std.specs.Prelude.{◌≡◌, ◌++◌, ◌∷◌, ℕ, List, [], IfOk, IfErr, string_bytes};
 ghost use Rattle.std.specs.Str.{IsUtf8};
 
 use crate::failure::Failure;
@@ -30,7 +30,9 @@ pub fn words<E: Env>(alloc: Global, env: &E) -> Result<Vec<String>, Failure>
 /// A word as text. One that isn't UTF-8 gets U+FFFD for what isn't, so that it is no option's
 /// value, and a slash at its end, so that no file has it as its name.
 fn word(alloc: Global, bytes: &[u8]) -> Result<String, AllocError>
-    ensures { IfOk result (λ word. IsUtf8 bytes.now → string_bytes word ≡ bytes.now) }
+    ensures same { IfOk result (λ word. IsUtf8 bytes.now → string_bytes word ≡ bytes.now) }
+    ensures marked { IfOk result (λ word. ¬ IsUtf8 bytes.now
+        → (text : List ℕ) × (string_bytes word ≡ text ++ 0x2f ∷ [])) }
 {
     let mut word = String::from_utf8_lossy(alloc, bytes)?;
     if from_utf8(bytes).is_err() {

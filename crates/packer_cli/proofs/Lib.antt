@@ -1,1 +1,5 @@
+pub mod DeviceLemmas
 pub mod RunLemmas
+pub mod NumberLemmas
+pub mod TextLemmas
+pub mod AskedLemmas

@@ -1,5 +1,7 @@
--- The statuses of the program.
+-- The failures of the program, and its statuses.
 use Rattle.std.specs.Prelude.{ℕ, Result, Ok, Err}
+use Rattle.recordings.specs.declared.fault.PackFault.{PackFault}
+use Rattle.recordings.specs.declared.fault.PackFault.TheVariants as faults
 use Rattle.packer_cli.specs.declared.failure.Failure.{Failure}
 use Rattle.packer_cli.specs.declared.failure.Failure.TheVariants.{NoMemory, Input, NotANumber}
 use Rattle.packer_cli.specs.declared.failure.Failure.TheVariants.{Infinite, Output, Nothing}
@@ -14,3 +16,8 @@ status_of (Err Infinite) = 1
 status_of (Err Output) = 1
 status_of (Err Nothing) = 1
 status_of (Err _) = 2
+
+-- the failure of bytes that can't be packed
+abbrev pub failure_of : PackFault → Failure
+failure_of faults.NoMemory = NoMemory
+failure_of faults.NotANumber = NotANumber

@@ -1,7 +1,7 @@
 //! Why the program ends early, and with which status.
 
 ghost use Rattle.std.specs.Prelude.{◌≡◌};
-ghost use Rattle.packer_cli.specs.Statuses.{status_of};
+ghost use Rattle.packer_cli.specs.Statuses.{status_of, failure_of};
 ghost use Rattle.packer_cli.specs.declared.failure.Failure.TheVariants.{NoMemory};
 
 use recordings::{ChoiceFault, PackFault};
@@ -88,6 +88,8 @@ impl<T: Drop> From<AllocFailed<T>> for Failure {
 }
 
 impl From<PackFault> for Failure {
+    ghost from_gives = { λ fault failure. failure ≡ failure_of fault };
+
     fn from(fault: PackFault) -> Failure {
         match fault {
             PackFault::NoMemory => Failure::NoMemory,

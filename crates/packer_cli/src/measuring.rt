@@ -5,6 +5,7 @@ ghost use Rattle.recordings.specs.Recordings.{parts_of};
 ghost use Rattle.recordings.specs.declared.recipe.TheConstants.{MOST_BYTES};
 
 use crate::decimals::{Halves, Hundredths};
+use crate::devices::Device;
 use crate::failure::Failure;
 use crate::floats::measure_floats;
 use crate::running::{read, zeros};
@@ -21,7 +22,7 @@ pub fn measure<T: AllocGlobal + Print, R: Read>(
     rt: &T,
     recipe: &Recipe,
     window: &mut Window,
-    reader: &mut R,
+    reader: &mut Device<R>,
 ) -> Result<(), Failure> {
     let bytes = gather(rt.alloc(), window, reader)?;
     if recipe.kind == Kind::F32 {
@@ -139,7 +140,11 @@ fn share(part: u64, count: u64) -> Hundredths {
 }
 
 /// The bytes of the stretch that is wanted, at most `MOST_BYTES`.
-fn gather<R: Read>(alloc: Global, window: &mut Window, reader: &mut R) -> Result<Vec<u8>, Failure>
+fn gather<R: Read>(
+    alloc: Global,
+    window: &mut Window,
+    reader: &mut Device<R>,
+) -> Result<Vec<u8>, Failure>
     ensures { IfOk result (λ bytes. length bytes.items ≤ MOST_BYTES) }
 {
     let mut buffer = zeros(alloc, MOST_PIECE)?;

@@ -1,5 +1,18 @@
 //! The program's command line.
 
+ghost use Rattle.std.specs.Prelude.{◌≡◌, ℕ, ℤ, [], Err, IfOk, IfErr, true, codes, option_and_then};
+ghost use Rattle.std.specs.Result.{result_ok};
+ghost use Rattle.clap.specs.Matches.{found_of, first_value, one_text};
+ghost use Rattle.recordings.specs.Windows.{Shows};
+ghost use Rattle.recordings.specs.declared.choice.Choice.{Choice};
+ghost use Rattle.packer_cli.specs.Statuses.{status_of};
+ghost use Rattle.packer_cli.specs.Options.{Asks, HasCentres, IsAsked, CannotBeHad, IsStretch};
+ghost use Rattle.packer_cli.specs.Options.{HasNoStretch, usual_centre, is_second, finite_bits};
+ghost use Rattle.packer_cli.specs.Options.{is_pairs_name, kind_in, named_kind, is_measured_in};
+ghost use Rattle.packer_cli.specs.Options.{named_format, format_in};
+ghost use Rattle.packer_cli.specs.Options.{threshold_in, float_in, halves_or};
+ghost use Rattle.packer_cli.specs.Options.{from_in, flag_in, bytes_in};
+
 use crate::failure::Failure;
 use crate::halves::halves;
 use clap::{Arg, ArgAction, ArgMatches, Command, Error, value_parser};
@@ -181,20 +194,28 @@ fn flag<'a>(alloc: Global, name: &'a str, help: &'a str) -> Arg<'a> {
 }
 
 /// The recipe that the options ask for.
-pub fn recipe(matches: &ArgMatches) -> Result<Recipe, Failure> {
-    let (is_paired, kind) = kind(matches.get_str("from").unwrap_or("u8"));
-    let format = if is_measured(matches) {
-        measured_format(matches, is_paired)?
-    } else {
-        format(matches)?
-    };
-    let default = if kind == Kind::U8 { 255 } else { 0 };
-    let centre = twice(matches, "centre", default)?;
-    let centre_q = twice(matches, "centre-q", centre)?;
-    if kind == Kind::F32 && (centre, centre_q) != (0, 0) {
-        return Err(Failure::Centre);
+pub fn recipe(matches: &ArgMatches) -> Result<Recipe, Failure>
+    ensures asked { IfOk result (λ recipe. IsAsked (found_of matches.now) recipe) }
+    ensures status { IfErr result (λ failure. status_of (Err failure) ≡ 2) }
+    ensures why { IfErr result (λ _. CannotBeHad (found_of matches.now)) }
+{
+    let choice = choice(matches)?;
+    match choice.recipe() {
+        Ok(recipe) => Ok(recipe),
+        Err(fault) => Err(Failure::Choice(fault)),
     }
-    let choice = Choice {
+}
+
+/// The choice that the options ask for.
+fn choice(matches: &ArgMatches) -> Result<Choice, Failure>
+    ensures asked { IfOk result (λ choice. Asks (found_of matches.now) choice) }
+    ensures status { IfErr result (λ failure. status_of (Err failure) ≡ 2) }
+    ensures why { IfErr result (λ _. (choice : Choice) → Asks (found_of matches.now) choice → ⊥) }
+{
+    let (is_paired, kind) = from(matches);
+    let format = format(matches, is_paired)?;
+    let (centre, centre_q) = centres(matches, kind)?;
+    Ok(Choice {
         kind,
         is_paired,
         format,
@@ -203,18 +224,34 @@ pub fn recipe(matches: &ArgMatches) -> Result<Recipe, Failure> {
         centre_q,
         is_swapped: is_set(matches, "swap"),
         is_conjugate: is_set(matches, "conjugate"),
-        takes_quadrature: matches.get_str("part") == Some("q"),
-    };
-    choice.recipe().map_err(Failure::Choice)
+        takes_quadrature: takes_quadrature(matches),
+    })
 }
 
-/// Whether the values are pairs, and their kind.
-fn kind(name: &str) -> (bool, Kind) {
-    let (is_paired, rest) = match name.strip_prefix("iq-") {
-        Some(rest) => (true, rest),
-        None => (false, name),
-    };
-    let kind = match rest {
+/// Whether the recording's values are pairs, and their kind.
+fn from(matches: &ArgMatches) -> (bool, Kind)
+    ensures pairs { result.0 ≡ is_pairs_name (from_in (found_of matches.now)) }
+    ensures kind { result.1 ≡ kind_in (from_in (found_of matches.now)) }
+{
+    kind(matches.get_str("from").unwrap_or("u8"))
+}
+
+/// Whether the values are pairs, and their kind, by a name.
+fn kind(name: &str) -> (bool, Kind)
+    ensures pairs { result.0 ≡ is_pairs_name name.now }
+    ensures kind { result.1 ≡ kind_in name.now }
+{
+    match name.strip_prefix("iq-") {
+        Some(rest) => (true, named_kind(rest)),
+        None => (false, named_kind(name)),
+    }
+}
+
+/// A kind by its name.
+fn named_kind(name: &str) -> Kind
+    ensures { result ≡ named_kind name.now }
+{
+    match name {
         "i8" => Kind::I8,
         "i16" => Kind::I16,
         "i16be" => Kind::I16Be,
@@ -224,12 +261,27 @@ fn kind(name: &str) -> (bool, Kind) {
         "bits1-low" => Kind::Bits1Low,
         "bits1-high" => Kind::Bits1High,
         _ => Kind::U8,
-    };
-    (is_paired, kind)
+    }
 }
 
-/// A packing of signs alone for what is measured, which is not written.
-fn measured_format(matches: &ArgMatches, is_paired: bool) -> Result<Format, Failure> {
+/// The packing to write, or one of signs alone for what is measured, which is not written.
+fn format(matches: &ArgMatches, is_paired: bool) -> Result<Format, Failure>
+    ensures value { result_ok result ≡ format_in (found_of matches.now) is_paired }
+    ensures status { IfErr result (λ failure. status_of (Err failure) ≡ 2) }
+{
+    if is_measured(matches) {
+        measured_format(matches, is_paired)
+    } else {
+        written_format(matches)
+    }
+}
+
+/// A packing of signs alone for what is measured.
+fn measured_format(matches: &ArgMatches, is_paired: bool) -> Result<Format, Failure>
+    requires { is_measured_in (found_of matches.now) ≡ true }
+    ensures value { result_ok result ≡ format_in (found_of matches.now) is_paired }
+    ensures status { IfErr result (λ failure. status_of (Err failure) ≡ 2) }
+{
     match matches.get_str("to") {
         Some(_) => Err(Failure::NotPacked),
         None if is_paired => Ok(Format::Iq1),
@@ -238,7 +290,11 @@ fn measured_format(matches: &ArgMatches, is_paired: bool) -> Result<Format, Fail
 }
 
 /// The packing to write.
-fn format(matches: &ArgMatches) -> Result<Format, Failure> {
+fn written_format(matches: &ArgMatches) -> Result<Format, Failure>
+    ensures value { result_ok result
+        ≡ option_and_then named_format (first_value (found_of matches.now) (codes "to")) }
+    ensures status { IfErr result (λ failure. status_of (Err failure) ≡ 2) }
+{
     match matches.get_str("to") {
         Some("real1") => Ok(Format::Real1),
         Some("real2") => Ok(Format::Real2),
@@ -248,8 +304,44 @@ fn format(matches: &ArgMatches) -> Result<Format, Failure> {
     }
 }
 
+/// Twice the centres of both parts.
+fn centres(matches: &ArgMatches, kind: Kind) -> Result<(i32, i32), Failure>
+    ensures asked { IfOk result (λ centres.
+        HasCentres (found_of matches.now) kind centres.0 centres.1) }
+    ensures status { IfErr result (λ failure. status_of (Err failure) ≡ 2) }
+    ensures why { IfErr result (λ _. (i q : ℤ) → HasCentres (found_of matches.now) kind i q → ⊥) }
+{
+    let centre = twice(matches, "centre", usual_centre(kind))?;
+    let centre_q = twice(matches, "centre-q", centre)?;
+    match kind {
+        Kind::F32 if centre != 0 || centre_q != 0 => Err(Failure::Centre),
+        _ => Ok((centre, centre_q)),
+    }
+}
+
+/// Twice the centre that a part has where none is given: unsigned bytes are around 127.5.
+fn usual_centre(kind: Kind) -> i32
+    ensures { result ≡ usual_centre kind }
+{
+    match kind {
+        Kind::U8 => 255,
+        _ => 0,
+    }
+}
+
+/// Whether real samples are made of the part in quadrature.
+fn takes_quadrature(matches: &ArgMatches) -> bool
+    ensures { result ≡ is_second (first_value (found_of matches.now) (codes "part")) }
+{
+    matches.get_str("part") == Some("q")
+}
+
 /// Twice the threshold, or of floats its bits. A packing of one bit needs none.
-fn threshold(matches: &ArgMatches, kind: Kind, format: Format) -> Result<u32, Failure> {
+fn threshold(matches: &ArgMatches, kind: Kind, format: Format) -> Result<u32, Failure>
+    ensures value { result_ok result
+        ≡ threshold_in kind format (first_value (found_of matches.now) (codes "threshold")) }
+    ensures status { IfErr result (λ failure. status_of (Err failure) ≡ 2) }
+{
     match matches.get_str("threshold") {
         Some(text) if kind == Kind::F32 => float(text),
         Some(text) => match halves(text) {
@@ -262,22 +354,41 @@ fn threshold(matches: &ArgMatches, kind: Kind, format: Format) -> Result<u32, Fa
 }
 
 /// The bits of the float of a text, which is neither below 0 nor infinite.
-fn float(text: &str) -> Result<u32, Failure> {
+fn float(text: &str) -> Result<u32, Failure>
+    ensures value { result_ok result ≡ float_in text.now }
+    ensures status { IfErr result (λ failure. status_of (Err failure) ≡ 2) }
+{
+    match text.parse::<f32>() {
+        Ok(number) => match finite_bits(number) {
+            Some(bits) => Ok(bits),
+            None => Err(Failure::Float),
+        },
+        Err(_) => Err(Failure::Float),
+    }
+}
+
+/// The bits of a float that is neither below 0 nor infinite. -0 is 0.
+fn finite_bits(number: f32) -> Option<u32>
+    ensures { result ≡ finite_bits number }
+{
     const INFINITY: u32 = 0x7f80_0000;
     const MINUS_ZERO: u32 = 0x8000_0000;
-    let number = text.parse::<f32>().map_err(|_| Failure::Float)?;
     if number.is_nan() {
-        return Err(Failure::Float);
+        return None;
     }
     match number.to_bits() {
-        MINUS_ZERO => Ok(0),
-        bits if bits < INFINITY => Ok(bits),
-        _ => Err(Failure::Float),
+        MINUS_ZERO => Some(0),
+        bits if bits < INFINITY => Some(bits),
+        _ => None,
     }
 }
 
 /// Twice the number of an option, or a default.
-fn twice(matches: &ArgMatches, name: &'static str, default: i32) -> Result<i32, Failure> {
+fn twice(matches: &ArgMatches, name: &'static str, default: i32) -> Result<i32, Failure>
+    ensures value { result_ok result
+        ≡ halves_or default (first_value (found_of matches.now) name.now) }
+    ensures status { IfErr result (λ failure. status_of (Err failure) ≡ 2) }
+{
     match matches.get_str(name) {
         Some(text) => halves(text).ok_or(Failure::Number(name)),
         None => Ok(default),
@@ -285,23 +396,36 @@ fn twice(matches: &ArgMatches, name: &'static str, default: i32) -> Result<i32, 
 }
 
 /// Whether the recording is to be measured.
-pub fn is_measured(matches: &ArgMatches) -> bool {
+pub fn is_measured(matches: &ArgMatches) -> bool
+    ensures { result ≡ is_measured_in (found_of matches.now) }
+{
     is_set(matches, "measure")
 }
 
 /// Whether an option without a value is there.
-fn is_set(matches: &ArgMatches, name: &str) -> bool {
+fn is_set(matches: &ArgMatches, name: &str) -> bool
+    ensures { result ≡ flag_in (one_text (found_of matches.now) name.now) }
+{
     matches.get_one(name).unwrap_or(false)
 }
 
 /// The stretch of the recording that the options ask for.
-pub fn window(matches: &ArgMatches, recipe: &Recipe) -> Result<Window, Failure> {
+pub fn window(matches: &ArgMatches, recipe: &Recipe) -> Result<Window, Failure>
+    ensures asked { IfOk result (λ window. (skip : ℕ) × (most : ℕ)
+        × IsStretch (found_of matches.now) recipe.now skip most × Shows skip most [] [] window) }
+    ensures status { IfErr result (λ failure. status_of (Err failure) ≡ 2) }
+    ensures why { IfErr result (λ _. HasNoStretch (found_of matches.now) recipe.now) }
+{
     let skip = bytes(matches, recipe, "skip")?;
     Ok(Window::new(skip, bytes(matches, recipe, "count")?))
 }
 
 /// The bytes of a number of samples.
-fn bytes(matches: &ArgMatches, recipe: &Recipe, name: &'static str) -> Result<u64, Failure> {
+fn bytes(matches: &ArgMatches, recipe: &Recipe, name: &'static str) -> Result<u64, Failure>
+    ensures value { result_ok result
+        ≡ bytes_in recipe.now (one_text (found_of matches.now) name.now) }
+    ensures status { IfErr result (λ failure. status_of (Err failure) ≡ 2) }
+{
     let count: u64 = matches.get_one(name).unwrap_or(0);
     if count > MOST_SAMPLES {
         return Err(Failure::Samples(name));

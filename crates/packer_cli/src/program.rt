@@ -1,5 +1,14 @@
 //! The program, from its words to its status.
 
+ghost use Rattle.std.specs.Prelude.{◌≡◌, ◌⊎◌, IfErr};
+ghost use Rattle.std.specs.Process.{exit_status};
+ghost use Rattle.clap.specs.Matches.{found_of};
+ghost use Rattle.clap.specs.Values.{kind_of};
+ghost use Rattle.packer_cli.specs.Devices.{devices_at};
+ghost use Rattle.packer_cli.specs.Statuses.{status_of};
+ghost use Rattle.packer_cli.specs.Endings.{HasEnded, CarriesOut, parser_status};
+
+use crate::devices::Device;
 use crate::failure::{Failure, status};
 use crate::measuring::measure;
 use crate::options;
@@ -14,11 +23,13 @@ use std::process::ExitCode;
 
 /// Does what the words of the command line ask for, with this reader and writer, and gives the
 /// status. It reports on standard error what went wrong, and which bytes at the end are left out.
-pub fn carry_out<T, R, W>(rt: &T, reader: R, writer: W) -> ExitCode
+pub fn carry_out<T, R, W>(rt: &T, reader: &mut Device<R>, writer: &mut Device<W>) -> ExitCode
 where
     T: AllocGlobal + Env + Print + Eprint,
-    R: Read + Drop,
-    W: Write + Drop,
+    R: Read,
+    W: Write,
+    ensures status { HasEnded (devices_at R.remaining W.contents reader.old writer.old)
+        (devices_at R.remaining W.contents reader.new writer.new) (exit_status result) }
 {
     let words = match words(rt) {
         Ok(words) => words,
@@ -31,7 +42,10 @@ where
 }
 
 /// The words of the command line, the program's name first.
-fn words<T: AllocGlobal + Env>(rt: &T) -> Result<Vec<String>, Failure> {
+fn words<T: AllocGlobal + Env>(rt: &T) -> Result<Vec<String>, Failure>
+    ensures fault { IfErr result (λ failure.
+        (failure ≡ Failure.NoMemory) ⊎ (failure ≡ Failure.Words)) }
+{
     let mut words = Vec::new(rt.alloc());
     let args = match env::args(rt) {
         Ok(args) => args,
@@ -45,26 +59,27 @@ fn words<T: AllocGlobal + Env>(rt: &T) -> Result<Vec<String>, Failure> {
 }
 
 /// Packs or measures as the options ask.
-fn pack<T, R, W>(rt: &T, matches: &ArgMatches, reader: R, writer: W) -> Result<(), Failure>
+fn pack<T, R, W>(
+    rt: &T,
+    matches: &ArgMatches,
+    reader: &mut Device<R>,
+    writer: &mut Device<W>,
+) -> Result<(), Failure>
 where
     T: AllocGlobal + Print + Eprint,
-    R: Read + Drop,
-    W: Write + Drop,
+    R: Read,
+    W: Write,
+    ensures carries_out { CarriesOut (found_of matches.now)
+        (devices_at R.remaining W.contents reader.old writer.old)
+        (devices_at R.remaining W.contents reader.new writer.new) result }
 {
-    let (mut reader, mut writer) = (reader, writer);
     let recipe = options::recipe(matches)?;
     let mut window = options::window(matches, &recipe)?;
     if options::is_measured(matches) {
-        return measure(rt, &recipe, &mut window, &mut reader);
+        return measure(rt, &recipe, &mut window, reader);
     }
     let mut packer = Packer::new(rt.alloc(), recipe)?;
-    run(
-        rt.alloc(),
-        &mut packer,
-        &mut window,
-        &mut reader,
-        &mut writer,
-    )?;
+    run(rt.alloc(), &mut packer, &mut window, reader, writer)?;
     tell_rest(rt, &packer);
     Ok(())
 }
@@ -83,8 +98,11 @@ fn tell_rest<E: Eprint>(rt: &E, packer: &Packer) {
     }
 }
 
-/// Prints what the option parser says where it gives no options, and gives the status.
-fn refuse<P: Print + Eprint>(rt: &P, error: &Error) -> ExitCode {
+/// Prints what the option parser says where it gives no options, and gives the status: 0 where help
+/// was asked for, 1 where it had no memory, and 2 where it refuses.
+fn refuse<P: Print + Eprint>(rt: &P, error: &Error) -> ExitCode
+    ensures status { exit_status result ≡ parser_status (kind_of error.now) }
+{
     match error.kind() {
         ErrorKind::OutOfMemory => tell(rt, Err(Failure::NoMemory)),
         kind => {
@@ -97,8 +115,11 @@ fn refuse<P: Print + Eprint>(rt: &P, error: &Error) -> ExitCode {
 }
 
 /// Reports what went wrong, where something did, and gives the status.
-fn tell<E: Eprint>(rt: &E, ended: Result<(), Failure>) -> ExitCode {
+fn tell<E: Eprint>(rt: &E, ended: Result<(), Failure>) -> ExitCode
+    ensures status { exit_status result ≡ status_of ended }
+{
     if let Err(failure) = ended {
+        // Where standard error fails too, only the status shows it.
         let _ = eprintln!(rt; "pack: {failure}");
     }
     ExitCode::from(status(ended))

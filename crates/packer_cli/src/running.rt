@@ -1,49 +1,53 @@
 //! A recording through the packer, from a reader to a writer.
 
 ghost use Rattle.std.specs.Prelude.{◌≡◌, ◌<◌, ◌≤◌, ℕ, List, [], Option, Some, Ok, true, false};
-ghost use Rattle.std.specs.Prelude.{length, take, drop, IfOk, OnOk};
+ghost use Rattle.std.specs.Prelude.{length, take, drop, IfOk, IfErr};
 ghost use Rattle.std.specs.Io.{ReadsAtMost};
 ghost use Rattle.std.specs.Io.KnownBytes.{Keeps, ReadConsumes};
 ghost use Rattle.recordings.specs.Packers.{StandsFor, recipe_in};
 ghost use Rattle.recordings.specs.Windows.{Shows};
 ghost use Rattle.recordings.specs.declared.packer.TheConstants.{MOST_PIECE};
 ghost use Rattle.recordings.specs.declared.recipe.Recipe.{Recipe};
-ghost use Rattle.packer_cli.specs.Runs.{HasPacked, IsCourse};
+ghost use Rattle.packer_cli.specs.Devices.{TellsFailure, SaysWhich, devices_at};
+ghost use Rattle.packer_cli.specs.Runs.{HasPacked, HasBrokenOff, Packs, IsCourse, bytes_ahead};
 
+use crate::devices::Device;
 use crate::failure::Failure;
 use recordings::{MOST_PIECE, Packer, Window};
 use std::alloc::{AllocError, Global};
 use std::io::{Read, Write};
 
 /// Packs the stretch of a recording that is wanted, piece by piece as reads give it. However they
-/// cut it, what is written is the packing of that stretch.
+/// cut it, what is written is the packing of that stretch, or after a failure a front of it.
 pub fn run<R: Read, W: Write>(
     alloc: Global,
     packer: &mut Packer,
     window: &mut Window,
-    reader: &mut R,
-    writer: &mut W,
+    reader: &mut Device<R>,
+    writer: &mut Device<W>,
 ) -> Result<(), Failure>
-    ensures { OnOk result ((skip most : ℕ) (all : List ℕ) → R.remaining reader.old ≡ Some all
+    ensures which { SaysWhich (devices_at R.remaining W.contents reader.old writer.old)
+        (devices_at R.remaining W.contents reader.new writer.new) result }
+    ensures packs { (skip most : ℕ) (all : List ℕ) → R.remaining reader.old.inner ≡ Some all
         → Shows skip most [] [] window.old → StandsFor [] [] packer.old
-        → HasPacked (recipe_in packer.old) (take most (drop skip all)) (W.contents writer.old)
-        (W.contents writer.new)) }
+        → Packs (recipe_in packer.old) (take most (drop skip all))
+        (W.contents writer.old.inner) (W.contents writer.new.inner) result }
 {
     let mut buffer = zeros(alloc, MOST_PIECE)?;
     let mut written = Vec::with_capacity(alloc, MOST_PIECE)?;
-    for _ in 0..u64::MAX {
+    loop {
         let goes_on = step(packer, window, reader, writer, &mut buffer, &mut written)?;
         if !goes_on {
             return flush(writer);
         }
     }
-    // So many reads come to no end in the life of a machine.
-    Err(Failure::Input)
 }
 
 /// Passes on what the writer may hold back.
-fn flush<W: Write>(writer: &mut W) -> Result<(), Failure>
-    ensures { OnOk result (Keeps (W.contents writer.old) (W.contents writer.new)) }
+fn flush<W: Write>(writer: &mut Device<W>) -> Result<(), Failure>
+    ensures bytes { Keeps (W.contents writer.old.inner) (W.contents writer.new.inner) }
+    ensures failure { TellsFailure writer.old.has_failed writer.new.has_failed result }
+    ensures fault { IfErr result (λ failure. failure ≡ Failure.Output) }
 {
     match writer.flush() {
         Ok(()) => Ok(()),
@@ -55,24 +59,33 @@ fn flush<W: Write>(writer: &mut W) -> Result<(), Failure>
 fn step<R: Read, W: Write>(
     packer: &mut Packer,
     window: &mut Window,
-    reader: &mut R,
-    writer: &mut W,
+    reader: &mut Device<R>,
+    writer: &mut Device<W>,
     buffer: &mut [u8],
     written: &mut Vec<u8>,
 ) -> Result<bool, Failure>
     requires some { 0 < length buffer.old }
     requires short { length buffer.old ≤ MOST_PIECE }
+    ensures which { SaysWhich (devices_at R.remaining W.contents reader.old writer.old)
+        (devices_at R.remaining W.contents reader.new writer.new) result }
+    ensures fewer { result ≡ Ok true → bytes_ahead window.new < bytes_ahead window.old }
     ensures goes_on { result ≡ Ok true
         → (recipe : Recipe) (skip most : ℕ) (all : List ℕ) (start : Option (List ℕ))
-        → IsCourse recipe skip most all start (R.remaining reader.old) (W.contents writer.old)
-        window.old packer.old
-        → IsCourse recipe skip most all start (R.remaining reader.new) (W.contents writer.new)
-        window.new packer.new }
+        → IsCourse recipe skip most all start (R.remaining reader.old.inner)
+        (W.contents writer.old.inner) window.old packer.old
+        → IsCourse recipe skip most all start (R.remaining reader.new.inner)
+        (W.contents writer.new.inner) window.new packer.new }
     ensures ends { result ≡ Ok false
         → (recipe : Recipe) (skip most : ℕ) (all : List ℕ) (start : Option (List ℕ))
-        → IsCourse recipe skip most all start (R.remaining reader.old) (W.contents writer.old)
-        window.old packer.old
-        → HasPacked recipe (take most (drop skip all)) start (W.contents writer.new) }
+        → IsCourse recipe skip most all start (R.remaining reader.old.inner)
+        (W.contents writer.old.inner) window.old packer.old
+        → HasPacked recipe (take most (drop skip all)) start (W.contents writer.new.inner) }
+    ensures fails { IfErr result (λ failure.
+        (recipe : Recipe) (skip most : ℕ) (all : List ℕ) (start : Option (List ℕ))
+        → IsCourse recipe skip most all start (R.remaining reader.old.inner)
+        (W.contents writer.old.inner) window.old packer.old
+        → HasBrokenOff recipe (take most (drop skip all)) start (W.contents writer.new.inner)
+        failure) }
 {
     if window.is_over() {
         return Ok(false);
@@ -89,10 +102,12 @@ fn step<R: Read, W: Write>(
 }
 
 /// Reads some bytes, and answers how many: 0 only at the end.
-pub fn read<R: Read>(reader: &mut R, buffer: &mut [u8]) -> Result<usize, Failure>
+pub fn read<R: Read>(reader: &mut Device<R>, buffer: &mut [u8]) -> Result<usize, Failure>
     ensures bound { ReadsAtMost result buffer.new }
-    ensures bytes { ReadConsumes (R.remaining reader.old) (R.remaining reader.new) result
-        buffer.new }
+    ensures bytes { ReadConsumes (R.remaining reader.old.inner) (R.remaining reader.new.inner)
+        result buffer.new }
+    ensures failure { TellsFailure reader.old.has_failed reader.new.has_failed result }
+    ensures fault { IfErr result (λ failure. failure ≡ Failure.Input) }
 {
     match reader.read(buffer) {
         Ok(count) => Ok(count),

@@ -3,6 +3,7 @@
 mod command_lines;
 
 use crate::decimals::{Halves, Hundredths};
+use crate::devices::Device;
 use crate::failure::{Failure, status};
 use crate::halves::halves;
 use crate::running::run;
@@ -56,10 +57,38 @@ impl Write for Clogged {
     }
 }
 
+/// Takes one byte of each write, as long as it has room.
+#[derive(Drop)]
+struct Narrow {
+    bytes: Vec<u8>,
+    room: usize,
+}
+
+impl Write for Narrow {
+    fn write(&mut self, bytes: &[u8]) -> io::Result<usize> {
+        let (Some(byte), true) = (bytes.first(), self.bytes.len() < self.room) else {
+            return Err(io::Error::from(io::ErrorKind::Other));
+        };
+        match self.bytes.push(*byte) {
+            Ok(()) => Ok(1),
+            Err(_) => Err(io::Error::from(io::ErrorKind::OutOfMemory)),
+        }
+    }
+
+    fn flush(&mut self) -> io::Result<()> {
+        Ok(())
+    }
+}
+
 /// Signs of bytes.
 fn packer(alloc: Global) -> Result<Packer, Fail> {
+    packer_of(alloc, Kind::I8)
+}
+
+/// Signs of values.
+fn packer_of(alloc: Global, kind: Kind) -> Result<Packer, Fail> {
     let choice = Choice {
-        kind: Kind::I8,
+        kind,
         is_paired: false,
         format: Format::Real1,
         threshold: 0,
@@ -110,53 +139,81 @@ fn decimals(rt: HostRuntime) -> Result<(), Fail> {
 fn a_stretch_of_memory(rt: HostRuntime) -> Result<(), Fail> {
     let bytes: [u8; 12] = [9, 9, 1, 0x80, 0x80, 1, 1, 1, 1, 0x80, 0x80, 1];
     let (mut packer, mut window) = (packer(rt.alloc())?, Window::new(2, 9));
-    let mut written = Vec::new(rt.alloc());
+    let mut writer = Device::new(Vec::new(rt.alloc()));
     let ended = run(
         rt.alloc(),
         &mut packer,
         &mut window,
-        &mut &bytes[..],
-        &mut written,
+        &mut Device::new(&bytes[..]),
+        &mut writer,
     );
     assert_eq!(rt; ended, Ok(()));
-    assert_eq!(rt; written.as_slice(), [0x61].as_slice());
+    assert_eq!(rt; writer.inner.as_slice(), [0x61].as_slice());
     assert_eq!(rt; packer.samples_held(), 1);
     Ok(())
 }
 
 #[test]
-fn devices_that_fail(rt: HostRuntime) -> Result<(), Fail> {
+fn a_reader_that_fails(rt: HostRuntime) -> Result<(), Fail> {
     let (mut packer, mut window) = (packer(rt.alloc())?, Window::new(0, 100));
-    let mut breaking = Breaking { is_broken: false };
-    let mut written = Vec::new(rt.alloc());
+    let mut writer = Device::new(Vec::new(rt.alloc()));
     let ended = run(
         rt.alloc(),
         &mut packer,
         &mut window,
-        &mut breaking,
-        &mut written,
+        &mut Device::new(Breaking { is_broken: false }),
+        &mut writer,
     );
     assert_eq!(rt; ended, Err(Failure::Input));
-    assert_eq!(rt; written.as_slice(), [0].as_slice());
-    let ended = run(
-        rt.alloc(),
-        &mut packer,
-        &mut window,
-        &mut &[0; 8][..],
-        &mut Full,
-    );
-    assert_eq!(rt; ended, Err(Failure::Output));
-    let ended = run(
-        rt.alloc(),
-        &mut packer,
-        &mut window,
-        &mut &[][..],
-        &mut Clogged,
-    );
-    assert_eq!(rt; ended, Err(Failure::Output));
+    assert_eq!(rt; writer.inner.as_slice(), [0].as_slice());
+    Ok(())
+}
+
+/// How a run over 24 zeros ends.
+fn zeros_into<W: Write + Drop>(
+    alloc: Global,
+    writer: &mut Device<W>,
+) -> Result<Result<(), Failure>, Fail> {
+    let (mut packer, mut window) = (packer(alloc)?, Window::new(0, 100));
+    let mut reader = Device::new(&[0; 24][..]);
+    Ok(run(alloc, &mut packer, &mut window, &mut reader, writer))
+}
+
+#[test]
+fn writers_that_fail(rt: HostRuntime) -> Result<(), Fail> {
+    let output = Err(Failure::Output);
+    assert_eq!(rt; zeros_into(rt.alloc(), &mut Device::new(Full))?, output);
+    assert_eq!(rt; zeros_into(rt.alloc(), &mut Device::new(Clogged))?, output);
+    let mut narrow = Device::new(Narrow {
+        bytes: Vec::new(rt.alloc()),
+        room: 2,
+    });
+    assert_eq!(rt; zeros_into(rt.alloc(), &mut narrow)?, output);
+    assert_eq!(rt; narrow.inner.bytes.as_slice(), [0, 0].as_slice());
+    narrow.inner.room = 5;
+    assert_eq!(rt; zeros_into(rt.alloc(), &mut narrow)?, Ok(()));
+    assert_eq!(rt; narrow.inner.bytes.as_slice(), [0; 5].as_slice());
     assert_eq!(rt;
-        (status(ended), status(Err(Failure::Centre)), status(Ok(()))),
+        (status(output), status(Err(Failure::Centre)), status(Ok(()))),
         (1, 2, 0)
     );
+    Ok(())
+}
+
+// 0x7fc00000 is a float that is no number, the low byte first.
+#[test]
+fn a_float_that_is_no_number(rt: HostRuntime) -> Result<(), Fail> {
+    let (mut packer, mut window) = (packer_of(rt.alloc(), Kind::F32)?, Window::new(0, 100));
+    let mut writer = Device::new(Vec::new(rt.alloc()));
+    let ended = run(
+        rt.alloc(),
+        &mut packer,
+        &mut window,
+        &mut Device::new(&[0, 0, 0xc0, 0x7f][..]),
+        &mut writer,
+    );
+    assert_eq!(rt; ended, Err(Failure::NotANumber));
+    assert_eq!(rt; status(ended), 1);
+    assert!(rt; writer.inner.is_empty());
     Ok(())
 }

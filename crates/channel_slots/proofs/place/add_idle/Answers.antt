@@ -1,7 +1,8 @@
+use Rattle.std.specs.Prelude.{true}
+use Rattle.channel_slots.specs.Slots.{is_idle}
 use Rattle.std.proofs.Common.{◌≡◌, ◌++◌, ◌∷◌, [], refl, ap, ◌∙◌, sym, List}
 use Rattle.std.proofs.lemmas.List.{append_assoc, append-nil}
 use Rattle.channel_slots.specs.declared.place.Place.{Place}
-use Rattle.channel_slots.specs.declared.slot.Slot.TheVariants.{Idle}
 use Rattle.channel_slots.proofs.PlaceLemmas.{all_push}
 use Rattle.channel_slots.proofs.ShareLemmas.{keys-push}
 use Rattle.channel_slots.proofs.place.add_idle.Goals as goal
@@ -31,6 +32,6 @@ loop-number-preserved c =
             c.in_ok-push.ensures.items ∙ ap (λ (l : List Place). l ++ p ∷ []) a.behind
             ∙ append_assoc c.args.places.now.items a.added (p ∷ []);
         keys = keys-push a.added p c.args.client c.loop-number.number a.keys refl refl;
-        idle = all_push (λ (q : Place). q.slot ≡ Idle) a.added p a.idle c.new.ensures.idle;
+        idle = all_push (λ (q : Place). is_idle q.slot ≡ true) a.added p a.idle c.new.ensures.idle;
       };
     }

@@ -1,16 +1,22 @@
-use Rattle.std.proofs.Common.{refl}
+use Rattle.std.proofs.Common.{refl, ap}
+use Rattle.channel_slots.specs.declared.place.Place.{Place}
+use Rattle.channel_slots.specs.declared.slot.Slot.{Slot}
 use Rattle.channel_slots.proofs.place.command_at.Goals as goal
 
 pub returns : goal.returns
 returns c =
-    let same = c.index-places-at.is in record {
-      old = c.index-places-at.result;
-      new = c.command.new.self;
+    let same = c.index-places-at.is in
+    let old : Place = c.index-places-at.result in
+    let with-slot : Slot → Place =
+    λ slot. record { client = old.client; number = old.number; slot = slot } in
+    record {
+      old = old;
+      new = with-slot c.command.new.self;
       is = same;
-      set = refl;
-      client = rw (← same) at c.command.ensures.client;
-      number = rw (← same) at c.command.ensures.number;
-      refused = rw (← same) at c.command.ensures.refused;
+      set = rw (← same) refl;
+      client = refl;
+      number = refl;
+      refused = λ refusal. ap with-slot ((rw (← same) at c.command.ensures.refused) refusal);
       sound = rw (← same) at c.command.ensures.sound;
       answers = rw (← same) at c.command.ensures.answer;
       stands = rw (← same) at c.command.ensures.stands;

@@ -1,79 +1,92 @@
-use Rattle.std.proofs.Common.{refl, ap}
+use Rattle.std.proofs.Common.{ℕ, ap, arith, refl, subst, sym, ◌∙◌}
 use Rattle.std.specs.Prelude.{Some, None}
+use Rattle.channels.specs.Searching.{Searches}
 use Rattle.channel_slots.specs.Commands.{request_in}
-use Rattle.channel_slots.proofs.SlotLemmas.{idle-now, has-life, answers, stays-idle}
-use Rattle.channel_slots.proofs.SlotLemmas.{becomes-idle, becomes-on, shown-stays}
+use Rattle.channel_slots.proofs.SearchLemmas.{starts-sought}
+use Rattle.channel_slots.proofs.SlotLemmas.{idle-now, life-now, has-life, answers, stays-idle}
+use Rattle.channel_slots.proofs.SlotLemmas.{becomes-idle, prints, shown-stays}
+use Rattle.channel_slots.proofs.StageLemmas.{starts-held, starts-tracked}
 use Rattle.channel_slots.proofs.slot.Slot.command.Goals as goal
 
 pub returns-in-Acquire-clause-stands : goal.returns-in-Acquire-clause-stands
 returns-in-Acquire-clause-stands c xs commands now s =
-    rw (ap request_in c.in-Acquire.is) (c.start.ensures.stands _ xs commands _ s
-    (c.search.ensures.follows xs _ now refl refl))
+    rw (ap request_in c.in-Acquire.is) (c.start-in-Acquire.ensures.stands _ xs commands _ s
+    (starts-sought _ xs _ c.start.result c.in-Acquire.plan refl refl
+    (subst (λ (n : ℕ). Searches c.args.settings.now c.in-Acquire.plan n xs c.start.result)
+    (sym now) (c.start.ensures.stands xs now)) c.start.ensures.waits))
 
 pub returns-in-Hold-clause-stands : goal.returns-in-Hold-clause-stands
 returns-in-Hold-clause-stands c xs commands now s =
-    rw (ap request_in c.in-Hold.is) (c.start-in-Hold.ensures.stands _ xs commands _ s
-    (c.hold.ensures.follows xs _ refl refl))
+    rw (ap request_in c.in-Hold.is) (c.start-in-Hold-2.ensures.stands _ xs commands _ s
+    (starts-held _ xs _ c.start-in-Hold.result _ _ _ refl refl
+    (c.start-in-Hold.ensures.stands xs)))
 
 pub returns-in-Track-clause-stands : goal.returns-in-Track-clause-stands
 returns-in-Track-clause-stands c xs commands now s =
-    rw (ap request_in c.in-Track.is) (c.start-in-Track.ensures.stands _ xs commands _ s
-    (c.track.ensures.follows xs _ refl refl))
+    rw (ap request_in c.in-Track.is) (c.start-in-Track-2.ensures.stands _ xs commands _ s
+    (starts-tracked _ xs _ c.start-in-Track.result _ _ _ refl refl
+    (c.start-in-Track.ensures.stands xs)))
 
-pub returns-in-Idle-clause-answer : goal.returns-in-Idle-clause-answer
-returns-in-Idle-clause-answer c xs commands now s =
-    rw (ap request_in c.in-Counts.is)
-    (answers _ xs commands _ s _ None (idle-now _ xs commands _ s c.in-Idle.is))
+pub returns-then-is_idle-clause-answer : goal.returns-then-is_idle-clause-answer
+returns-then-is_idle-clause-answer c xs commands now s =
+    rw (ap request_in c.in-Counts.is) (answers _ xs commands _ s _ None
+    (idle-now _ xs commands _ s (sym c.is_idle.ensures ∙ c.if-is_idle.true)))
 
-pub returns-in-Idle-clause-stands : goal.returns-in-Idle-clause-stands
-returns-in-Idle-clause-stands c xs commands now s =
-    rw (ap request_in c.in-Counts.is, c.in-Idle.is)
-    (stays-idle _ xs commands _ s c.in-Idle.is _ refl)
+pub returns-then-is_idle-clause-stands : goal.returns-then-is_idle-clause-stands
+returns-then-is_idle-clause-stands c xs commands now s =
+    rw (ap request_in c.in-Counts.is) (stays-idle _ xs commands _ s
+    (sym c.is_idle.ensures ∙ c.if-is_idle.true) _ refl)
 
-pub returns-in-On-clause-answer : goal.returns-in-On-clause-answer
-returns-in-On-clause-answer c xs commands now s =
-    let i = has-life _ xs commands _ s _ c.in-On.is in
-    rw (ap request_in c.in-Counts.is) (answers _ xs commands _ s _ (Some i.life) i.now)
+pub returns-else-is_idle-clause-answer : goal.returns-else-is_idle-clause-answer
+returns-else-is_idle-clause-answer c xs commands now s =
+    rw (ap request_in c.in-Counts.is) (answers _ xs commands _ s _ (Some _)
+    (life-now _ xs commands _ s (sym c.is_idle.ensures ∙ c.if-is_idle.false)))
 
-pub returns-in-On-clause-stands : goal.returns-in-On-clause-stands
-returns-in-On-clause-stands c xs commands now s =
-    let i = has-life _ xs commands _ s _ c.in-On.is in
-    rw (ap request_in c.in-Counts.is) (becomes-on _ xs commands _ s _ _ (Some i.life) _ _ i.of
-    i.now refl (c.print.ensures.stands _ xs i.life i.stands))
+pub returns-else-is_idle-clause-stands : goal.returns-else-is_idle-clause-stands
+returns-else-is_idle-clause-stands c xs commands now s =
+    rw (ap request_in c.in-Counts.is) (prints _ xs commands _ s
+    (sym c.is_idle.ensures ∙ c.if-is_idle.false) c.in-Counts.n _ refl refl)
 
 pub returns-in-State-clause-stands : goal.returns-in-State-clause-stands
 returns-in-State-clause-stands c xs commands now s =
     rw (ap request_in c.in-State.is) (shown-stays _ xs commands _ s)
 
-pub returns-in-Idle-self-clause-answer : goal.returns-in-Idle-self-clause-answer
-returns-in-Idle-self-clause-answer c xs commands now s =
-    rw (ap request_in c.in-Stop.is)
-    (answers _ xs commands _ s _ None (idle-now _ xs commands _ s c.in-Idle-self.is))
+pub returns-then-is_idle-2-clause-answer : goal.returns-then-is_idle-2-clause-answer
+returns-then-is_idle-2-clause-answer c xs commands now s =
+    rw (ap request_in c.in-Stop.is) (answers _ xs commands _ s _ None
+    (idle-now _ xs commands _ s (sym c.is_idle-in-Stop.ensures ∙ c.if-is_idle-2.true)))
 
-pub returns-in-Idle-self-clause-stands : goal.returns-in-Idle-self-clause-stands
-returns-in-Idle-self-clause-stands c xs commands now s =
-    rw (ap request_in c.in-Stop.is, c.in-Idle-self.is)
-    (stays-idle _ xs commands _ s c.in-Idle-self.is _ refl)
+pub returns-then-is_idle-2-clause-stands : goal.returns-then-is_idle-2-clause-stands
+returns-then-is_idle-2-clause-stands c xs commands now s =
+    rw (ap request_in c.in-Stop.is) (stays-idle _ xs commands _ s
+    (sym c.is_idle-in-Stop.ensures ∙ c.if-is_idle-2.true) _ refl)
 
-pub returns-in-On-self-clause-answer : goal.returns-in-On-self-clause-answer
-returns-in-On-self-clause-answer c xs commands now s =
-    let i = has-life _ xs commands _ s _ c.in-On-self.is in
-    rw (ap request_in c.in-Stop.is) (answers _ xs commands _ s _ (Some i.life) i.now)
+pub returns-else-is_idle-2-clause-answer : goal.returns-else-is_idle-2-clause-answer
+returns-else-is_idle-2-clause-answer c xs commands now s =
+    rw (ap request_in c.in-Stop.is) (answers _ xs commands _ s _ (Some _)
+    (life-now _ xs commands _ s (sym c.is_idle-in-Stop.ensures ∙ c.if-is_idle-2.false)))
 
-pub returns-in-On-self-clause-stands : goal.returns-in-On-self-clause-stands
-returns-in-On-self-clause-stands c xs commands now s =
-    let i = has-life _ xs commands _ s _ c.in-On-self.is in
-    rw (ap request_in c.in-Stop.is)
-    (becomes-idle _ xs commands _ s _ _ (Some i.life) i.of i.now refl)
+pub returns-else-is_idle-2-clause-stands : goal.returns-else-is_idle-2-clause-stands
+returns-else-is_idle-2-clause-stands c xs commands now s =
+    let on = sym c.is_idle-in-Stop.ensures ∙ c.if-is_idle-2.false in
+    let i = has-life _ xs commands _ s on in
+    rw (ap request_in c.in-Stop.is) (becomes-idle _ xs commands _ s _ _ (Some i.life) _ i.of
+    (life-now _ xs commands _ s on) refl c.new.ensures.idle)
 
 pub returns-in-Acquire-clause-sound : goal.returns-in-Acquire-clause-sound
 returns-in-Acquire-clause-sound c first later sound =
-    c.start.ensures.sound first _ _ sound (c.search.ensures.sound first later)
+    c.start-in-Acquire.ensures.sound first _ _ sound (
+      omega (arith, later, c.start.ensures.start),
+      omega (arith, c.start.ensures.left),
+      c.start.ensures.waits,
+      omega (arith, c.start.ensures.left, c.start.ensures.near, c.start.ensures.start),
+    )
 
 pub returns-in-Hold-clause-sound : goal.returns-in-Hold-clause-sound
 returns-in-Hold-clause-sound c first later sound =
-    c.start-in-Hold.ensures.sound first _ _ sound (c.hold.ensures.sound first _ _)
+    c.start-in-Hold-2.ensures.sound first _ _ sound (omega (arith, c.start-in-Hold.ensures.dumps))
 
 pub returns-in-Track-clause-sound : goal.returns-in-Track-clause-sound
 returns-in-Track-clause-sound c first later sound =
-    c.start-in-Track.ensures.sound first _ _ sound (c.track.ensures.sound first _ _)
+    c.start-in-Track-2.ensures.sound first _ _ sound
+    (omega (arith, c.start-in-Track.ensures.dumps))

@@ -1,25 +1,28 @@
-use Rattle.std.proofs.Common.{refl}
+use Rattle.std.proofs.Common.{refl, ◌≡◌, ◌∙◌, sym, false, arith}
 use Rattle.std.specs.Prelude.{Some, None}
 use Rattle.definitions.specs.Commands.{begin}
-use Rattle.channel_slots.proofs.SlotLemmas.{idle-now, has-life, answers, becomes-on, keeps-on}
+use Rattle.channel_slots.specs.Slots.{is_idle}
+use Rattle.channel_slots.proofs.SlotLemmas.{idle-now, has-life, life-now, answers, becomes-on}
+use Rattle.channel_slots.proofs.SlotLemmas.{keeps-on, all-to-print}
 use Rattle.channel_slots.proofs.slot.Slot.start.Goals as goal
 
-pub returns-in-Idle-clause-answer : goal.returns-in-Idle-clause-answer
-returns-in-Idle-clause-answer c settings xs commands start s =
+pub returns-then-not-is_idle-clause-answer : goal.returns-then-not-is_idle-clause-answer
+returns-then-not-is_idle-clause-answer c settings xs commands start s =
+    answers settings xs commands _ s (begin start) (Some _)
+    (life-now settings xs commands _ s (sym c.is_idle.ensures ∙ c.if-not-is_idle.true))
+
+pub returns-then-not-is_idle-clause-stands : goal.returns-then-not-is_idle-clause-stands
+returns-then-not-is_idle-clause-stands c settings xs commands start s follows =
+    keeps-on settings xs commands _ s (sym c.is_idle.ensures ∙ c.if-not-is_idle.true)
+    (begin start) (λ life. refl)
+
+pub returns-clause-answer : goal.returns-clause-answer
+returns-clause-answer c settings xs commands start s =
     answers settings xs commands _ s (begin start) None
-    (idle-now settings xs commands _ s c.in-Idle.is)
+    (idle-now settings xs commands _ s (sym c.is_idle.ensures ∙ c.if-not-is_idle.false))
 
-pub returns-in-Idle-clause-stands : goal.returns-in-Idle-clause-stands
-returns-in-Idle-clause-stands c settings xs commands start s follows =
+pub returns-clause-stands : goal.returns-clause-stands
+returns-clause-stands c settings xs commands start s follows =
     becomes-on settings xs commands _ s (begin start) _ None _ _ refl
-    (idle-now settings xs commands _ s c.in-Idle.is) refl
-    (c.start.ensures.stands settings xs start follows)
-
-pub returns-in-On-clause-answer : goal.returns-in-On-clause-answer
-returns-in-On-clause-answer c settings xs commands start s =
-    let i = has-life settings xs commands _ s _ c.in-On.is in
-    answers settings xs commands _ s (begin start) (Some i.life) i.now
-
-pub returns-in-On-clause-stands : goal.returns-in-On-clause-stands
-returns-in-On-clause-stands c settings xs commands start s follows =
-    keeps-on settings xs commands _ s _ c.in-On.is (begin start) (λ life. refl)
+    (idle-now settings xs commands _ s (sym c.is_idle.ensures ∙ c.if-not-is_idle.false)) refl
+    follows (λ on. all-to-print settings xs _ _ follows on refl refl) (omega arith)

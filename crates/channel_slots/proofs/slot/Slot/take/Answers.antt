@@ -1,62 +1,138 @@
-use Rattle.std.proofs.Common.{◌<◌, ◌-◌, List, length, refl, sym, ◌∙◌, arith}
-use Rattle.std.specs.Prelude.{None, Some}
+use Rattle.std.proofs.Common.{◌≡◌, ◌<◌, ◌-◌, ◌++◌, ◌∙◌, List, length, refl, sym, ap, arith, false}
+use Rattle.std.specs.Prelude.{Bool, nat_lt, Some, None}
+use Rattle.definitions.specs.Acquisition.{Plan}
 use Rattle.definitions.specs.Samples.{Sample}
 use Rattle.channels.specs.Parts.{part}
+use Rattle.channels.specs.Dumps.{plain_dump}
 use Rattle.channels.proofs.PartLemmas.{part-some}
-use Rattle.channel_slots.proofs.SlotLemmas.{idle-tells, life-tells, lost-tells}
-use Rattle.channel_slots.proofs.TakenLemmas.{taken-some}
+use Rattle.channel_slots.specs.Stages.{is_idle}
+use Rattle.channel_slots.specs.declared.slot_news.SlotNews.TheVariants.{Acquired, Dump}
+use Rattle.channel_slots.proofs.SearchLemmas.{none-found, from-later, searches-on}
+use Rattle.channel_slots.proofs.SearchLemmas.{found, not-found}
+use Rattle.channel_slots.proofs.SlotLemmas.{idle-tells, tells}
+use Rattle.channel_slots.proofs.StageLemmas.{held-takes, tracked-takes}
+use Rattle.channel_slots.proofs.TakenLemmas.{taken-length, taken-some}
 use Rattle.channel_slots.proofs.slot.Slot.take.Goals as goal
-use Rattle.channel_slots.proofs.slot.Slot.take.Goals.{then-is_end, else-is_end}
+use Rattle.channel_slots.proofs.slot.Slot.take.Goals.{in-Some-follow, in-None}
 
-pub returns-in_default-clause-tells : goal.returns-in_default-clause-tells
-returns-in_default-clause-tells g c settings xs commands samples s =
+pub returns-in-Idle-clause-tells : goal.returns-in-Idle-clause-tells
+returns-in-Idle-clause-tells g c settings xs commands samples s =
     let ys : List Sample = part c.args.run.now c.args.from (c.len.result - c.args.from) in
     let more : 0 < length ys =
     part-some c.args.run.now c.args.from (c.len.result - c.args.from)
     (omega (arith, c.requires.some, c.len.ensures.count))
     (omega (arith, c.requires.some, c.len.ensures.count)) in
-    idle-tells settings xs commands c.args.self.now s ys more c.in_default.is
+    idle-tells settings xs commands c.args.self.now s ys more (ap is_idle c.in-Idle.is)
 
-pub returns-in_default-news-clause-tells : goal.returns-in_default-news-clause-tells
-returns-in_default-news-clause-tells g c settings xs commands samples s =
+pub returns-in_default-clause-tells : goal.returns-in_default-clause-tells
+returns-in_default-clause-tells g c settings xs commands samples s =
     let took = c.take-count in
+    let far = rw c.len-in-Searching.ensures.count at took.ensures.as_far in
     let ys : List Sample = part c.args.run.now c.args.from took.result.0 in
-    let more : 0 < length ys =
-    taken-some c.args.run.now c.args.from took.result.0 took.result.1 c.requires.some
-    took.ensures.as_far in
-    life-tells settings xs commands c.args.self.now s ys more c.in-On.life took.new.self None
-    c.in-On.is
-    (λ life h. rw c.in_default-news.is at (took.ensures.steps settings xs life samples h))
+    let many = taken-length c.args.run.now c.args.from took.result.0 took.result.1
+    c.requires.some far in
+    let more = taken-some c.args.run.now c.args.from took.result.0 took.result.1
+    c.requires.some far in
+    let first = (rw c.in-Searching.is at c.requires.sound.1).0 in
+    tells settings xs commands c.args.self.now s ys more (ap is_idle c.in-Searching.is) _ None
+    (λ life follows.
+    let a = rw c.in-Searching.is at follows in
+    let held = from-later (xs ++ ys) _ life.begun _ _
+    (omega (arith, first, a.searches.search.start_is)) samples in
+    searches-on settings xs life c.in-Searching.sought a ys took.new.self
+    (took.ensures.stands settings a.plan life.begun xs ys many held a.searches)
+    (rw c.in_default.is at
+    (took.ensures.answers settings a.plan life.begun xs ys many held a.searches)))
     refl
 
-pub returns-clause-tells : goal.returns-clause-tells
-returns-clause-tells g c settings xs commands samples s =
+pub returns-after-follow-clause-tells : goal.returns-after-follow-clause-tells
+returns-after-follow-clause-tells g c settings xs commands samples s =
     let took = c.take-count in
+    let far = rw c.len-in-Searching.ensures.count at took.ensures.as_far in
     let ys : List Sample = part c.args.run.now c.args.from took.result.0 in
-    let more : 0 < length ys =
-    taken-some c.args.run.now c.args.from took.result.0 took.result.1 c.requires.some
-    took.ensures.as_far in
-    elim c.if-is_end.branch [
-      | then-is_end w ↦ rw w.self-is (lost-tells settings xs commands c.args.self.now s ys more
-          c.in-On.life took.new.self (Some c.in-Some.news) c.in-On.is
-          (λ life h. rw c.in-Some.is at (took.ensures.steps settings xs life samples h))
-          (sym c.is_end.ensures ∙ w.if-is_end.true))
-      | else-is_end w ↦ rw w.self-is (life-tells settings xs commands c.args.self.now s ys more
-          c.in-On.life took.new.self (Some c.in-Some.news) c.in-On.is
-          (λ life h. rw c.in-Some.is at (took.ensures.steps settings xs life samples h))
-          (sym c.is_end.ensures ∙ w.if-is_end.false))
-    ]
+    let many = taken-length c.args.run.now c.args.from took.result.0 took.result.1
+    c.requires.some far in
+    let more = taken-some c.args.run.now c.args.from took.result.0 took.result.1
+    c.requires.some far in
+    let first = (rw c.in-Searching.is at c.requires.sound.1).0 in
+    tells settings xs commands c.args.self.now s ys more (ap is_idle c.in-Searching.is) _
+    (Some (Acquired c.prn-prn.result c.in-Some.cell))
+    (λ life follows.
+    let a = rw c.in-Searching.is at follows in
+    let held = from-later (xs ++ ys) _ life.begun _ _
+    (omega (arith, first, a.searches.search.start_is)) samples in
+    let stands = took.ensures.stands settings a.plan life.begun xs ys many held a.searches in
+    let answer =
+    rw c.in-Some.is at
+    (took.ensures.answers settings a.plan life.begun xs ys many held a.searches) in
+    let same = c.prn-prn.ensures ∙ ap (λ (p : Plan). p.prn) stands.search.plan_is in
+    elim c.match-follow.branch [
+      | in-Some-follow w ↦ rw w.self-is (found settings xs life c.in-Searching.sought a ys _
+          c.in-Some.cell same answer w.in-Some-follow.tracked
+          ((rw w.in-Some-follow.is at c.follow.ensures.tracks) settings a.plan life.begun (xs ++ ys)
+          stands ((rw c.in-Some.is at took.ensures.due).0 refl))
+          ((rw w.in-Some-follow.is at c.follow.ensures.found).0 refl))
+      | in-None w ↦ rw w.self-is (not-found settings xs life c.in-Searching.sought a ys _
+          c.in-Some.cell same answer (none-found _ _ c.follow.ensures.found w.in-None.is))
+    ])
+    refl
 
-pub returns-in_default-news-clause-sound : goal.returns-in_default-news-clause-sound
-returns-in_default-news-clause-sound g c first time reach sound =
-    (rw c.in_default-news.is at
-    (c.take-count.ensures.sound first time reach (rw c.in-On.is at sound))) refl
+pub returns-in_default-counts-clause-tells : goal.returns-in_default-counts-clause-tells
+returns-in_default-counts-clause-tells g c settings xs commands samples s =
+    let took = c.take-count-in-Holding in
+    let ys : List Sample = part c.args.run.now c.args.from took.result.0 in
+    let more = taken-some c.args.run.now c.args.from took.result.0 took.result.1
+    c.requires.some took.ensures.as_far in
+    tells settings xs commands c.args.self.now s ys more (ap is_idle c.in-Holding.is) _ None
+    (λ life follows.
+    let h = rw c.in-Holding.is at follows in
+    held-takes settings xs ys life c.in-Holding.held h more false None _
+    (rw c.in_default-counts.is at (took.ensures.takes settings _ xs h.holds)))
+    refl
 
-pub returns-clause-sound : goal.returns-clause-sound
-returns-clause-sound g c first time reach sound =
-    elim c.if-is_end.branch [
-      | then-is_end w ↦ rw w.self-is tt
-      | else-is_end w ↦ rw w.self-is ((rw c.in-Some.is at
-          (c.take-count.ensures.sound first time reach (rw c.in-On.is at sound)))
-          (sym c.is_end.ensures ∙ w.if-is_end.false))
-    ]
+pub returns-in_default-dump-clause-tells : goal.returns-in_default-dump-clause-tells
+returns-in_default-dump-clause-tells g c settings xs commands samples s =
+    let took = c.take-count-in-Tracking in
+    let ys : List Sample = part c.args.run.now c.args.from took.result.0 in
+    let more = taken-some c.args.run.now c.args.from took.result.0 took.result.1
+    c.requires.some took.ensures.as_far in
+    tells settings xs commands c.args.self.now s ys more (ap is_idle c.in-Tracking.is) _ None
+    (λ life follows.
+    let t = rw c.in-Tracking.is at follows in
+    tracked-takes settings xs life c.in-Tracking.tracked t ys more false None _
+    (rw c.in_default-dump.is at (took.ensures.takes settings _ xs t.tracks)))
+    refl
+
+pub returns-in-Some-counts-clause-tells : goal.returns-in-Some-counts-clause-tells
+returns-in-Some-counts-clause-tells g c settings xs commands samples s =
+    let took = c.take-count-in-Holding in
+    let ys : List Sample = part c.args.run.now c.args.from took.result.0 in
+    let more = taken-some c.args.run.now c.args.from took.result.0 took.result.1
+    c.requires.some took.ensures.as_far in
+    let is_shown : Bool = nat_lt 0 c.args.self.now.unprinted in
+    rw (c.dump.ensures.news, c.plain.ensures)
+    (tells settings xs commands c.args.self.now s ys more (ap is_idle c.in-Holding.is)
+    c.dump.new.self (Some (Dump (plain_dump c.in-Some-counts.counts) is_shown))
+    (λ life follows.
+    let h = rw c.in-Holding.is at follows in
+    rw (c.dump.ensures.stage, c.plain.ensures)
+    (held-takes settings xs ys life c.in-Holding.held h more is_shown (Some _) _
+    (rw c.in-Some-counts.is at (took.ensures.takes settings _ xs h.holds))))
+    (refl, c.dump.ensures.left))
+
+pub returns-in-Some-dump-clause-tells : goal.returns-in-Some-dump-clause-tells
+returns-in-Some-dump-clause-tells g c settings xs commands samples s =
+    let took = c.take-count-in-Tracking in
+    let ys : List Sample = part c.args.run.now c.args.from took.result.0 in
+    let more = taken-some c.args.run.now c.args.from took.result.0 took.result.1
+    c.requires.some took.ensures.as_far in
+    let is_shown : Bool = nat_lt 0 c.args.self.now.unprinted in
+    rw c.dump-in-Tracking.ensures.news
+    (tells settings xs commands c.args.self.now s ys more (ap is_idle c.in-Tracking.is)
+    c.dump-in-Tracking.new.self (Some (Dump c.in-Some-dump.dump is_shown))
+    (λ life follows.
+    let t = rw c.in-Tracking.is at follows in
+    rw c.dump-in-Tracking.ensures.stage
+    (tracked-takes settings xs life c.in-Tracking.tracked t ys more is_shown (Some _) _
+    (rw c.in-Some-dump.is at (took.ensures.takes settings _ xs t.tracks))))
+    (refl, c.dump-in-Tracking.ensures.left))
