@@ -39,10 +39,9 @@ returns-in_default-clause-tells g c settings xs commands samples s =
     let a = rw c.in-Searching.is at follows in
     let held = from-later (xs ++ ys) _ life.begun _ _
     (omega (arith, first, a.searches.search.start_is)) samples in
-    searches-on settings xs life c.in-Searching.sought a ys took.new.self
-    (took.ensures.stands settings a.plan life.begun xs ys many held a.searches)
-    (rw c.in_default.is at
-    (took.ensures.answers settings a.plan life.begun xs ys many held a.searches)))
+    let takes = took.ensures.takes settings a.plan life.begun xs ys many held a.searches in
+    searches-on settings xs life c.in-Searching.sought a ys took.new.self takes.stands
+    (rw c.in_default.is at takes.answers))
     refl
 
 pub returns-after-follow-clause-tells : goal.returns-after-follow-clause-tells
@@ -61,10 +60,9 @@ returns-after-follow-clause-tells g c settings xs commands samples s =
     let a = rw c.in-Searching.is at follows in
     let held = from-later (xs ++ ys) _ life.begun _ _
     (omega (arith, first, a.searches.search.start_is)) samples in
-    let stands = took.ensures.stands settings a.plan life.begun xs ys many held a.searches in
-    let answer =
-    rw c.in-Some.is at
-    (took.ensures.answers settings a.plan life.begun xs ys many held a.searches) in
+    let takes = took.ensures.takes settings a.plan life.begun xs ys many held a.searches in
+    let stands = takes.stands in
+    let answer = rw c.in-Some.is at takes.answers in
     let same = c.prn-prn.ensures ∙ ap (λ (p : Plan). p.prn) stands.search.plan_is in
     elim c.match-follow.branch [
       | in-Some-follow w ↦ rw w.self-is (found settings xs life c.in-Searching.sought a ys _
