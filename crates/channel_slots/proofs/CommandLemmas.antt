@@ -1,5 +1,5 @@
 -- One slot of a bank takes a command; what the others stand for stays.
-use Rattle.std.proofs.Common.{◌≡◌, ℕ, zero, suc, ◌<◌, ◌≤◌, List, length-set, []}
+use Rattle.std.proofs.Common.{◌≡◌, ℕ, zero, suc, ◌<◌, List, length-set, []}
 use Rattle.std.proofs.Common.{◌∷◌, ◌++◌, length, refl, sym, ap, ◌∙◌, arith, get_or, slice_set}
 use Rattle.std.specs.Prelude.{Bool, true, false, nat_eq, Option, unwrap_or}
 use Rattle.std.specs.List.{AllByRecursion}

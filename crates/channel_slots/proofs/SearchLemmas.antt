@@ -1,9 +1,9 @@
 -- What a life emits that searches.
 use Rattle.std.proofs.Common.{◌≡◌, ℕ, ◌+◌, ◌<◌, ◌≤◌, List, [], ◌∷◌, ◌++◌, length, take, refl, sym}
 use Rattle.std.proofs.Common.{ap, ◌∙◌, subst, arith, length-append, true, false}
-use Rattle.std.specs.Prelude.{Bool, ◌&&◌, ◌↔◌, nat_le, Option, Some, None}
-use Rattle.std.specs.Option.{is_some, IsSome}
-use Rattle.std.proofs.lemmas.Bool.{lt-leb, le-leb, not-true, not-false}
+use Rattle.std.specs.Prelude.{Bool, ◌&&◌, nat_le, Option, Some, None}
+use Rattle.std.specs.Option.{is_some}
+use Rattle.std.proofs.lemmas.Bool.{lt-leb, le-leb}
 use Rattle.std.proofs.lemmas.List.{length-take}
 use Rattle.definitions.specs.Samples.{Sample}
 use Rattle.definitions.specs.Oscillators.{Settings}
@@ -28,22 +28,10 @@ use Rattle.channels.specs.Searching as sought
 use Rattle.channels.specs.Searching.{Searches, Answers}
 use Rattle.channels.specs.TrackedChannels.{Tracks, counts_so_far}
 use Rattle.channel_slots.specs.declared.stage.Stage.{Stage}
-use Rattle.channel_slots.specs.declared.stage.Stage.TheVariants.{Idle, Searching, Tracking}
+use Rattle.channel_slots.specs.declared.stage.Stage.TheVariants.{Idle, Searching, Holding, Tracking}
 use Rattle.channel_slots.specs.declared.slot_news.SlotNews.TheVariants as news
-use Rattle.channel_slots.specs.Stages.{IsSought, IsTracked, Follows}
+use Rattle.channel_slots.specs.Stages.{IsSought, IsSettled, Follows}
 use Rattle.channel_slots.proofs.TakesLemmas.{Takes}
-
-not-some : {A : Type 0} (o : Option A) → o ≡ None → IsSome o → ⊥
-not-some o none some = clash (ap is_some none) some
-  where
-    clash : {b : Bool} → b ≡ false → b ≡ true → ⊥
-    clash f t = cc
-
--- where nothing is followed nothing was found
-pub none-found : {A : Type 0} (o : Option A) (found : Bool) → (IsSome o ↔ (found ≡ true))
-    → o ≡ None → found ≡ false
-none-found o true same none = absurd (not-some o none (same.1 refl))
-none-found o false same none = refl
 
 -- samples from a later one on
 pub from-later : (xs : List Sample) (first begun to : ℕ) (held : ℕ → Sample) → first ≤ begun
@@ -193,7 +181,7 @@ module _ (settings : Settings) (xs : List Sample) (life : Life) (a : Sought)
       }
 
       -- what was found is tracked
-      pub found : (t : Tracked)
+      found : (t : Tracked)
           → Tracks settings (found_channel settings s.plan life.begun (cell_in cell)) (xs ++ ys) t
           → cell.found ≡ true
           → Takes settings xs ys life (Tracking t) (Some (news.Acquired prn cell))
@@ -208,9 +196,18 @@ module _ (settings : Settings) (xs : List Sample) (life : Life) (a : Sought)
       })
 
       -- where nothing was, the life is over
-      pub not-found : cell.found ≡ false
+      not-found : cell.found ≡ false
           → Takes settings xs ys life Idle (Some (news.Acquired prn cell))
       not-found none = answers Idle (over none)
+
+      pub settled : (b : Sought) → Searches settings s.plan life.begun (xs ++ ys) b
+          → sought.to_due_of b ≡ 0 → (stage : Stage) → IsSettled cell b stage
+          → Takes settings xs ys life stage (Some (news.Acquired prn cell))
+      settled b searches due Idle is = not-found is
+      settled b searches due (Searching other) is = absurd is
+      settled b searches due (Holding h) is = absurd is
+      settled b searches due (Tracking t) is =
+          found t (is.1 settings s.plan life.begun (xs ++ ys) searches due) is.0
 
 -- a life that begins now
 pub starts-sought : (settings : Settings) (xs : List Sample) (life : Life) (a : Sought)

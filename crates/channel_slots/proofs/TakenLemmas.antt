@@ -1,5 +1,5 @@
 -- The part of a run that was taken.
-use Rattle.std.proofs.Common.{◌≡◌, ℕ, ◌+◌, ◌-◌, ◌<◌, List, length, arith}
+use Rattle.std.proofs.Common.{◌≡◌, ℕ, ◌-◌, ◌<◌, List, length, arith}
 use Rattle.std.specs.Prelude.{Option}
 use Rattle.definitions.specs.Samples.{Sample}
 use Rattle.channels.specs.Parts.{part, IsAsFar}

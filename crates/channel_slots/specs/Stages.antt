@@ -3,11 +3,14 @@ use Rattle.std.specs.Prelude.{◌≡◌, ◌<◌, ◌≤◌, ◌+◌, ◌*◌, �
 use Rattle.std.specs.Prelude.{Bool, true, false, List, nat_lt, Option, Some, None}
 use Rattle.definitions.specs.Samples.{Sample}
 use Rattle.definitions.specs.Oscillators.{Settings, samples_per_ms}
+use Rattle.acquisition.specs.declared.cell.Cell.{Cell}
+use Rattle.acquisition.specs.Cells.{cell_in}
 use Rattle.acquisition.specs.declared.plan.TheConstants.{MOST_DWELL, MOST_CELLS}
 use Rattle.definitions.specs.Segments.{Channel}
 use Rattle.definitions.specs.Acquisition.{Plan}
 use Rattle.definitions.specs.Commands.{hold, acquire}
-use Rattle.definitions.specs.Lives.{Life, held_channel, channel_of, is_steered, is_over, lost_after}
+use Rattle.definitions.specs.Lives.{Life, held_channel, found_channel, channel_of, is_steered}
+use Rattle.definitions.specs.Lives.{is_over, lost_after}
 use Rattle.tracking_loops.specs.declared.news.News.{News}
 use Rattle.channels.specs.declared.held.Held.{Held}
 use Rattle.channels.specs.declared.sought.Sought.{Sought}
@@ -71,6 +74,19 @@ most_wait settings = MOST_DWELL * samples_per_ms settings + 4 * MOST_CELLS
 -- what a slot follows after a dump with this news of the lock: nothing where the signal is lost
 abbrev pub after_dump : News → Stage → Stage
 after_dump lock stage = if is_loss lock then Idle else stage
+
+-- what a search leaves with the cell that it named: the signal that was found, tracked, and nothing
+-- where none was
+abbrev pub IsSettled : Cell → Sought → Stage → Type 0
+IsSettled cell s Idle = cell.found ≡ false
+IsSettled cell s (Searching other) = ⊥
+IsSettled cell s (Holding h) = ⊥
+IsSettled cell s (Tracking t) =
+    (cell.found ≡ true)
+    × ((settings : Settings) (plan : Plan) (begun : ℕ) (xs : List Sample)
+    → Searches settings plan begun xs s → sought.to_due_of s ≡ 0
+    → tracked.Tracks settings (found_channel settings plan begun (cell_in cell)) xs t)
+    × (tracked.dumps_of t ≡ 0)
 
 -- a life that began with an acquisition has come as far with it, and it isn't due yet
 pub record IsSought (settings : Settings) (xs : List Sample) (life : Life) (s : Sought)

@@ -92,10 +92,7 @@ impl Slot {
                     return (count, None);
                 };
                 let prn = sought.prn();
-                self.stage = match sought.follow(&cell) {
-                    Some(tracked) => Stage::Tracking(tracked),
-                    None => Stage::Idle,
-                };
+                self.stage.settle(&cell);
                 (count, Some(SlotNews::Acquired { prn, cell }))
             }
             Stage::Holding(held) => {

@@ -1,5 +1,8 @@
 //! What a slot follows.
 
+ghost use Rattle.std.specs.Prelude.{◌≡◌, ◌≤◌, unsigned_abs};
+
+use acquisition::Cell;
 use channels::{Held, Sought, Tracked};
 
 /// What a slot follows: nothing, a satellite that is searched for, one at a fixed Doppler shift, or
@@ -11,4 +14,29 @@ pub enum Stage {
     Searching(Sought),
     Holding(Held),
     Tracking(Tracked),
+}
+
+impl Stage {
+    ghost use Rattle.channels.specs.Searching.{plan_of};
+    ghost use Rattle.channel_slots.specs.declared.stage.Stage.TheVariants as stages;
+    ghost use Rattle.channel_slots.specs.Stages.{IsSettled};
+
+    /// Where a search has named a cell, it follows the signal from here on that was found, and
+    /// nothing where none was. It isn't inlined, since a stage is large and this comes rarely.
+    #[cold]
+    #[inline(never)]
+    pub fn settle(&mut self, cell: &Cell)
+        requires { (sought : Sought) → self.old ≡ stages.Searching sought
+            → unsigned_abs cell.now.bin ≤ (plan_of sought).bins }
+        ensures { (sought : Sought) → self.old ≡ stages.Searching sought
+            → IsSettled cell.now sought self.new }
+    {
+        let Stage::Searching(sought) = &*self else {
+            return;
+        };
+        *self = match sought.follow(cell) {
+            Some(tracked) => Stage::Tracking(tracked),
+            None => Stage::Idle,
+        };
+    }
 }

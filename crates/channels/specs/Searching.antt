@@ -1,9 +1,10 @@
 -- What a satellite that is searched for stands for: an acquisition over the samples so far.
 use Rattle.std.specs.Prelude.{◌≡◌, ◌≤◌, ◌<◌, ◌+◌, ◌*◌, ℕ, List, length, Option, Some, None}
 use Rattle.definitions.specs.Samples.{Sample}
-use Rattle.definitions.specs.Oscillators.{Settings}
+use Rattle.definitions.specs.Oscillators.{Settings, samples_per_ms}
 use Rattle.definitions.specs.Acquisition.{Plan, cell_count, cells_done, due_time, result_of}
 use Rattle.acquisition.specs.declared.cell.Cell.{Cell}
+use Rattle.acquisition.specs.declared.plan.TheConstants.{MOST_DWELL, MOST_CELLS}
 use Rattle.acquisition.specs.Cells.{cell_in}
 use Rattle.acquisition.specs.Searches as searches
 use Rattle.channels.specs.declared.sought.Sought.{Sought}
@@ -28,6 +29,29 @@ to_due_of s = s.to_due
 abbrev pub done_of : Sought → ℕ
 done_of s = searches.done_of s.search
 
+-- one that begins with sample `start`: what it searches, and when its answer is due
+pub record Begins (settings : Settings) (plan : Plan) (start : ℕ) (s : Sought) : Type 0 where
+  pub searched : plan_of s ≡ plan
+  pub begun : start_of s ≡ start
+  pub due : due_of s ≡ due_time settings plan start
+  pub left : start + to_due_of s ≡ due_of s
+  pub waits : 0 < to_due_of s
+  pub near : to_due_of s ≤ MOST_DWELL * samples_per_ms settings + 4 * MOST_CELLS
+
+-- its answer isn't due yet, and a source of the samples from one on up to another has all that it
+-- looks at with so many more
+pub record IsReady (first end more : ℕ) (s : Sought) : Type 0 where
+  pub waits : 0 < to_due_of s
+  pub from : first ≤ start_of s
+  pub to : due_of s + more ≤ end + to_due_of s
+
+-- so many samples later it searches the same, and its answer is due at the same time
+pub record IsLater (count : ℕ) (old new : Sought) : Type 0 where
+  pub plan : plan_of new ≡ plan_of old
+  pub start : start_of new ≡ start_of old
+  pub due : due_of new ≡ due_of old
+  pub left : to_due_of new + count ≡ to_due_of old
+
 -- an acquisition of this plan, from sample begun on, has come as far as the samples xs bring it
 pub record Searches (settings : Settings) (plan : Plan) (begun : ℕ) (xs : List Sample) (s : Sought)
     : Type 0 where
@@ -44,3 +68,9 @@ Answers settings plan begun zs None = length zs < due_time settings plan begun
 Answers settings plan begun zs (Some cell) =
     (length zs ≡ due_time settings plan begun)
     × (cell_in cell ≡ result_of settings plan zs begun)
+
+-- it has come as far as the samples zs bring it, and this was answered
+pub record Takes (settings : Settings) (plan : Plan) (begun : ℕ) (zs : List Sample)
+    (cell : Option Cell) (s : Sought) : Type 0 where
+  pub stands : Searches settings plan begun zs s
+  pub answers : Answers settings plan begun zs cell

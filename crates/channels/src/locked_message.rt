@@ -46,7 +46,10 @@ impl LockedMessage {
             → events_in result ≡ push_events (pushes_of (dumps ++ counts_in counts.now ∷ [])) }
     {
         if !is_locked {
-            self.message = None;
+            // Some 8 KB are only written where a message ends.
+            if self.message.is_some() {
+                self.message = None;
+            }
             return MessageNews::Nothing;
         }
         match &mut self.message {

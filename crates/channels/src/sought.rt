@@ -35,8 +35,8 @@ impl Sought {
     ghost use Rattle.definitions.specs.Lives.{found_channel};
     ghost use Rattle.acquisition.specs.Cells.{cell_in};
     ghost use Rattle.sample_planes.specs.Sources.{AreSamplesOf};
-    ghost use Rattle.channels.specs.Searching.{Searches, Answers, plan_of, start_of, due_of};
-    ghost use Rattle.channels.specs.Searching.{to_due_of, done_of};
+    ghost use Rattle.channels.specs.Searching.{Searches, Takes, Begins, IsReady, IsLater};
+    ghost use Rattle.channels.specs.Searching.{plan_of, to_due_of, done_of};
     ghost use Rattle.channels.specs.Parts.{IsAsFar};
     ghost use Rattle.channels.specs.TrackedChannels.{Tracks};
     ghost use Rattle.channels.specs.TrackedChannels as tracked;
@@ -46,13 +46,7 @@ impl Sought {
         requires { start ≤ MOST_START }
         ensures stands { (xs : List Sample) → length xs ≡ start
             → Searches settings.now plan start xs result }
-        ensures plan { plan_of result ≡ plan }
-        ensures start { start_of result ≡ start }
-        ensures due { due_of result ≡ due_time settings.now plan start }
-        ensures left { start + to_due_of result ≡ due_of result }
-        ensures waits { 0 < to_due_of result }
-        ensures near { to_due_of result
-            ≤ MOST_DWELL * samples_per_ms settings.now + 4 * MOST_CELLS }
+        ensures begins { Begins settings.now plan start result }
     {
         let search = Search::new(plan, settings, start);
         let to_due = wait(settings, &plan);
@@ -95,27 +89,17 @@ impl Sought {
         book: &mut CodeBook,
     ) -> (usize, Option<Cell>)
         requires some { 0 < most }
-        requires waits { 0 < to_due_of self.old }
-        requires from { S.from source.now ≤ start_of self.old }
-        requires to { due_of self.old + most ≤ S.to source.now + to_due_of self.old }
+        requires ready { IsReady (S.from source.now) (S.to source.now) most self.old }
         ensures as_far { IsAsFar most result.0 result.1 }
-        ensures stands { (settings : DefinedSettings) (plan : DefinedPlan) (begun : ℕ)
+        ensures takes { (settings : DefinedSettings) (plan : DefinedPlan) (begun : ℕ)
             (xs ys : List Sample) → length ys ≡ result.0
             → AreSamplesOf (xs ++ ys) begun (length (xs ++ ys)) (S.held source.now)
             → Searches settings plan begun xs self.old
-            → Searches settings plan begun (xs ++ ys) self.new }
-        ensures answers { (settings : DefinedSettings) (plan : DefinedPlan) (begun : ℕ)
-            (xs ys : List Sample) → length ys ≡ result.0
-            → AreSamplesOf (xs ++ ys) begun (length (xs ++ ys)) (S.held source.now)
-            → Searches settings plan begun xs self.old
-            → Answers settings plan begun (xs ++ ys) result.1 }
+            → Takes settings plan begun (xs ++ ys) result.1 self.new }
+        ensures later { IsLater result.0 self.old self.new }
         ensures due { IsSome result.1 ↔ (to_due_of self.new ≡ 0) }
         ensures of_plan { IfSome result.1 (λ cell.
             unsigned_abs cell.bin ≤ (plan_of self.new).bins) }
-        ensures left { to_due_of self.new + result.0 ≡ to_due_of self.old }
-        ensures plan { plan_of self.new ≡ plan_of self.old }
-        ensures start { start_of self.new ≡ start_of self.old }
-        ensures time { due_of self.new ≡ due_of self.old }
     {
         let count = self.to_due.min(most as u64);
         let to_due = self.to_due - count;

@@ -13,7 +13,7 @@ returns-in-Acquire-clause-stands c xs commands now s =
     rw (ap request_in c.in-Acquire.is) (c.start-in-Acquire.ensures.stands _ xs commands _ s
     (starts-sought _ xs _ c.start.result c.in-Acquire.plan refl refl
     (subst (λ (n : ℕ). Searches c.args.settings.now c.in-Acquire.plan n xs c.start.result)
-    (sym now) (c.start.ensures.stands xs now)) c.start.ensures.waits))
+    (sym now) (c.start.ensures.stands xs now)) c.start.ensures.begins.waits))
 
 pub returns-in-Hold-clause-stands : goal.returns-in-Hold-clause-stands
 returns-in-Hold-clause-stands c xs commands now s =
@@ -76,10 +76,10 @@ returns-else-is_idle-2-clause-stands c xs commands now s =
 pub returns-in-Acquire-clause-sound : goal.returns-in-Acquire-clause-sound
 returns-in-Acquire-clause-sound c first later sound =
     c.start-in-Acquire.ensures.sound first _ _ sound (
-      omega (arith, later, c.start.ensures.start),
-      omega (arith, c.start.ensures.left),
-      c.start.ensures.waits,
-      omega (arith, c.start.ensures.left, c.start.ensures.near, c.start.ensures.start),
+      omega (arith, later, c.start.ensures.begins.begun),
+      omega (arith, c.start.ensures.begins.left),
+      c.start.ensures.begins.waits,
+      omega (arith, c.start.ensures.begins.left, c.start.ensures.begins.near, c.start.ensures.begins.begun),
     )
 
 pub returns-in-Hold-clause-sound : goal.returns-in-Hold-clause-sound

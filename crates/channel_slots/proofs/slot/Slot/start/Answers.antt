@@ -1,8 +1,7 @@
-use Rattle.std.proofs.Common.{refl, ◌≡◌, ◌∙◌, sym, false, arith}
+use Rattle.std.proofs.Common.{refl, ◌∙◌, sym, arith}
 use Rattle.std.specs.Prelude.{Some, None}
 use Rattle.definitions.specs.Commands.{begin}
-use Rattle.channel_slots.specs.Slots.{is_idle}
-use Rattle.channel_slots.proofs.SlotLemmas.{idle-now, has-life, life-now, answers, becomes-on}
+use Rattle.channel_slots.proofs.SlotLemmas.{idle-now, life-now, answers, becomes-on}
 use Rattle.channel_slots.proofs.SlotLemmas.{keeps-on, all-to-print}
 use Rattle.channel_slots.proofs.slot.Slot.start.Goals as goal
 

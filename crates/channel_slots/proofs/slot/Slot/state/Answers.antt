@@ -1,4 +1,4 @@
-use Rattle.std.proofs.Common.{◌≡◌, ◌∙◌, ap, arith, false, subst, w64}
+use Rattle.std.proofs.Common.{◌∙◌, ap, arith, subst, w64}
 use Rattle.std.specs.Prelude.{Some}
 use Rattle.std.proofs.lemmas.Int.{to_z-of_z, fits_signed_from_abs}
 use Rattle.definitions.specs.Commands.{state}

@@ -1,4 +1,4 @@
-use Rattle.std.proofs.Common.{◌≡◌, ◌<◌, ◌-◌, ◌++◌, ◌∙◌, List, length, refl, sym, ap, arith, false}
+use Rattle.std.proofs.Common.{◌<◌, ◌-◌, ◌++◌, ◌∙◌, List, length, refl, ap, arith, false}
 use Rattle.std.specs.Prelude.{Bool, nat_lt, Some, None}
 use Rattle.definitions.specs.Acquisition.{Plan}
 use Rattle.definitions.specs.Samples.{Sample}
@@ -7,13 +7,11 @@ use Rattle.channels.specs.Dumps.{plain_dump}
 use Rattle.channels.proofs.PartLemmas.{part-some}
 use Rattle.channel_slots.specs.Stages.{is_idle}
 use Rattle.channel_slots.specs.declared.slot_news.SlotNews.TheVariants.{Acquired, Dump}
-use Rattle.channel_slots.proofs.SearchLemmas.{none-found, from-later, searches-on}
-use Rattle.channel_slots.proofs.SearchLemmas.{found, not-found}
+use Rattle.channel_slots.proofs.SearchLemmas.{from-later, searches-on, settled}
 use Rattle.channel_slots.proofs.SlotLemmas.{idle-tells, tells}
 use Rattle.channel_slots.proofs.StageLemmas.{held-takes, tracked-takes}
 use Rattle.channel_slots.proofs.TakenLemmas.{taken-length, taken-some}
 use Rattle.channel_slots.proofs.slot.Slot.take.Goals as goal
-use Rattle.channel_slots.proofs.slot.Slot.take.Goals.{in-Some-follow, in-None}
 
 pub returns-in-Idle-clause-tells : goal.returns-in-Idle-clause-tells
 returns-in-Idle-clause-tells g c settings xs commands samples s =
@@ -39,14 +37,13 @@ returns-in_default-clause-tells g c settings xs commands samples s =
     let a = rw c.in-Searching.is at follows in
     let held = from-later (xs ++ ys) _ life.begun _ _
     (omega (arith, first, a.searches.search.start_is)) samples in
-    searches-on settings xs life c.in-Searching.sought a ys took.new.self
-    (took.ensures.stands settings a.plan life.begun xs ys many held a.searches)
-    (rw c.in_default.is at
-    (took.ensures.answers settings a.plan life.begun xs ys many held a.searches)))
+    let takes = took.ensures.takes settings a.plan life.begun xs ys many held a.searches in
+    searches-on settings xs life c.in-Searching.sought a ys took.new.self takes.stands
+    (rw c.in_default.is at takes.answers))
     refl
 
-pub returns-after-follow-clause-tells : goal.returns-after-follow-clause-tells
-returns-after-follow-clause-tells g c settings xs commands samples s =
+pub returns-in-Some-clause-tells : goal.returns-in-Some-clause-tells
+returns-in-Some-clause-tells g c settings xs commands samples s =
     let took = c.take-count in
     let far = rw c.len-in-Searching.ensures.count at took.ensures.as_far in
     let ys : List Sample = part c.args.run.now c.args.from took.result.0 in
@@ -61,20 +58,13 @@ returns-after-follow-clause-tells g c settings xs commands samples s =
     let a = rw c.in-Searching.is at follows in
     let held = from-later (xs ++ ys) _ life.begun _ _
     (omega (arith, first, a.searches.search.start_is)) samples in
-    let stands = took.ensures.stands settings a.plan life.begun xs ys many held a.searches in
-    let answer =
-    rw c.in-Some.is at
-    (took.ensures.answers settings a.plan life.begun xs ys many held a.searches) in
+    let takes = took.ensures.takes settings a.plan life.begun xs ys many held a.searches in
+    let stands = takes.stands in
+    let answer = rw c.in-Some.is at takes.answers in
     let same = c.prn-prn.ensures ∙ ap (λ (p : Plan). p.prn) stands.search.plan_is in
-    elim c.match-follow.branch [
-      | in-Some-follow w ↦ rw w.self-is (found settings xs life c.in-Searching.sought a ys _
-          c.in-Some.cell same answer w.in-Some-follow.tracked
-          ((rw w.in-Some-follow.is at c.follow.ensures.tracks) settings a.plan life.begun (xs ++ ys)
-          stands ((rw c.in-Some.is at took.ensures.due).0 refl))
-          ((rw w.in-Some-follow.is at c.follow.ensures.found).0 refl))
-      | in-None w ↦ rw w.self-is (not-found settings xs life c.in-Searching.sought a ys _
-          c.in-Some.cell same answer (none-found _ _ c.follow.ensures.found w.in-None.is))
-    ])
+    settled settings xs life c.in-Searching.sought a ys _ c.in-Some.cell same answer took.new.self
+    stands ((rw c.in-Some.is at took.ensures.due).0 refl) _
+    (c.settle.ensures took.new.self refl))
     refl
 
 pub returns-in_default-counts-clause-tells : goal.returns-in_default-counts-clause-tells

@@ -42,14 +42,14 @@ module _ (g : Over) (c : goal.After-result g) (settings : Settings) (plan : Plan
           | else-more-gt0 w ↦ rw w.self-is (stays settings plan begun xs ys c.args.self.now s)
         ]
 
-pub returns-clause-stands : goal.returns-clause-stands
-returns-clause-stands g c settings plan begun xs ys count holds s =
+pub returns-clause-takes : goal.returns-clause-takes
+returns-clause-takes g c settings plan begun xs ys count holds s =
+    let now =
     searches-on settings plan begun xs ys c.args.self.now s _ refl
     (fewer g c settings plan begun xs ys count holds s)
-    (stands g c settings plan begun xs ys count holds s)
-
-pub returns-clause-answers : goal.returns-clause-answers
-returns-clause-answers g c settings plan begun xs ys count holds s =
-    let now = returns-clause-stands g c settings plan begun xs ys count holds s in
-    answers-with settings plan begun (xs ++ ys) _ c.result.result now c.result.ensures.done
-    c.result.ensures.cell
+    (stands g c settings plan begun xs ys count holds s) in
+    record {
+      stands = now;
+      answers = answers-with settings plan begun (xs ++ ys) _ c.result.result now
+          c.result.ensures.done c.result.ensures.cell;
+    }
