@@ -31,8 +31,7 @@ pub fn measure<T: AllocGlobal + Print, R: Read>(
     let i = centred(recipe, &recipe.in_phase, &bytes);
     let q = centred(recipe, &recipe.quadrature, &bytes);
     // Where there is one part, both are that one.
-    let squares = (square(recipe, &i, &bytes) / 2) + (square(recipe, &q, &bytes) / 2);
-    let threshold = squares.isqrt().min(2_000_001);
+    let threshold = mean_square(recipe, &i, &q, &bytes).isqrt().min(2_000_001);
     let of_i = recipe.measure(&i, threshold, &bytes);
     let of_q = recipe.measure(&q, threshold, &bytes);
     if of_i.count == 0 {
@@ -106,13 +105,15 @@ fn centred(recipe: &Recipe, part: &Part, bytes: &[u8]) -> Part
     }
 }
 
-/// The mean of the squares of the distances from a part's centre.
-fn square(recipe: &Recipe, part: &Part, bytes: &[u8]) -> u64
-    requires place { part.now.place < parts_of recipe.now }
+/// The mean of the squares of the distances from the centres of both parts, rounded down.
+fn mean_square(recipe: &Recipe, i: &Part, q: &Part, bytes: &[u8]) -> u64
+    requires in_phase { i.now.place < parts_of recipe.now }
+    requires quadrature { q.now.place < parts_of recipe.now }
     requires few { length bytes.now ≤ MOST_BYTES }
 {
-    let measure = recipe.measure(part, 0, bytes);
-    measure.squares / measure.count.max(1)
+    let (of_i, of_q) = (recipe.measure(i, 0, bytes), recipe.measure(q, 0, bytes));
+    let count = of_i.count.saturating_add(of_q.count);
+    of_i.squares.saturating_add(of_q.squares) / count.max(1)
 }
 
 /// A quotient to the nearest number.

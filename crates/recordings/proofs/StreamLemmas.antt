@@ -11,7 +11,7 @@ use Rattle.std.proofs.Math.Nat.{mul-le-mul_left, mul-le-mul_right, mul-add-div_r
 use Rattle.std.proofs.Math.Nat.{div-mul-le_self}
 use Rattle.std.specs.Prelude.{Bool, true, false, if◌then◌else◌}
 use Rattle.recordings.proofs.RecipeLemmas.{some_bits}
-use Rattle.std.proofs.Math.Seq.{drop-append-add}
+use Rattle.std.proofs.Math.Seq.{drop-append-add, split_at}
 use Rattle.definitions.specs.Samples.{Sample, Packing, real1, real2, iq1, iq2}
 use Rattle.definitions.specs.Samples.{sample, samples, samples_from, samples_per_byte, sample_count}
 use Rattle.definitions.proofs.SampleLemmas.{samples-append, range-split}
@@ -248,6 +248,33 @@ group_there recipe bytes i some h =
     let b : length bytes / group_of recipe * group_of recipe ≤ length bytes =
     div-mul-le_self (length bytes) (group_of recipe) in
     rw (all, groups recipe (i + 1)) (omega arith)
+
+-- where each byte becomes one, the samples of byte number i are those of that byte alone
+pub alone : (recipe : Recipe) (bytes : List ℕ) (i k : ℕ) → group_of recipe ≡ 1 → i < length bytes
+    → k < samples_per_byte (packing_in recipe)
+    → sample_of recipe (slice_index bytes i ∷ []) k
+    ≡ sample_of recipe bytes (samples_per_byte (packing_in recipe) * i + k)
+alone recipe bytes i k one there h =
+    let byte : List ℕ = slice_index bytes i ∷ [] in
+    let rest : List ℕ = drop (suc i) bytes in
+    let before : sample_bits recipe * (samples_per_byte (packing_in recipe) * i)
+    ≡ 8 * length (take i bytes) =
+    groups recipe i ∙ ap (λ (n : ℕ). 8 * (i * n)) one
+    ∙ ap (λ (n : ℕ). 8 * n) (omega (arith, length-take-le i bytes (omega (arith, there)))) in
+    sym (ap (λ (l : List ℕ). sample_of recipe l (samples_per_byte (packing_in recipe) * i + k))
+    (split_at bytes i 0 there)
+    ∙ sample-back recipe (take i bytes) (byte ++ rest) (samples_per_byte (packing_in recipe) * i) k
+    before
+    ∙ sample-front recipe byte rest k within)
+  where
+    within : sample_bits recipe * (k + 1) ≤ 8 * 1
+    within =
+        let all : sample_bits recipe * (samples_per_byte (packing_in recipe) * 1) ≡ 8 * 1 =
+        groups recipe 1 ∙ ap (λ (n : ℕ). 8 * (1 * n)) one in
+        let some : sample_bits recipe * (k + 1)
+        ≤ sample_bits recipe * (samples_per_byte (packing_in recipe) * 1) =
+        mul-le-mul_left (sample_bits recipe) (omega (arith, h)) in
+        omega (arith, all, some)
 
 -- ---- pieces
 

@@ -1,9 +1,10 @@
 -- What the samples of a recording become, and the bytes that they are packed into.
 use Rattle.std.specs.Prelude.{◌≡◌, ℕ, ◌+◌, ◌*◌, ◌/◌, ℤ, pos, ◌*ℤ◌, ◌-ℤ◌, unsigned_abs}
-use Rattle.std.specs.Prelude.{if◌then◌else◌, nat_lt, int_lt, List, length, map}
+use Rattle.std.specs.Prelude.{if◌then◌else◌, nat_lt, int_lt, List, [], ◌∷◌, length, map}
+use Rattle.std.specs.Prelude.{◌<◌, slice_index}
 use Rattle.std.specs.List.{range_with_len}
 use Rattle.definitions.specs.Samples.{Sample, Packing, real1, real2, iq1, iq2, real, sign_of}
-use Rattle.definitions.specs.Samples.{samples, samples_per_byte, sample_count}
+use Rattle.definitions.specs.Samples.{samples, sample, samples_per_byte, sample_count}
 use Rattle.sample_planes.specs.Packings.{packing_of}
 use Rattle.recordings.specs.Readings.{bits_of, reading}
 use Rattle.recordings.specs.declared.part.Part.{Part}
@@ -94,3 +95,9 @@ pub record IsPacked (recipe : Recipe) (bytes written : List ℕ) : Type 0 where
   pub whole : length written ≡ length bytes / group_of recipe
   pub same : samples (packing_in recipe) written
       ≡ samples_of recipe bytes (sample_count (packing_in recipe) written)
+
+-- what each of the first bytes becomes where a byte alone becomes one: that of its samples
+abbrev pub IsTable : Recipe → ℕ → List ℕ → Type 0
+IsTable recipe count table =
+    (byte k : ℕ) → byte < count → k < samples_per_byte (packing_in recipe)
+    → sample (packing_in recipe) (slice_index table byte ∷ []) k ≡ sample_of recipe (byte ∷ []) k

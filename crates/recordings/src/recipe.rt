@@ -9,9 +9,13 @@ use crate::fault::PackFault;
 use crate::kind::Kind;
 use crate::part::Part;
 use sample_planes::Format;
+use std::alloc::AllocError;
 
 /// The most bytes that samples are read from at once.
 pub const MOST_BYTES: usize = 1 << 20;
+
+/// From so many bytes on it pays to make a table of what each is made into.
+const LEAST_FOR_TABLE: usize = 2048;
 
 /// How a recording's samples are packed.
 #[derive(Clone, Copy, Debug, PartialEq, Eq)]
@@ -42,7 +46,7 @@ impl Recipe {
     ghost use Rattle.recordings.specs.Recordings.{parts_of, sample_bits, packing_in, value_of};
     ghost use Rattle.recordings.specs.declared.recipe.TheConstants.{MOST_BYTES};
     ghost use Rattle.recordings.specs.Recordings.{sign_in, sign_and_size, code_of, sample_of};
-    ghost use Rattle.recordings.specs.Recordings.{group_of, IsPacked};
+    ghost use Rattle.recordings.specs.Recordings.{group_of, IsPacked, IsTable};
 
     /// How many values a sample has.
     pub(crate) fn parts(&self) -> usize
@@ -80,12 +84,41 @@ impl Recipe {
         if !self.kind.are_numbers(bytes) {
             return Err(PackFault::NotANumber);
         }
-        let per_byte = self.format.per_byte();
         written.clear();
+        if self.group() == 1 && bytes.len() >= LEAST_FOR_TABLE {
+            self.pack_by_table(bytes, written)?;
+            return Ok(());
+        }
+        let per_byte = self.format.per_byte();
         for i in 0..bytes.len() / self.group() {
             written.push(self.byte(bytes, per_byte * i))?;
         }
         Ok(())
+    }
+
+    /// Packs bytes of which each is made into one.
+    fn pack_by_table(&self, bytes: &[u8], written: &mut Vec<u8>) -> Result<(), AllocError>
+        requires alone { group_of self.now ≡ 1 }
+        requires empty { written.old.items ≡ [] }
+        ensures { OnOk result (IsPacked self.now bytes.now written.new.items) }
+    {
+        let table = self.table();
+        for i in 0..bytes.len() {
+            written.push(table[bytes[i] as usize])?;
+        }
+        Ok(())
+    }
+
+    /// What each byte is made into, where it is made into one.
+    fn table(&self) -> [u8; 256]
+        requires alone { group_of self.now ≡ 1 }
+        ensures { IsTable self.now 256 result }
+    {
+        let mut table = [0; 256];
+        for byte in 0..256 {
+            table[byte] = self.byte(&[byte as u8], 0);
+        }
+        table
     }
 
     /// The byte of the samples from sample `first` on.
