@@ -58,6 +58,13 @@ abbrev pub AsksPart : Choice → Type 0
 AsksPart choice =
     (has_quadrature (packing_of choice.format) ≡ true) × (choice.takes_quadrature ≡ true)
 
+-- sizes are what it can't be had for, and that one part is asked for: the first of the three is told
+abbrev pub IsWithoutSizes : Choice → Type 0
+IsWithoutSizes choice = ¬ LacksPairs choice × LacksSizes choice
+
+abbrev pub IsOfOnePart : Choice → Type 0
+IsOfOnePart choice = ¬ LacksPairs choice × ¬ LacksSizes choice × AsksPart choice
+
 -- there is what is asked for
 pub record CanBeMade (choice : Choice) : Type 0 where
   pub pairs : choice.is_paired ≡ false → ¬ NeedsPairs choice

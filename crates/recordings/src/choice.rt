@@ -49,7 +49,7 @@ pub enum ChoiceFault {
 
 impl Choice {
     ghost use Rattle.std.specs.Prelude.{None, Some};
-    ghost use Rattle.recordings.specs.Choices.{LacksPairs, LacksSizes, AsksPart, Makes};
+    ghost use Rattle.recordings.specs.Choices.{LacksPairs, IsWithoutSizes, IsOfOnePart, Makes};
     ghost use Rattle.recordings.specs.Choices.{IsInPhase, IsQuadrature, CanBeMade};
     ghost use Rattle.recordings.specs.Choices.{NeedsPairs};
 
@@ -57,8 +57,8 @@ impl Choice {
     pub fn recipe(&self) -> Result<Recipe, ChoiceFault>
         ensures makes { IfOk result (λ recipe. Makes self.now recipe) }
         ensures pairs { (result ≡ Err ChoiceFault.Pairs) ↔ LacksPairs self.now }
-        ensures sizes { (result ≡ Err ChoiceFault.Sizes) → LacksSizes self.now }
-        ensures part { (result ≡ Err ChoiceFault.Part) → AsksPart self.now }
+        ensures sizes { (result ≡ Err ChoiceFault.Sizes) ↔ IsWithoutSizes self.now }
+        ensures part { (result ≡ Err ChoiceFault.Part) ↔ IsOfOnePart self.now }
     {
         match self.fault() {
             Some(fault) => Err(fault),
@@ -70,8 +70,8 @@ impl Choice {
     fn fault(&self) -> Option<ChoiceFault>
         ensures none { result ≡ None → CanBeMade self.now }
         ensures pairs { (result ≡ Some ChoiceFault.Pairs) ↔ LacksPairs self.now }
-        ensures sizes { (result ≡ Some ChoiceFault.Sizes) → LacksSizes self.now }
-        ensures part { (result ≡ Some ChoiceFault.Part) → AsksPart self.now }
+        ensures sizes { (result ≡ Some ChoiceFault.Sizes) ↔ IsWithoutSizes self.now }
+        ensures part { (result ≡ Some ChoiceFault.Part) ↔ IsOfOnePart self.now }
     {
         if !self.is_paired && self.needs_pairs() {
             Some(ChoiceFault::Pairs)
