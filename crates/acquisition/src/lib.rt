@@ -5,7 +5,8 @@
 //! order, any number at a call, over the samples that a `SampleSource` holds; it can pause after
 //! any cell. It stands for the greatest and the total of the powers of the cells that it has done.
 //! Once all are done it names the first greatest cell. (IS-GPS-200 has the signal alone; the search
-//! is this project's own.)
+//! is this project's own.) Each power is proved to be that of the plain sums with the cell's
+//! replica, though no replica is made: samples are added up by chip first.
 //!
 //!     use acquisition::{Plan, Search};
 //!     use ca_codes::{CodeBook, Prn};

@@ -2,7 +2,8 @@
 //!
 //! `Script` gives the entries of a script in order, each a command or the refusal of its line, at
 //! its time; then none. They are proved to be the entries of the script's definition, for every
-//! list of bytes. (Scripts are this project's own.)
+//! list of bytes. Five values that are each in their range are always a plan, so `acquire` has no
+//! refusal beyond those of its words. (Scripts are this project's own.)
 //!
 //!     use client_commands::Script;
 //!

@@ -2,7 +2,9 @@
 //! report out. `carry_out` takes the words of the command line, has the option parser read them,
 //! reads the script files that they name, and runs them, in their order, over a reader and a
 //! writer. It reports on standard error what went wrong, and gives the status. The crate `receiver`
-//! has the run.
+//! has the run. The program is proved to end in one of three ways: without memory for the words,
+//! without options, or with what the run for the options answered. In the first two nothing is read
+//! or written. Which of them comes for which words is only tested.
 //!
 //!     use command_line::{Stored, carry_out};
 //!     use receiver::Plain;

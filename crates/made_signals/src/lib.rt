@@ -2,7 +2,9 @@
 //! plain reference of how it is tracked. Only tests use this crate.
 //!
 //! It is written from the formulas alone and calls no other crate, so that a test compares two
-//! things that were written apart. It is proved to be safe and to end, and no more.
+//! things that were written apart. It is proved to be safe and to end, that values are at most 3 in
+//! size and that `fill` stays in its buffer, and no more: that the signals are those of their
+//! formulas is only tested.
 //!
 //!     use made_signals::{MadeSignal, PlainTracker, SampleStream};
 //!

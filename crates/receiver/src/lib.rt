@@ -1,6 +1,8 @@
 //! The run of a receiver bank: the scripts of one to eight clients over the samples that a reader
 //! gives, and the lines that a writer takes. `run` is proved to write what is defined, for every
-//! client as if it were alone, whatever the reads cut.
+//! client as if it were alone, whatever the reads cut, where the bytes of both devices are known.
+//! `run_shares` gives each client a share of the slots, and `run` gives each four. No entry of a
+//! script asks a slot past its client's share, so the bank can answer each.
 //!
 //!     use oscillators::Settings;
 //!     use receiver::{Plain, RunFault, run};

@@ -3,7 +3,8 @@
 //! A `Choice` says what a recording is and what is asked of it, and gives the `Recipe` that makes
 //! it. A `Packer` takes the recording piece by piece: what it writes is proved to be the packing of
 //! all that came, however it was cut, by the definition that the receiver reads by. A `Window`
-//! shows the stretch that is wanted, and `Recipe::measure` shows what the values are like.
+//! shows the stretch that is wanted, and `Recipe::measure` shows what the values are like: of that
+//! only the number of samples is proved.
 //!
 //!     use recordings::{Choice, Kind, Packer, Window};
 //!     use sample_planes::Format;

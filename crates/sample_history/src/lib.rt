@@ -3,7 +3,8 @@
 //! A `SampleHistory` takes a stream's samples run by run, and keeps the last of them in one ring of
 //! bytes, whose memory it takes once, when it is opened. The bytes are aligned to the stream,
 //! wherever in a byte a run begins. It is a `SampleSource`: each sample that it holds is proved to
-//! be the sample of the stream with that number.
+//! be the sample of the stream with that number. That `open` alone takes memory is seen in the
+//! code, and not proved.
 //!
 //!     use sample_history::SampleHistory;
 //!     use sample_planes::{Format, PackedSamples, SampleSource};

@@ -3,7 +3,7 @@
 //! [`field`] reads one [`Field`] of a subframe, and [`Page::read`] a whole [`Page`] where the
 //! subframe is complete and its kind is known. Both go by tables of the standard's own bit numbers,
 //! and promise the number that the bits of the definitions' table write, in two's complement where
-//! the standard marks it.
+//! the standard marks it. The rows of the tables are proved to be those of the definitions.
 //!
 //!     use frame_sync::Subframe;
 //!     use subframes::{ClockField, Field, Page, field};
