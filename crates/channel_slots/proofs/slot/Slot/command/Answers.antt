@@ -79,7 +79,12 @@ returns-in-Acquire-clause-sound c first later sound =
       omega (arith, later, c.start.ensures.begins.begun),
       omega (arith, c.start.ensures.begins.left),
       c.start.ensures.begins.waits,
-      omega (arith, c.start.ensures.begins.left, c.start.ensures.begins.near, c.start.ensures.begins.begun),
+      omega (
+        arith,
+        c.start.ensures.begins.left,
+        c.start.ensures.begins.near,
+        c.start.ensures.begins.begun,
+      ),
     )
 
 pub returns-in-Hold-clause-sound : goal.returns-in-Hold-clause-sound
