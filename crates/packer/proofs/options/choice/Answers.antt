@@ -1,0 +1,25 @@
+use Rattle.std.proofs.Common.{◌∙◌, sym, ap, subst}
+use Rattle.std.specs.Result.{result_ok}
+use Rattle.clap.specs.Matches.{found_of}
+use Rattle.recordings.specs.declared.kind.Kind.{Kind}
+use Rattle.packer.specs.Options.{HasCentres}
+use Rattle.packer.proofs.AskedLemmas.{no_threshold}
+use Rattle.packer.proofs.DeviceLemmas.{on_err}
+use Rattle.packer.proofs.options.choice.Goals as goal
+
+pub returns-in_err-centre-clause-why : goal.returns-in_err-centre-clause-why
+returns-in_err-centre-clause-why c =
+    on_err c.from_residual-in_err-centre.result _ (λ choice asks.
+    c.in_err-centre.ensures.why choice.centre choice.centre_q
+    (subst (λ (k : Kind).
+    HasCentres (found_of c.args.matches.now) k choice.centre choice.centre_q)
+    (asks.kind ∙ sym c.from-is_paired.ensures.kind) asks.centres))
+
+pub returns-in_err-threshold-clause-why : goal.returns-in_err-threshold-clause-why
+returns-in_err-threshold-clause-why c =
+    on_err c.from_residual-in_err-threshold.result _ (λ choice asks.
+    no_threshold (found_of c.args.matches.now) choice c.from-is_paired.result.1
+    c.from-is_paired.result.0 c.in_ok-format.format asks c.from-is_paired.ensures.kind
+    c.from-is_paired.ensures.pairs
+    (sym (ap result_ok c.in_ok-format.was) ∙ c.format.ensures.value)
+    (sym (ap result_ok c.in_err-threshold.was) ∙ c.threshold.ensures.value))

@@ -1,0 +1,62 @@
+use Rattle.std.proofs.Common.{ap, take, drop, arith, ◌∙◌, refl}
+use Rattle.std.specs.Prelude.{Bool, Result, Ok}
+use Rattle.std.proofs.lemmas.Grind.{common_steps}
+use Rattle.recordings.specs.Packers.{recipe_in}
+use Rattle.packer.specs.declared.failure.Failure.{Failure}
+use Rattle.packer.proofs.RunLemmas.{beginning, packs_without_memory, packs_at_error}
+use Rattle.packer.proofs.RunLemmas.{packs_at_end}
+use Rattle.packer.proofs.running.run.Goals as goal
+
+abbrev answer : Bool → Result Bool Failure
+answer b = Ok b
+
+pub returns-in_err-buffer-clause-packs : goal.returns-in_err-buffer-clause-packs
+returns-in_err-buffer-clause-packs g c skip most all known shows stands =
+    packs_without_memory (recipe_in c.args.packer.now) skip most all _ _ _ _ _
+    c.from_residual.ensures.1
+    (beginning (recipe_in c.args.packer.now) skip most all
+    (g.R.Read.remaining c.args.reader.now.inner) (g.W.Write.contents c.args.writer.now.inner)
+    c.args.window.now c.args.packer.now known shows stands refl)
+
+pub returns-in_err-written-clause-packs : goal.returns-in_err-written-clause-packs
+returns-in_err-written-clause-packs g c skip most all known shows stands =
+    packs_without_memory (recipe_in c.args.packer.now) skip most all _ _ _ _ _
+    c.from_residual-in_err-written.ensures.1
+    (beginning (recipe_in c.args.packer.now) skip most all
+    (g.R.Read.remaining c.args.reader.now.inner) (g.W.Write.contents c.args.writer.now.inner)
+    c.args.window.now c.args.packer.now known shows stands refl)
+
+pub returns-in_err-goes_on-clause-packs : goal.returns-in_err-goes_on-clause-packs
+returns-in_err-goes_on-clause-packs g c skip most all known shows stands =
+    packs_at_error (recipe_in c.args.packer.now) (take most (drop skip all))
+    (g.W.Write.contents c.args.writer.now.inner) (g.W.Write.contents c.step.new.writer.inner)
+    c.from_residual-in_err-goes_on.result c.in_err-goes_on.field-0.0
+    c.from_residual-in_err-goes_on.ensures.1
+    (c.in_err-goes_on.ensures.fails (recipe_in c.args.packer.now) skip most all
+    (g.W.Write.contents c.args.writer.now.inner)
+    (c.loop-written.invariant.course skip most all known shows stands))
+
+pub loop-written-preserved : goal.loop-written-preserved
+loop-written-preserved g c =
+    let which = c.in_ok-goes_on.ensures.which in
+    let before = c.loop-written.invariant.none_failed in
+    record {
+      room = grind (arith, common_steps);
+      none_failed = (which.0 ∙ before.0, which.1 ∙ before.1);
+      course = λ skip most all known shows stands.
+          c.in_ok-goes_on.ensures.goes_on
+          (ap (λ (b : Bool). answer b) c.if-not-goes_on.false)
+          (recipe_in c.args.packer.now) skip most all
+          (g.W.Write.contents c.args.writer.now.inner)
+          (c.loop-written.invariant.course skip most all known shows stands);
+    }
+
+pub returns-then-not-goes_on-clause-packs : goal.returns-then-not-goes_on-clause-packs
+returns-then-not-goes_on-clause-packs g c skip most all known shows stands =
+    packs_at_end (recipe_in c.args.packer.now) (take most (drop skip all))
+    (g.W.Write.contents c.args.writer.now.inner) (g.W.Write.contents c.step.new.writer.inner)
+    (g.W.Write.contents c.flush.new.writer.inner) c.flush.result
+    (c.in_ok-goes_on.ensures.ends (ap (λ (b : Bool). answer b) c.if-not-goes_on.true)
+    (recipe_in c.args.packer.now) skip most all (g.W.Write.contents c.args.writer.now.inner)
+    (c.loop-written.invariant.course skip most all known shows stands))
+    c.flush.ensures.bytes c.flush.ensures.fault

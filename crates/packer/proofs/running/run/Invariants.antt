@@ -1,0 +1,23 @@
+use Rattle.std.proofs.Common.{◌≡◌, ℕ, List, [], Some, length}
+use Rattle.recordings.specs.Packers.{StandsFor, recipe_in}
+use Rattle.recordings.specs.Windows.{Shows}
+use Rattle.recordings.specs.declared.packer.TheConstants.{MOST_PIECE}
+use Rattle.packer.specs.Devices.{NoneFailed, devices_at}
+use Rattle.packer.specs.Runs.{IsCourse, bytes_ahead}
+use Rattle.packer.proofs.running.run.Given as goal
+
+abbrev pub invariant-loop-written : goal.invariant-loop-written
+invariant-loop-written g l = record {
+  room : length l.buffer.items ≡ MOST_PIECE;
+  none_failed : NoneFailed
+      (devices_at g.R.Read.remaining g.W.Write.contents l.fn.reader l.fn.writer)
+      (devices_at g.R.Read.remaining g.W.Write.contents l.reader l.writer);
+  course : (skip most : ℕ) (all : List ℕ) → g.R.Read.remaining l.fn.reader.inner ≡ Some all
+      → Shows skip most [] [] l.fn.window → StandsFor [] [] l.fn.packer
+      → IsCourse (recipe_in l.fn.packer) skip most all
+      (g.W.Write.contents l.fn.writer.inner) (g.R.Read.remaining l.reader.inner)
+      (g.W.Write.contents l.writer.inner) l.window l.packer;
+}
+
+abbrev pub decreases-loop-written : goal.decreases-loop-written
+decreases-loop-written g l = bytes_ahead l.window
