@@ -58,7 +58,8 @@ abbrev pub AsksPart : Choice → Type 0
 AsksPart choice =
     (has_quadrature (packing_of choice.format) ≡ true) × (choice.takes_quadrature ≡ true)
 
--- it can't be had for want of sizes, or since one part is asked for: the first of the three is told
+-- it can't be had for want of sizes, or since one part is asked for: the first of the three
+-- reasons is reported
 abbrev pub IsWithoutSizes : Choice → Type 0
 IsWithoutSizes choice = ¬ LacksPairs choice × LacksSizes choice
 
