@@ -17,6 +17,7 @@ use Rattle.clap.specs.Matches.{ReadsOne}
 use Rattle.packer.specs.Options.{all_digits, is_number, number_below, finite_bits, float_in}
 use Rattle.packer.specs.Options.{twice_in, halves_in, has_half, has_minus, kind_in, named_kind}
 use Rattle.packer.specs.Options.{is_pairs_name, bytes_in}
+use Rattle.packer.specs.declared.halves.TheConstants.{MOST_WHOLE}
 use Rattle.recordings.specs.Recordings.{sample_bits}
 use Rattle.recordings.specs.declared.recipe.Recipe.{Recipe}
 use Rattle.std.specs.Prelude.{pos, neg_ℤ, option_map, codes, nat_le, ◌*◌, ◌/◌, ◌%◌, ◌&&◌}
@@ -183,14 +184,14 @@ no_float text p = rw p refl
 pub twice_half : (text front : List ℕ) (k : ℕ)
     → text ≡ take (length text - k) text ++ codes ".5" → k ≡ length (codes ".5")
     → front ≡ take (length text - k) text
-    → twice_in text ≡ option_map (λ n. 2 * n + 1) (number_below 1000001 front)
+    → twice_in text ≡ option_map (λ n. 2 * n + 1) (number_below (MOST_WHOLE + 1) front)
 unfolding twice_in
 twice_half text front k is size front_is =
     let half : has_half text ≡ true = ends (codes ".5") text k is in
     rw (half, front_is, size) refl
 
 pub twice_whole : (text : List ℕ) → ((front : List ℕ) → text ≡ front ++ codes ".5" → ⊥)
-    → twice_in text ≡ option_map (λ n. 2 * n) (number_below 1000001 text)
+    → twice_in text ≡ option_map (λ n. 2 * n) (number_below (MOST_WHOLE + 1) text)
 unfolding twice_in
 twice_whole text none =
     let half : has_half text ≡ false = ends_not (codes ".5") text none in rw half refl

@@ -21,6 +21,7 @@ use Rattle.recordings.specs.declared.kind.Kind.TheVariants.{U8, I8, I16, I16Be, 
 use Rattle.recordings.specs.declared.kind.Kind.TheVariants.{Bits2Low, SignSizeLow}
 use Rattle.recordings.specs.declared.kind.Kind.TheVariants.{Bits1Low, Bits1High}
 use Rattle.recordings.specs.declared.recipe.Recipe.{Recipe}
+use Rattle.packer.specs.declared.halves.TheConstants.{MOST_WHOLE}
 
 -- ---- numbers
 
@@ -47,12 +48,12 @@ has_half text = bytes_eq (drop (length text - 2) text) (codes ".5")
 abbrev pub has_minus : List ℕ → Bool
 has_minus text = bytes_eq (take 1 text) (codes "-")
 
--- twice a number without a sign, at most 1,000,000 and a half
+-- twice a number without a sign, at most `MOST_WHOLE` and a half
 unfoldable pub twice_in : List ℕ → Option ℕ
 twice_in text =
     if has_half text then
-    option_map (λ n. 2 * n + 1) (number_below 1000001 (take (length text - 2) text))
-    else option_map (λ n. 2 * n) (number_below 1000001 text)
+    option_map (λ n. 2 * n + 1) (number_below (MOST_WHOLE + 1) (take (length text - 2) text))
+    else option_map (λ n. 2 * n) (number_below (MOST_WHOLE + 1) text)
 
 -- twice a number that may be below zero
 unfoldable pub halves_in : List ℕ → Option ℤ

@@ -1,13 +1,17 @@
 //! Numbers with halves, as options have them.
 
-ghost use Rattle.std.specs.Prelude.{◌≡◌, ◌≤◌, IfSome};
+ghost use Rattle.std.specs.Prelude.{◌≡◌, ◌+◌, ◌≤◌, IfSome};
 ghost use Rattle.packer.specs.Options.{halves_in, twice_in, number_below};
+ghost use Rattle.packer.specs.declared.halves.TheConstants.{MOST_WHOLE, MOST_HALVES};
 
-/// The greatest number that an option takes.
-const MOST: u32 = 1_000_000;
+/// The greatest whole number that an option with halves takes. A half may be added to it.
+pub const MOST_WHOLE: u32 = 1_000_000;
+
+/// Twice the greatest number that an option with halves takes, which is 1,000,000 and a half.
+pub const MOST_HALVES: u32 = 2 * MOST_WHOLE + 1;
 
 /// Twice the number of a text such as `12`, `-3` or `127.5`; none where it isn't one, or isn't
-/// within 1,000,000 of zero.
+/// within 1,000,000 and a half of zero.
 pub fn halves(text: &str) -> Option<i32>
     ensures { result ≡ halves_in text.now }
 {
@@ -19,7 +23,7 @@ pub fn halves(text: &str) -> Option<i32>
 
 /// Twice the number of a text without a sign.
 fn twice(text: &str) -> Option<u32>
-    ensures most { IfSome result (λ n. n ≤ 2000001) }
+    ensures most { IfSome result (λ n. n ≤ MOST_HALVES) }
     ensures value { result ≡ twice_in text.now }
 {
     match text.strip_suffix(".5") {
@@ -30,9 +34,13 @@ fn twice(text: &str) -> Option<u32>
 
 /// The whole number of a text.
 fn whole(text: &str) -> Option<u32>
-    ensures most { IfSome result (λ n. n ≤ 1000000) }
-    ensures value { result ≡ number_below 1000001 text.now }
+    ensures most { IfSome result (λ n. n ≤ MOST_WHOLE) }
+    ensures value { result ≡ number_below (MOST_WHOLE + 1) text.now }
 {
     let number = text.parse::<u32>().ok()?;
-    if number <= MOST { Some(number) } else { None }
+    if number <= MOST_WHOLE {
+        Some(number)
+    } else {
+        None
+    }
 }

@@ -8,13 +8,11 @@ use crate::decimals::{Halves, Hundredths};
 use crate::devices::Device;
 use crate::failure::Failure;
 use crate::floats::measure_floats;
+use crate::halves::MOST_HALVES;
 use crate::running::{read, zeros};
 use recordings::{Kind, MOST_BYTES, MOST_PIECE, Measure, Part, Recipe, Window};
 use std::alloc::{AllocGlobal, Global};
 use std::io::{self, Print, Read};
-
-/// Twice the greatest centre or threshold that the options take.
-const MOST_HALVES: i64 = 2_000_001;
 
 /// Measures the stretch of a recording that is wanted, at most its first `MOST_BYTES`, and prints
 /// what was found and the options that it suggests.
@@ -31,7 +29,9 @@ pub fn measure<T: AllocGlobal + Print, R: Read>(
     let i = centred(recipe, &recipe.in_phase, &bytes);
     let q = centred(recipe, &recipe.quadrature, &bytes);
     // Where there is one part, both are that one.
-    let threshold = mean_square(recipe, &i, &q, &bytes).isqrt().min(2_000_001);
+    let threshold = mean_square(recipe, &i, &q, &bytes)
+        .isqrt()
+        .min(u64::from(MOST_HALVES));
     let of_i = recipe.measure(&i, threshold, &bytes);
     let of_q = recipe.measure(&q, threshold, &bytes);
     if of_i.count == 0 {
@@ -98,9 +98,10 @@ fn centred(recipe: &Recipe, part: &Part, bytes: &[u8]) -> Part
     ensures { result.place ≡ part.now.place }
 {
     let measure = recipe.measure(part, 0, bytes);
+    let most = i64::from(MOST_HALVES);
     Part {
         place: part.place,
-        centre: nearest(measure.sum, measure.count).clamp(-MOST_HALVES, MOST_HALVES),
+        centre: nearest(measure.sum, measure.count).clamp(-most, most),
         is_turned: false,
     }
 }

@@ -14,6 +14,9 @@ use std::alloc::AllocError;
 /// The most bytes that samples are read from at once.
 pub const MOST_BYTES: usize = 1 << 20;
 
+/// How many values a byte has.
+pub const BYTE_VALUES: usize = 256;
+
 /// From so many bytes on it pays to make a table of what each is made into.
 const LEAST_FOR_TABLE: usize = 2048;
 
@@ -44,7 +47,7 @@ impl Recipe {
     ghost use Rattle.definitions.specs.Samples.{sample};
     ghost use Rattle.sample_planes.specs.Packings.{width_of};
     ghost use Rattle.recordings.specs.Recordings.{parts_of, sample_bits, packing_in, value_of};
-    ghost use Rattle.recordings.specs.declared.recipe.TheConstants.{MOST_BYTES};
+    ghost use Rattle.recordings.specs.declared.recipe.TheConstants.{MOST_BYTES, BYTE_VALUES};
     ghost use Rattle.recordings.specs.Recordings.{sign_in, sign_and_size, code_of, sample_of};
     ghost use Rattle.recordings.specs.Recordings.{group_of, IsPacked, IsTable};
 
@@ -110,12 +113,12 @@ impl Recipe {
     }
 
     /// What each byte is made into, where it is made into one.
-    fn table(&self) -> [u8; 256]
+    fn table(&self) -> [u8; BYTE_VALUES]
         requires alone { group_of self.now ≡ 1 }
-        ensures { IsTable self.now 256 result }
+        ensures { IsTable self.now BYTE_VALUES result }
     {
-        let mut table = [0; 256];
-        for byte in 0..256 {
+        let mut table = [0; BYTE_VALUES];
+        for byte in 0..BYTE_VALUES {
             table[byte] = self.byte(&[byte as u8], 0);
         }
         table
