@@ -3,6 +3,7 @@
 ghost use Rattle.std.specs.Prelude.{◌≤◌, ◌<◌};
 
 mod by_hand;
+mod measures;
 
 use recordings::{Choice, Kind, MOST_PIECE, Packer, Recipe};
 use sample_planes::Format;
