@@ -17,10 +17,12 @@
 //!     }
 #![tactic(auto)]
 
+mod command;
 pub mod decimals;
 mod devices;
 mod failure;
 mod floats;
+mod formats;
 pub mod halves;
 mod measuring;
 pub mod options;

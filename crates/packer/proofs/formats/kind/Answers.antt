@@ -1,6 +1,6 @@
 use Rattle.std.proofs.Common.{◌∙◌}
 use Rattle.packer.proofs.TextLemmas.{pairs_kind, plain_kind}
-use Rattle.packer.proofs.options.kind.Goals as goal
+use Rattle.packer.proofs.formats.kind.Goals as goal
 
 pub returns-in-Some-clause-kind : goal.returns-in-Some-clause-kind
 returns-in-Some-clause-kind c =

@@ -1,0 +1,115 @@
+//! Kinds of recordings and packings, by the names that options have for them.
+
+ghost use Rattle.std.specs.Prelude.{◌≡◌, Err, IfErr, true, codes, option_and_then};
+ghost use Rattle.std.specs.Result.{result_ok};
+ghost use Rattle.clap.specs.Matches.{found_of, first_value};
+ghost use Rattle.packer.specs.Statuses.{status_of};
+ghost use Rattle.packer.specs.Options.{from_in, is_pairs_name, kind_in, named_kind, is_measured_in};
+ghost use Rattle.packer.specs.Options.{named_format, format_in};
+
+use crate::failure::Failure;
+use crate::options::is_measured;
+use clap::ArgMatches;
+use recordings::Kind;
+use sample_planes::Format;
+
+/// The kinds that `--from` takes.
+pub static KINDS: [&str; 18] = [
+    "u8",
+    "i8",
+    "i16",
+    "i16be",
+    "f32",
+    "bits2-low",
+    "bits2-sm-low",
+    "bits1-low",
+    "bits1-high",
+    "iq-u8",
+    "iq-i8",
+    "iq-i16",
+    "iq-i16be",
+    "iq-f32",
+    "iq-bits2-low",
+    "iq-bits2-sm-low",
+    "iq-bits1-low",
+    "iq-bits1-high",
+];
+
+/// The formats that `--to` takes.
+pub static FORMATS: [&str; 4] = ["real1", "real2", "iq1", "iq2"];
+
+/// Whether the recording's values are pairs, and their kind.
+pub fn from(matches: &ArgMatches) -> (bool, Kind)
+    ensures pairs { result.0 ≡ is_pairs_name (from_in (found_of matches.now)) }
+    ensures kind { result.1 ≡ kind_in (from_in (found_of matches.now)) }
+{
+    kind(matches.get_str("from").unwrap_or("u8"))
+}
+
+/// Whether the values are pairs, and their kind, by a name.
+fn kind(name: &str) -> (bool, Kind)
+    ensures pairs { result.0 ≡ is_pairs_name name.now }
+    ensures kind { result.1 ≡ kind_in name.now }
+{
+    match name.strip_prefix("iq-") {
+        Some(rest) => (true, named_kind(rest)),
+        None => (false, named_kind(name)),
+    }
+}
+
+/// A kind by its name.
+fn named_kind(name: &str) -> Kind
+    ensures { result ≡ named_kind name.now }
+{
+    match name {
+        "i8" => Kind::I8,
+        "i16" => Kind::I16,
+        "i16be" => Kind::I16Be,
+        "f32" => Kind::F32,
+        "bits2-low" => Kind::Bits2Low,
+        "bits2-sm-low" => Kind::SignSizeLow,
+        "bits1-low" => Kind::Bits1Low,
+        "bits1-high" => Kind::Bits1High,
+        _ => Kind::U8,
+    }
+}
+
+/// The packing to write, or one of signs alone for what is measured, which is not written.
+pub fn format(matches: &ArgMatches, is_paired: bool) -> Result<Format, Failure>
+    ensures value { result_ok result ≡ format_in (found_of matches.now) is_paired }
+    ensures status { IfErr result (λ failure. status_of (Err failure) ≡ 2) }
+{
+    if is_measured(matches) {
+        measured_format(matches, is_paired)
+    } else {
+        written_format(matches)
+    }
+}
+
+/// A packing of signs alone for what is measured.
+fn measured_format(matches: &ArgMatches, is_paired: bool) -> Result<Format, Failure>
+    requires { is_measured_in (found_of matches.now) ≡ true }
+    ensures value { result_ok result ≡ format_in (found_of matches.now) is_paired }
+    ensures status { IfErr result (λ failure. status_of (Err failure) ≡ 2) }
+{
+    match matches.get_str("to") {
+        Some(_) => Err(Failure::NotPacked),
+        None if is_paired => Ok(Format::Iq1),
+        None => Ok(Format::Real1),
+    }
+}
+
+/// The packing to write.
+fn written_format(matches: &ArgMatches) -> Result<Format, Failure>
+    ensures value { result_ok result
+        ≡ option_and_then named_format (first_value (found_of matches.now) (codes "to")) }
+    ensures status { IfErr result (λ failure. status_of (Err failure) ≡ 2) }
+{
+    match matches.get_str("to") {
+        Some("real1") => Ok(Format::Real1),
+        Some("real2") => Ok(Format::Real2),
+        Some("iq1") => Ok(Format::Iq1),
+        Some("iq2") => Ok(Format::Iq2),
+        _ => Err(Failure::NoFormat),
+    }
+}
