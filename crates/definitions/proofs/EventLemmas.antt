@@ -80,6 +80,12 @@ named settings xs plan start =
     both : (a b : ℕ) → (nat_le a b ≡ true) ↔ (a ≤ b)
     both a b = (leb-true a b, le-leb a b)
 
+-- ---- an edge
+new-edge : (now before : Bool) → (now && not before) ≡ true → (now ≡ true) × (before ≡ false)
+new-edge true false e = (refl, refl)
+new-edge true true e = cc
+new-edge false before e = cc
+
 -- ---- all events of a life
 all-bits : (P : Event → Type 0) (bits : List Bool) (found : Found) → All P (events_of gap found.gap)
     → P (subframe found.subframe) → All P (page_events bits (page_of found.subframe))
@@ -127,11 +133,12 @@ module _ (settings : Settings) (xs : List Sample) (life : Life) where
   news-right unlock e = (e, tt)
   news-right lost e = (e, tt)
 
-  edge-right : (b c : Bool) → has_edge (pushes_so_far settings xs life) ≡ b
-      → All P (when (b && c) edge)
+  edge-right : (pushes : List ℤ) → pushes_so_far settings xs life ≡ pushes
+      → All P (when (has_edge pushes && not (has_edge (front_of pushes))) edge)
   unfolding P
-  edge-right true c e = all-when P c edge (λ h. e)
-  edge-right false c e = tt
+  edge-right pushes e =
+      all-when P (has_edge pushes && not (has_edge (front_of pushes))) edge
+      (λ h. rw e (new-edge (has_edge pushes) (has_edge (front_of pushes)) h))
 
   steered-right : All P (steered_events (counts_of dumps))
   unfolding steered_events push_events dumps
@@ -146,7 +153,7 @@ module _ (settings : Settings) (xs : List Sample) (life : Life) where
       (all-append P (when (has_edge pushes && not (has_edge (front_of pushes))) edge)
       (if nat_lt (length (bits_of (front_of pushes))) (length bits) then bit_events bits
       (found_by bits) else [])
-      (edge-right (has_edge pushes) (not (has_edge (front_of pushes))) refl)
+      (edge-right pushes refl)
       (all-if P (nat_lt (length (bits_of (front_of pushes))) (length bits))
       (bit_events bits (found_by bits)) (bits-right (found_by bits) refl)))
 

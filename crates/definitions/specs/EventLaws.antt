@@ -1,7 +1,7 @@
 -- What holds of the events that a slot emits, by what the definitions make of the samples and
 -- commands so far. Each law is promised by a function of the same name in this crate. (This
 -- project's own.)
-use Rattle.std.specs.Prelude.{ℕ, ◌≡◌, ◌+◌, ◌-◌, ◌*◌, ◌^◌, ◌<◌, ◌≤◌, ◌↔◌, Bool, true, ℤ, pos, List}
+use Rattle.std.specs.Prelude.{ℕ, ◌≡◌, ◌+◌, ◌-◌, ◌*◌, ◌^◌, ◌<◌, ◌≤◌, ◌↔◌, Bool, true, false, ℤ, pos, List, []}
 use Rattle.std.specs.Prelude.{◌++◌, map, sum, length, slice_get, Some, option_and_then}
 use Rattle.std.specs.List.{range_with_len}
 use Rattle.definitions.specs.Samples.{Sample}
@@ -112,6 +112,10 @@ pub record IsAlmanacSet (pages : List Page) (set : AlmanacSet) : Type 0 where
       → (page : Page) × (last_almanac pages sv ≡ Some page) × (toa_of page ≡ set.toa)
       × (slice_get set.health (sv - 1) ≡ Some (health_of page))
 
+-- The pushes have an edge, and without the last of them had none.
+abbrev pub IsNewEdge : List ℤ → Type 0
+IsNewEdge pushes = (has_edge pushes ≡ true) × (has_edge (front_of pushes) ≡ false)
+
 -- what an event says of the life that is on, the last sample being the last of these
 abbrev pub IsOfLife : Settings → List Sample → Life → Event → Type 0
 IsOfLife settings xs life (acquired prn cell) = IsAcquisition settings xs life prn cell
@@ -120,7 +124,7 @@ IsOfLife settings xs life (count c) =
 IsOfLife settings xs life locked = news_of (counts_by settings xs life) ≡ lock
 IsOfLife settings xs life unlocked = news_of (counts_by settings xs life) ≡ unlock
 IsOfLife settings xs life signal_lost = news_of (counts_by settings xs life) ≡ lost
-IsOfLife settings xs life edge = has_edge (pushes_so_far settings xs life) ≡ true
+IsOfLife settings xs life edge = IsNewEdge (pushes_so_far settings xs life)
 IsOfLife settings xs life (gap n) = IsGap (bits_so_far settings xs life) n
 IsOfLife settings xs life (subframe s) = IsSubframe (bits_so_far settings xs life) s
 IsOfLife settings xs life (reported r) = IsReport (bits_so_far settings xs life) r
@@ -183,13 +187,15 @@ abbrev pub AlmanacSetsAgree : Type 0
 AlmanacSetsAgree = (bits : List Bool) (set : AlmanacSet)
     → (reports_of (pages_among bits)).set ≡ Some set → IsAlmanacSet (pages_among bits) set
 
--- A found signal is tracked from the due time on, and its code goes on: j samples later it has come
--- as far as the replica of the named cell, which began with the acquisition, has by then.
+-- A found signal is tracked from the due time on, at first at the shift of the named cell's bin,
+-- and its code goes on: j samples later it has come as far as the replica of the named cell, which
+-- began with the acquisition, has by then.
 abbrev pub FoundCodeGoesOn : Type 0
 FoundCodeGoesOn = (settings : Settings) (xs : List Sample) (plan : Plan) (start : ℕ)
     (channel : Channel) → acquired_channel settings xs plan start ≡ Some channel
     → (channel.prn ≡ plan.prn) × (channel.start ≡ due_time settings plan start)
     × (due_time settings plan start ≤ length xs)
+    × (channel.steering [] ≡ bin_shift plan (result_of settings plan xs start).bin)
     × ((j : ℕ) → code_phase_after channel.code (found_step settings xs plan start) j
     ≡ code_phase_after (found_phase settings xs plan start) (found_step settings xs plan start)
     (channel.start - start + j))
