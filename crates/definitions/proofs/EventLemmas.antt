@@ -29,6 +29,7 @@ use Rattle.definitions.proofs.DumpLemmas.{are-dumps}
 use Rattle.definitions.proofs.LifeDumpLemmas.{life-dump}
 use Rattle.definitions.proofs.GreatestLemmas.{greatest_of-first}
 use Rattle.definitions.proofs.FrameLemmas.{found-whole}
+use Rattle.definitions.proofs.LastPageLemmas.{page-is-last, is-last-page}
 use Rattle.definitions.proofs.ReportLemmas.{is-report, is-almanac_set}
 
 -- ---- lists of events
@@ -108,7 +109,7 @@ module _ (settings : Settings) (xs : List Sample) (life : Life) where
   bits-right None e = tt
   bits-right (Some found) e =
       all-bits P bits found (all-events_of P gap found.gap (λ n is. rw e is)) shown
-      (paged (page_of found.subframe))
+      (paged (page_of found.subframe) refl)
     where
       bits : List Bool
       bits = bits_so_far settings xs life
@@ -116,13 +117,14 @@ module _ (settings : Settings) (xs : List Sample) (life : Life) where
       shown : IsSubframe bits found.subframe
       shown = found-whole bits found e
 
-      paged : (o : Option Page) → All P (page_events bits o)
-      paged None = tt
-      paged (Some page) =
+      paged : (o : Option Page) → page_of found.subframe ≡ o → All P (page_events bits o)
+      paged None is_page = tt
+      paged (Some page) is_page =
           all-append P (events_of reported (reports_of (pages_among bits)).page)
           (events_of almanacs (reports_of (pages_among bits)).set)
           (all-events_of P reported (reports_of (pages_among bits)).page
-          (λ r is. is-report bits r is))
+          (λ r is. is-report bits page (page-is-last bits found page is_page e)
+          (is-last-page bits found page is_page e) r is))
           (all-events_of P almanacs (reports_of (pages_among bits)).set
           (λ s is. is-almanac_set bits s is))
 

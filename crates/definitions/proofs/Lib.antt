@@ -49,3 +49,4 @@ pub mod PhaseLemmas
 pub mod FoundLemmas
 pub mod CellLemmas
 pub mod PageLemmas
+pub mod LastPageLemmas

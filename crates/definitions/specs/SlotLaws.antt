@@ -103,11 +103,24 @@ abbrev pub CellsComeWithSamples : Type 0
 CellsComeWithSamples = (settings : Settings) (plan : Plan) (start t m : ℕ)
     → cells_done settings plan start (t + m) ≤ cells_done settings plan start t + (m / 4 + 1)
 
--- Each page that is reported comes from ten words that all pass with the two bits before them.
+-- The page of the ten words from place n on, which all pass with the two bits before them.
+pub record IsPageAt (bits : List Bool) (n : ℕ) (page : Page) : Type 0 where
+  pub two_before : 2 ≤ n
+  pub is_read : page_of (subframe_at bits n) ≡ Some page
+  pub pass : (i : ℕ) → i < 10
+      → passes (word_at bits (n + 30 * i)) (prior_at bits (n + 30 * i)) ≡ true
+
+-- A page that some 300 of the bits hold, and the page of the last 300.
+abbrev pub IsPage : List Bool → Page → Type 0
+IsPage bits page = (n : ℕ) × (n + 300 ≤ length bits) × IsPageAt bits n page
+
+abbrev pub IsLastPage : List Bool → Page → Type 0
+IsLastPage bits page = (n : ℕ) × (n + 300 ≡ length bits) × IsPageAt bits n page
+
+-- Each of the pages comes from ten words that all pass with the two bits before them.
 abbrev pub PagesPass : Type 0
 PagesPass = (bits : List Bool) (k : ℕ) (page : Page) → slice_get (pages_among bits) k ≡ Some page
-    → (n : ℕ) × (2 ≤ n) × (n + 300 ≤ length bits) × (page_of (subframe_at bits n) ≡ Some page)
-    × ((i : ℕ) → i < 10 → passes (word_at bits (n + 30 * i)) (prior_at bits (n + 30 * i)) ≡ true)
+    → IsPage bits page
 
 -- ---- bits
 
