@@ -12,7 +12,8 @@ use Rattle.definitions.specs.Frames.{Subframe}
 use Rattle.definitions.specs.Fields.{value_of}
 use Rattle.definitions.specs.Pages.{Kind, clock, eph2, eph3, almanac, utc, health, message, Page}
 use Rattle.definitions.specs.Pages.{page_of, fields_of}
-use Rattle.definitions.specs.DataSets.{kind_number, is_almanac_of, last_almanac, with_first, last_page}
+use Rattle.definitions.specs.DataSets.{kind_number, is_almanac_of, last_almanac, with_first}
+use Rattle.definitions.specs.DataSets.{last_page}
 use Rattle.definitions.specs.DataSets.{all_there, toa_of, have_one_toa, values_for_one_toa}
 use Rattle.definitions.specs.DataSets.{almanacs_of, almanac_set}
 use Rattle.definitions.specs.Events.{pages_among}

@@ -11,7 +11,8 @@ use Rattle.definitions.specs.Segments.{Channel, Progress, Dump, dumps_of}
 use Rattle.definitions.specs.Lock.{news_of}
 use Rattle.definitions.specs.Acquisition.{Plan, result_of, due_time}
 use Rattle.definitions.specs.Commands.{Start, acquire}
-use Rattle.definitions.specs.Lives.{until_lost, Life, found_channel, dumps_of_channel, channel_of, dumps_of_life}
+use Rattle.definitions.specs.Lives.{until_lost, Life, found_channel}
+use Rattle.definitions.specs.Lives.{dumps_of_channel, channel_of, dumps_of_life}
 use Rattle.definitions.specs.Events.{Event, acquired, due_events, last_dump_events, last_of}
 use Rattle.definitions.specs.Events.{life_events}
 use Rattle.definitions.proofs.BlockLemmas.{progress-begun}

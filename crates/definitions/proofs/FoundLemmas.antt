@@ -42,6 +42,7 @@ code-goes-on settings xs plan start channel e =
           ap (λ (c : Channel). c.steering []) (sym it)
               ∙ first-shift (bin_shift plan (result_of settings plan xs start).bin) refl,
           λ j. rw (sym it)
-              (phase-on code_cycle (found_phase settings xs plan start) (found_step settings xs plan start)
+              (phase-on code_cycle (found_phase settings xs plan start)
+              (found_step settings xs plan start)
               (due_time settings plan start - start) j),
         )

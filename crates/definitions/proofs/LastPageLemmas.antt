@@ -1,5 +1,6 @@
 -- The page of a subframe that is found is the last page, and that of the last 300 bits.
-use Rattle.std.proofs.Common.{◌≡◌, ℕ, suc, ◌+◌, ◌-◌, List, [], ◌∷◌, length, map, refl, sym, ap, ◌∙◌, arith}
+use Rattle.std.proofs.Common.{◌≡◌, ℕ, suc, ◌+◌, ◌-◌, List, [], ◌∷◌, length, map}
+use Rattle.std.proofs.Common.{refl, sym, ap, ◌∙◌, arith}
 use Rattle.std.specs.Prelude.{Bool, true, false, Option, Some, None, cond, nat_eq, filter}
 use Rattle.std.specs.Prelude.{filter_map, slice_get}
 use Rattle.std.specs.List.{cons_option}
@@ -17,7 +18,8 @@ use Rattle.definitions.proofs.StartLemmas.{Spaced, starts-spaced, ends_by, none-
 abbrev pub last_in : List Page → Option Page
 last_in ps = slice_get ps (length ps - 1)
 
-with-first : (p page : Page) (ps : List Page) → last_in ps ≡ Some page → last_in (p ∷ ps) ≡ Some page
+with-first : (p page : Page) (ps : List Page) → last_in ps ≡ Some page
+    → last_in (p ∷ ps) ≡ Some page
 with-first p page [] e = cc
 with-first p page (q ∷ qs) e =
     let n : length (p ∷ q ∷ qs) - 1 ≡ suc (length (q ∷ qs) - 1) = omega arith in rw n e

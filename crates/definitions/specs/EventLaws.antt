@@ -1,8 +1,8 @@
 -- What holds of the events that a slot emits, by what the definitions make of the samples and
 -- commands so far. Each law is promised by a function of the same name in this crate. (This
 -- project's own.)
-use Rattle.std.specs.Prelude.{ℕ, ◌≡◌, ◌+◌, ◌-◌, ◌*◌, ◌^◌, ◌<◌, ◌≤◌, ◌↔◌, Bool, true, false, ℤ, pos, List, []}
-use Rattle.std.specs.Prelude.{◌++◌, map, sum, length, slice_get, Some, option_and_then}
+use Rattle.std.specs.Prelude.{ℕ, ◌≡◌, ◌+◌, ◌-◌, ◌*◌, ◌^◌, ◌<◌, ◌≤◌, ◌↔◌, Bool, true, false}
+use Rattle.std.specs.Prelude.{ℤ, pos, List, [], ◌++◌, map, sum, length, slice_get, Some, option_and_then}
 use Rattle.std.specs.List.{range_with_len}
 use Rattle.definitions.specs.Samples.{Sample}
 use Rattle.definitions.specs.Oscillators.{Settings, code_step, code_phase_after}
