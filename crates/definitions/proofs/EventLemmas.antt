@@ -30,7 +30,7 @@ use Rattle.definitions.proofs.LifeDumpLemmas.{life-dump}
 use Rattle.definitions.proofs.GreatestLemmas.{greatest_of-first}
 use Rattle.definitions.proofs.FrameLemmas.{found-whole}
 use Rattle.definitions.proofs.LastPageLemmas.{page-is-last, is-last-page}
-use Rattle.definitions.proofs.ReportLemmas.{is-report, is-almanac_set}
+use Rattle.definitions.proofs.ReportLemmas.{is-report, is-almanac_set, with-almanac}
 
 -- ---- lists of events
 abbrev pub All : (Event → Type 0) → List Event → Type 0
@@ -120,13 +120,14 @@ module _ (settings : Settings) (xs : List Sample) (life : Life) where
       paged : (o : Option Page) → page_of found.subframe ≡ o → All P (page_events bits o)
       paged None is_page = tt
       paged (Some page) is_page =
+          let is_last = page-is-last bits found page is_page e in
+          let is_new = is-last-page bits found page is_page e in
           all-append P (events_of reported (reports_of (pages_among bits)).page)
           (events_of almanacs (reports_of (pages_among bits)).set)
           (all-events_of P reported (reports_of (pages_among bits)).page
-          (λ r is. is-report bits page (page-is-last bits found page is_page e)
-          (is-last-page bits found page is_page e) r is))
+          (λ r is. is-report bits page is_last is_new r is))
           (all-events_of P almanacs (reports_of (pages_among bits)).set
-          (λ s is. is-almanac_set bits s is))
+          (λ s is. (is-almanac_set bits s is, with-almanac bits page is_last is_new s is)))
 
   news-right : (n : News) → news_of (counts_by settings xs life) ≡ n → All P (news_events n)
   unfolding P

@@ -112,7 +112,7 @@ last-small bits kind page e =
 pub report-short : (slot : ℕ) (bits : List Bool) (r : Report) → IsReport bits r
     → length (report_text slot r) ≤ 880
 unfolding digits
-report-short slot bits (ephemeris values) (c, e2, e3, f, g, h, one, is, last) =
+report-short slot bits (ephemeris values) ((c, e2, e3, f, g, h, one, is), with) =
     let small : AllByRecursion (λ v. Small v) values =
     rw is (all-append (c.values ++ e2.values) e3.values
     (all-append c.values e2.values (last-small bits clock c f.is_last)

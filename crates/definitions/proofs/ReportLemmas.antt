@@ -5,7 +5,7 @@ use Rattle.std.specs.Prelude.{Bool, true, false, ℤ, Option, Some, None, slice_
 use Rattle.std.specs.Prelude.{if◌then◌else◌, option_map, option_and_then}
 use Rattle.std.specs.Option.{option_map_or}
 use Rattle.std.proofs.Math.Seq.{take-length}
-use Rattle.definitions.specs.Pages.{Kind, Page, clock, eph2, eph3}
+use Rattle.definitions.specs.Pages.{Kind, Page, clock, eph2, eph3, almanac}
 use Rattle.definitions.specs.DataSets.{SetKind, Report, ephemeris, single, AlmanacSet, almanac_set}
 use Rattle.definitions.specs.DataSets.{last_page, is_of, is_ephemeris, belong_together}
 use Rattle.definitions.specs.DataSets.{joined_values}
@@ -14,6 +14,7 @@ use Rattle.definitions.specs.DataSets.{reported_with, last_reported, differing, 
 use Rattle.definitions.specs.DataSets.{page_report, reports_of}
 use Rattle.definitions.specs.Events.{pages_among}
 use Rattle.definitions.specs.EventLaws.{IsLatest, IsEphemeris, IsReport, IsAlmanacSet}
+use Rattle.definitions.specs.EventLaws.{IsWithPage}
 use Rattle.definitions.specs.SlotLaws.{IsLastPage}
 use Rattle.definitions.proofs.LastPageLemmas.{last_in}
 use Rattle.definitions.proofs.AlmanacLemmas.{set-agrees, last-passes}
@@ -58,11 +59,11 @@ module _ (bits : List Bool) (last : Page) (is_last : last_in (pages_among bits) 
   latest : (kind : Kind) (page : Page) → last_page (is_of kind) (pages_among bits) ≡ Some page
       → IsLatest bits kind page
   latest kind page e =
-      record { is_last = e; passes_all = last-passes bits (is_of kind) page e }
+      record { is_last = e; is_page = last-passes bits (is_of kind) page e }
 
-  has-ephemeris : (values : List ℤ) → is_ephemeris last ≡ true
-      → ephemeris_of (pages_among bits) ≡ Some values → IsEphemeris bits values
-  has-ephemeris values kind e =
+  has-ephemeris : (values : List ℤ) → ephemeris_of (pages_among bits) ≡ Some values
+      → IsEphemeris bits values
+  has-ephemeris values e =
       by_pages (last_page (is_of clock) (pages_among bits))
       (last_page (is_of eph2) (pages_among bits)) (last_page (is_of eph3) (pages_among bits)) refl
       refl refl e
@@ -86,7 +87,6 @@ module _ (bits : List Bool) (last : Page) (is_last : last_in (pages_among bits) 
             latest eph3 e3 h,
             it.0,
             it.1,
-            (last, kind, is_new),
           )
       by_pages (Some c) (Some e2) None f g h e = cc
       by_pages (Some c) None q f g h e = cc
@@ -102,7 +102,9 @@ module _ (bits : List Bool) (last : Page) (is_last : last_in (pages_among bits) 
       of_set kind None is e = cc
       of_set kind (Some values) is e =
           let it : ephemeris values ≡ r = cc in
-          rw (sym it) (has-ephemeris values kind (new-set ephemerides (pages_among bits) values is))
+          let all : IsEphemeris bits values =
+          has-ephemeris values (new-set ephemerides (pages_among bits) values is) in
+          rw (sym it) (all, (last, kind, is_new))
 
       by_kind : (b : Bool) → is_ephemeris last ≡ b
           → cond b (option_map ephemeris (new_set ephemerides (pages_among bits)))
@@ -115,6 +117,23 @@ module _ (bits : List Bool) (last : Page) (is_last : last_in (pages_among bits) 
       by_page None is e = cc
       by_page (Some page) is e = let it : page ≡ last = cc in
           by_kind (is_ephemeris last) refl (rw it at e)
+
+  -- a set of almanacs comes with an almanac
+  pub with-almanac : (set : AlmanacSet) → (reports_of (pages_among bits)).set ≡ Some set
+      → IsWithPage bits (is_of almanac)
+  unfolding reports_of new_set
+  with-almanac set e = of_set (new_set almanac_sets (pages_among bits)) refl e
+    where
+      by_test : (b : Bool) (o : Option (List ℤ)) (values : List ℤ) → cond b o None ≡ Some values
+          → b ≡ true
+      by_test true o values e = refl
+      by_test false o values e = cc
+
+      of_set : (o : Option (List ℤ)) → new_set almanac_sets (pages_among bits) ≡ o
+          → option_map almanac_set o ≡ Some set → IsWithPage bits (is_of almanac)
+      of_set None is e = cc
+      of_set (Some values) is e =
+          (last, by_test (is_of almanac last) _ values (rw is_last at is), is_new)
 
 pub is-almanac_set : (bits : List Bool) (set : AlmanacSet)
     → (reports_of (pages_among bits)).set ≡ Some set → IsAlmanacSet bits set

@@ -2,7 +2,8 @@
 -- commands so far. Each law is promised by a function of the same name in this crate. (This
 -- project's own.)
 use Rattle.std.specs.Prelude.{ℕ, ◌≡◌, ◌+◌, ◌-◌, ◌*◌, ◌^◌, ◌<◌, ◌≤◌, ◌↔◌, Bool, true, false}
-use Rattle.std.specs.Prelude.{ℤ, pos, List, [], ◌++◌, map, sum, length, slice_get, Some, option_and_then}
+use Rattle.std.specs.Prelude.{ℤ, pos, List, [], ◌++◌, map, sum, length, slice_get, Some}
+use Rattle.std.specs.Prelude.{option_and_then}
 use Rattle.std.specs.List.{range_with_len}
 use Rattle.definitions.specs.Samples.{Sample}
 use Rattle.definitions.specs.Oscillators.{Settings, code_step, code_phase_after}
@@ -13,7 +14,7 @@ use Rattle.definitions.specs.Acquisition.{Plan, Cell, cell_count, bin_of, half_c
 use Rattle.definitions.specs.Acquisition.{bin_shift, result_of, due_time}
 use Rattle.definitions.specs.BitEdge.{has_edge, bits_of}
 use Rattle.definitions.specs.Frames.{Subframe, Found, found_by, subframe_at}
-use Rattle.definitions.specs.Pages.{Kind, Page, clock, eph2, eph3}
+use Rattle.definitions.specs.Pages.{Kind, Page, clock, eph2, eph3, almanac}
 use Rattle.definitions.specs.DataSets.{Report, ephemeris, single, AlmanacSet, last_page, is_of}
 use Rattle.definitions.specs.DataSets.{is_ephemeris}
 use Rattle.definitions.specs.DataSets.{belong_together, last_almanac, toa_of, health_of, reports_of}
@@ -88,19 +89,23 @@ IsGap bits n = option_and_then (λ (f : Found). f.gap) (found_by bits) ≡ Some 
 -- The last page of a kind, of ten words that pass.
 pub record IsLatest (bits : List Bool) (kind : Kind) (page : Page) : Type 0 where
   pub is_last : last_page (is_of kind) (pages_among bits) ≡ Some page
-  pub passes_all : IsPage bits page
+  pub is_page : IsPage bits page
 
 -- The values of the last clock page and of the last two ephemeris pages, which are of one issue of
--- data. The page of the last 300 bits is of one of the three kinds.
+-- data.
 abbrev pub IsEphemeris : List Bool → List ℤ → Type 0
 IsEphemeris bits values =
     (c : Page) × (e2 : Page) × (e3 : Page) × IsLatest bits clock c × IsLatest bits eph2 e2
     × IsLatest bits eph3 e3 × (belong_together c e2 e3 ≡ true)
     × (values ≡ c.values ++ e2.values ++ e3.values)
-    × ((page : Page) × (is_ephemeris page ≡ true) × IsLastPage bits page)
 
+-- The last 300 bits hold a page that passes a test.
+abbrev pub IsWithPage : List Bool → (Page → Bool) → Type 0
+IsWithPage bits test = (page : Page) × (test page ≡ true) × IsLastPage bits page
+
+-- A set comes with a page of its kinds, and any other report is that page.
 abbrev pub IsReport : List Bool → Report → Type 0
-IsReport bits (ephemeris values) = IsEphemeris bits values
+IsReport bits (ephemeris values) = IsEphemeris bits values × IsWithPage bits is_ephemeris
 IsReport bits (single page) = IsLastPage bits page
 
 -- The last almanac of each of the satellites 1 to 32, of ten words that pass, all of one time of
@@ -127,7 +132,9 @@ IsOfLife settings xs life edge = IsNewEdge (pushes_so_far settings xs life)
 IsOfLife settings xs life (gap n) = IsGap (bits_so_far settings xs life) n
 IsOfLife settings xs life (subframe s) = IsSubframe (bits_so_far settings xs life) s
 IsOfLife settings xs life (reported r) = IsReport (bits_so_far settings xs life) r
-IsOfLife settings xs life (almanacs set) = IsAlmanacSet (bits_so_far settings xs life) set
+IsOfLife settings xs life (almanacs set) =
+    IsAlmanacSet (bits_so_far settings xs life) set
+    × IsWithPage (bits_so_far settings xs life) (is_of almanac)
 
 -- It says so of the life that the commands leave on just before the last sample.
 abbrev pub IsRight : Settings → List Sample → List TimedRequest → Event → Type 0
