@@ -13,12 +13,15 @@ use Rattle.definitions.specs.Fields.{value_of}
 use Rattle.definitions.specs.Pages.{Kind, clock, eph2, eph3, almanac, utc, health, message, Page}
 use Rattle.definitions.specs.Pages.{page_of, fields_of}
 use Rattle.definitions.specs.DataSets.{kind_number, is_almanac_of, last_almanac, with_first}
+use Rattle.definitions.specs.DataSets.{last_page}
 use Rattle.definitions.specs.DataSets.{all_there, toa_of, have_one_toa, values_for_one_toa}
 use Rattle.definitions.specs.DataSets.{almanacs_of, almanac_set}
 use Rattle.definitions.specs.Events.{pages_among}
+use Rattle.definitions.specs.SlotLaws.{IsPage}
 use Rattle.definitions.specs.EventLaws.{IsAlmanacSet}
 use Rattle.definitions.proofs.FrameLemmas.{mapped}
 use Rattle.definitions.proofs.PageLemmas.{page_as, page_of-has, pages_among-have, all-from}
+use Rattle.definitions.proofs.PageLemmas.{pages-pass}
 
 -- ---- a page has a value for each field of its kind
 abbrev pub IsWhole : Page → Type 0
@@ -52,6 +55,15 @@ filter-at P test (p ∷ ps) all k page e =
     by_test false is k e next = next k e
     by_test true is zero e next = let it : p ≡ page = cc in (rw (sym it) all.0, rw (sym it) is)
     by_test true is (suc k) e next = next k e
+
+-- it is one of the pages, so its words pass
+pages-are : (bits : List Bool) → AllByRecursion (IsPage bits) (pages_among bits)
+pages-are bits = all-from (IsPage bits) (pages_among bits) (pages-pass bits)
+
+pub last-passes : (bits : List Bool) (test : Page → Bool) (page : Page)
+    → last_page test (pages_among bits) ≡ Some page → IsPage bits page
+last-passes bits test page e =
+    (filter-at (IsPage bits) test (pages_among bits) (pages-are bits) _ page e).0
 
 thirteen : (kind : Kind) → nat_eq 3 (kind_number kind) ≡ true → length (fields_of kind) ≡ 13
 thirteen clock e = cc
@@ -196,13 +208,19 @@ are-pages pages ps e =
     found k page h e = cc
 
 -- a set that is made of the last almanacs
-pub set-agrees : (pages : List Page) (values : List ℤ) → AllByRecursion IsWhole pages
-    → almanacs_of pages ≡ Some values → IsAlmanacSet pages (almanac_set values)
-set-agrees pages values all e =
+pub set-agrees : (bits : List Bool) (values : List ℤ)
+    → almanacs_of (pages_among bits) ≡ Some values → IsAlmanacSet bits (almanac_set values)
+set-agrees bits values e =
     by_there (all_there (map (last_almanac pages) (range_with_len 1 32))) refl e
   where
+    pages : List Page
+    pages = pages_among bits
+
+    all : AllByRecursion IsWhole pages
+    all = pages_among-whole bits
+
     of_pages : (ps : List Page) → ArePages pages ps → have_one_toa ps ≡ true
-        → values ≡ all_values ps → IsAlmanacSet pages (almanac_set values)
+        → values ≡ all_values ps → IsAlmanacSet bits (almanac_set values)
     of_pages ps are one is =
         let longs : AllByRecursion (λ (p : Page). length p.values ≡ 13) ps =
         all-from (λ (p : Page). length p.values ≡ 13) ps
@@ -215,9 +233,11 @@ set-agrees pages values all e =
               let below : k < 32 = omega arith in
               let page = are.some k below in
               let health = mapped (λ j. get_or values (13 * j + 6) (pos 0)) 0 32 k below in
-              let from_zero : 0 + k ≡ k = omega arith in (
+              let from_zero : 0 + k ≡ k = omega arith in
+              let last = ap (last_almanac pages) (sym same) ∙ (are.each k page.0 page.1).1 in (
                 page.0,
-                ap (last_almanac pages) (sym same) ∙ (are.each k page.0 page.1).1,
+                last,
+                last-passes bits (is_almanac_of sv) page.0 last,
                 rw is (have-one ps one longs k page.0 page.1),
                 health ∙ ap (λ z. Some z)
                     (rw (is, from_zero) (in-row ps longs k 6 page.0 page.1 (omega arith))),
@@ -226,7 +246,7 @@ set-agrees pages values all e =
 
     by_there : (o : Option (List Page)) → all_there (map (last_almanac pages) (range_with_len 1 32))
         ≡ o → option_and_then values_for_one_toa o ≡ Some values
-        → IsAlmanacSet pages (almanac_set values)
+        → IsAlmanacSet bits (almanac_set values)
     by_there None there h = cc
     by_there (Some ps) there h = let parts = one-values ps values h in
         of_pages ps (are-pages pages ps there) parts.0 parts.1

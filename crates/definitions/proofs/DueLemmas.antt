@@ -1,18 +1,18 @@
 -- What an acquiring life emits.
-use Rattle.std.proofs.Common.{◌≡◌, ℕ, ◌-◌, ◌*◌, ◌<◌, ◌^◌, List, [], ◌∷◌, ◌++◌, length, refl, sym}
+use Rattle.std.proofs.Common.{◌≡◌, ℕ, ◌<◌, List, [], ◌∷◌, ◌++◌, length, refl, sym}
 use Rattle.std.proofs.Common.{ap, ◌∙◌, arith, append-nil}
-use Rattle.std.specs.Prelude.{pos, ◌+ℤ◌, ◌*ℤ◌, Bool, true, false, Some, None, nat_le, ◌&&◌}
+use Rattle.std.specs.Prelude.{Bool, true, false, Some, None, nat_le, ◌&&◌}
 use Rattle.std.specs.Prelude.{if◌then◌else◌}
 use Rattle.std.proofs.lemmas.Bool.{lt-leb, ne_eqb, eq-eqb}
 use Rattle.definitions.specs.Sums.{least_below}
 use Rattle.definitions.specs.Samples.{Sample}
-use Rattle.definitions.specs.Oscillators.{Settings, code_phase_after, code_step}
+use Rattle.definitions.specs.Oscillators.{Settings}
 use Rattle.definitions.specs.Segments.{Channel, Progress, Dump, dumps_of}
-use Rattle.definitions.specs.Loops.{shift_after}
 use Rattle.definitions.specs.Lock.{news_of}
 use Rattle.definitions.specs.Acquisition.{Plan, result_of, due_time}
 use Rattle.definitions.specs.Commands.{Start, acquire}
-use Rattle.definitions.specs.Lives.{until_lost, Life, dumps_of_channel, channel_of, dumps_of_life}
+use Rattle.definitions.specs.Lives.{until_lost, Life, found_channel}
+use Rattle.definitions.specs.Lives.{dumps_of_channel, channel_of, dumps_of_life}
 use Rattle.definitions.specs.Events.{Event, acquired, due_events, last_dump_events, last_of}
 use Rattle.definitions.specs.Events.{life_events}
 use Rattle.definitions.proofs.BlockLemmas.{progress-begun}
@@ -74,17 +74,7 @@ no_dumps_yet settings xs begun start plan e h =
     && (result_of settings plan xs begun).found))
   where
     channel : Channel
-    channel =
-        let cell = result_of settings plan xs begun in let due = due_time settings plan begun in
-        let v = (plan.centre +ℤ pos 250 *ℤ cell.bin) *ℤ pos 65536 in
-        record {
-          prn = plan.prn;
-          start = due;
-          code =
-              code_phase_after (cell.half_chip * 2 ^ 31) (code_step settings v (pos 0))
-              (due - begun);
-          steering = shift_after v;
-        }
+    channel = found_channel settings plan begun (result_of settings plan xs begun)
 
     none : dumps_of settings channel xs ≡ []
     none = ap (λ (p : Progress). p.dumps) (progress-begun settings channel xs (omega (arith, h)))

@@ -1,13 +1,13 @@
 -- Dumps stay when samples are added, and so does what samples have ended.
 use Rattle.std.proofs.Common.{◌≡◌, ℕ, zero, suc, ◌+◌, ◌-◌, ◌*◌, ◌^◌, ◌≤◌, List, [], ◌∷◌, ◌++◌}
 use Rattle.std.proofs.Common.{length, take, map, refl, ap, ◌∙◌, sym, arith, length-append}
-use Rattle.std.specs.Prelude.{pos, Bool, true, false, Option, Some, None, nat_le, ◌+ℤ◌, ◌*ℤ◌}
+use Rattle.std.specs.Prelude.{Bool, true, false, Option, Some, None, nat_le}
 use Rattle.std.specs.Option.{is_some}
 use Rattle.std.proofs.lemmas.Bool.{le-leb, leb-true}
 use Rattle.std.proofs.lemmas.List.{take-append-le, append_assoc, append-nil}
 use Rattle.definitions.specs.Sums.{least_below}
 use Rattle.definitions.specs.Samples.{Sample}
-use Rattle.definitions.specs.Oscillators.{Settings, code_step, code_phase_after}
+use Rattle.definitions.specs.Oscillators.{Settings}
 use Rattle.definitions.specs.Correlation.{Counts, counts_over}
 use Rattle.definitions.specs.Segments.{Channel, Progress, Dump, progress, closed_if_ended, next_end}
 use Rattle.definitions.specs.Segments.{closed_at, open_phases, dumps_of, counts_of}
@@ -16,7 +16,7 @@ use Rattle.definitions.specs.Acquisition.{Plan, Cell, result_of, due_time}
 use Rattle.definitions.specs.Loops.{shift_after}
 use Rattle.definitions.specs.Commands.{Start, hold, track, acquire}
 use Rattle.definitions.specs.Lives.{Life, doppler_shift, dumps_of_life, is_over, is_lost_with}
-use Rattle.definitions.specs.Lives.{lost_after, until_lost}
+use Rattle.definitions.specs.Lives.{lost_after, until_lost, found_channel}
 use Rattle.definitions.proofs.SumsLemmas.{least_below-some, least_below-is, least_below-more}
 use Rattle.definitions.proofs.SegmentsLemmas.{closed-none, closed-some, progress-more}
 use Rattle.definitions.proofs.AcquisitionLemmas.{result_of-append}
@@ -161,16 +161,7 @@ module _ (settings : Settings) (plan : Plan) (begun : ℕ) (wanted wanted_from :
       record { begun = begun; start = acquire plan; wanted = wanted; wanted_from = wanted_from }
 
   tracked_from : Cell → Channel
-  tracked_from cell =
-      record {
-        prn = plan.prn;
-        start = due_time settings plan begun;
-        code =
-            code_phase_after (cell.half_chip * 2 ^ 31)
-            (code_step settings ((plan.centre +ℤ pos 250 *ℤ cell.bin) *ℤ pos 65536) (pos 0))
-            (due_time settings plan begun - begun);
-        steering = shift_after ((plan.centre +ℤ pos 250 *ℤ cell.bin) *ℤ pos 65536);
-      }
+  tracked_from cell = found_channel settings plan begun cell
 
   lost_dumps : List Dump → Bool
   lost_dumps dumps = is_some (lost_after (counts_of dumps))

@@ -29,7 +29,8 @@ use Rattle.definitions.proofs.DumpLemmas.{are-dumps}
 use Rattle.definitions.proofs.LifeDumpLemmas.{life-dump}
 use Rattle.definitions.proofs.GreatestLemmas.{greatest_of-first}
 use Rattle.definitions.proofs.FrameLemmas.{found-whole}
-use Rattle.definitions.proofs.ReportLemmas.{is-report, is-almanac_set}
+use Rattle.definitions.proofs.LastPageLemmas.{page-is-last, is-last-page}
+use Rattle.definitions.proofs.ReportLemmas.{is-report, is-almanac_set, with-almanac}
 
 -- ---- lists of events
 abbrev pub All : (Event → Type 0) → List Event → Type 0
@@ -80,6 +81,12 @@ named settings xs plan start =
     both : (a b : ℕ) → (nat_le a b ≡ true) ↔ (a ≤ b)
     both a b = (leb-true a b, le-leb a b)
 
+-- ---- an edge
+new-edge : (now before : Bool) → (now && not before) ≡ true → (now ≡ true) × (before ≡ false)
+new-edge true false e = (refl, refl)
+new-edge true true e = cc
+new-edge false before e = cc
+
 -- ---- all events of a life
 all-bits : (P : Event → Type 0) (bits : List Bool) (found : Found) → All P (events_of gap found.gap)
     → P (subframe found.subframe) → All P (page_events bits (page_of found.subframe))
@@ -102,7 +109,7 @@ module _ (settings : Settings) (xs : List Sample) (life : Life) where
   bits-right None e = tt
   bits-right (Some found) e =
       all-bits P bits found (all-events_of P gap found.gap (λ n is. rw e is)) shown
-      (paged (page_of found.subframe))
+      (paged (page_of found.subframe) refl)
     where
       bits : List Bool
       bits = bits_so_far settings xs life
@@ -110,15 +117,17 @@ module _ (settings : Settings) (xs : List Sample) (life : Life) where
       shown : IsSubframe bits found.subframe
       shown = found-whole bits found e
 
-      paged : (o : Option Page) → All P (page_events bits o)
-      paged None = tt
-      paged (Some page) =
+      paged : (o : Option Page) → page_of found.subframe ≡ o → All P (page_events bits o)
+      paged None is_page = tt
+      paged (Some page) is_page =
+          let is_last = page-is-last bits found page is_page e in
+          let is_new = is-last-page bits found page is_page e in
           all-append P (events_of reported (reports_of (pages_among bits)).page)
           (events_of almanacs (reports_of (pages_among bits)).set)
           (all-events_of P reported (reports_of (pages_among bits)).page
-          (λ r is. is-report bits r is))
+          (λ r is. is-report bits page is_last is_new r is))
           (all-events_of P almanacs (reports_of (pages_among bits)).set
-          (λ s is. is-almanac_set bits s is))
+          (λ s is. (is-almanac_set bits s is, with-almanac bits page is_last is_new s is)))
 
   news-right : (n : News) → news_of (counts_by settings xs life) ≡ n → All P (news_events n)
   unfolding P
@@ -127,11 +136,12 @@ module _ (settings : Settings) (xs : List Sample) (life : Life) where
   news-right unlock e = (e, tt)
   news-right lost e = (e, tt)
 
-  edge-right : (b c : Bool) → has_edge (pushes_so_far settings xs life) ≡ b
-      → All P (when (b && c) edge)
+  edge-right : (pushes : List ℤ) → pushes_so_far settings xs life ≡ pushes
+      → All P (when (has_edge pushes && not (has_edge (front_of pushes))) edge)
   unfolding P
-  edge-right true c e = all-when P c edge (λ h. e)
-  edge-right false c e = tt
+  edge-right pushes e =
+      all-when P (has_edge pushes && not (has_edge (front_of pushes))) edge
+      (λ h. rw e (new-edge (has_edge pushes) (has_edge (front_of pushes)) h))
 
   steered-right : All P (steered_events (counts_of dumps))
   unfolding steered_events push_events dumps
@@ -146,7 +156,7 @@ module _ (settings : Settings) (xs : List Sample) (life : Life) where
       (all-append P (when (has_edge pushes && not (has_edge (front_of pushes))) edge)
       (if nat_lt (length (bits_of (front_of pushes))) (length bits) then bit_events bits
       (found_by bits) else [])
-      (edge-right (has_edge pushes) (not (has_edge (front_of pushes))) refl)
+      (edge-right pushes refl)
       (all-if P (nat_lt (length (bits_of (front_of pushes))) (length bits))
       (bit_events bits (found_by bits)) (bits-right (found_by bits) refl)))
 

@@ -45,6 +45,8 @@ pub mod SmallLemmas
 pub mod PageTextLemmas
 pub mod ShortLemmas
 pub mod OnlyDumpLemmas
+pub mod PhaseLemmas
 pub mod FoundLemmas
 pub mod CellLemmas
 pub mod PageLemmas
+pub mod LastPageLemmas

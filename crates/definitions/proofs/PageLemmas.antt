@@ -13,7 +13,7 @@ use Rattle.definitions.specs.Frames.{prior_at, is_complete}
 use Rattle.definitions.specs.Fields.{value_of}
 use Rattle.definitions.specs.Pages.{Kind, Page, fields_of, kind_of, page_of}
 use Rattle.definitions.specs.Events.{pages_among}
-use Rattle.definitions.specs.SlotLaws.{PagesPass}
+use Rattle.definitions.specs.SlotLaws.{IsPageAt, PagesPass}
 use Rattle.definitions.proofs.FrameLemmas.{starts-late}
 
 all-some : (f : ℕ → Option ℕ) (a k i : ℕ)
@@ -47,6 +47,14 @@ complete-passes bits n i h e =
     let z : 0 + i ≡ i = omega arith in
     some-passes (word_at bits (n + 30 * i)) (prior_at bits (n + 30 * i))
     (rw z at (all-some (λ k. checked_at bits (n + 30 * k)) 0 10 i e h))
+
+pub is-page-at : (bits : List Bool) (n : ℕ) (page : Page) → 2 ≤ n
+    → page_of (subframe_at bits n) ≡ Some page → IsPageAt bits n page
+is-page-at bits n page late e = record {
+  two_before = late;
+  is_read = e;
+  pass = λ i h. complete-passes bits n i h (page-complete (subframe_at bits n) page e);
+}
 
 abbrev IsFrom : List Bool → Page → Type 0
 IsFrom bits page = (n : ℕ) × (2 ≤ n) × (n + 300 ≤ length bits)
@@ -83,10 +91,8 @@ unfolding pages_among starts_of
 pages-pass bits k page e =
     let from = pages-from bits (starts_of bits) (starts-late bits (length bits) 0) k page e in (
       from.0,
-      from.1,
       from.2,
-      from.3,
-      λ i h. complete-passes bits from.0 i h (page-complete (subframe_at bits from.0) page from.3),
+      is-page-at bits from.0 page from.1 from.3,
     )
 
 -- ---- what holds of each page that is made of a subframe, holds of all pages
@@ -114,4 +120,4 @@ module _ (P : Page → Type 0) (made : (s : Subframe) (k : Kind) → P (page_as 
   pub pages_among-have : (bits : List Bool) → AllByRecursion P (pages_among bits)
   pages_among-have bits = all-from P (pages_among bits)
       (λ k page there. let from = pages-pass bits k page there in
-      page_of-has (subframe_at bits from.0) page from.3)
+      page_of-has (subframe_at bits from.0) page (from.2).is_read)

@@ -112,16 +112,16 @@ last-small bits kind page e =
 pub report-short : (slot : ℕ) (bits : List Bool) (r : Report) → IsReport bits r
     → length (report_text slot r) ≤ 880
 unfolding digits
-report-short slot bits (ephemeris values) (c, e2, e3, f, g, h, one, is) =
+report-short slot bits (ephemeris values) ((c, e2, e3, f, g, h, one, is), with) =
     let small : AllByRecursion (λ v. Small v) values =
     rw is (all-append (c.values ++ e2.values) e3.values
-    (all-append c.values e2.values (last-small bits clock c f) (last-small bits eph2 e2 g))
-    (last-small bits eph3 e3 h)) in
+    (all-append c.values e2.values (last-small bits clock c f.is_last)
+    (last-small bits eph2 e2 g.is_last)) (last-small bits eph3 e3 h.is_last)) in
     fields-short (codes "eph") slot (clock_fields ++ eph2_fields ++ eph3_fields) values refl small
     refl
-report-short slot bits (single page) (n, two, ends, is, pass) =
-    kind-short slot page.kind page.values (page_of-whole (subframe_at bits n) page is)
-    (page-small (subframe_at bits n) page is)
+report-short slot bits (single page) (n, ends, it) =
+    kind-short slot page.kind page.values (page_of-whole (subframe_at bits n) page it.is_read)
+    (page-small (subframe_at bits n) page it.is_read)
 
 -- ---- a set of almanacs
 almanac-small : (bits : List Bool) (sv : ℕ) (page : Page)
@@ -136,11 +136,11 @@ all-from P [] each = tt
 all-from P (x ∷ xs) each = (each 0 x refl, all-from P xs (λ k y there. each (suc k) y there))
 
 pub set-short : (slot : ℕ) (bits : List Bool) (set : AlmanacSet)
-    → IsAlmanacSet (pages_among bits) set → length (almanacs_text slot set) ≤ 880
+    → IsAlmanacSet bits set → length (almanacs_text slot set) ≤ 880
 set-short slot bits set is =
     let one = is.each 1 (omega arith) (omega arith) in
     let toa : Small set.toa =
-    rw one.2 at (get-small (one.0).values 3 (almanac-small bits 1 one.0 one.1)) in
+    rw one.3 at (get-small (one.0).values 3 (almanac-small bits 1 one.0 one.1)) in
     let healths : AllByRecursion (λ h. length (signed_decimal h) ≤ 11) set.health =
     all-from (λ h. length (signed_decimal h) ≤ 11) set.health
     (λ k h there. small-length h (healthy k h there)) in
@@ -170,6 +170,6 @@ set-short slot bits set is =
         let page = is.each (k + 1) (omega arith) (omega arith) in
         let place : k + 1 - 1 ≡ k = omega arith in
         let same : Some h ≡ Some (health_of page.0) =
-        sym there ∙ ap (slice_get set.health) (sym place) ∙ page.3 in
+        sym there ∙ ap (slice_get set.health) (sym place) ∙ page.4 in
         let it : h ≡ health_of page.0 = cc in
         rw it (get-small (page.0).values 6 (almanac-small bits (k + 1) page.0 page.1))

@@ -103,7 +103,7 @@ event-short settings xs life slot (subframe s) is =
 event-short settings xs life slot (reported r) is =
     report-short slot (bits_so_far settings xs life) r is
 event-short settings xs life slot (almanacs set) is =
-    set-short slot (bits_so_far settings xs life) set is
+    set-short slot (bits_so_far settings xs life) set is.0
 
 -- ---- answers
 view-short : (slot : ℕ) (view : View) → length (view_text slot view) ≤ 880

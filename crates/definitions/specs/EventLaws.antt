@@ -1,8 +1,9 @@
 -- What holds of the events that a slot emits, by what the definitions make of the samples and
 -- commands so far. Each law is promised by a function of the same name in this crate. (This
 -- project's own.)
-use Rattle.std.specs.Prelude.{ℕ, ◌≡◌, ◌+◌, ◌-◌, ◌*◌, ◌^◌, ◌<◌, ◌≤◌, ◌↔◌, Bool, true, ℤ, pos, List}
-use Rattle.std.specs.Prelude.{◌++◌, map, sum, length, slice_get, Some, option_and_then}
+use Rattle.std.specs.Prelude.{ℕ, ◌≡◌, ◌+◌, ◌-◌, ◌*◌, ◌^◌, ◌<◌, ◌≤◌, ◌↔◌, Bool, true, false}
+use Rattle.std.specs.Prelude.{ℤ, pos, List, [], ◌++◌, map, sum, length, slice_get, Some}
+use Rattle.std.specs.Prelude.{option_and_then}
 use Rattle.std.specs.List.{range_with_len}
 use Rattle.definitions.specs.Samples.{Sample}
 use Rattle.definitions.specs.Oscillators.{Settings, code_step, code_phase_after}
@@ -12,10 +13,10 @@ use Rattle.definitions.specs.Lock.{lock, unlock, lost, news_of}
 use Rattle.definitions.specs.Acquisition.{Plan, Cell, cell_count, bin_of, half_chip_of, power_of}
 use Rattle.definitions.specs.Acquisition.{bin_shift, result_of, due_time}
 use Rattle.definitions.specs.BitEdge.{has_edge, bits_of}
-use Rattle.definitions.specs.Parity.{passes}
-use Rattle.definitions.specs.Frames.{Subframe, Found, found_by, subframe_at, word_at, prior_at}
-use Rattle.definitions.specs.Pages.{Page, page_of, clock, eph2, eph3}
+use Rattle.definitions.specs.Frames.{Subframe, Found, found_by, subframe_at}
+use Rattle.definitions.specs.Pages.{Kind, Page, clock, eph2, eph3, almanac}
 use Rattle.definitions.specs.DataSets.{Report, ephemeris, single, AlmanacSet, last_page, is_of}
+use Rattle.definitions.specs.DataSets.{is_ephemeris}
 use Rattle.definitions.specs.DataSets.{belong_together, last_almanac, toa_of, health_of, reports_of}
 use Rattle.definitions.specs.Commands.{TimedRequest, acquire}
 use Rattle.definitions.specs.Lives.{Life, acquired_channel, channel_of, dumps_of_life, life_now}
@@ -23,7 +24,7 @@ use Rattle.definitions.specs.Events.{Event, acquired, count, locked, unlocked, s
 use Rattle.definitions.specs.Events.{gap, subframe, reported, almanacs, events_at_end, front_of}
 use Rattle.definitions.specs.Events.{pages_among, pushes_of, unprinted_count}
 use Rattle.definitions.specs.Laws.{IsFirstGreatest, IsChecked}
-use Rattle.definitions.specs.SlotLaws.{IsDump, time_behind, phases_behind}
+use Rattle.definitions.specs.SlotLaws.{IsPage, IsLastPage, IsDump, time_behind, phases_behind}
 
 -- ---- what an event says of a life
 
@@ -85,32 +86,39 @@ IsSubframe bits s = (n : ℕ) × (2 ≤ n) × (n + 300 ≡ length bits) × (s �
 abbrev pub IsGap : List Bool → ℕ → Type 0
 IsGap bits n = option_and_then (λ (f : Found). f.gap) (found_by bits) ≡ Some n
 
--- A page of ten words that all pass with the two bits before them.
-abbrev pub IsPage : List Bool → Page → Type 0
-IsPage bits page = (n : ℕ) × (2 ≤ n) × (n + 300 ≤ length bits)
-    × (page_of (subframe_at bits n) ≡ Some page)
-    × ((i : ℕ) → i < 10 → passes (word_at bits (n + 30 * i)) (prior_at bits (n + 30 * i)) ≡ true)
+-- The last page of a kind, of ten words that pass.
+pub record IsLatest (bits : List Bool) (kind : Kind) (page : Page) : Type 0 where
+  pub is_last : last_page (is_of kind) (pages_among bits) ≡ Some page
+  pub is_page : IsPage bits page
 
 -- The values of the last clock page and of the last two ephemeris pages, which are of one issue of
 -- data.
-abbrev pub IsEphemeris : List Page → List ℤ → Type 0
-IsEphemeris pages values =
-    (c : Page) × (e2 : Page) × (e3 : Page) × (last_page (is_of clock) pages ≡ Some c)
-    × (last_page (is_of eph2) pages ≡ Some e2)
-    × (last_page (is_of eph3) pages ≡ Some e3) × (belong_together c e2 e3 ≡ true)
+abbrev pub IsEphemeris : List Bool → List ℤ → Type 0
+IsEphemeris bits values =
+    (c : Page) × (e2 : Page) × (e3 : Page) × IsLatest bits clock c × IsLatest bits eph2 e2
+    × IsLatest bits eph3 e3 × (belong_together c e2 e3 ≡ true)
     × (values ≡ c.values ++ e2.values ++ e3.values)
 
-abbrev pub IsReport : List Bool → Report → Type 0
-IsReport bits (ephemeris values) = IsEphemeris (pages_among bits) values
-IsReport bits (single page) = IsPage bits page
+-- The last 300 bits hold a page that passes a test.
+abbrev pub IsWithPage : List Bool → (Page → Bool) → Type 0
+IsWithPage bits test = (page : Page) × (test page ≡ true) × IsLastPage bits page
 
--- The last almanac of each of the satellites 1 to 32, all of one time of applicability, and their
--- health in this order.
-pub record IsAlmanacSet (pages : List Page) (set : AlmanacSet) : Type 0 where
+-- A set comes with a page of its kinds, and any other report is that page.
+abbrev pub IsReport : List Bool → Report → Type 0
+IsReport bits (ephemeris values) = IsEphemeris bits values × IsWithPage bits is_ephemeris
+IsReport bits (single page) = IsLastPage bits page
+
+-- The last almanac of each of the satellites 1 to 32, of ten words that pass, all of one time of
+-- applicability, and their health in this order.
+pub record IsAlmanacSet (bits : List Bool) (set : AlmanacSet) : Type 0 where
   pub health_of_all : length set.health ≡ 32
   pub each : (sv : ℕ) → 1 ≤ sv → sv ≤ 32
-      → (page : Page) × (last_almanac pages sv ≡ Some page) × (toa_of page ≡ set.toa)
-      × (slice_get set.health (sv - 1) ≡ Some (health_of page))
+      → (page : Page) × (last_almanac (pages_among bits) sv ≡ Some page) × IsPage bits page
+      × (toa_of page ≡ set.toa) × (slice_get set.health (sv - 1) ≡ Some (health_of page))
+
+-- The pushes have an edge, and without the last of them had none.
+abbrev pub IsNewEdge : List ℤ → Type 0
+IsNewEdge pushes = (has_edge pushes ≡ true) × (has_edge (front_of pushes) ≡ false)
 
 -- what an event says of the life that is on, the last sample being the last of these
 abbrev pub IsOfLife : Settings → List Sample → Life → Event → Type 0
@@ -120,12 +128,13 @@ IsOfLife settings xs life (count c) =
 IsOfLife settings xs life locked = news_of (counts_by settings xs life) ≡ lock
 IsOfLife settings xs life unlocked = news_of (counts_by settings xs life) ≡ unlock
 IsOfLife settings xs life signal_lost = news_of (counts_by settings xs life) ≡ lost
-IsOfLife settings xs life edge = has_edge (pushes_so_far settings xs life) ≡ true
+IsOfLife settings xs life edge = IsNewEdge (pushes_so_far settings xs life)
 IsOfLife settings xs life (gap n) = IsGap (bits_so_far settings xs life) n
 IsOfLife settings xs life (subframe s) = IsSubframe (bits_so_far settings xs life) s
 IsOfLife settings xs life (reported r) = IsReport (bits_so_far settings xs life) r
 IsOfLife settings xs life (almanacs set) =
-    IsAlmanacSet (pages_among (bits_so_far settings xs life)) set
+    IsAlmanacSet (bits_so_far settings xs life) set
+    × IsWithPage (bits_so_far settings xs life) (is_of almanac)
 
 -- It says so of the life that the commands leave on just before the last sample.
 abbrev pub IsRight : Settings → List Sample → List TimedRequest → Event → Type 0
@@ -181,15 +190,17 @@ WordsToldPass = (settings : Settings) (xs : List Sample) (commands : List TimedR
 -- applicability.
 abbrev pub AlmanacSetsAgree : Type 0
 AlmanacSetsAgree = (bits : List Bool) (set : AlmanacSet)
-    → (reports_of (pages_among bits)).set ≡ Some set → IsAlmanacSet (pages_among bits) set
+    → (reports_of (pages_among bits)).set ≡ Some set → IsAlmanacSet bits set
 
--- A found signal is tracked from the due time on, and its code goes on: j samples later it has come
--- as far as the replica of the named cell, which began with the acquisition, has by then.
+-- A found signal is tracked from the due time on, at first at the shift of the named cell's bin,
+-- and its code goes on: j samples later it has come as far as the replica of the named cell, which
+-- began with the acquisition, has by then.
 abbrev pub FoundCodeGoesOn : Type 0
 FoundCodeGoesOn = (settings : Settings) (xs : List Sample) (plan : Plan) (start : ℕ)
     (channel : Channel) → acquired_channel settings xs plan start ≡ Some channel
     → (channel.prn ≡ plan.prn) × (channel.start ≡ due_time settings plan start)
     × (due_time settings plan start ≤ length xs)
+    × (channel.steering [] ≡ bin_shift plan (result_of settings plan xs start).bin)
     × ((j : ℕ) → code_phase_after channel.code (found_step settings xs plan start) j
     ≡ code_phase_after (found_phase settings xs plan start) (found_step settings xs plan start)
     (channel.start - start + j))

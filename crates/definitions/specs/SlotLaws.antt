@@ -4,7 +4,8 @@ use Rattle.std.specs.Prelude.{ℕ, zero, suc, ◌≡◌, ◌+◌, ◌-◌, ◌*�
 use Rattle.std.specs.Prelude.{Bool, true, false, List, length, slice_get, take, Some, None}
 use Rattle.std.specs.Option.{option_map_or}
 use Rattle.definitions.specs.Samples.{Sample}
-use Rattle.definitions.specs.Oscillators.{Settings, code_cycle}
+use Rattle.definitions.specs.Oscillators.{Settings, code_cycle, code_phase_after}
+use Rattle.definitions.specs.Oscillators.{carrier_phase_after}
 use Rattle.definitions.specs.Correlation.{Counts, Phases, phases_after, counts_over}
 use Rattle.definitions.specs.Segments.{Channel, Dump, Segment, counts_of, dumps_of, phases_of}
 use Rattle.definitions.specs.Segments.{next_segment}
@@ -58,6 +59,23 @@ pub record IsDump (channel : Channel) (xs : List Sample) (start : ℕ) (p : Phas
   pub not_sooner : (e : ℕ) → start < e → e < d.time → code_by p (e - start) < code_cycle
   pub sums : d.counts ≡ counts_over channel.prn p xs start d.time
 
+-- Where a segment ends, the next one begins. Both phases go on: j samples later they are what they
+-- would be without the end. The code has run through once.
+pub record GoesOn (s : Segment) (p : Phases) (e : ℕ) (next : Segment) : Type 0 where
+  pub begins : next.start ≡ e
+  pub code_goes_on : (j : ℕ)
+      → code_phase_after next.code p.code_step j
+      ≡ code_phase_after s.code p.code_step (e - s.start + j)
+  pub carrier_goes_on : (j : ℕ)
+      → carrier_phase_after next.carrier p.carrier_step j
+      ≡ carrier_phase_after s.carrier p.carrier_step (e - s.start + j)
+  pub once : next.code + code_cycle ≡ code_by p (e - s.start)
+
+-- So it is with the phases of each segment, by the end of which its code has run through.
+abbrev pub SegmentsGoOn : Type 0
+SegmentsGoOn = (s : Segment) (p : Phases) (e : ℕ) → p.code ≡ s.code → p.carrier ≡ s.carrier
+    → s.start < e → code_cycle ≤ code_by p (e - s.start) → GoesOn s p e (next_segment s p e)
+
 -- Each is the dump of the segment after those before it, and after the last of them no segment ends
 -- within the samples.
 pub record AreDumps (settings : Settings) (channel : Channel) (xs : List Sample) (dumps : List Dump)
@@ -85,11 +103,24 @@ abbrev pub CellsComeWithSamples : Type 0
 CellsComeWithSamples = (settings : Settings) (plan : Plan) (start t m : ℕ)
     → cells_done settings plan start (t + m) ≤ cells_done settings plan start t + (m / 4 + 1)
 
--- Each page that is reported comes from ten words that all pass with the two bits before them.
+-- The page of the ten words from place n on, which all pass with the two bits before them.
+pub record IsPageAt (bits : List Bool) (n : ℕ) (page : Page) : Type 0 where
+  pub two_before : 2 ≤ n
+  pub is_read : page_of (subframe_at bits n) ≡ Some page
+  pub pass : (i : ℕ) → i < 10
+      → passes (word_at bits (n + 30 * i)) (prior_at bits (n + 30 * i)) ≡ true
+
+-- A page that some 300 of the bits hold, and the page of the last 300.
+abbrev pub IsPage : List Bool → Page → Type 0
+IsPage bits page = (n : ℕ) × (n + 300 ≤ length bits) × IsPageAt bits n page
+
+abbrev pub IsLastPage : List Bool → Page → Type 0
+IsLastPage bits page = (n : ℕ) × (n + 300 ≡ length bits) × IsPageAt bits n page
+
+-- Each of the pages comes from ten words that all pass with the two bits before them.
 abbrev pub PagesPass : Type 0
 PagesPass = (bits : List Bool) (k : ℕ) (page : Page) → slice_get (pages_among bits) k ≡ Some page
-    → (n : ℕ) × (2 ≤ n) × (n + 300 ≤ length bits) × (page_of (subframe_at bits n) ≡ Some page)
-    × ((i : ℕ) → i < 10 → passes (word_at bits (n + 30 * i)) (prior_at bits (n + 30 * i)) ≡ true)
+    → IsPage bits page
 
 -- ---- bits
 

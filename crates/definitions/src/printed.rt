@@ -28,8 +28,8 @@ pub fn printed_words_pass()
     ensures { PrintedWordsPass }
 {}
 
-/// Each page that is printed comes from ten words that all pass, and each set of clock and
-/// ephemeris is of one issue of data.
+/// Each page that is printed comes from the last ten words, which all pass. Each set of clock and
+/// ephemeris comes from such pages too, the last of their kinds, and is of one issue of data.
 pub fn printed_pages_pass()
     ensures { PrintedPagesPass }
 {}

@@ -2,7 +2,7 @@
 
 ghost use Rattle.definitions.specs.SlotLaws.{PushesAreBehindLock};
 ghost use Rattle.definitions.specs.SlotLaws.{DumpsArePlainSums, NoOtherDumps, CellsComeWithSamples};
-ghost use Rattle.definitions.specs.SlotLaws.{PagesPass};
+ghost use Rattle.definitions.specs.SlotLaws.{PagesPass, SegmentsGoOn};
 ghost use Rattle.definitions.specs.SlotLaws.{EdgeIsSixteenthChange, LifeIsOn, SlotTellsFew};
 ghost use Rattle.definitions.specs.EventLaws.{EventsAreRight, CountsAreDumps};
 ghost use Rattle.definitions.specs.EventLaws.{AcquisitionsNameTheGreatest, WordsToldPass};
@@ -11,6 +11,11 @@ ghost use Rattle.definitions.specs.EventLaws.{AlmanacSetsAgree, FoundCodeGoesOn}
 /// The dumps of a channel are the six plain sums over one run of the code after another.
 pub fn dumps_are_plain_sums()
     ensures { DumpsArePlainSums }
+{}
+
+/// Where a segment ends the next one begins, and the phases of code and carrier go on.
+pub fn segments_go_on()
+    ensures { SegmentsGoOn }
 {}
 
 /// No other list has dumps like those of a channel.

@@ -1,51 +1,25 @@
 -- What one more bit adds to the pages: that of the subframe which it makes whole, if it makes one.
-use Rattle.std.proofs.Common.{inl, inr, ◌≡◌, ◌≢◌, ℕ, zero, suc, ◌+◌, ◌<◌, ◌≤◌, List, [], ◌∷◌}
+use Rattle.std.proofs.Common.{inl, inr, ◌≡◌, ◌≢◌, ℕ, ◌+◌, ◌<◌, ◌≤◌, List, [], ◌∷◌}
 use Rattle.std.proofs.Common.{◌++◌, length, map, refl, ap, sym, ◌∙◌, arith}
-use Rattle.std.specs.Prelude.{⊤, Bool, true, false, Option, Some, None, ◌&&◌, nat_le, cond}
+use Rattle.std.specs.Prelude.{Bool, true, false, Option, Some, None, cond}
 use Rattle.std.specs.Prelude.{filter, filter_map, ◌⊎◌}
 use Rattle.std.specs.List.{cons_option}
-use Rattle.std.proofs.lemmas.Bool.{and_parts, le-leb, leb-true, lt-leb, cases_lt, cases_eq}
+use Rattle.std.proofs.lemmas.Bool.{le-leb, lt-leb, cases_lt, cases_eq}
 use Rattle.std.proofs.lemmas.Bool.{eq-eqb, ne_eqb}
 use Rattle.std.proofs.lemmas.List.{append-nil}
 use Rattle.std.proofs.lemmas.List.Elements.{filter-append}
-use Rattle.definitions.specs.Frames.{Found, subframe_at, starts_of, starts_from, found_by}
-use Rattle.definitions.specs.Frames.{found_among, candidate_from, is_candidate}
+use Rattle.definitions.specs.Frames.{Found, subframe_at, starts_of, found_by}
+use Rattle.definitions.specs.Frames.{found_among}
 use Rattle.definitions.specs.Pages.{Page, page_of}
 use Rattle.definitions.specs.DataSets.{Reports, reports_of}
 use Rattle.definitions.specs.Events.{pages_among, events_of, gap, subframe, report_events}
 use Rattle.definitions.specs.Events.{bit_events}
-use Rattle.definitions.proofs.SumsLemmas.{least_below-some}
-use Rattle.definitions.proofs.StartLemmas.{subframe_at-append}
+use Rattle.definitions.proofs.StartLemmas.{subframe_at-append, Spaced, starts-spaced}
+use Rattle.definitions.proofs.StartLemmas.{ends_by, none-ends}
 use Rattle.frame_sync.proofs.MoreStarts.{longer, place, is_start, added, next_behind}
 use Rattle.frame_sync.proofs.MoreStarts.{length-longer, starts_of-more}
 
--- ---- starts are 300 bits apart
-
-abbrev Spaced : ℕ → List ℕ → Type 0
-Spaced from [] = ⊤
-Spaced from (n ∷ ns) = (from ≤ n) × Spaced (n + 300) ns
-
-behind : (bits : List Bool) (from n : ℕ) → candidate_from bits from ≡ Some n → from ≤ n
-behind bits from n e =
-    let l = least_below-some (λ k. nat_le from k && is_candidate bits k) (length bits) n e in
-    leb-true from n (and_parts (nat_le from n) (is_candidate bits n) l.passes).0
-
-starts-spaced : (bits : List Bool) (k from : ℕ) → Spaced from (starts_from bits k from)
-unfolding starts_from
-starts-spaced bits zero from = tt
-starts-spaced bits (suc k) from =
-    by_candidate (candidate_from bits from) refl (λ f. starts-spaced bits k f)
-  where
-    by_candidate : (o : Option ℕ) → candidate_from bits from ≡ o
-        → ((f : ℕ) → Spaced f (starts_from bits k f))
-        → Spaced from (elim o [ Some n ↦ n ∷ starts_from bits k (n + 300) | None ↦ [] ])
-    by_candidate None e next = tt
-    by_candidate (Some n) e next = (behind bits from n e, next (n + 300))
-
 -- ---- pages of the subframes that are whole
-
-abbrev ends_by : ℕ → ℕ → Bool
-ends_by end n = nat_le (n + 300) end
 
 abbrev pages_at : List Bool → List ℕ → List Page
 pages_at bits starts = filter_map page_of (map (subframe_at bits) starts)
@@ -53,13 +27,6 @@ pages_at bits starts = filter_map page_of (map (subframe_at bits) starts)
 abbrev pub page_found : Option Found → List Page
 page_found None = []
 page_found (Some found) = cons_option (page_of found.subframe) []
-
-none-ends : (end from : ℕ) → end < from + 300 → (ns : List ℕ) → Spaced from ns
-    → filter (ends_by end) ns ≡ []
-none-ends end from far [] spaced = refl
-none-ends end from far (n ∷ ns) spaced =
-    rw (lt-leb (n + 300) end (omega (arith, far, spaced.0)))
-    (none-ends end (n + 300) (omega (arith, far, spaced.0)) ns spaced.1)
 
 with-page : (xs ys zs : List Page) (o : Option Page) → xs ≡ ys ++ zs
     → cons_option o xs ≡ cons_option o ys ++ zs

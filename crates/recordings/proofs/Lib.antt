@@ -3,3 +3,5 @@ pub mod DigitLemmas
 pub mod RecipeLemmas
 pub mod StreamLemmas
 pub mod WindowLemmas
+pub mod ReadingRows
+pub mod PackedRows
