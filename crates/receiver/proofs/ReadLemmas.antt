@@ -4,11 +4,21 @@ use Rattle.std.proofs.Common.{take, drop, refl, sym, ap, ◌∙◌, append_assoc
 use Rattle.std.proofs.Common.{take-append-drop, inl, inr}
 use Rattle.std.proofs.lemmas.List.{take_all, take-take, length-take-le}
 use Rattle.std.proofs.Math.Seq.{take-append_seam}
-use Rattle.std.proofs.lemmas.Bool.{cases_lt}
+use Rattle.std.specs.Prelude.{Bool, true, ◌||◌, ◌==◌}
+use Rattle.std.proofs.lemmas.Bool.{cases_lt, eq-eqb, ne_eqb}
+use Rattle.std.proofs.Math.Bool.{or-false, or-true}
 use Rattle.definitions.specs.Samples.{Sample, Packing, real1, real2, iq1, iq2, samples}
 use Rattle.definitions.specs.Samples.{sample_count, samples_per_byte}
 use Rattle.definitions.proofs.SampleLemmas.{sample_count-append, samples-append, samples-length}
 use Rattle.definitions.proofs.SampleLemmas.{count_of, room-fits}
+
+-- a read that gave some bytes leaves it as it was whether one gave none
+pub some-given : (n : ℕ) {old new : Bool} → (n ≡ 0 → ⊥) → new ≡ (old || (n == 0)) → new ≡ old
+some-given n {old} some is = is ∙ ap (λ none. old || none) (ne_eqb n 0 some) ∙ or-false old
+
+-- a read that gave none
+pub none-given : (n : ℕ) (old : Bool) {new : Bool} → n ≡ 0 → new ≡ (old || (n == 0)) → new ≡ true
+none-given n old none is = is ∙ ap (λ none. old || none) (eq-eqb n 0 none) ∙ or-true old
 
 -- up to the limit
 up_to-all : (xs : List Sample) (limit : ℕ) → length xs ≤ limit → take limit xs ≡ xs

@@ -121,7 +121,7 @@ module _ (settings : Settings) (shares : List ℕ) (scripts : List (List ℕ)) (
 
   -- a write failed among the lines, before reading came to its end
   pub breaks-in-body : (read : List ℕ) (old new : Devices)
-      → Consumes old.remaining new.remaining read → new.read_failed ≡ old.read_failed
+      → Consumes old.remaining new.remaining read → EndedAs runs.unfinished old new
       → new.write_failed ≡ true
       → AppendsPart old.contents new.contents
       (body settings (samples_read settings limit read)
@@ -139,15 +139,14 @@ module _ (settings : Settings) (shares : List ℕ) (scripts : List (List ℕ)) (
   -- a write or the flush failed after the lines
   pub breaks-in-end : (read : List ℕ) (old new : Devices) (stop : Stop)
       → Consumes old.remaining new.remaining read → new.write_failed ≡ true
-      → StopsFor limit (length (samples settings.packing read)) old.read_failed new.read_failed
-      new.remaining stop
+      → StopsFor limit (length (samples settings.packing read)) old new stop
       → AppendsPart old.contents new.contents
       (text_for stop settings (samples_read settings limit read)
       (clients_of (task_of settings shares scripts limit)))
       → BrokeOff (task_of settings shares scripts limit) old new
   unfolding taken_samples task
   breaks-in-end read old new PastLimit consumed broke why p =
-      breaks-in-body read old new consumed why.1 broke p
+      breaks-in-body read old new consumed why.0 broke p
   breaks-in-end read old new ReadFailed consumed broke why p = record {
     input = record { bytes = read; end = runs.failed };
     consumed = consumed;
@@ -158,7 +157,7 @@ module _ (settings : Settings) (shares : List ℕ) (scripts : List (List ℕ)) (
   breaks-in-end read old new AtEnd consumed broke why p = record {
     input = record { bytes = read; end = runs.exhausted };
     consumed = consumed;
-    ended = (why.0, why.2);
+    ended = why.0;
     write_failed = broke;
     written = rw (within settings limit read why.1) p;
   }
@@ -215,7 +214,7 @@ module _ (settings : Settings) (shares : List ℕ) (scripts : List (List ℕ)) (
   unfolding IsAnswer taken_samples task
   ran-to-end n session old new right r is few =
       ran-to runs.exhausted AtEnd session old new (Ok n) r
-      (r.completes.why.0, r.completes.why.2) r.completes.write_failed
+      r.completes.why.0 r.completes.write_failed
       (right, within settings limit r.read r.completes.why.1, refl, is ∙ r.stands.bank.now, refl)
       (right-lines (take_all limit (samples settings.packing r.read) r.completes.why.1))
     where
@@ -249,8 +248,8 @@ module _ (settings : Settings) (shares : List ℕ) (scripts : List (List ℕ)) (
   unfolding IsAnswer taken_samples task
   ran-to-limit session old new right r =
       ran-to runs.unfinished PastLimit session old new (Err TooLong) r
-      r.completes.why.1 r.completes.write_failed
-      (right, beyond settings limit r.read r.completes.why.0, refl) tt
+      r.completes.why.0 r.completes.write_failed
+      (right, beyond settings limit r.read r.completes.why.1, refl) tt
 
 -- ---- runs of scripts that are handed in
 
@@ -263,7 +262,7 @@ refused asked old fault writer answer = record {
   input = record { bytes = []; end = runs.unfinished };
   text = [];
   consumed = Consumes-nil old.remaining;
-  ended = refl;
+  ended = (refl, refl);
   written = Appends-nil old.contents;
   writer = writer;
   answer = answer;

@@ -25,10 +25,12 @@ use Rattle.receiver.specs.declared.faults.RunFault.TheVariants.{Read, Write, Too
 use Rattle.receiver.specs.declared.faults.Stop.{Stop}
 use Rattle.receiver.specs.declared.faults.Stop.TheVariants.{AtEnd, ReadFailed, PastLimit}
 
--- what a reader and a writer show: the bytes to come and those held, and whether a call has failed
+-- what a reader and a writer show: the bytes to come and those held, whether a call has failed, and
+-- whether a read has given no byte
 pub record Devices : Type 0 where
   pub remaining : Option (List ℕ)
   pub read_failed : Bool
+  pub gave_none : Bool
   pub contents : Option (List ℕ)
   pub write_failed : Bool
 
@@ -37,6 +39,7 @@ abbrev pub devices_at : {R W : Type 0} → Source R → Sink W → R → W → D
 devices_at source sink reader writer = record {
   remaining = source.remaining reader;
   read_failed = source.has_failed reader;
+  gave_none = source.gave_none reader;
   contents = sink.contents writer;
   write_failed = sink.has_failed writer;
 }
@@ -46,6 +49,7 @@ abbrev pub devices_once_sent : HeldText → Devices → Devices
 devices_once_sent text devices = record {
   remaining = devices.remaining;
   read_failed = devices.read_failed;
+  gave_none = devices.gave_none;
   contents = promise devices.contents text;
   write_failed = devices.write_failed;
 }
@@ -54,14 +58,21 @@ devices_once_sent text devices = record {
 abbrev pub samples_read : Settings → ℕ → List ℕ → List Sample
 samples_read settings limit read = take limit (samples settings.packing read)
 
--- reading stops where a read gave 0 bytes, where a read failed, or where more samples than the
+-- reading came so to an end, as the reader reports it: a read gave no byte, where none was left; a
+-- read failed; or neither
+abbrev pub EndedAs : InputEnd → Devices → Devices → Type 0
+EndedAs runs.exhausted old new =
+    IsAtEnd new.remaining × (new.gave_none ≡ true) × (new.read_failed ≡ old.read_failed)
+EndedAs runs.failed old new = (new.gave_none ≡ old.gave_none) × (new.read_failed ≡ true)
+EndedAs runs.unfinished old new =
+    (new.gave_none ≡ old.gave_none) × (new.read_failed ≡ old.read_failed)
+
+-- reading stops at the end of what there is, where a read failed, or where more samples than the
 -- limit came
-abbrev pub StopsFor : ℕ → ℕ → Bool → Bool → Option (List ℕ) → Stop → Type 0
-StopsFor limit count failed_before failed remaining AtEnd =
-    IsAtEnd remaining × (count ≤ limit) × (failed ≡ failed_before)
-StopsFor limit count failed_before failed remaining ReadFailed = (failed ≡ true) × (count ≤ limit)
-StopsFor limit count failed_before failed remaining PastLimit =
-    (limit < count) × (failed ≡ failed_before)
+abbrev pub StopsFor : ℕ → ℕ → Devices → Devices → Stop → Type 0
+StopsFor limit count old new AtEnd = EndedAs runs.exhausted old new × (count ≤ limit)
+StopsFor limit count old new ReadFailed = EndedAs runs.failed old new × (count ≤ limit)
+StopsFor limit count old new PastLimit = EndedAs runs.unfinished old new × (limit < count)
 
 -- the lines of all clients, with `end` only where all was read
 abbrev pub text_for : Stop → Settings → List Sample → List Client → List ℕ
@@ -87,12 +98,6 @@ answer_of (Err Share) = runs.wrong_shares
 answer_of (Err Read) = runs.read_failed
 answer_of (Err Write) = runs.write_failed
 answer_of (Err TooLong) = runs.too_long
-
--- reading came so to an end, as the reader reports it: no byte is left, a read failed, or neither
-abbrev pub EndedAs : InputEnd → Devices → Devices → Type 0
-EndedAs runs.exhausted old new = IsAtEnd new.remaining × (new.read_failed ≡ old.read_failed)
-EndedAs runs.failed old new = new.read_failed ≡ true
-EndedAs runs.unfinished old new = new.read_failed ≡ old.read_failed
 
 -- the writer failed where the result says so, and nowhere else
 abbrev pub WriterTells : Result ℕ RunFault → Devices → Devices → Type 0
@@ -174,8 +179,7 @@ pub record HasRead (settings : Settings) (clients : List Client) (limit : ℕ)
     (start : Option (List ℕ)) (session : Session) (old new : Devices) (stop : Stop) : Type 0 where
   pub read : List ℕ
   pub consumed : Consumes old.remaining new.remaining read
-  pub why : StopsFor limit (length (samples settings.packing read)) old.read_failed new.read_failed
-      new.remaining stop
+  pub why : StopsFor limit (length (samples settings.packing read)) old new stop
   pub at : IsWrittenTo settings clients start session new.contents
       (samples_read settings limit read)
 
@@ -184,15 +188,14 @@ pub record BrokeOffReading (settings : Settings) (clients : List Client) (limit 
     (start : Option (List ℕ)) (old new : Devices) : Type 0 where
   pub read : List ℕ
   pub consumed : Consumes old.remaining new.remaining read
-  pub read_failed : new.read_failed ≡ old.read_failed
+  pub ended : EndedAs runs.unfinished old new
   pub written : AppendsPart start new.contents
       (body settings (samples_read settings limit read) clients)
 
 -- all of the text was written
 pub record Completes (settings : Settings) (clients : List Client) (limit : ℕ) (read : List ℕ)
     (old new : Devices) (stop : Stop) : Type 0 where
-  pub why : StopsFor limit (length (samples settings.packing read)) old.read_failed new.read_failed
-      new.remaining stop
+  pub why : StopsFor limit (length (samples settings.packing read)) old new stop
   pub written : Appends old.contents new.contents
       (text_for stop settings (samples_read settings limit read) clients)
   pub write_failed : new.write_failed ≡ old.write_failed

@@ -3,7 +3,7 @@
 ghost use Rattle.std.specs.Prelude.{◌≡◌, ◌<◌, ◌||◌, ℕ, Bool, false, Option, List, length};
 ghost use Rattle.std.specs.Io.{ReadsAtMost, WritesAtMost};
 ghost use Rattle.std.specs.Io.KnownBytes.{Keeps, ReadConsumes, WriteAppends};
-ghost use Rattle.receiver.specs.Devices.{TellsFailure, TakesSome};
+ghost use Rattle.receiver.specs.Devices.{TellsFailure, TellsEnd, TakesSome};
 
 use std::io::{Read, Write};
 
@@ -23,6 +23,9 @@ pub trait Source {
     /// Whether there was a call after one that had failed.
     ghost was_asked_again: { Self → Bool };
 
+    /// Whether a call has given no byte, which says that there are no more.
+    ghost gave_none: { Self → Bool };
+
     /// Reads some bytes into the front of the buffer, which has room for one, and answers how many:
     /// 0 only at the end.
     fn read(&mut self, buffer: &mut [u8]) -> Result<usize, DeviceFault>
@@ -30,7 +33,8 @@ pub trait Source {
         ensures again { was_asked_again self.new ≡ was_asked_again self.old || has_failed self.old }
         ensures bound { ReadsAtMost result buffer.new }
         ensures bytes { ReadConsumes (remaining self.old) (remaining self.new) result buffer.new }
-        ensures failure { TellsFailure (has_failed self.old) (has_failed self.new) result };
+        ensures failure { TellsFailure (has_failed self.old) (has_failed self.new) result }
+        ensures end { TellsEnd (gave_none self.old) (gave_none self.new) result };
 }
 
 /// What takes bytes.
@@ -60,6 +64,7 @@ pub struct Plain<T> {
     inner: T,
     has_failed: bool,
     was_asked_again: bool,
+    gave_none: bool,
 }
 
 impl<T> Plain<T> {
@@ -68,11 +73,13 @@ impl<T> Plain<T> {
         ensures inner { result.inner ≡ inner }
         ensures has_failed { result.has_failed ≡ false }
         ensures was_asked_again { result.was_asked_again ≡ false }
+        ensures gave_none { result.gave_none ≡ false }
     {
         Plain {
             inner,
             has_failed: false,
             was_asked_again: false,
+            gave_none: false,
         }
     }
 }
@@ -84,10 +91,15 @@ impl<R: Read> Source for Plain<R> {
 
     ghost was_asked_again = { λ device. device.was_asked_again };
 
+    ghost gave_none = { λ device. device.gave_none };
+
     fn read(&mut self, buffer: &mut [u8]) -> Result<usize, DeviceFault> {
         self.was_asked_again |= self.has_failed;
         match self.inner.read(buffer) {
-            Ok(count) => Ok(count),
+            Ok(count) => {
+                self.gave_none |= count == 0;
+                Ok(count)
+            }
             Err(_) => {
                 self.has_failed = true;
                 Err(DeviceFault)

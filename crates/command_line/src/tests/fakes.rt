@@ -13,6 +13,7 @@ pub struct Giving<'a> {
     pub reads: u64,
     has_failed: bool,
     was_asked_again: bool,
+    gave_none: bool,
 }
 
 impl<'a> Giving<'a> {
@@ -24,6 +25,7 @@ impl<'a> Giving<'a> {
             reads: 0,
             has_failed: false,
             was_asked_again: false,
+            gave_none: false,
         }
     }
 
@@ -42,6 +44,8 @@ impl Source for Giving<'_> {
 
     ghost was_asked_again = { λ device. device.was_asked_again };
 
+    ghost gave_none = { λ device. device.gave_none };
+
     fn read(&mut self, buffer: &mut [u8]) -> Result<usize, DeviceFault> {
         self.was_asked_again |= self.has_failed;
         self.reads = self.reads.wrapping_add(1);
@@ -52,6 +56,7 @@ impl Source for Giving<'_> {
         let count = self.bytes.len().min(buffer.len());
         buffer[..count].copy_from_slice(&self.bytes[..count]);
         self.bytes = &self.bytes[count..];
+        self.gave_none |= count == 0;
         Ok(count)
     }
 }

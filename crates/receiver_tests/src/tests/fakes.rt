@@ -18,6 +18,7 @@ pub struct Giving<'a> {
     pub reads: u64,
     has_failed: bool,
     was_asked_again: bool,
+    gave_none: bool,
 }
 
 impl<'a> Giving<'a> {
@@ -40,6 +41,7 @@ impl<'a> Giving<'a> {
             reads: 0,
             has_failed: false,
             was_asked_again: false,
+            gave_none: false,
         }
     }
 }
@@ -50,6 +52,8 @@ impl Source for Giving<'_> {
     ghost has_failed = { λ device. device.has_failed };
 
     ghost was_asked_again = { λ device. device.was_asked_again };
+
+    ghost gave_none = { λ device. device.gave_none };
 
     fn read(&mut self, buffer: &mut [u8]) -> Result<usize, DeviceFault> {
         self.was_asked_again |= self.has_failed;
@@ -68,6 +72,7 @@ impl Source for Giving<'_> {
         buffer[..count].copy_from_slice(&self.bytes[..count]);
         self.bytes = &self.bytes[count..];
         self.until_fault -= count;
+        self.gave_none |= count == 0;
         Ok(count)
     }
 }
@@ -91,6 +96,8 @@ impl Source for Zeros {
     ghost has_failed = { λ _. false };
 
     ghost was_asked_again = { λ _. false };
+
+    ghost gave_none = { λ _. false };
 
     fn read(&mut self, buffer: &mut [u8]) -> Result<usize, DeviceFault> {
         self.reads = self.reads.wrapping_add(1);

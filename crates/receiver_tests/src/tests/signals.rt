@@ -17,11 +17,16 @@ use std::test::Fail;
 pub struct Streaming<'a> {
     stream: SampleStream<'a>,
     at_once: usize,
+    gave_none: bool,
 }
 
 impl<'a> Streaming<'a> {
     pub fn pieces(stream: SampleStream<'a>, at_once: usize) -> Self {
-        Streaming { stream, at_once }
+        Streaming {
+            stream,
+            at_once,
+            gave_none: false,
+        }
     }
 }
 
@@ -32,9 +37,13 @@ impl Source for Streaming<'_> {
 
     ghost was_asked_again = { λ _. false };
 
+    ghost gave_none = { λ device. device.gave_none };
+
     fn read(&mut self, buffer: &mut [u8]) -> Result<usize, DeviceFault> {
         let room = buffer.len().min(self.at_once.max(1));
-        Ok(self.stream.fill(&mut buffer[..room]))
+        let count = self.stream.fill(&mut buffer[..room]);
+        self.gave_none |= count == 0;
+        Ok(count)
     }
 }
 

@@ -15,7 +15,7 @@ use Rattle.receiver.proofs.TextLemmas.{on_err, appended-part}
 use Rattle.definitions.proofs.SampleLemmas.{samples-append, sample_count-append, count_of}
 use Rattle.receiver.proofs.RunLemmas.{samples-nil}
 use Rattle.receiver.proofs.ReadLemmas.{all-read, within-limit, none_counted, Uses, uses, up_to-used}
-use Rattle.receiver.proofs.ReadLemmas.{beyond-limit}
+use Rattle.receiver.proofs.ReadLemmas.{beyond-limit, some-given, none-given}
 use Rattle.receiver.specs.HeldTexts.{promise}
 use Rattle.receiver.proofs.HeldLemmas.{grows-none, grows-on}
 use Rattle.receiver.proofs.RunLemmas.{written-kept}
@@ -51,7 +51,11 @@ returns-in_err-take_piece-clause-broken g c =
       consumed =
           Consumes-trans (r.remaining c.args.reader.now) (r.remaining c.loop-reader.reader)
           (r.remaining c.read.new.self) was.0 (take n buffer) was.1 c.in-Ok.ensures.bytes.0;
-      read_failed = c.in-Ok.ensures.failure ∙ c.loop-reader.invariant.read_failed;
+      ended = (
+        some-given c.in-Ok.count c.if-count-eq0.false c.in-Ok.ensures.end
+            ∙ c.loop-reader.invariant.gave_none,
+        c.in-Ok.ensures.failure ∙ c.loop-reader.invariant.read_failed,
+      );
       written =
           subst Q (ap (λ (l : List Sample). samples settings.packing was.0 ++ l) is
           ∙ sym (up_to-used settings.packing was.0 buffer n used c.args.limit u.at_most
@@ -92,10 +96,13 @@ returns-then-used-count-clause-read g c =
           Consumes-trans (r.remaining c.args.reader.now) (r.remaining c.loop-reader.reader)
           (r.remaining c.read.new.self) was.0 (take n buffer) was.1 c.in-Ok.ensures.bytes.0;
       why = (
+        (
+          some-given c.in-Ok.count c.if-count-eq0.false c.in-Ok.ensures.end
+              ∙ c.loop-reader.invariant.gave_none,
+          c.in-Ok.ensures.failure ∙ c.loop-reader.invariant.read_failed,
+        ),
         beyond-limit settings.packing was.0 buffer n used c.args.limit c.if-used-count.true
             c.in-Ok.ensures.bound.0 (u.reached c.if-used-count.true),
-        c.in-Ok.ensures.failure
-            ∙ c.loop-reader.invariant.read_failed,
       );
       at =
           subst Q (ap (λ (l : List Sample). samples settings.packing was.0 ++ l) is
@@ -144,6 +151,7 @@ loop-reader-preserved g c =
           (sym (time ∙ ap (λ k. sample_count packing was.0 + k)
           (count_of packing piece used len))) u.within;
       read_failed = c.in-Ok.ensures.failure ∙ i.read_failed;
+      gave_none = some-given n c.if-count-eq0.false c.in-Ok.ensures.end ∙ i.gave_none;
       asked_again =
           λ sound. c.in-Ok.ensures.again
           ∙ ap₂ (λ again failed. again || failed) (i.asked_again sound) (i.read_failed ∙ sound)
@@ -185,6 +193,7 @@ loop-reader-init g c = record {
   ready = c.requires.ready;
   within = omega (arith, c.requires.start);
   read_failed = refl;
+  gave_none = refl;
   asked_again = λ sound. refl;
   grows = grows-none (g.W.Sink.contents c.args.writer.now);
   write_failed = refl;
@@ -240,7 +249,7 @@ returns-in_err-send-clause-broken g c =
     record {
       read = was.0;
       consumed = was.1;
-      read_failed = c.loop-reader.invariant.read_failed;
+      ended = (c.loop-reader.invariant.gave_none, c.loop-reader.invariant.read_failed);
       written =
           appended-part start _ _ _ (rw all (was.3 settings clients start at).written)
           c.send.ensures.same;
@@ -261,7 +270,7 @@ returns-in_default-clause-read g c settings clients start at =
           Consumes-kept (r.remaining c.args.reader.now) (r.remaining c.loop-reader.reader)
           (r.remaining c.read.new.self) was.0 was.1 c.in_default.ensures.bytes;
       why = (
-        c.in_default.ensures.failure,
+        (c.in_default.ensures.end ∙ c.loop-reader.invariant.gave_none, c.in_default.ensures.failure),
         within-limit settings.packing was.0 c.args.limit (time_of c.loop-reader.session) time
             c.loop-reader.invariant.within,
       );
@@ -292,10 +301,13 @@ returns-then-count-eq0-clause-read g c settings clients start at =
           (Consumes-trans a (r.remaining c.loop-reader.reader) d was.0
           (take c.in-Ok.count buffer) was.1 c.in-Ok.ensures.bytes.0);
       why = (
-        c.in-Ok.ensures.bytes.1 c.if-count-eq0.true (search rules),
+        (
+          c.in-Ok.ensures.bytes.1 c.if-count-eq0.true (search rules),
+          none-given c.in-Ok.count _ c.if-count-eq0.true c.in-Ok.ensures.end,
+          c.in-Ok.ensures.failure ∙ c.loop-reader.invariant.read_failed,
+        ),
         within-limit settings.packing was.0 c.args.limit (time_of c.loop-reader.session) time
             c.loop-reader.invariant.within,
-        c.in-Ok.ensures.failure ∙ c.loop-reader.invariant.read_failed,
       );
       at =
           rw all (written-kept settings clients start c.loop-reader.session

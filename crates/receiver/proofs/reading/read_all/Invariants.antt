@@ -18,6 +18,7 @@ invariant-loop-reader g l = let source = g.R.Source in let sink = g.W.Sink in re
   ready : 0 < until_next l.session;
   within : time_of l.session ≤ l.limit;
   read_failed : source.has_failed l.reader ≡ source.has_failed l.fn.reader;
+  gave_none : source.gave_none l.reader ≡ source.gave_none l.fn.reader;
   asked_again : source.has_failed l.fn.reader ≡ false
       → source.was_asked_again l.reader ≡ source.was_asked_again l.fn.reader;
   grows : Grows (sink.contents l.fn.writer) (sink.contents l.writer);

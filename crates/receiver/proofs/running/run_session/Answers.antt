@@ -30,7 +30,7 @@ returns-in_err-put_answers-clause-broken g c =
     (answer_lines settings clients []) open_is.stands)) in
     let Q : List Sample → Type 0 = λ ys. AppendsPart start now (body settings ys clients) in
     breaks-in-body settings shares scripts c.args.limit []
-    _ _ (Consumes-nil (g.R.Source.remaining c.args.reader.now)) refl
+    _ _ (Consumes-nil (g.R.Source.remaining c.args.reader.now)) (refl, refl)
     c.in_err-put_answers.ensures.failure
     (subst Q (none-read settings c.args.limit)
     (subst (AppendsPart start now) (ap as_bytes (sym open_is.first)) part)))
@@ -51,7 +51,7 @@ returns-in_err-stop-clause-broken g c =
     grows-on start (s.contents c.put_answers.new.writer) (s.contents c.read_all.new.writer)
     c.put_answers.ensures.grows c.read_all.ensures.grows in
     breaks-in-body settings shares scripts c.args.limit broke.read _ _ broke.consumed
-    broke.read_failed
+    broke.ended
     c.in_err-stop.ensures.failure
     (unheld start (s.contents c.read_all.new.writer) (held_text c.read_all.new.text) _ grown
     broke.written))

@@ -1,0 +1,37 @@
+//! A value on the heap, whose memory may be refused.
+
+use crate::alloc::{AllocFailed, Global};
+use ::std::ops::{Deref, DerefMut};
+
+/// A value on the heap. It is held in a list of one, whose memory can be asked for.
+#[derive(Debug, PartialEq, Eq)]
+pub struct Box<T>(::std::vec::Vec<T>);
+
+impl<T> Box<T> {
+    pub fn new(_: Global, value: T) -> Result<Box<T>, AllocFailed<T>> {
+        let mut held = ::std::vec::Vec::new();
+        if held.try_reserve_exact(1).is_err() {
+            return Err(AllocFailed(value));
+        }
+        held.push(value);
+        Ok(Box(held))
+    }
+
+    pub fn as_mut(&mut self) -> &mut T {
+        &mut self.0[0]
+    }
+}
+
+impl<T> Deref for Box<T> {
+    type Target = T;
+
+    fn deref(&self) -> &T {
+        &self.0[0]
+    }
+}
+
+impl<T> DerefMut for Box<T> {
+    fn deref_mut(&mut self) -> &mut T {
+        self.as_mut()
+    }
+}
