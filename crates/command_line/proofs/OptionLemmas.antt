@@ -1,6 +1,6 @@
 -- What the option parser reads of an option's text.
-use Rattle.std.proofs.Common.{◌≡◌, ℕ, ◌<◌, ◌^◌, List, [], ◌∷◌, length, refl}
-use Rattle.std.specs.Prelude.{Bool, true, false, Option, Some, None, unwrap_or, nat_lt}
+use Rattle.std.proofs.Common.{◌≡◌, ℕ, ◌<◌, ◌^◌, List, [], ◌∷◌, length, refl, sym, map, Bor}
+use Rattle.std.specs.Prelude.{Bool, true, false, Option, Some, None, unwrap_or, option_map, nat_lt}
 use Rattle.std.specs.Str.Parse.{IsNumeral, AllDigits, ParsesUnsigned, ExplainsUnsignedError}
 use Rattle.std.specs.Str.Parse.{HasUnsignedDigitsIfOk, digits_value, without_leading_plus}
 use Rattle.std.specs.declared.num.ParseIntError.{ParseIntError}
@@ -64,3 +64,10 @@ number-read (Some text) r default none some = by_read r (some text refl)
             → default ≡ number_in (Some text) default
         by_test true is none = absurd (none (number-is text is))
         by_test false is none = rw is refl
+
+-- the names of the scripts are those that the parser has, or there are none
+pub paths-read : (r : Option (Bor (List (Bor (List ℕ))))) (none : Bor (List (Bor (List ℕ))))
+    (found : Option (List (List ℕ))) → option_map (λ paths. map (λ path. path.now) paths.now) r ≡ found
+    → none.now ≡ [] → map (λ path. path.now) (unwrap_or r none).now ≡ unwrap_or found []
+paths-read None none found e is = rw (sym e, is) refl
+paths-read (Some paths) none found e is = rw (sym e) refl

@@ -1,10 +1,15 @@
--- How the program ends, whatever the words of its command line are.
-use Rattle.std.specs.Prelude.{◌≡◌, ℕ, List, map, Option, Result}
-use Rattle.clap.specs.declared.parser.matches.Found.{Found}
+-- How the program ends, by the words of its command line.
+use Rattle.std.specs.Prelude.{◌≡◌, ◌⊎◌, ℕ, List, [], map, Option, Result, IfSome}
+use Rattle.clap.specs.Walk.{Row, Text}
+use Rattle.clap.specs.Simple.{matches_of}
+use Rattle.clap.specs.Faults.{fault_of}
+use Rattle.clap.specs.Kinds.{Kinds, IsAmong}
+use Rattle.clap.specs.declared.builder.value_parser.ValueParser.{ValueParser}
 use Rattle.clap.specs.declared.error.kind.ErrorKind.{ErrorKind}
 use Rattle.clap.specs.declared.error.kind.ErrorKind.TheVariants.{OutOfMemory, DisplayHelp}
 use Rattle.clap.specs.declared.error.kind.ErrorKind.TheVariants.{DisplayVersion}
 use Rattle.receiver.specs.Runs.{Devices}
+use Rattle.command_line.specs.CommandLines.{receiver, NamesFormats}
 use Rattle.command_line.specs.Programs.{Receives, asked_in, paths_in, status_of}
 use Rattle.command_line.specs.declared.failure.Failure.{Failure}
 
@@ -15,28 +20,36 @@ parser_status DisplayVersion = 0
 parser_status OutOfMemory = 1
 parser_status _ = 2
 
--- there is no memory for the words, or the option parser gives no options for its reason, or what
--- it found was received
+-- there is no memory for the words, or the option parser gives no options for its reason, or the
+-- options were received
 pub data Ending : Type 0 where
   without_words : Ending
   without_options : ErrorKind → Ending
-  received : Found → Result ℕ Failure → Ending
+  received : Result ℕ Failure → Ending
 
 abbrev pub ending_status : Ending → ℕ
 ending_status without_words = 1
 ending_status (without_options kind) = parser_status kind
-ending_status (received found answer) = status_of answer
+ending_status (received answer) = status_of answer
 
--- what an ending says of the devices: nothing is read or written before the options are known
-abbrev pub LeavesDevices : (List ℕ → Option (List ℕ)) → Devices → Devices → Ending → Type 0
-LeavesDevices bytes_of old new without_words = new ≡ old
-LeavesDevices bytes_of old new (without_options kind) = new ≡ old
-LeavesDevices bytes_of old new (received found answer) =
-    Receives (asked_in found) (map bytes_of (paths_in found)) old new answer
+-- an ending comes of the faults that the option parser has for the words, in the order of its
+-- steps, and of the options that it finds in them. Nothing is read or written before these are known
+abbrev pub ComesOf : Kinds → List Row → (List ℕ → Option (List ℕ)) → Devices → Devices → Ending
+    → Type 0
+ComesOf faults options bytes_of old new without_words = new ≡ old
+ComesOf faults options bytes_of old new (without_options kind) =
+    ((kind ≡ OutOfMemory) ⊎ IsAmong kind faults) × (new ≡ old)
+ComesOf faults options bytes_of old new (received answer) =
+    (faults ≡ []) × Receives (asked_in options) (map bytes_of (paths_in options)) old new answer
 
--- the program ends with a status in one of these ways
-pub record HasEnded (bytes_of : List ℕ → Option (List ℕ)) (old new : Devices) (status : ℕ) : Type
-    0 where
+-- the program ends with a status, as the words of its command line ask for
+pub record HasEnded (given : Option (List Text)) (bytes_of : List ℕ → Option (List ℕ))
+    (old new : Devices) (status : ℕ) : Type 0 where
+  pub words : List Text
+  pub are_given : IfSome given (λ all. words ≡ all)
+  pub names : ValueParser
+  pub formats : NamesFormats names
   pub ending : Ending
-  pub devices : LeavesDevices bytes_of old new ending
+  pub comes : ComesOf (fault_of (receiver names) words) (matches_of (receiver names) words)
+      bytes_of old new ending
   pub by_ending : status ≡ ending_status ending

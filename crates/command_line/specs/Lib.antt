@@ -1,2 +1,3 @@
 pub mod Programs
+pub mod CommandLines
 pub mod Endings

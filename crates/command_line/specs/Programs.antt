@@ -1,14 +1,13 @@
 -- What a command line asks for, and how the program ends.
 use Rattle.std.specs.Prelude.{◌≡◌, ◌≤◌, ◌<◌, ◌*◌, ◌^◌, ◌⊎◌, ℕ, pos, neg_ℤ, Bool, true, false}
 use Rattle.std.specs.Prelude.{if◌then◌else◌, List, [], ◌∷◌, length, map, Option, Some, None, IfSome}
-use Rattle.std.specs.Prelude.{option_map, unwrap_or, Result, Ok, Err, codes, nat_lt, nat_le, ◌&&◌}
+use Rattle.std.specs.Prelude.{unwrap_or, Result, Ok, Err, codes, nat_lt, nat_le, ◌&&◌}
 use Rattle.std.specs.Prelude.{◌==◌, ◌-◌, replicate, max, IsSome}
 use Rattle.std.specs.List.{list_all}
 use Rattle.std.specs.Str.{bytes_eq}
 use Rattle.std.specs.Str.Parse.{digits_value, without_leading_plus}
 use Rattle.std.specs.Char.{digit_value}
-use Rattle.clap.specs.declared.parser.matches.Found.{Found}
-use Rattle.clap.specs.Matches.{matched_of, raw_values, first_value, one_text}
+use Rattle.clap.specs.Walk.{Row, all_of, first_of, one_of}
 use Rattle.definitions.specs.Oscillators.{Settings as DefinedSettings}
 use Rattle.definitions.specs.Samples.{Packing, real1, real2, iq1, iq2}
 use Rattle.oscillators.specs.Limits.{IsRate}
@@ -61,13 +60,13 @@ pub record Asked : Type 0 where
   pub packing : Packing
   pub shares : Option (List ℕ)
 
-abbrev pub asked_in : Found → Asked
-asked_in found = record {
-  rate = number_in (one_text found (codes "rate")) 2046000;
-  offset = number_in (one_text found (codes "offset")) 0;
-  is_minus = flag_in (one_text found (codes "minus"));
-  packing = format_in (first_value found (codes "format"));
-  shares = first_value found (codes "shares");
+abbrev pub asked_in : List Row → Asked
+asked_in options = record {
+  rate = number_in (one_of (codes "rate") options) 2046000;
+  offset = number_in (one_of (codes "offset") options) 0;
+  is_minus = flag_in (one_of (codes "minus") options);
+  packing = format_in (first_of (codes "format") options);
+  shares = first_of (codes "shares") options;
 }
 
 -- the recording that they describe
@@ -94,8 +93,8 @@ abbrev pub IsAllowed : Asked → Type 0
 IsAllowed asked = IsRate asked.rate × (2 * asked.offset ≤ asked.rate)
 
 -- the script files that a command line names, in its order
-abbrev pub paths_in : Found → List (List ℕ)
-paths_in found = unwrap_or (option_map raw_values (matched_of found (codes "script"))) []
+abbrev pub paths_in : List Row → List (List ℕ)
+paths_in options = unwrap_or (all_of (codes "script") options) []
 
 -- ---- script files, whose bytes may be known
 

@@ -4,16 +4,18 @@
 //! writer. It reports on standard error what went wrong, and gives the status. The crate `receiver`
 //! has the run. The program is proved to end in one of three ways: without memory for the words,
 //! without options, or with what the run for the options answered. In the first two nothing is read
-//! or written. Which of them comes for which words is only tested.
+//! or written. Which of them comes for which words follows from the command line that the specs
+//! define, by the option parser's own definitions.
 //!
-//!     use command_line::{Stored, carry_out};
+//!     use command_line::{Stored, SystemCommandLine, carry_out};
 //!     use receiver::Plain;
 //!     use std::io;
 //!     use std::process::ExitCode;
 //!
 //!     fn program(rt: HostRuntime) -> ExitCode {
 //!         let (mut reader, mut writer) = (Plain::new(rt.reader()), Plain::new(io::writer(&rt)));
-//!         carry_out(&rt, &Stored::new(&rt), &mut reader, &mut writer)
+//!         let (line, files) = (SystemCommandLine::new(&rt), Stored::new(&rt));
+//!         carry_out(&rt, &line, &files, &mut reader, &mut writer)
 //!     }
 #![tactic(auto)]
 
@@ -29,3 +31,4 @@ mod words;
 pub use failure::Failure;
 pub use program::carry_out;
 pub use script_files::{ScriptFiles, Stored};
+pub use words::{CommandLine, SystemCommandLine};

@@ -1,18 +1,24 @@
 //! The program's command line.
 
-ghost use Rattle.std.specs.Prelude.{◌≡◌, ◌<◌, ◌≤◌, ◌*◌, ◌↔◌, pos, neg_ℤ, if◌then◌else◌};
+ghost use Rattle.std.specs.Prelude.{◌≡◌, ◌<◌, ◌≤◌, ◌*◌, ◌↔◌, false, pos, neg_ℤ, if◌then◌else◌};
 ghost use Rattle.std.specs.Prelude.{Err, IfOk, IfErr, Some, None, ◌⊎◌, codes, map, replicate};
-ghost use Rattle.clap.specs.Matches.{found_of, first_value, one_text};
+ghost use Rattle.std.specs.Prelude.{option_map, string_bytes};
+ghost use Rattle.clap.specs.Walk.{first_of, one_of};
+ghost use Rattle.clap.specs.Walk.{rule_of};
+ghost use Rattle.clap.specs.Simple.{app_of};
+ghost use Rattle.clap.specs.declared.builder.value_parser.ValueParser.{ValueParser};
+ghost use Rattle.command_line.specs.CommandLines as line;
+ghost use Rattle.command_line.specs.CommandLines.{NamesFormats, Parses, options_in};
 ghost use Rattle.sample_planes.specs.Packings.{packing_of};
 ghost use Rattle.oscillators.specs.Limits.{IsRate};
 ghost use Rattle.command_line.specs.Programs.{IsAllowed, asked_in, recording_of};
-ghost use Rattle.command_line.specs.Programs.{number_in, format_in, paths_in, shares_by};
+ghost use Rattle.command_line.specs.Programs.{number_in, flag_in, format_in, paths_in, shares_by};
 
 use crate::failure::Failure;
 use clap::{Arg, ArgAction, ArgMatches, Command, Error, value_parser};
 use oscillators::{Settings, SettingsFault};
 use sample_planes::Format;
-use std::alloc::Global;
+use std::alloc::{AllocError, Global};
 use version::VERSION;
 
 const ABOUT: &str = "\
@@ -96,7 +102,17 @@ file hold.script:
   receiver --offset 511500 hold.script < three_satellites.real1";
 
 /// Reads the words of a command line, the program's name first.
-pub fn matches<'a>(alloc: Global, words: &'a [String]) -> Result<ArgMatches<'a>, Error> {
+pub fn matches<'a>(alloc: Global, words: &'a [String]) -> Result<ArgMatches<'a>, Error>
+    ensures parses { Parses (map (λ word. string_bytes word) words.now) result }
+{
+    command(alloc)?.try_get_matches_from(words)
+}
+
+/// The command with all its options.
+fn command<'a>(alloc: Global) -> Result<Command<'a>, AllocError>
+    ensures app { IfOk result (λ command. (names : ValueParser) × NamesFormats names
+        × (app_of command ≡ line.receiver names)) }
+{
     Command::new(alloc, "receiver")
         .version(VERSION)
         .about(ABOUT)
@@ -133,12 +149,14 @@ pub fn matches<'a>(alloc: Global, words: &'a [String]) -> Result<ArgMatches<'a>,
                 .value_name("SCRIPT")
                 .num_args(0..)
                 .help("Script files, one to eight, of 16 MiB at most; none is one empty script"),
-        )?
-        .try_get_matches_from(words)
+        )
 }
 
 /// An option that takes a number of Hz.
-fn hertz<'a>(alloc: Global, name: &'a str, default: &'a str, help: &'a str) -> Arg<'a> {
+fn hertz<'a>(alloc: Global, name: &'a str, default: &'a str, help: &'a str) -> Arg<'a>
+    ensures rule { rule_of result ≡ line.hertz name.entry.now default.entry.now }
+    ensures local { result.global ≡ false }
+{
     Arg::new(alloc, name)
         .long(name)
         .value_name("HZ")
@@ -149,7 +167,11 @@ fn hertz<'a>(alloc: Global, name: &'a str, default: &'a str, help: &'a str) -> A
 }
 
 /// The option of the samples' format.
-fn format<'a>(alloc: Global) -> Arg<'a> {
+fn format<'a>(alloc: Global) -> Arg<'a>
+    ensures rule { (names : ValueParser) × NamesFormats names
+        × (rule_of result ≡ line.format names) }
+    ensures local { result.global ≡ false }
+{
     Arg::new(alloc, "format")
         .long("format")
         .action(ArgAction::Set)
@@ -161,19 +183,19 @@ fn format<'a>(alloc: Global) -> Arg<'a> {
 /// The settings that the options ask for.
 pub fn settings(matches: &ArgMatches) -> Result<Settings, SettingsFault>
     ensures rate { (result ≡ Err SettingsFault.Rate)
-        ↔ ¬ IsRate (asked_in (found_of matches.now)).rate }
+        ↔ ¬ IsRate (asked_in (options_in matches.now)).rate }
     ensures offset { (result ≡ Err SettingsFault.Offset)
-        ↔ (IsRate (asked_in (found_of matches.now)).rate
-        × ((asked_in (found_of matches.now)).rate
-        < 2 * (asked_in (found_of matches.now)).offset)) }
-    ensures allowed { IfOk result (λ _. IsAllowed (asked_in (found_of matches.now))) }
+        ↔ (IsRate (asked_in (options_in matches.now)).rate
+        × ((asked_in (options_in matches.now)).rate
+        < 2 * (asked_in (options_in matches.now)).offset)) }
+    ensures allowed { IfOk result (λ _. IsAllowed (asked_in (options_in matches.now))) }
     ensures same { IfOk result (λ settings.
-        settings ≡ recording_of (asked_in (found_of matches.now))) }
+        settings ≡ recording_of (asked_in (options_in matches.now))) }
 {
     settings_of(
         number(matches, "rate", 2_046_000),
         number(matches, "offset", 0),
-        matches.get_one("minus").unwrap_or(false),
+        flag(matches, "minus"),
         packing(matches),
     )
 }
@@ -200,16 +222,30 @@ fn settings_of(
 
 /// The number of an option, or its default.
 fn number(matches: &ArgMatches, id: &str, default: u32) -> u32
-    ensures { result ≡ number_in (one_text (found_of matches.now) id.now) default }
+    ensures { result ≡ number_in (one_of id.now (options_in matches.now)) default }
 {
     matches.get_one(id).unwrap_or(default)
 }
 
+/// Whether a flag is set.
+fn flag(matches: &ArgMatches, id: &str) -> bool
+    ensures { result ≡ flag_in (one_of id.now (options_in matches.now)) }
+{
+    matches.get_one(id).unwrap_or(false)
+}
+
+/// The text of an option that has one.
+fn text<'w>(matches: &ArgMatches<'w>, id: &str) -> Option<&'w str>
+    ensures { option_map (λ text. text.now) result ≡ first_of id.now (options_in matches.now) }
+{
+    matches.get_str(id)
+}
+
 /// The format of the samples.
 fn packing(matches: &ArgMatches) -> Format
-    ensures { packing_of result ≡ format_in (first_value (found_of matches.now) (codes "format")) }
+    ensures { packing_of result ≡ format_in (first_of (codes "format") (options_in matches.now)) }
 {
-    match matches.get_str("format") {
+    match text(matches, "format") {
         Some("real2") => Format::Real2,
         Some("iq1") => Format::Iq1,
         Some("iq2") => Format::Iq2,
@@ -221,12 +257,12 @@ fn packing(matches: &ArgMatches) -> Format
 /// the option isn't there.
 pub fn shares(alloc: Global, matches: &ArgMatches, clients: usize) -> Result<Vec<u8>, Failure>
     ensures given { IfOk result (λ shares.
-        shares_by clients (asked_in (found_of matches.now)).shares ≡ Some shares.items) }
+        shares_by clients (asked_in (options_in matches.now)).shares ≡ Some shares.items) }
     ensures fault { IfErr result (λ failure. (failure ≡ Failure.NoMemory)
         ⊎ ((failure ≡ Failure.Shares)
-        × (shares_by clients (asked_in (found_of matches.now)).shares ≡ None))) }
+        × (shares_by clients (asked_in (options_in matches.now)).shares ≡ None))) }
 {
-    match matches.get_str("shares") {
+    match text(matches, "shares") {
         Some(digits) => shares_of(alloc, digits.as_bytes(), clients),
         None => four_each(alloc, clients),
     }
@@ -267,7 +303,7 @@ fn four_each(alloc: Global, clients: usize) -> Result<Vec<u8>, Failure>
 
 /// The names of the script files, in the order of the command line.
 pub fn scripts<'m>(matches: &'m ArgMatches) -> &'m [&'m str]
-    ensures { map (λ path. path.now) result.now ≡ paths_in (found_of matches.now) }
+    ensures { map (λ path. path.now) result.now ≡ paths_in (options_in matches.now) }
 {
     matches.get_strs("script").unwrap_or(&[])
 }

@@ -11,11 +11,10 @@ use crate::failure::{Failure, status};
 use crate::options;
 use crate::receiving::receive;
 use crate::script_files::ScriptFiles;
-use crate::words::words;
+use crate::words::CommandLine;
 use clap::Error;
 use clap::error::ErrorKind;
 use receiver::{Sink, Source};
-use std::env::Env;
 use std::io::{Eprint, Print};
 use std::process::ExitCode;
 
@@ -23,17 +22,24 @@ use std::process::ExitCode;
 /// shows the help, or refuses an option, or runs the scripts. It reports on standard error what
 /// went wrong, and gives the status: 0, or 1 where the run or memory is at fault, or 2 where what
 /// was asked for is.
-pub fn carry_out<T, S, R, W>(rt: &T, files: &S, reader: &mut R, writer: &mut W) -> ExitCode
+pub fn carry_out<T, C, S, R, W>(
+    rt: &T,
+    line: &C,
+    files: &S,
+    reader: &mut R,
+    writer: &mut W,
+) -> ExitCode
 where
-    T: AllocGlobal + Env + Print + Eprint,
+    T: AllocGlobal + Print + Eprint,
+    C: CommandLine,
     S: ScriptFiles,
     R: Source,
     W: Sink,
-    ensures status { HasEnded (S.bytes_of files.now)
+    ensures status { HasEnded (C.given line.now) (S.bytes_of files.now)
         (devices_at R.Source W.Sink reader.old writer.old)
         (devices_at R.Source W.Sink reader.new writer.new) (exit_status result) }
 {
-    let words = match words(rt.alloc(), rt) {
+    let words = match line.words(rt.alloc()) {
         Ok(words) => words,
         Err(failure) => return tell(rt, Err(failure)),
     };

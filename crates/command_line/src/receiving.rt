@@ -1,7 +1,7 @@
 //! The program, from its options to the end of its run.
 
 ghost use Rattle.std.specs.Prelude.{◌≡◌, map, IfOk, IfErr};
-ghost use Rattle.clap.specs.Matches.{found_of};
+ghost use Rattle.command_line.specs.CommandLines.{options_in};
 ghost use Rattle.receiver.specs.Runs.{devices_at};
 ghost use Rattle.command_line.specs.Programs.{Receives, RunsTexts, IsBeforeReading, asked_in};
 ghost use Rattle.command_line.specs.Programs.{paths_in, one_or_more};
@@ -27,8 +27,8 @@ pub fn receive<S: ScriptFiles, R: Source, W: Sink>(
     ensures untouched { IfErr result (λ failure. IsBeforeReading failure
         → (reader.new ≡ reader.old) × (writer.new ≡ writer.old)) }
     ensures receives { Receives
-        (asked_in (found_of matches.now))
-        (map (λ path. S.bytes_of files.now path) (paths_in (found_of matches.now)))
+        (asked_in (options_in matches.now))
+        (map (λ path. S.bytes_of files.now path) (paths_in (options_in matches.now)))
         (devices_at R.Source W.Sink reader.old writer.old)
         (devices_at R.Source W.Sink reader.new writer.new) result }
 {

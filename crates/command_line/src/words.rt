@@ -1,6 +1,7 @@
 //! The words of the command line, as text.
 
-ghost use Rattle.std.specs.Prelude.{◌≡◌, ◌++◌, ◌∷◌, ℕ, List, [], IfOk, IfErr, string_bytes};
+ghost use Rattle.std.specs.Prelude.{◌≡◌, ◌++◌, ◌∷◌, ℕ, List, [], map, string_bytes};
+ghost use Rattle.std.specs.Prelude.{Option, None, IfSome, IfOk, IfErr};
 ghost use Rattle.std.specs.Str.{IsUtf8};
 
 use crate::failure::Failure;
@@ -11,20 +12,46 @@ use std::str::from_utf8;
 /// The most bytes of a word: Linux takes none of 128 KiB.
 const MOST_BYTES: usize = 128 << 10;
 
-/// The words, the program's name first.
-pub fn words<E: Env>(alloc: Global, env: &E) -> Result<Vec<String>, Failure>
-    ensures fault { IfErr result (λ failure. failure ≡ Failure.NoMemory) }
-{
-    let mut buffer = vec![in alloc; 0u8; MOST_BYTES]?;
-    let mut words = Vec::new(alloc);
-    for i in 0..usize::MAX {
-        match env.arg(i, &mut buffer) {
-            Ok(len) => words.push(word(alloc, &buffer[..len])?)?,
-            Err(FillError::NotPresent) => break,
-            Err(FillError::TooLong) => return Err(Failure::NoMemory),
-        }
+/// What gives the words of a command line.
+pub trait CommandLine {
+    /// The words, the program's name first, where they are known.
+    ghost given: { Self → Option (List (List ℕ)) };
+
+    /// The words, the program's name first.
+    fn words(&self, alloc: Global) -> Result<Vec<String>, Failure>
+        ensures all { IfOk result (λ words. IfSome (given self.now)
+            (λ all. map (λ word. string_bytes word) words.items ≡ all)) }
+        ensures fault { IfErr result (λ failure. failure ≡ Failure.NoMemory) };
+}
+
+/// The command line that a system has for the program. No contract knows its words.
+#[derive(Clone, Copy)]
+pub struct SystemCommandLine<'a, E> {
+    env: &'a E,
+}
+
+impl<'a, E> SystemCommandLine<'a, E> {
+    /// The command line in the environment of a system.
+    pub fn new(env: &'a E) -> Self {
+        SystemCommandLine { env }
     }
-    Ok(words)
+}
+
+impl<E: Env> CommandLine for SystemCommandLine<'_, E> {
+    ghost given = { λ _. None };
+
+    fn words(&self, alloc: Global) -> Result<Vec<String>, Failure> {
+        let mut buffer = vec![in alloc; 0u8; MOST_BYTES]?;
+        let mut words = Vec::new(alloc);
+        for i in 0..usize::MAX {
+            match self.env.arg(i, &mut buffer) {
+                Ok(len) => words.push(word(alloc, &buffer[..len])?)?,
+                Err(FillError::NotPresent) => break,
+                Err(FillError::TooLong) => return Err(Failure::NoMemory),
+            }
+        }
+        Ok(words)
+    }
 }
 
 /// A word as text. One that isn't UTF-8 gets U+FFFD for what isn't, so that it is no option's

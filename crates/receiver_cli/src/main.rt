@@ -3,12 +3,13 @@
 //! Its stored run ends with status 0: two scripts over the beginning of a recording.
 #![tactic(auto)]
 
-use command_line::{Stored, carry_out};
+use command_line::{Stored, SystemCommandLine, carry_out};
 use receiver::Plain;
 use std::io;
 use std::process::ExitCode;
 
 fn main(rt: HostRuntime) -> ExitCode {
     let (mut reader, mut writer) = (Plain::new(rt.reader()), Plain::new(io::writer(&rt)));
-    carry_out(&rt, &Stored::new(&rt), &mut reader, &mut writer)
+    let (line, files) = (SystemCommandLine::new(&rt), Stored::new(&rt));
+    carry_out(&rt, &line, &files, &mut reader, &mut writer)
 }

@@ -3,7 +3,7 @@
 use crate::failure::Failure;
 use crate::options;
 use crate::script_files::{ScriptFiles, Stored};
-use crate::words::words;
+use crate::words::{CommandLine, SystemCommandLine};
 use std::env::{Env, FillError};
 use std::test::Fail;
 
@@ -39,7 +39,7 @@ fn text_stays_as_it_is(rt: HostRuntime) -> Result<(), Fail> {
     let line = Words {
         words: &[b"receiver", b"", "\u{e9}\u{fffd}".as_bytes()],
     };
-    let words = words(rt.alloc(), &line)?;
+    let words = SystemCommandLine::new(&line).words(rt.alloc())?;
     assert_eq!(rt; words.len(), 3);
     for (word, text) in words.iter().zip(["receiver", "", "\u{e9}\u{fffd}"]) {
         assert_eq!(rt; word.as_str(), text);
@@ -53,7 +53,7 @@ fn a_name_that_is_no_text(rt: HostRuntime) -> Result<(), Fail> {
     let line = Words {
         words: &[b"receiver", b"\xff"],
     };
-    let words = words(rt.alloc(), &line)?;
+    let words = SystemCommandLine::new(&line).words(rt.alloc())?;
     let Ok(matches) = options::matches(rt.alloc(), &words) else {
         return Err("options that are understood".into());
     };
@@ -74,7 +74,7 @@ fn options_that_are_no_text(rt: HostRuntime) -> Result<(), Fail> {
     let format: &[&[u8]] = &[b"receiver", b"--format=real1\xff"];
     let flag: &[&[u8]] = &[b"receiver", b"--minus\xff"];
     for words in [rate, format, flag] {
-        let words = crate::words::words(rt.alloc(), &Words { words })?;
+        let words = SystemCommandLine::new(&Words { words }).words(rt.alloc())?;
         let status = options::matches(rt.alloc(), &words)
             .err()
             .map(|error| error.exit_code());

@@ -4,6 +4,7 @@ use crate::program::carry_out;
 use crate::script_files::Stored;
 use crate::tests::fakes::{Giving, Holding};
 use crate::tests::systems::System;
+use crate::words::SystemCommandLine;
 use std::alloc::{Alloc, Global};
 use std::fs::Files;
 use std::process::{Abort, ExitCode};
@@ -25,7 +26,13 @@ pub fn ending_of(
     writer: &mut Holding,
 ) -> Ended {
     let system = System::new(rt.alloc(), words);
-    let status = carry_out(&system, &Stored::new(rt), reader, writer);
+    let status = carry_out(
+        &system,
+        &SystemCommandLine::new(&system),
+        &Stored::new(rt),
+        reader,
+        writer,
+    );
     let (output, error) = system.into_printed();
     Ended {
         status,

@@ -1,4 +1,7 @@
-use Rattle.std.proofs.Common.{◌∙◌}
+use Rattle.std.proofs.Common.{◌∙◌, ap}
+use Rattle.clap.specs.Matches.{found_of}
+use Rattle.clap.proofs.WalkLemmas.{one_text-rows}
+use Rattle.command_line.specs.Programs.{number_in}
 use Rattle.command_line.proofs.OptionLemmas.{number-read}
 use Rattle.command_line.proofs.options.number.Goals as goal
 
@@ -7,3 +10,5 @@ returns c =
     c.unwrap_or.ensures
     ∙ number-read _ c.get_one.result c.args.default c.get_one.ensures.none
     c.get_one.ensures.value
+    ∙ ap (λ text. number_in text c.args.default)
+    (one_text-rows (found_of c.args.matches.now) c.args.id.now)

@@ -1,7 +1,7 @@
 use Rattle.std.proofs.Common.{◌≡◌, ◌∙◌, ap, sym, subst, ℕ, List, map}
 use Rattle.std.specs.Prelude.{Option}
 use Rattle.std.proofs.lemmas.Simd.{map-map}
-use Rattle.clap.specs.Matches.{found_of}
+use Rattle.command_line.specs.CommandLines.{options_in}
 use Rattle.command_line.specs.Programs.{paths_in, AreTextsOf, clients_of}
 use Rattle.command_line.proofs.ReceivingLemmas.{failed-before, failed-at-shares, received, err-is}
 use Rattle.command_line.proofs.ReceivingLemmas.{is-some, as-many-clients}
@@ -10,7 +10,7 @@ use Rattle.command_line.proofs.receiving.receive.Goals as goal
 pub returns-in_err-shares-clause-receives : goal.returns-in_err-shares-clause-receives
 returns-in_err-shares-clause-receives g c =
     let known : List ℕ → Option (List ℕ) = λ path. g.S.ScriptFiles.bytes_of c.args.files.now path in
-    let many : c.max.result ≡ clients_of (map known (paths_in (found_of c.args.matches.now))) =
+    let many : c.max.result ≡ clients_of (map known (paths_in (options_in c.args.matches.now))) =
     as-many-clients known (λ path. path.now) c.scripts-paths.result.now _ c.max.result
     c.scripts-paths.ensures c.max.ensures in
     failed-at-shares _ _ _ c.in_err-shares.field-0.0 c.from_residual.result
@@ -21,10 +21,10 @@ pub returns-in_err-texts-clause-receives : goal.returns-in_err-texts-clause-rece
 returns-in_err-texts-clause-receives g c =
     let known : List ℕ → Option (List ℕ) = λ path. g.S.ScriptFiles.bytes_of c.args.files.now path in
     let files : map (λ path. known path.now) c.scripts-paths.result.now
-    ≡ map known (paths_in (found_of c.args.matches.now)) =
+    ≡ map known (paths_in (options_in c.args.matches.now)) =
     sym (map-map known (λ path. path.now) c.scripts-paths.result.now)
     ∙ ap (map known) c.scripts-paths.ensures in
-    let many : c.max.result ≡ clients_of (map known (paths_in (found_of c.args.matches.now))) =
+    let many : c.max.result ≡ clients_of (map known (paths_in (options_in c.args.matches.now))) =
     as-many-clients known (λ path. path.now) c.scripts-paths.result.now _ c.max.result
     c.scripts-paths.ensures c.max.ensures in
     failed-before _ _ _ c.in_err-texts.field-0.0 c.from_residual-in_err-texts.result
@@ -39,10 +39,10 @@ returns-clause-receives g c =
     let known : List ℕ → Option (List ℕ) = λ path. g.S.ScriptFiles.bytes_of c.args.files.now path in
     let texts : List (List ℕ) = map (λ text. text.items) c.in_ok-texts.texts.items in
     let files : map (λ path. known path.now) c.scripts-paths.result.now
-    ≡ map known (paths_in (found_of c.args.matches.now)) =
+    ≡ map known (paths_in (options_in c.args.matches.now)) =
     sym (map-map known (λ path. path.now) c.scripts-paths.result.now)
     ∙ ap (map known) c.scripts-paths.ensures in
-    let many : c.max.result ≡ clients_of (map known (paths_in (found_of c.args.matches.now))) =
+    let many : c.max.result ≡ clients_of (map known (paths_in (options_in c.args.matches.now))) =
     as-many-clients known (λ path. path.now) c.scripts-paths.result.now _ c.max.result
     c.scripts-paths.ensures c.max.ensures in
     received _ _ c.in-Ok.settings c.in_ok-shares.shares.items texts _ _ c.run_texts.result
