@@ -8,11 +8,11 @@ from .cases import Case, packed, searches
 from .runs import Wanted, run
 
 # The KiB of stack that are enough for every run.
-STACK = 560
+STACK = 512
 # The KiB of address space that a sweep begins with, its step, and where the last run is whole.
-LEAST_SPACE, STEP, MOST_SPACE = 2048, 16, 20480
-# How many runs behind the first whole one a sweep goes on.
-BEHIND = 24
+LEAST_SPACE, STEP, MOST_SPACE = 2048, 4, 20480
+# How many runs after the first whole one a sweep goes on.
+BEHIND = 96
 
 # What Rust's own std says before it aborts.
 ABORTED = re.compile(rb'[^\0]*')
@@ -107,9 +107,7 @@ def swept(case, wanted):
 def address_space(programs, rows):
     """Limits of the address space, from too little up to enough."""
     for name, case in cases_of(programs):
-        # Where the address space has no room for the stack, a signal ends a run, perhaps after lines.
-        wanted = [*answers(programs, case), Wanted(-signal.SIGSEGV, b'', case.lines, False)]
-        wrong, is_whole = swept(case, wanted)
+        wrong, is_whole = swept(case, answers(programs, case))
         faults = [f'{spaces[0]} to {spaces[-1]} KiB: {text}' for text, spaces in wrong.items()]
         rows.say(f'address space, {name}', faults if is_whole else [*faults, 'no run was whole'])
 

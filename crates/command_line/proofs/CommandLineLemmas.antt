@@ -1,5 +1,5 @@
 -- The command of the program, and the option parser's answer.
-use Rattle.std.proofs.Common.{◌≡◌, refl, ap, subst, ◌∙◌, inl, map, codes, true, List, [], ◌∷◌}
+use Rattle.std.proofs.Common.{ℕ, ◌≡◌, refl, ap, subst, ◌∙◌, inl, map, codes, true, List, [], ◌∷◌}
 use Rattle.std.specs.Prelude.{Option, Some, None, IsSomeAnd, IfSome, unwrap_or, Result, Ok, Err, IfOk, IsErrAnd}
 use Rattle.clap.specs.Walk.{Text}
 use Rattle.clap.specs.Values.{kind_of}
@@ -12,6 +12,8 @@ use Rattle.clap.specs.declared.error.kind.ErrorKind.TheVariants.{OutOfMemory}
 use Rattle.clap.specs.declared.parser.matches.ArgMatches.{ArgMatches}
 use Rattle.clap.specs.declared.error.Error.{Error}
 use Rattle.clap.proofs.OnLiterals.{clap_on_literals}
+use Rattle.receiver.specs.Runs.{Devices}
+use Rattle.command_line.specs.Endings.{HasEnded, without_words}
 use Rattle.command_line.specs.CommandLines.{receiver, NamesFormats, Parses, options_in}
 
 -- what an option is, if it is there
@@ -48,19 +50,19 @@ parses words names app r formats e matches kinds = record {
 }
 
 -- names that are nowhere in memory
-pub some-names : ValueParser
+some-names : ValueParser
 some-names = parsers.Names (record {
   ref_ptr = (0, 0);
   now = map (λ (name : Text). record { ref_ptr = (0, 0); now = name })
       (codes "real1" ∷ codes "real2" ∷ codes "iq1" ∷ codes "iq2" ∷ []);
 })
 
-pub names-formats : NamesFormats some-names
+names-formats : NamesFormats some-names
 unfolding some-names
 names-formats = (_, refl, refl)
 
 -- the words that are given, where they are known
-pub given-words : (given : Option (List Text)) → IfSome given (λ all. unwrap_or given [] ≡ all)
+given-words : (given : Option (List Text)) → IfSome given (λ all. unwrap_or given [] ≡ all)
 given-words None = tt
 given-words (Some all) = refl
 
@@ -73,4 +75,17 @@ without-command words (Err error) h = record {
   formats = names-formats;
   found = tt;
   fault = inl h;
+}
+
+-- the program ends before the options are known, for want of memory
+pub without-memory : (given : Option (List Text)) (bytes_of : List ℕ → Option (List ℕ))
+    (devices : Devices) (status : ℕ) → status ≡ 1 → HasEnded given bytes_of devices devices status
+without-memory given bytes_of devices status is = record {
+  words = unwrap_or given [];
+  are_given = given-words given;
+  names = some-names;
+  formats = names-formats;
+  ending = without_words;
+  comes = refl;
+  by_ending = is;
 }

@@ -15,6 +15,7 @@ use crate::words::CommandLine;
 use clap::Error;
 use clap::error::ErrorKind;
 use receiver::{Sink, Source};
+use std::alloc::{AllocError, Global};
 use std::io::{Eprint, Print};
 use std::process::ExitCode;
 
@@ -23,6 +24,44 @@ use std::process::ExitCode;
 /// went wrong, and gives the status: 0, or 1 where the run or memory is at fault, or 2 where what
 /// was asked for is.
 pub fn carry_out<T, C, S, R, W>(
+    rt: &T,
+    line: &C,
+    files: &S,
+    reader: &mut R,
+    writer: &mut W,
+) -> ExitCode
+where
+    T: AllocGlobal + Print + Eprint,
+    C: CommandLine,
+    S: ScriptFiles,
+    R: Source,
+    W: Sink,
+    ensures status { HasEnded (C.given line.now) (S.bytes_of files.now)
+        (devices_at R.Source W.Sink reader.old writer.old)
+        (devices_at R.Source W.Sink reader.new writer.new) (exit_status result) }
+{
+    match room_for_stack(rt.alloc()) {
+        Ok(()) => carry_out_in_room(rt, line, files, reader, writer),
+        Err(AllocError) => tell(rt, Err(Failure::NoMemory)),
+    }
+}
+
+/// The most bytes of stack that the program takes.
+const STACK_BYTES: usize = 512 << 10;
+
+/// Whether there is as much memory as the program takes of the stack. A limit on the address space
+/// holds for both, and where the stack can't grow a signal ends the program.
+#[cold]
+#[inline(never)]
+fn room_for_stack(alloc: Global) -> Result<(), AllocError> {
+    let _room: Vec<u8> = Vec::with_capacity(alloc, STACK_BYTES)?;
+    Ok(())
+}
+
+/// Does what the words ask for. It has most of the stack, and takes the rest of it with the words,
+/// so that the stack grows no more once there may be lines.
+#[inline(never)]
+fn carry_out_in_room<T, C, S, R, W>(
     rt: &T,
     line: &C,
     files: &S,

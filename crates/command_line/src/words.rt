@@ -40,8 +40,10 @@ impl<'a, E> SystemCommandLine<'a, E> {
 impl<E: Env> CommandLine for SystemCommandLine<'_, E> {
     ghost given = { λ _. None };
 
+    // The room for a word is on the stack, more of it than the run takes.
+    #[inline(never)]
     fn words(&self, alloc: Global) -> Result<Vec<String>, Failure> {
-        let mut buffer = vec![in alloc; 0u8; MOST_BYTES]?;
+        let mut buffer = [0; MOST_BYTES];
         let mut words = Vec::new(alloc);
         for i in 0..usize::MAX {
             match self.env.arg(i, &mut buffer) {

@@ -1,53 +1,9 @@
-use Rattle.std.proofs.Common.{refl, map, ap, ◌∙◌, []}
-use Rattle.std.specs.Prelude.{Err, string_bytes, unwrap_or}
-use Rattle.clap.specs.Values.{kind_of}
-use Rattle.command_line.specs.Endings.{received, without_options, without_words}
-use Rattle.command_line.specs.Programs.{status_of}
-use Rattle.command_line.specs.declared.failure.Failure.{Failure}
-use Rattle.command_line.proofs.CommandLineLemmas.{given-words, names-formats, some-names}
+use Rattle.command_line.proofs.CommandLineLemmas.{without-memory}
 use Rattle.command_line.proofs.program.carry_out.Goals as goal
 
 pub returns-in-Err : goal.returns-in-Err
 returns-in-Err g c = record {
-  status = record {
-    words = unwrap_or (g.C.CommandLine.given c.args.line.now) [];
-    are_given = given-words (g.C.CommandLine.given c.args.line.now);
-    names = some-names;
-    formats = names-formats;
-    ending = without_words;
-    comes = refl;
-    by_ending =
-        c.tell.ensures.status
-        ∙ ap (λ (failure : Failure). status_of (Err failure)) c.in-Err.ensures.fault;
-  };
+  status =
+      without-memory (g.C.CommandLine.given c.args.line.now) _ _ _
+      c.tell.ensures.status;
 }
-
-pub returns-in-Ok-matches : goal.returns-in-Ok-matches
-returns-in-Ok-matches g c =
-    let parses = rw c.deref.ensures.value at c.in-Ok-matches.ensures.parses in
-    record {
-      status = record {
-        words = map (λ word. string_bytes word) c.in-Ok.words.items;
-        are_given = c.in-Ok.ensures.all;
-        names = parses.names;
-        formats = parses.formats;
-        ending = received c.receive.result;
-        comes = (parses.fault, rw parses.found at c.receive.ensures.receives);
-        by_ending = c.tell-in-Ok-matches.ensures.status;
-      };
-    }
-
-pub returns : goal.returns
-returns g c =
-    let parses = rw c.deref.ensures.value at c.in-Err-matches.ensures.parses in
-    record {
-      status = record {
-        words = map (λ word. string_bytes word) c.in-Ok.words.items;
-        are_given = c.in-Ok.ensures.all;
-        names = parses.names;
-        formats = parses.formats;
-        ending = without_options (kind_of c.in-Err-matches.error);
-        comes = (parses.fault, refl);
-        by_ending = c.refuse.ensures.status;
-      };
-    }
