@@ -1,6 +1,6 @@
 //! The factors of products: samples and carriers, by the bits of words.
 
-ghost use Rattle.std.specs.Prelude.{◌≡◌, ◌-◌, ◌*◌, ◌<◌, ◌≤◌, ℕ, pos, ◌-ℤ◌, unsigned_abs, false};
+ghost use Rattle.std.specs.Prelude.{◌≡◌, ◌-◌, ◌*◌, ◌<◌, ◌≤◌, ℕ, pos, ◌-ℤ◌, false};
 ghost use Rattle.std.specs.Prelude.{IfSome, IfNone};
 ghost use Rattle.std.specs.Int.{bit_at};
 ghost use Rattle.sample_planes.specs.Signs.{IsWord, IsQuadratureWord, AreReal, AreOneBit};
@@ -8,9 +8,9 @@ ghost use Rattle.oscillators.specs.Signs.{signed};
 ghost use Rattle.lane_correlator.specs.Factors.{IsCosine, IsSine, IsMinusSine, IsSumOf, wave_bits};
 ghost use Rattle.lane_correlator.specs.Words.{sizes_in};
 ghost use Rattle.bit_planes.specs.declared.plane.TheConstants.{WORDS};
-ghost use Rattle.lane_correlator.specs.declared.word.TheConstants.{MOST_OF_WORD, MOST_SUM_OF_WORD};
+ghost use Rattle.lane_correlator.specs.declared.word.TheConstants.{MOST_OF_WORD};
 
-use crate::word::{products, sizes_below};
+use crate::word::sizes_below;
 use oscillators::{CarrierPlanes, CarrierWord};
 use sample_planes::Planes;
 
@@ -109,21 +109,8 @@ impl Wave {
     }
 }
 
-/// The sum of the products of a part of the samples, a carrier and chips over the places of a mask.
-#[inline(always)]
-pub(crate) fn sum_of_part(part: Factors, wave: Factors, chips: u64, mask: u64) -> i32
-    ensures sum { IsSumOf part wave chips mask result }
-    ensures small { unsigned_abs result ≤ MOST_SUM_OF_WORD }
-{
-    products(
-        part.negative ^ wave.negative ^ chips,
-        part.large,
-        wave.large,
-        mask,
-    )
-}
-
-/// The sizes of those products that are below 0.
+/// The sizes below 0 of the products of a part of the samples, a carrier and chips over the places of
+/// a mask.
 #[inline(always)]
 pub(crate) fn below_of_part(part: Factors, wave: Factors, chips: u64, mask: u64) -> u32
     ensures sum { IsSumOf part wave chips mask

@@ -23,7 +23,6 @@
 
 mod counts;
 mod factors;
-mod pair;
 mod six;
 mod sums;
 mod tally;
