@@ -6,3 +6,4 @@ pub mod SumLemmas
 mod ReplicaLemmas
 mod TallyLemmas
 pub mod WordOfRunLemmas
+mod LoopLemmas

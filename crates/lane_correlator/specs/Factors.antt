@@ -1,6 +1,5 @@
 -- Factors of products by the bits of words: samples, carrier and chips.
-use Rattle.std.specs.Prelude.{◌≡◌, ℕ, ◌+◌, ◌-◌, ◌*◌, ◌<◌, ◌≤◌, ℤ, pos, ◌-ℤ◌, ◌*ℤ◌, List, length}
-use Rattle.std.specs.Prelude.{get_or}
+use Rattle.std.specs.Prelude.{◌≡◌, ℕ, ◌+◌, ◌-◌, ◌<◌, ◌≤◌, ℤ, ◌*ℤ◌}
 use Rattle.std.specs.Int.{bit_at}
 use Rattle.definitions.specs.Samples.{sign_of}
 use Rattle.definitions.specs.Sums.{sum_between}
@@ -15,20 +14,6 @@ part_bits f j = part_of (bit_at f.negative (63 - j)) (bit_at f.large (63 - j))
 
 abbrev pub wave_bits : Factors → ℕ → ℤ
 wave_bits f j = signed (bit_at f.negative (63 - j)) (bit_at f.large (63 - j))
-
--- factors are the values of a list from 64 w on, as far as there are any
-unfoldable pub IsCosine : List ℤ → ℕ → Factors → Type 0
-IsCosine views w f = (j : ℕ) → j < 64 → 64 * w + j < length views
-    → get_or views (64 * w + j) (pos 0) ≡ wave_bits f j
-
-unfoldable pub IsSine : List ℤ → ℕ → Factors → Type 0
-IsSine views w f = (j : ℕ) → j < 64 → 64 * w + j < length views
-    → get_or views (64 * w + j) (pos 0) ≡ wave_bits f j
-
--- they are what the values become when turned about 0
-unfoldable pub IsMinusSine : List ℤ → ℕ → Factors → Type 0
-IsMinusSine views w f = (j : ℕ) → j < 64 → 64 * w + j < length views
-    → pos 0 -ℤ get_or views (64 * w + j) (pos 0) ≡ wave_bits f j
 
 -- factors are the values of a function from a base on, before place end
 unfoldable pub ArePart : (ℕ → ℤ) → ℕ → ℕ → Factors → Type 0

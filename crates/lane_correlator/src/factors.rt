@@ -1,17 +1,17 @@
 //! The factors of products: samples and carriers, by the bits of words.
 
-ghost use Rattle.std.specs.Prelude.{◌≡◌, ◌-◌, ◌*◌, ◌<◌, ◌≤◌, ℕ, pos, ◌-ℤ◌, unsigned_abs, false};
+ghost use Rattle.std.specs.Prelude.{◌≡◌, ◌-◌, ◌*◌, ◌<◌, ◌≤◌, ℕ, pos, ◌-ℤ◌, false};
 ghost use Rattle.std.specs.Prelude.{IfSome, IfNone};
 ghost use Rattle.std.specs.Int.{bit_at};
 ghost use Rattle.sample_planes.specs.Signs.{IsWord, IsQuadratureWord, AreReal, AreOneBit};
 ghost use Rattle.oscillators.specs.Signs.{signed};
-ghost use Rattle.lane_correlator.specs.Factors.{IsCosine, IsSine, IsMinusSine, IsSumOf, wave_bits};
+ghost use Rattle.lane_correlator.specs.Factors.{IsSumOf, wave_bits};
 ghost use Rattle.lane_correlator.specs.Words.{sizes_in};
 ghost use Rattle.bit_planes.specs.declared.plane.TheConstants.{WORDS};
-ghost use Rattle.lane_correlator.specs.declared.word.TheConstants.{MOST_OF_WORD, MOST_SUM_OF_WORD};
+ghost use Rattle.lane_correlator.specs.declared.word.TheConstants.{MOST_OF_WORD};
 
-use crate::word::{products, sizes_below};
-use oscillators::{CarrierPlanes, CarrierWord};
+use crate::word::sizes_below;
+use oscillators::CarrierWord;
 use sample_planes::Planes;
 
 /// Factors at 64 places, the first of them in the top bits: 1 in `negative` where a factor is below
@@ -57,32 +57,6 @@ pub(crate) struct Wave {
 }
 
 impl Wave {
-    /// That of the samples from `64 * w` on.
-    pub(crate) fn new(carrier: &CarrierPlanes, w: usize) -> Wave
-        requires { w < WORDS }
-        ensures cos { IsCosine carrier.now.cos w result.cos }
-        ensures sin { IsSine carrier.now.sin w result.sin }
-        ensures minus_sin { IsMinusSine carrier.now.sin w result.minus_sin }
-        ensures sizes { (j : ℕ) → j < 64
-            → bit_at result.cos.large (63 - j) ≡ 1 - bit_at result.sin.large (63 - j) }
-    {
-        let (cos, sin, sin_size) = carrier.word(w);
-        Wave {
-            cos: Factors {
-                negative: cos,
-                large: !sin_size,
-            },
-            sin: Factors {
-                negative: sin,
-                large: sin_size,
-            },
-            minus_sin: Factors {
-                negative: !sin,
-                large: sin_size,
-            },
-        }
-    }
-
     /// That of a word.
     pub(crate) fn of_word(word: CarrierWord) -> Wave
         ensures cos { (j : ℕ) → j < 64 → wave_bits result.cos j
@@ -109,21 +83,8 @@ impl Wave {
     }
 }
 
-/// The sum of the products of a part of the samples, a carrier and chips over the places of a mask.
-#[inline(always)]
-pub(crate) fn sum_of_part(part: Factors, wave: Factors, chips: u64, mask: u64) -> i32
-    ensures sum { IsSumOf part wave chips mask result }
-    ensures small { unsigned_abs result ≤ MOST_SUM_OF_WORD }
-{
-    products(
-        part.negative ^ wave.negative ^ chips,
-        part.large,
-        wave.large,
-        mask,
-    )
-}
-
-/// The sizes of those products that are below 0.
+/// The sizes of the products below 0 of a part of the samples, a carrier and chips, over the places
+/// of a mask.
 #[inline(always)]
 pub(crate) fn below_of_part(part: Factors, wave: Factors, chips: u64, mask: u64) -> u32
     ensures sum { IsSumOf part wave chips mask

@@ -1,23 +1,18 @@
 //! Sums with a replica that is made as it is needed, 64 samples at a time.
 
-ghost use Rattle.std.specs.Prelude.{◌≡◌, ◌+◌, ◌-◌, ◌*◌, ◌<◌, ◌≤◌, ℕ, length, false};
+ghost use Rattle.std.specs.Prelude.{◌≡◌, ◌+◌, ◌*◌, ◌≤◌, length, false};
 ghost use Rattle.definitions.specs.Samples.{sample_at};
-ghost use Rattle.definitions.specs.Correlation.{Replica, six_sums, replica_of};
+ghost use Rattle.definitions.specs.Correlation.{six_sums, replica_of};
 ghost use Rattle.sample_planes.specs.Signs.{AreOneBit};
 ghost use Rattle.lane_correlator.specs.Counting.{counts_in, AreWithin};
-ghost use Rattle.lane_correlator.specs.Tallies.{tally_in, AreFew};
-ghost use Rattle.lane_correlator.specs.ReplicaWords.{AreOf, phases_of};
-ghost use Rattle.bit_planes.specs.declared.plane.TheConstants.{WORDS};
+ghost use Rattle.lane_correlator.specs.ReplicaWords.{phases_of};
 ghost use Rattle.sample_planes.specs.declared.planes.TheConstants.{MAX_SAMPLES};
-ghost use Rattle.lane_correlator.specs.declared.word.TheConstants.{MOST_OF_WORD};
 
 use crate::counts::Counts;
-use crate::factors::{Factors, Wave};
-use crate::six::six_of_part;
+use crate::six::word_sums;
 use crate::tally::Tally;
-use crate::word::places;
 use ca_codes::{CodeBook, Prn};
-use oscillators::{CarrierOsc, CarrierWord, ChipWord, CodeOsc};
+use oscillators::{CarrierOsc, CodeOsc};
 use sample_planes::Planes;
 
 /// The six sums over `count` samples of a run, from sample `from` on, in units of sample times
@@ -80,38 +75,4 @@ fn run_sums(
         sums = sums.add(&word_sums(samples, w, wave, chips, first, end, has_sizes));
     }
     sums.counts()
-}
-
-/// The six sums over places `first` to `end` - 1 of the samples from `64 * w` on, with the words of
-/// a replica.
-#[inline(always)]
-fn word_sums(
-    samples: &Planes,
-    w: usize,
-    carrier: CarrierWord,
-    chips: ChipWord,
-    first: usize,
-    end: usize,
-    has_sizes: bool,
-) -> Tally
-    requires word { w < WORDS }
-    requires ordered { first ≤ end }
-    requires within { end ≤ 64 }
-    requires reach { 64 * w + end ≤ length samples.now }
-    requires one_bit { has_sizes ≡ false → AreOneBit samples.now }
-    ensures sums { (r : Replica) → AreOf r (64 * w) end carrier chips
-        → tally_in result ≡ six_sums (sample_at samples.now) r (64 * w + first) (64 * w + end) }
-    ensures small { AreWithin (9 * (end - first)) (tally_in result) }
-    ensures few { AreFew (2 * MOST_OF_WORD) result }
-{
-    let mask = places(first, end);
-    let wave = Wave::of_word(carrier);
-    let three = (chips.early, chips.prompt, chips.late);
-    let part = Factors::in_phase(samples, w, has_sizes);
-    let in_phase = six_of_part(part, wave.cos, wave.minus_sin, three, mask);
-    let quadrature = match Factors::quadrature(samples, w, has_sizes) {
-        Some(part) => six_of_part(part, wave.sin, wave.cos, three, mask),
-        None => Tally::NONE,
-    };
-    in_phase.add(&quadrature)
 }

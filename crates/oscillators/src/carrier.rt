@@ -218,18 +218,17 @@ impl CarrierPlanes {
         signed(self.sin_sign.bit(i), self.sin_size.bit(i))
     }
 
-    /// From sample `64 * w` on, the first in the top bits: where the cosine is below 0, where the
-    /// sine is, and where the sine is 2 in size and the cosine 1.
-    pub fn word(&self, w: usize) -> (u64, u64, u64)
+    /// Cosine and sine from sample `64 * w` on.
+    pub fn word(&self, w: usize) -> CarrierWord
         requires { w < WORDS }
-        ensures cos { IsCosWord self.now.cos w result.0 result.2 }
-        ensures sin { IsSinWord self.now.sin w result.1 result.2 }
+        ensures cos { IsCosWord self.now.cos w result.cos_sign result.sin_size }
+        ensures sin { IsSinWord self.now.sin w result.sin_sign result.sin_size }
     {
-        (
-            self.cos_sign.word(w),
-            self.sin_sign.word(w),
-            self.sin_size.word(w),
-        )
+        CarrierWord {
+            cos_sign: self.cos_sign.word(w),
+            sin_sign: self.sin_sign.word(w),
+            sin_size: self.sin_size.word(w),
+        }
     }
 }
 

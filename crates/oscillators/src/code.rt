@@ -286,14 +286,18 @@ impl CodePlanes {
         sign(self.late.bit(i))
     }
 
-    /// The chips from sample `64 * w` on, the first in the top bits: early, prompt and late.
-    pub fn word(&self, w: usize) -> (u64, u64, u64)
+    /// The chips from sample `64 * w` on.
+    pub fn word(&self, w: usize) -> ChipWord
         requires { w < WORDS }
-        ensures early { IsChipWord self.now.early w result.0 }
-        ensures prompt { IsChipWord self.now.prompt w result.1 }
-        ensures late { IsChipWord self.now.late w result.2 }
+        ensures early { IsChipWord self.now.early w result.early }
+        ensures prompt { IsChipWord self.now.prompt w result.prompt }
+        ensures late { IsChipWord self.now.late w result.late }
     {
-        (self.early.word(w), self.prompt.word(w), self.late.word(w))
+        ChipWord {
+            early: self.early.word(w),
+            prompt: self.prompt.word(w),
+            late: self.late.word(w),
+        }
     }
 }
 

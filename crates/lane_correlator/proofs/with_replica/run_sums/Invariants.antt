@@ -1,12 +1,9 @@
 use Rattle.std.proofs.Common.{◌≡◌, ℕ, ◌≤◌, ◌+◌, ◌*◌, ◌/◌, ◌-◌}
-use Rattle.std.specs.Prelude.{min, max}
 use Rattle.definitions.specs.Samples.{sample_at}
 use Rattle.definitions.specs.Oscillators.{carrier_phase_after, code_phase_after}
-use Rattle.definitions.specs.Correlation.{six_sums}
-use Rattle.lane_correlator.specs.Counting.{AreWithin}
-use Rattle.lane_correlator.specs.Tallies.{tally_in, AreFew}
 use Rattle.lane_correlator.specs.ReplicaWords.{phases_of}
 use Rattle.lane_correlator.proofs.ReplicaLemmas.{placed}
+use Rattle.lane_correlator.proofs.LoopLemmas.{HasSums}
 use Rattle.lane_correlator.proofs.with_replica.run_sums.Given as goal
 
 abbrev pub invariant-loop-w : goal.invariant-loop-w
@@ -19,9 +16,6 @@ invariant-loop-w l = record {
   code : (j : ℕ) → code_phase_after l.code.phase l.initial.code.step j ≡ code_phase_after
       l.initial.code.phase l.initial.code.step (64 * (l.w - l.from / 64) + j);
   code_step : l.code.step ≡ l.initial.code.step;
-  sums : tally_in l.sums ≡ six_sums (sample_at l.samples) (placed l.prn
-      (phases_of l.initial.carrier l.initial.code) (64 * (l.from / 64))) l.from
-      (min l.to (max l.from (64 * l.w)));
-  small : AreWithin (9 * (min l.to (max l.from (64 * l.w)) - l.from)) (tally_in l.sums);
-  few : AreFew (896 * (l.w - l.from / 64)) l.sums;
+  sums : HasSums (sample_at l.samples) (placed l.prn (phases_of l.initial.carrier l.initial.code)
+      (64 * (l.from / 64))) l.from l.to l.w l.sums;
 }

@@ -12,8 +12,8 @@ use Rattle.lane_correlator.proofs.ReplicaLemmas.{own_replica, chips_of_replica, 
 use Rattle.lane_correlator.proofs.WordOfRunLemmas.{RunWord, from, to, quadrature_part, word_sums_of}
 use Rattle.lane_correlator.proofs.WordOfRunLemmas.{in_phase_is, quadrature_is, no_quadrature}
 use Rattle.lane_correlator.proofs.WordOfRunLemmas.{sums_are, sums_small}
-use Rattle.lane_correlator.proofs.with_replica.word_sums.Goals as goal
-use Rattle.lane_correlator.proofs.with_replica.word_sums.Goals.{After-add, in-Some, in-None}
+use Rattle.lane_correlator.proofs.six.word_sums.Goals as goal
+use Rattle.lane_correlator.proofs.six.word_sums.Goals.{After-add, in-Some, in-None}
 
 module _ (c : After-add) (r : Replica)
     (of : AreOf r (64 * c.args.w) c.args.end c.args.carrier c.args.chips) where
