@@ -3,9 +3,9 @@
 //!
 //! `replica_sums` gives the sums with the early, prompt and late chips, in phase and in quadrature.
 //! It makes the carrier and the code on the way. `six_sums` gives the same with planes of a carrier
-//! and a code, and `pair_sum` those with the prompt chips alone. All three are proved to be the plain
-//! sums over every range of the run, for real and for complex samples. (IS-GPS-200 has the signal
-//! alone; how a receiver correlates with it is this project's own.)
+//! and a code, and `pair_sum` those with the prompt chips alone. All three are proved to be the
+//! plain sums over every range of the run, for real and for complex samples. (IS-GPS-200 has the
+//! signal alone; how a receiver correlates with it is this project's own.)
 //!
 //!     use ca_codes::{CodeBook, Prn};
 //!     use lane_correlator::replica_sums;
