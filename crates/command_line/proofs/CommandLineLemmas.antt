@@ -1,6 +1,7 @@
 -- The command of the program, and the option parser's answer.
 use Rattle.std.proofs.Common.{ℕ, ◌≡◌, refl, ap, subst, ◌∙◌, inl, map, codes, true, List, [], ◌∷◌}
-use Rattle.std.specs.Prelude.{Option, Some, None, IsSomeAnd, IfSome, unwrap_or, Result, Ok, Err, IfOk, IsErrAnd}
+use Rattle.std.specs.Prelude.{Option, Some, None, IsSomeAnd, IfSome, unwrap_or}
+use Rattle.std.specs.Prelude.{Result, Ok, Err, IfOk, IsErrAnd}
 use Rattle.clap.specs.Walk.{Text}
 use Rattle.clap.specs.Values.{kind_of}
 use Rattle.clap.specs.Simple.{App, is_simple, matches_of, HasMatchesOf}

@@ -67,7 +67,8 @@ number-read (Some text) r default none some = by_read r (some text refl)
 
 -- the names of the scripts are those that the parser has, or there are none
 pub paths-read : (r : Option (Bor (List (Bor (List ℕ))))) (none : Bor (List (Bor (List ℕ))))
-    (found : Option (List (List ℕ))) → option_map (λ paths. map (λ path. path.now) paths.now) r ≡ found
+    (found : Option (List (List ℕ)))
+    → option_map (λ paths. map (λ path. path.now) paths.now) r ≡ found
     → none.now ≡ [] → map (λ path. path.now) (unwrap_or r none).now ≡ unwrap_or found []
 paths-read None none found e is = rw (sym e, is) refl
 paths-read (Some paths) none found e is = rw (sym e) refl

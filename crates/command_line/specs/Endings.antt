@@ -33,7 +33,8 @@ ending_status (without_options kind) = parser_status kind
 ending_status (received answer) = status_of answer
 
 -- an ending comes of the faults that the option parser has for the words, in the order of its
--- steps, and of the options that it finds in them. Nothing is read or written before these are known
+-- steps, and of the options that it finds in them. Nothing is read or written before these are
+-- known
 abbrev pub ComesOf : Kinds → List Row → (List ℕ → Option (List ℕ)) → Devices → Devices → Ending
     → Type 0
 ComesOf faults options bytes_of old new without_words = new ≡ old

@@ -4,7 +4,8 @@ use Rattle.command_line.proofs.CommandLineLemmas.{parses, without-command}
 use Rattle.command_line.proofs.options.matches.Goals as goal
 
 pub returns-in_err-command : goal.returns-in_err-command
-returns-in_err-command c = record { parses = without-command _ c.from_residual.result (search rules) }
+returns-in_err-command c =
+    record { parses = without-command _ c.from_residual.result (search rules) }
 
 pub returns : goal.returns
 returns c =

@@ -270,7 +270,10 @@ returns-in_default-clause-read g c settings clients start at =
           Consumes-kept (r.remaining c.args.reader.now) (r.remaining c.loop-reader.reader)
           (r.remaining c.read.new.self) was.0 was.1 c.in_default.ensures.bytes;
       why = (
-        (c.in_default.ensures.end ∙ c.loop-reader.invariant.gave_none, c.in_default.ensures.failure),
+        (
+          c.in_default.ensures.end ∙ c.loop-reader.invariant.gave_none,
+          c.in_default.ensures.failure,
+        ),
         within-limit settings.packing was.0 c.args.limit (time_of c.loop-reader.session) time
             c.loop-reader.invariant.within,
       );
