@@ -5,8 +5,9 @@ import re
 DOCS = re.compile(r'\A(?://!.*\n)*')
 EXAMPLE = re.compile(r'^//!     .*\n(?:(?://!\n)*//!     .*\n)*', re.M)
 
-# The lines around an example, so that it can end early; rustdoc shows none of them.
-FAULT = 'Result<(), Box<dyn core::error::Error>>'
+# The lines around an example, so that it can end early; rustdoc shows none of them. The sources'
+# own `Box` is that of the kit.
+FAULT = 'Result<(), std::boxed::Box<dyn core::error::Error>>'
 HEAD = f'//!     # fn main() -> {FAULT} {{\n'
 TAIL = '//!     # Ok(())\n//!     # }\n'
 

@@ -5,7 +5,7 @@ pub use ::std as real;
 pub use ::std::*;
 
 pub mod alloc;
-pub mod boxed;
+pub mod boxes;
 pub mod env;
 pub mod fs;
 pub mod io;
@@ -23,7 +23,7 @@ pub use runtime::HostRuntime;
 pub mod prelude {
     pub mod rust_2024 {
         pub use crate::alloc::{AllocGlobal, AllocGlobal as Alloc};
-        pub use crate::boxed::Box;
+        pub use crate::boxes::Box;
         pub use crate::io::{Eprint, Print};
         pub use crate::string::{String, ToString};
         pub use crate::vec::Vec;
