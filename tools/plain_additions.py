@@ -1,5 +1,5 @@
-"""What Rust wants beside a source that was made plain: premises that a debug build checks, the
-usual traits, and leave for names that only the prover uses."""
+"""What Rust wants beside a source that was made plain: premises that are checked, the usual traits,
+and leave for names that only the prover uses."""
 import re
 import textwrap
 
@@ -9,6 +9,9 @@ from plain_text import block_end, code_of
 # A function with the comments of its clauses: its head, these lines, and its brace's indentation.
 FUNCTION = re.compile(
     r'^( *(?:pub(?:\([a-z]+\))? )?fn (?:[^{;/\[]|\[[^\]]*\])*)\n((?: *// .*\n)+)( *)\{$', re.M)
+
+# A loop of a function.
+LOOP = re.compile(r'^ *(?:for|while|loop)\b', re.M)
 
 # A law: a public function with clauses that does nothing.
 LAW = re.compile(r'^(pub fn [^{;/]*\n(?: *// .*\n)+\{\})$', re.M)
@@ -29,8 +32,9 @@ def contract(clauses, indent):
 
 
 def checked_text(text, constants):
-    """A source whose functions say what they require, and see to the simple ones by themselves. It
-    may name constants, whose types are given."""
+    """A source whose functions say what they require, and see to the simple ones by themselves:
+    those with a loop in every build, since rustc can then leave out checks in the loop, and the
+    others in a debug build. It may name constants, whose types are given."""
     code = code_of(text)
 
     def checked(found):
@@ -38,7 +42,9 @@ def checked_text(text, constants):
         docs = contract(clauses, indent) if head.lstrip().startswith('pub fn') else ''
         types = types_in(head, code, constants)
         holds = filter(None, (condition(premise, types) for premise in premises(clauses)))
-        return docs + found[0] + ''.join(f'\n    {indent}debug_assert!({hold});' for hold in holds)
+        body = code_of(text[found.end():block_end(text, found.end() - 1)])
+        check = 'assert' if LOOP.search(body) else 'debug_assert'
+        return docs + found[0] + ''.join(f'\n    {indent}{check}!({hold});' for hold in holds)
 
     return LAW.sub(r'#[doc(hidden)]\n\1', FUNCTION.sub(checked, text))
 

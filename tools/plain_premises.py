@@ -1,4 +1,4 @@
-"""The simple premises of functions as conditions of Rust, which a debug build checks."""
+"""The simple premises of functions as conditions of Rust, which a function can check."""
 import re
 
 # A term of a clause that Rust can say: a power, a list's length, a size, a number or a name.
