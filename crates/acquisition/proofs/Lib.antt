@@ -10,3 +10,7 @@ pub mod TallyLemmas
 pub mod SearchLemmas
 pub mod StandingLemmas
 pub mod SizeLemmas
+pub mod OnesLemmas
+pub mod RingLemmas
+pub mod CellLemmas
+pub mod LaneLemmas

@@ -1,34 +1,30 @@
--- The places of samples, and phases that go on.
+-- The half chips of samples, and phases that go on.
 use Rattle.std.proofs.Common.{◌≡◌, ℕ, ◌+◌, ◌*◌, ◌/◌, ◌%◌, ◌^◌, ◌<◌, ◌≤◌, refl, ap, ◌∙◌, arith}
 use Rattle.std.specs.Prelude.{zero, suc, pos, get_or, unsigned_abs}
 use Rattle.std.proofs.Math.Nat.{mod-add-mod}
 use Rattle.definitions.specs.Codes.{chip, chip_sign}
 use Rattle.definitions.specs.Oscillators.{prompt_sign, code_phase_after, carrier_phase_after}
 use Rattle.definitions.specs.Oscillators.{cosine, sine, cosines, sines}
-use Rattle.acquisition.specs.Folds.{place_at}
-use Rattle.acquisition.specs.declared.chip_table.TheConstants.{PLACES}
+use Rattle.acquisition.specs.Folds.{half_chip_at}
+use Rattle.acquisition.specs.declared.half_chip_table.TheConstants.{PLACES}
 
--- the chip of a sample is that of its place, half / 2 chips on
+-- the chip of a sample, for a code that begins at a half chip
 chip_place : (half way : ℕ) → (half * 2 ^ 31 + way) % (1023 * 2 ^ 32) / 2 ^ 32 % 1023
-    ≡ (half / 2 + (half % 2 * 2 ^ 31 + way) / 2 ^ 32 % 1023) % 1023
+    ≡ (half + way / 2 ^ 31 % 2046) / 2 % 1023
 chip_place half way = omega arith
 
 pub chip_of_place : (prn half step j : ℕ)
     → prompt_sign prn (code_phase_after (half * 2 ^ 31) step j)
-    ≡ chip_sign prn (half / 2 + place_at (half % 2) step j)
+    ≡ chip_sign prn ((half + half_chip_at step j) / 2)
 unfolding chip
 chip_of_place prn half step j = rw (chip_place half (j * step)) refl
 
-pub place_below : (parity step j : ℕ) → place_at parity step j < PLACES
-place_below parity step j = omega arith
+pub place_below : (step j : ℕ) → half_chip_at step j < PLACES
+place_below step j = omega arith
 
--- the place of a phase, and of one half a chip on
-place_of_phase : (m : ℕ) → m % (1023 * 2 ^ 32) / 2 ^ 32 ≡ (0 * 2 ^ 31 + m) / 2 ^ 32 % 1023
+-- the half chip of a phase
+place_of_phase : (m : ℕ) → m % (1023 * 2 ^ 32) / 2 ^ 31 ≡ m / 2 ^ 31 % 2046
 place_of_phase m = omega arith
-
-place_half_on : (m : ℕ) → (m % (1023 * 2 ^ 32) + 2 ^ 31) % (1023 * 2 ^ 32) / 2 ^ 32
-    ≡ (1 * 2 ^ 31 + m) / 2 ^ 32 % 1023
-place_half_on m = omega arith
 
 -- the code i samples on from one that is k samples on from phase 0
 way_on : (code phase step k i : ℕ) → code ≡ code_phase_after 0 step k
@@ -38,16 +34,10 @@ way_on code phase step k i first is =
     is ∙ rw first (mod-add-mod (0 + k * step) (1023 * 2 ^ 32) (i * step))
     ∙ ap (λ (m : ℕ). m % (1023 * 2 ^ 32)) e
 
-pub even-place : (code phase step k i : ℕ) → code ≡ code_phase_after 0 step k
-    → phase ≡ code_phase_after code step i → phase / 2 ^ 32 ≡ place_at 0 step (k + i)
-even-place code phase step k i first is =
+pub place_is : (code phase step k i : ℕ) → code ≡ code_phase_after 0 step k
+    → phase ≡ code_phase_after code step i → phase / 2 ^ 31 ≡ half_chip_at step (k + i)
+place_is code phase step k i first is =
     rw (way_on code phase step k i first is) (place_of_phase ((k + i) * step))
-
-pub odd-place : (code phase next step k i : ℕ) → code ≡ code_phase_after 0 step k
-    → phase ≡ code_phase_after code step i → next ≡ (phase + 2 ^ 31) % (1023 * 2 ^ 32)
-    → next / 2 ^ 32 ≡ place_at 1 step (k + i)
-odd-place code phase next step k i first is half =
-    rw (half, way_on code phase step k i first is) (place_half_on ((k + i) * step))
 
 pub phase-next : (code phase next step i : ℕ) → phase ≡ code_phase_after code step i
     → next ≡ (phase + step) % (1023 * 2 ^ 32) → next ≡ code_phase_after code step (i + 1)

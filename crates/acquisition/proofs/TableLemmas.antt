@@ -1,5 +1,6 @@
 -- Tables of values that are added up by place.
-use Rattle.std.proofs.Common.{inl, inr, ◌≡◌, ℕ, zero, suc, ◌+◌, ◌*◌, ◌<◌, ◌≤◌, refl, sym, ◌∙◌}
+use Rattle.std.proofs.Common.{inl, inr, ◌≡◌, ℕ, zero, suc, ◌+◌, ◌*◌, ◌/◌, ◌<◌, ◌≤◌, refl, sym}
+use Rattle.std.proofs.Common.{◌∙◌}
 use Rattle.std.proofs.Common.{arith, to_z, of_z, w32, FitsSigned}
 use Rattle.std.specs.Prelude.{ℤ, pos, negsuc, ◌+ℤ◌, ◌*ℤ◌, ◌==◌, false, cond, ◌⊎◌}
 use Rattle.std.specs.Prelude.{List, get_or, unsigned_abs, length}
@@ -9,9 +10,9 @@ use Rattle.std.proofs.lemmas.Bool.{eq-eqb, cases_lt}
 use Rattle.std.proofs.lemmas.List.{get_or-replicate, get_or-set_same, get_or-set_other}
 use Rattle.definitions.specs.Sums.{total}
 use Rattle.definitions.specs.Codes.{chip_sign}
-use Rattle.acquisition.specs.Folds.{sum_at_key, place_at, IsTable, total_to, sizes_to}
+use Rattle.acquisition.specs.Folds.{sum_at_key, half_chip_at, IsTable, total_to, sizes_to}
 use Rattle.acquisition.specs.Folds.{correlation_to}
-use Rattle.acquisition.specs.declared.chip_table.TheConstants.{PLACES}
+use Rattle.acquisition.specs.declared.half_chip_table.TheConstants.{PLACES}
 use Rattle.oscillators.specs.declared.settings.TheConstants.{MOST_PER_MS}
 use Rattle.acquisition.proofs.SizeLemmas.{abs_add}
 use Rattle.acquisition.proofs.SignLemmas.{sign_cases}
@@ -21,25 +22,30 @@ pub all_same : (n k : ℕ) (z : ℤ) → k < n → get_or (replicate n z) k (pos
 all_same n k z h = get_or-replicate {A = ℤ} n k z (pos 0) h
 
 -- a table of no values, and of one more
-pub table-none : (y : ℕ → ℤ) (parity step from : ℕ) (table : List ℤ)
-    → ((k : ℕ) → k < PLACES → get_or table k (pos 0) ≡ pos 0) → IsTable y parity step from 0 table
+pub table-none : (y : ℕ → ℤ) (step from : ℕ) (table : List ℤ)
+    → ((k : ℕ) → k < PLACES → get_or table k (pos 0) ≡ pos 0) → IsTable y step from 0 table
 unfolding sum_at_key total
-table-none y parity step from table none k h = none k h
+table-none y step from table none k h = none k h
+
+pub none_is : (y : ℕ → ℤ) (step from : ℕ) (table : List ℤ) → IsTable y step from 0 table
+    → (k : ℕ) → k < PLACES → get_or table k (pos 0) ≡ pos 0
+unfolding sum_at_key total
+none_is y step from table is k h = is k h
 
 sum_at_key-more : (y : ℕ → ℤ) (key : ℕ → ℕ) (n k : ℕ) → sum_at_key y key (n + 1) k
     ≡ sum_at_key y key n k +ℤ cond (key n == k) (y n) (pos 0)
 unfolding sum_at_key total
 sum_at_key-more y key n k = let e : n + 1 ≡ suc n = omega arith in rw e refl
 
-pub table-more : (y : ℕ → ℤ) (parity step from n place : ℕ) (value : ℤ) (old new : List ℤ)
-    → IsTable y parity step from n old → place ≡ place_at parity step (from + n)
+pub table-more : (y : ℕ → ℤ) (step from n place : ℕ) (value : ℤ) (old new : List ℤ)
+    → IsTable y step from n old → place ≡ half_chip_at step (from + n)
     → value ≡ y (from + n)
     → ((k : ℕ) → k < PLACES → get_or new k (pos 0)
     ≡ get_or old k (pos 0) +ℤ cond (place == k) value (pos 0))
-    → IsTable y parity step from (n + 1) new
-table-more y parity step from n place value old new is at same more k h =
+    → IsTable y step from (n + 1) new
+table-more y step from n place value old new is at same more k h =
     more k h ∙ rw (is k h, at, same)
-    (sym (sum_at_key-more (λ i. y (from + i)) (λ i. place_at parity step (from + i)) n k))
+    (sym (sum_at_key-more (λ i. y (from + i)) (λ i. half_chip_at step (from + i)) n k))
 
 -- the sizes of a table's entries
 pub sizes-none : (table : List ℤ) (n : ℕ)
@@ -113,13 +119,20 @@ pub total_to-more : (table : List ℤ) (k : ℕ)
 unfolding total_to total
 total_to-more table k = let e : k + 1 ≡ suc k = omega arith in rw e refl
 
+pub total_to-zeros : (table : List ℤ) (n : ℕ)
+    → ((k : ℕ) → k < n → get_or table k (pos 0) ≡ pos 0) → total_to table n ≡ pos 0
+unfolding total_to total
+total_to-zeros table zero zeros = refl
+total_to-zeros table (suc n) zeros =
+    rw (total_to-zeros table n (λ k h. zeros k (omega arith)), zeros n (omega arith)) refl
+
 pub correlation-none : (prn first : ℕ) (table : List ℤ) → correlation_to prn first table 0 ≡ pos 0
 unfolding correlation_to total
 correlation-none prn first table = refl
 
 pub correlation-more : (prn first k : ℕ) (table : List ℤ)
     → correlation_to prn first table (k + 1)
-    ≡ correlation_to prn first table k +ℤ get_or table k (pos 0) *ℤ chip_sign prn (first + k)
+    ≡ correlation_to prn first table k +ℤ get_or table k (pos 0) *ℤ chip_sign prn ((first + k) / 2)
 unfolding correlation_to total
 correlation-more prn first k table = let e : k + 1 ≡ suc k = omega arith in rw e refl
 
@@ -141,13 +154,13 @@ pub correlation_size : (prn first n : ℕ) (table : List ℤ)
 unfolding correlation_to total sizes_to
 correlation_size prn first zero table = omega arith
 correlation_size prn first (suc n) table =
-    let term : ℤ = get_or table n (pos 0) *ℤ chip_sign prn (first + n) in
+    let term : ℤ = get_or table n (pos 0) *ℤ chip_sign prn ((first + n) / 2) in
     omega (
       arith,
       abs_add (correlation_to prn first table n) term,
       correlation_size prn first n table,
-      signed_size (get_or table n (pos 0)) (chip_sign prn (first + n))
-          (sign_cases prn (first + n)),
+      signed_size (get_or table n (pos 0)) (chip_sign prn ((first + n) / 2))
+          (sign_cases prn ((first + n) / 2)),
     )
 
 pub total_size : (n : ℕ) (table : List ℤ) → unsigned_abs (total_to table n) ≤ sizes_to table n

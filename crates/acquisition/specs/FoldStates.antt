@@ -2,22 +2,14 @@
 use Rattle.std.specs.Prelude.{◌≡◌, ℕ}
 use Rattle.definitions.specs.Samples.{Sample}
 use Rattle.acquisition.specs.Folds.{IsTable, in_phase_at, quadrature_at, total_to}
-use Rattle.acquisition.specs.declared.chip_table.TheConstants.{PLACES}
+use Rattle.acquisition.specs.declared.half_chip_table.TheConstants.{PLACES}
 use Rattle.acquisition.specs.declared.fold.Fold.{Fold}
-use Rattle.acquisition.specs.declared.period_fold.PeriodFold.{PeriodFold}
 use Rattle.acquisition.specs.declared.sums.Sums.{Sums}
 
--- of n samples from offset `from` on, for codes that begin at half chips of a parity
-pub record IsFold (x : ℕ → Sample) (parity step carrier_step from n : ℕ) (fold : Fold) : Type 0
-  where
-    pub in_phase : IsTable (in_phase_at x carrier_step) parity step from n fold.in_phase.sums
-    pub quadrature : IsTable (quadrature_at x carrier_step) parity step from n fold.quadrature.sums
-
--- for codes of both parities
-pub record ArePeriodFolds (x : ℕ → Sample) (step carrier_step from n : ℕ) (folds : PeriodFold)
-    : Type 0 where
-  pub even : IsFold x 0 step carrier_step from n folds.even
-  pub odd : IsFold x 1 step carrier_step from n folds.odd
+-- of n samples from offset `from` on
+pub record IsFold (x : ℕ → Sample) (step carrier_step from n : ℕ) (fold : Fold) : Type 0 where
+  pub in_phase : IsTable (in_phase_at x carrier_step) step from n fold.in_phase.sums
+  pub quadrature : IsTable (quadrature_at x carrier_step) step from n fold.quadrature.sums
 
 -- the sums of all entries of a fold
 pub record IsWhole (sums : Sums) (fold : Fold) : Type 0 where

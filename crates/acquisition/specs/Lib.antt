@@ -7,3 +7,5 @@ pub mod Searches
 pub mod Folds
 pub mod FoldStates
 pub mod Powers
+pub mod Ones
+pub mod Rings

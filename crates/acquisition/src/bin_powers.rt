@@ -2,12 +2,14 @@
 
 ghost use Rattle.std.specs.Prelude.{◌≡◌, ◌+◌, ◌*◌, ◌<◌, ◌≤◌, ℕ, get_or, length};
 ghost use Rattle.acquisition.specs.declared.bin_powers.TheConstants.{BIN_CELLS};
+ghost use Rattle.acquisition.specs.declared.chip_ring.TheConstants.{LANES};
 ghost use Rattle.acquisition.specs.declared.plan.TheConstants.{MOST_DWELL};
 ghost use Rattle.acquisition.specs.declared.sums.TheConstants.{MOST_PERIOD_POWER};
 ghost use Rattle.acquisition.specs.declared.tally.TheConstants.{MOST_POWER};
 
-use crate::chip_signs::ChipSigns;
-use crate::period_fold::PeriodFold;
+use crate::chip_ring::LANES;
+use crate::ones::Ones;
+use crate::period_sums::PeriodSums;
 
 /// The cells of a bin: one for each half chip of the code, which has 1,023 chips (IS-GPS-200,
 /// section 3.3.2.3).
@@ -37,7 +39,7 @@ pub(crate) struct BinPowers {
 
 impl BinPowers {
     ghost use Rattle.definitions.specs.Samples.{Sample};
-    ghost use Rattle.acquisition.specs.FoldStates.{ArePeriodFolds};
+    ghost use Rattle.acquisition.specs.FoldStates.{IsFold};
     ghost use Rattle.acquisition.specs.Powers.{ArePowers};
 
     /// The powers of a bin's cells over no period: all are 0.
@@ -54,19 +56,41 @@ impl BinPowers {
     }
 
     /// Adds the powers over one more period.
-    pub(crate) fn take(&mut self, folds: &PeriodFold, cells: &BinCells, signs: &ChipSigns)
+    pub(crate) fn take(&mut self, sums: &PeriodSums, cells: &BinCells, ones: &Ones)
         requires few { self.old.periods < MOST_DWELL }
         ensures powers { (x : ℕ → Sample) (long r : ℕ)
-            → ArePeriodFolds x cells.now.code_step cells.now.carrier_step (r * long) long folds.now
-            → ArePowers x signs.now.prn long r cells.now self.old
-            → ArePowers x signs.now.prn long (r + 1) cells.now self.new }
+            → IsFold x cells.now.code_step cells.now.carrier_step (r * long) long sums.now.fold
+            → ArePowers x ones.now.prn long r cells.now self.old
+            → ArePowers x ones.now.prn long (r + 1) cells.now self.new }
         ensures periods { self.new.periods ≡ self.old.periods + 1 }
     {
-        let even = folds.even.whole();
-        let odd = folds.odd.whole();
         self.periods += 1;
-        for i in 0..cells.count {
-            self.powers[i] += folds.power(even, odd, signs, cells.first + i);
+        let mut done = 0;
+        while done < cells.count {
+            let count = (cells.count - done).min(LANES);
+            let powers = sums.powers(ones, cells.first + done);
+            self.add(done, count, &powers);
+            done += count;
+        }
+    }
+
+    /// Adds the first `count` of sixteen powers to those from cell `at` on.
+    fn add(&mut self, at: usize, count: usize, powers: &[u64; LANES])
+        requires within { at + count ≤ BIN_CELLS }
+        requires few { count ≤ LANES }
+        requires most { (l : ℕ) → l < LANES → get_or powers.now l 0 ≤ MOST_PERIOD_POWER }
+        requires room { (i : ℕ) → at ≤ i → i < BIN_CELLS → get_or self.old.powers i 0
+            + MOST_PERIOD_POWER ≤ MOST_PERIOD_POWER * self.old.periods }
+        ensures added { (l : ℕ) → l < count → get_or self.new.powers (at + l) 0
+            ≡ get_or self.old.powers (at + l) 0 + get_or powers.now l 0 }
+        ensures before { (i : ℕ) → i < at
+            → get_or self.new.powers i 0 ≡ get_or self.old.powers i 0 }
+        ensures after { (i : ℕ) → at + count ≤ i
+            → get_or self.new.powers i 0 ≡ get_or self.old.powers i 0 }
+        ensures periods { self.new.periods ≡ self.old.periods }
+    {
+        for l in 0..count {
+            self.powers[at + l] += powers[l];
         }
     }
 

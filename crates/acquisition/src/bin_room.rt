@@ -1,13 +1,13 @@
 //! The room in which a search works.
 
 use crate::bin_powers::BinPowers;
-use crate::period_fold::PeriodFold;
+use crate::period_sums::PeriodSums;
 
-/// The room in which a search works: the folds of a period, and the powers of a bin's cells. It is
+/// The room in which a search works: the sums of a period, and the powers of a bin's cells. It is
 /// lent, so that values of this size aren't moved.
 #[derive(Drop)]
 pub(crate) struct BinRoom {
-    pub(crate) folds: PeriodFold,
+    pub(crate) sums: PeriodSums,
     pub(crate) powers: BinPowers,
 }
 
@@ -16,7 +16,7 @@ impl BinRoom {
     #[inline(always)]
     pub(crate) fn new() -> BinRoom {
         BinRoom {
-            folds: PeriodFold::new(),
+            sums: PeriodSums::new(),
             powers: BinPowers::new(),
         }
     }

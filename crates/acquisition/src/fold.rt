@@ -1,57 +1,118 @@
-//! Samples without their carrier, added up by the chips at which they lie.
+//! Samples without their carrier, added up by the half chips at which they lie.
 
-ghost use Rattle.std.specs.Prelude.{◌≡◌, ◌+◌, ◌<◌, ◌≤◌, ◌-ℤ◌, ◌*ℤ◌, ◌⊎◌, ℕ, pos, negsuc};
+ghost use Rattle.std.specs.Prelude.{◌≡◌, ◌+◌, ◌*◌, ◌<◌, ◌≤◌, ◌%◌, ◌^◌, ℕ, length, get_or, pos};
 ghost use Rattle.std.specs.Prelude.{unsigned_abs};
-ghost use Rattle.acquisition.specs.declared.chip_table.TheConstants.{PLACES};
-ghost use Rattle.acquisition.specs.declared.sums.TheConstants.{MOST_SUM};
+ghost use Rattle.definitions.specs.Oscillators.{code_cycle};
+ghost use Rattle.definitions.specs.Samples.{Sample, sample_at};
+ghost use Rattle.definitions.specs.Correlation.{wiped_in_phase, wiped_quadrature};
+ghost use Rattle.acquisition.specs.declared.dwell.TheConstants.{MOST_START};
+ghost use Rattle.acquisition.specs.declared.half_chip_table.TheConstants.{PLACES};
 ghost use Rattle.oscillators.specs.declared.settings.TheConstants.{MOST_PER_MS};
 
-use crate::chip_signs::ChipSigns;
-use crate::chip_table::{ChipTable, PLACES};
+use crate::half_chip_table::{HalfChipTable, PLACES};
 use crate::sums::Sums;
+use oscillators::{CarrierOsc, CarrierPlanes, CodeOsc};
+use sample_planes::{MAX_SAMPLES, Planes, SampleSource};
 
-/// Samples, each times the conjugate of the carrier, added up by the chips at which they lie for a
-/// code that begins at half chip 0, or at half chip 1. The sums with a code that begins so many
-/// chips later are those of the entries with the signs of the chips so many places on.
+/// The code's cycle of 1,023 chips (IS-GPS-200, section 3.3.2.3), in 2^-32 chip.
+const CYCLE: u64 = 1023 << 32;
+
+/// A period's samples, each times the conjugate of the carrier, added up by the half chips at which
+/// they lie for a code that begins at phase 0.
 #[derive(Drop)]
 pub(crate) struct Fold {
-    in_phase: ChipTable,
-    quadrature: ChipTable,
+    pub(crate) in_phase: HalfChipTable,
+    pub(crate) quadrature: HalfChipTable,
     ghost same: { quadrature.taken ≡ in_phase.taken },
 }
 
 impl Fold {
-    ghost use Rattle.definitions.specs.Samples.{Sample};
-    ghost use Rattle.acquisition.specs.Folds.{place_at, in_phase_at, quadrature_at, correlation};
-    ghost use Rattle.acquisition.specs.Folds.{total_to};
+    ghost use Rattle.definitions.specs.Oscillators.{code_phase_after, carrier_phase_after};
+    ghost use Rattle.acquisition.specs.Folds.{half_chip_at, in_phase_at, quadrature_at};
     ghost use Rattle.acquisition.specs.FoldStates.{IsFold, IsWhole, taken_of};
 
     /// The sums over no samples.
     #[inline(always)]
     pub(crate) fn new() -> Fold
-        ensures fold { (x : ℕ → Sample) (parity step carrier_step from : ℕ)
-            → IsFold x parity step carrier_step from 0 result }
+        ensures fold { (x : ℕ → Sample) (step carrier_step from : ℕ)
+            → IsFold x step carrier_step from 0 result }
         ensures taken { taken_of result ≡ 0 }
     {
         Fold {
-            in_phase: ChipTable::new(),
-            quadrature: ChipTable::new(),
+            in_phase: HalfChipTable::new(),
+            quadrature: HalfChipTable::new(),
         }
     }
 
-    /// Adds a sample without its carrier at the place of a chip.
+    /// Becomes that of samples `first` to `first + len - 1` of a source, for a code and a carrier
+    /// that stand at the first of them; `len` is at most `MOST_PER_MS`. The code, which began at
+    /// phase 0, goes on by `code_step`.
+    pub(crate) fn fill<S: SampleSource>(
+        &mut self,
+        source: &S,
+        first: u64,
+        len: usize,
+        mut code: CodeOsc,
+        code_step: u32,
+        mut carrier: CarrierOsc,
+    )
+        requires from { S.from source.now ≤ first }
+        requires to { first + len ≤ S.to source.now }
+        requires early { first ≤ 2 * MOST_START }
+        requires short { len ≤ MOST_PER_MS }
+        requires step { code.step ≡ code_step }
+        ensures { (x : ℕ → Sample) (from : ℕ) → code.phase ≡ code_phase_after 0 code_step from
+            → carrier.phase ≡ carrier_phase_after 0 carrier.step from
+            → ((j : ℕ) → j < len → S.held source.now (first + j) ≡ x (from + j))
+            → IsFold x code_step carrier.step from len self.new }
+    {
+        *self = Fold::new();
+        let mut done = 0;
+        while done < len {
+            let count = (len - done).min(MAX_SAMPLES);
+            let samples = source.planes(first + done as u64, count);
+            self.take(&samples, code.phase(), code_step, &carrier);
+            code.jump(count as u64);
+            carrier.advance(count as u64);
+            done += count;
+        }
+    }
+
+    /// Adds a run of samples. The code is at phase `code` at the first of them, and each takes it
+    /// `step` on.
+    fn take(&mut self, samples: &Planes, code: u64, step: u32, carrier: &CarrierOsc)
+        requires code { code < code_cycle }
+        requires room { taken_of self.old + length samples.now ≤ MOST_PER_MS }
+        ensures fold { (x : ℕ → Sample) (from n : ℕ)
+            → IsFold x step carrier.now.step from n self.old
+            → code ≡ code_phase_after 0 step (from + n)
+            → carrier.now.phase ≡ carrier_phase_after 0 carrier.now.step (from + n)
+            → ((j : ℕ) → j < length samples.now → sample_at samples.now j ≡ x (from + n + j))
+            → IsFold x step carrier.now.step from (n + length samples.now) self.new }
+        ensures taken { taken_of self.new ≡ taken_of self.old + length samples.now }
+    {
+        let values = carrier.planes(samples.len());
+        let mut phase = code;
+        for i in 0..samples.len() {
+            let sample = without_carrier(samples, &values, i);
+            self.add((phase >> 31) as usize, sample);
+            phase = phase_behind(phase, step);
+        }
+    }
+
+    /// Adds a sample without its carrier at a half chip.
     #[inline(always)]
-    pub(crate) fn add(&mut self, place: usize, sample: Sums)
+    fn add(&mut self, place: usize, sample: Sums)
         requires place { place < PLACES }
         requires in_phase { unsigned_abs sample.in_phase ≤ 9 }
         requires quadrature { unsigned_abs sample.quadrature ≤ 9 }
         requires few { taken_of self.old < MOST_PER_MS }
-        ensures fold { (x : ℕ → Sample) (parity step carrier_step from n : ℕ)
-            → IsFold x parity step carrier_step from n self.old
-            → place ≡ place_at parity step (from + n)
+        ensures fold { (x : ℕ → Sample) (step carrier_step from n : ℕ)
+            → IsFold x step carrier_step from n self.old
+            → place ≡ half_chip_at step (from + n)
             → sample.in_phase ≡ in_phase_at x carrier_step (from + n)
             → sample.quadrature ≡ quadrature_at x carrier_step (from + n)
-            → IsFold x parity step carrier_step from (n + 1) self.new }
+            → IsFold x step carrier_step from (n + 1) self.new }
         ensures taken { taken_of self.new ≡ taken_of self.old + 1 }
     {
         self.in_phase.add(place, sample.in_phase);
@@ -73,41 +134,38 @@ impl Fold {
             quadrature,
         }
     }
+}
 
-    /// The sums of the entries, each times the sign of a chip: that of place 0 times chip `first`,
-    /// and so on. They are the sums of all less twice those at chips of 1.
-    pub(crate) fn sums(&self, whole: Sums, signs: &ChipSigns, first: usize) -> Sums
-        requires whole { IsWhole whole self.now }
-        requires first { first < 1023 }
-        ensures in_phase { result.in_phase
-            ≡ correlation signs.now.prn first self.now.in_phase.sums }
-        ensures quadrature { result.quadrature
-            ≡ correlation signs.now.prn first self.now.quadrature.sums }
-        ensures small_in_phase { unsigned_abs result.in_phase ≤ MOST_SUM }
-        ensures small_quadrature { unsigned_abs result.quadrature ≤ MOST_SUM }
-    {
-        let mut in_phase = 0;
-        let mut quadrature = 0;
-        for k in 0..PLACES {
-            let sign = signs.sign(first + k);
-            in_phase += if_below(self.in_phase.sum(k), sign);
-            quadrature += if_below(self.quadrature.sum(k), sign);
-        }
-        Sums {
-            in_phase: whole.in_phase - 2 * in_phase,
-            quadrature: whole.quadrature - 2 * quadrature,
-        }
+/// Sample `i` times the conjugate of the carrier there.
+#[inline(always)]
+fn without_carrier(samples: &Planes, carrier: &CarrierPlanes, i: usize) -> Sums
+    requires within { i < length samples.now }
+    requires cos { i < length carrier.now.cos }
+    requires sin { i < length carrier.now.sin }
+    requires small { unsigned_abs (get_or carrier.now.cos i (pos 0)) + unsigned_abs
+        (get_or carrier.now.sin i (pos 0)) ≤ 3 }
+    ensures in_phase { result.in_phase ≡ wiped_in_phase (sample_at samples.now i)
+        (get_or carrier.now.cos i (pos 0)) (get_or carrier.now.sin i (pos 0)) }
+    ensures quadrature { result.quadrature ≡ wiped_quadrature (sample_at samples.now i)
+        (get_or carrier.now.cos i (pos 0)) (get_or carrier.now.sin i (pos 0)) }
+    ensures small_in_phase { unsigned_abs result.in_phase ≤ 9 }
+    ensures small_quadrature { unsigned_abs result.quadrature ≤ 9 }
+{
+    let (value, value_q) = (i32::from(samples.value(i)), i32::from(samples.value_q(i)));
+    let (cos, sin) = (i32::from(carrier.cos(i)), i32::from(carrier.sin(i)));
+    Sums {
+        in_phase: value * cos + value_q * sin,
+        quadrature: value_q * cos - value * sin,
     }
 }
 
-/// A value where a sign is below 0, and 0 where it isn't. It is a mask, since LLVM would make a
-/// branch of an `if` where there is no instruction that blends lanes, and that took seven times
-/// as long.
+/// The code's phase one `step` on, within its cycle. Phases are in 2^-32 chip.
 #[inline(always)]
-fn if_below(value: i32, sign: i32) -> i32
-    requires { (sign ≡ pos 1) ⊎ (sign ≡ negsuc 0) }
-    ensures value { value *ℤ sign ≡ value -ℤ pos 2 *ℤ result }
-    ensures small { unsigned_abs result ≤ unsigned_abs value }
+fn phase_behind(phase: u64, step: u32) -> u64
+    requires { phase < code_cycle }
+    ensures value { result ≡ (phase + step) % code_cycle }
+    ensures in_cycle { result < code_cycle }
 {
-    value & (sign >> 31)
+    let next = phase + u64::from(step);
+    if next < CYCLE { next } else { next - CYCLE }
 }

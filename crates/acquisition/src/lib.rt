@@ -6,7 +6,7 @@
 //! any cell. It stands for the greatest and the total of the powers of the cells that it has done.
 //! Once all are done it names the first greatest cell. (IS-GPS-200 has the signal alone; the search
 //! is this project's own.) Each power is proved to be that of the plain sums with the cell's
-//! replica, though no replica is made: samples are added up by chip first.
+//! replica, though no replica is made: samples are added up by half chip first.
 //!
 //!     use acquisition::{Plan, Search};
 //!     use ca_codes::{CodeBook, Prn};
@@ -32,11 +32,12 @@ mod bin_powers;
 mod bin_room;
 mod bin_steps;
 mod cell;
-mod chip_signs;
-mod chip_table;
+mod chip_ring;
 mod dwell;
 mod fold;
-mod period_fold;
+mod half_chip_table;
+mod ones;
+mod period_sums;
 mod plan;
 mod search;
 mod sums;

@@ -39,6 +39,11 @@ impl<T: Copy + PartialOrd> Lanes<T> {
         Lanes(values)
     }
 
+    #[inline(always)]
+    pub fn to_array(self) -> [T; 16] {
+        self.0
+    }
+
     /// The first sixteen values of a slice. Panics where it has fewer.
     #[inline(always)]
     pub fn from_slice(values: &[T]) -> Self {
@@ -119,6 +124,16 @@ impl Add for u8x16 {
 
     #[inline(always)]
     fn add(self, other: u8x16) -> u8x16 {
+        Lanes(from_fn(|k| self.0[k].wrapping_add(other.0[k])))
+    }
+}
+
+/// Each sum wraps in its 32 bits.
+impl Add for u32x16 {
+    type Output = u32x16;
+
+    #[inline(always)]
+    fn add(self, other: u32x16) -> u32x16 {
         Lanes(from_fn(|k| self.0[k].wrapping_add(other.0[k])))
     }
 }

@@ -17,7 +17,7 @@ loop-period-preserved g c =
     record {
       periods = c.take.ensures.periods ∙ ap (λ (k : ℕ). k + 1) here.periods;
       powers = λ x same. c.take.ensures.powers x long n
-          (rw behind at (c.fold.ensures x (rw behind (period-held held x dwell.start
+          (rw behind at (c.sum_up.ensures x (rw behind (period-held held x dwell.start
           (dwell.start + n * long) long n dwell.periods refl c.loop-period-test.true same))))
           (here.powers x same);
     }

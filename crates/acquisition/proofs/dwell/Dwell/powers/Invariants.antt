@@ -8,5 +8,5 @@ invariant-loop-period g l = record {
   periods : l.room.powers.periods ≡ l.period;
   powers : (x : ℕ → Sample) → ((j : ℕ) → j < l.self.periods * l.self.per_period
       → g.S.SampleSource.held l.source (l.self.start + j) ≡ x j)
-      → ArePowers x l.signs.prn l.self.per_period l.period l.cells l.room.powers;
+      → ArePowers x l.ones.prn l.self.per_period l.period l.cells l.room.powers;
 }

@@ -3,9 +3,9 @@ use Rattle.acquisition.proofs.TableLemmas.{table-none}
 use Rattle.acquisition.proofs.fold.Fold.new.Goals as goal
 
 pub returns-clause-fold : goal.returns-clause-fold
-returns-clause-fold c x parity step carrier_step from = record {
-  in_phase = table-none (in_phase_at x carrier_step) parity step from c.new.result.sums
+returns-clause-fold c x step carrier_step from = record {
+  in_phase = table-none (in_phase_at x carrier_step) step from c.new.result.sums
       c.new.ensures.none;
-  quadrature = table-none (quadrature_at x carrier_step) parity step from c.new-2.result.sums
+  quadrature = table-none (quadrature_at x carrier_step) step from c.new-2.result.sums
       c.new-2.ensures.none;
 }

@@ -25,10 +25,10 @@ loop-i-preserved g c =
           let few : done / 2046 ≤ 2 * plan.bins = omega
           (arith, rw s.plan_is at c.requires.end, c.requires.some) in
           let power : power_of settings plan xs start (done + i) ≡ c.power.result =
-          power-of_cell settings plan xs start (done + i) c.args.signs.now.prn (cells.first + i)
+          power-of_cell settings plan xs start (done + i) c.args.ones.now.prn (cells.first + i)
           cells.code_step cells.carrier_step search.dwell.per_period search.dwell.periods
           c.power.result
-          (c.requires.signs ∙ ap (λ (p : DefinedPlan). p.prn) s.plan_is)
+          (c.requires.ones ∙ ap (λ (p : DefinedPlan). p.prn) s.plan_is)
           (half_of_next done cells.first cells.count i is.first cells.within inside)
           (rw bin (is.code ∙ s.steps.code (done / 2046) few))
           (rw bin (is.carrier ∙ s.steps.carrier (done / 2046) few))

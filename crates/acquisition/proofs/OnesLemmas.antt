@@ -1,0 +1,66 @@
+-- The chips of 1, one after another.
+use Rattle.std.proofs.Common.{inl, inr, ◌≡◌, ℕ, suc, ◌+◌, ◌<◌, refl, ap, arith}
+use Rattle.std.specs.Prelude.{ℤ, pos, ◌+ℤ◌, ◌==◌, true, false, cond, ◌⊎◌, List, slice_index}
+use Rattle.std.proofs.lemmas.Int.{ints}
+use Rattle.definitions.specs.Sums.{total}
+use Rattle.definitions.specs.Codes.{chip}
+use Rattle.definitions.proofs.SumsLemmas.{total-same}
+use Rattle.acquisition.specs.Ones.{AreOnes}
+
+pub ones-none : (prn : ℕ) (chips : List ℕ) → AreOnes prn 0 chips 0
+unfolding total
+ones-none prn chips = record {
+  few = omega arith;
+  below = λ k h. absurd (omega (arith, h));
+  sums = λ y. refl;
+}
+
+last_or_before : (k n : ℕ) → k < n + 1 → (k ≡ n) ⊎ (k < n)
+last_or_before k n h = grind arith
+
+-- a chip of 1, which is put after those before it
+pub ones-more : (prn n count : ℕ) (old new : List ℕ) → AreOnes prn n old count
+    → ((k : ℕ) → k < count → slice_index new k ≡ slice_index old k) → slice_index new count ≡ n
+    → (chip prn n == 1) ≡ true → AreOnes prn (n + 1) new (count + 1)
+unfolding total
+ones-more prn n count old new are alike last one =
+    let e : n + 1 ≡ suc n = omega arith in
+    let f : count + 1 ≡ suc count = omega arith in
+    record {
+      few = omega (arith, are.few);
+      below = λ k h. elim (last_or_before k count h) [
+        | inl same ↦ rw (same, last) (omega arith)
+        | inr before ↦ rw (alike k before) (omega (arith, are.below k before))
+      ];
+      sums = λ y. rw (
+        e,
+        f,
+        one,
+        last,
+        total-same (λ k. y (slice_index new k)) (λ k. y (slice_index old k)) count
+            (λ k h. ap y (alike k h)),
+        are.sums y,
+      ) refl;
+    }
+
+-- a chip of 0, whatever is put there
+pub ones-same : (prn n count : ℕ) (old new : List ℕ) → AreOnes prn n old count
+    → ((k : ℕ) → k < count → slice_index new k ≡ slice_index old k)
+    → (chip prn n == 1) ≡ false → AreOnes prn (n + 1) new count
+unfolding total
+ones-same prn n count old new are alike zero =
+    let e : n + 1 ≡ suc n = omega arith in
+    record {
+      few = omega (arith, are.few);
+      below = λ k h. rw (alike k h) (omega (arith, are.below k h));
+      sums = λ y. rw (
+        e,
+        zero,
+        total-same (λ k. y (slice_index new k)) (λ k. y (slice_index old k)) count
+            (λ k h. ap y (alike k h)),
+        are.sums y,
+      ) (no_more (total (λ c. cond (chip prn c == 1) (y c) (pos 0)) n));
+    }
+  where
+    no_more : (z : ℤ) → z ≡ z +ℤ pos 0
+    no_more z = omega (arith, ints)

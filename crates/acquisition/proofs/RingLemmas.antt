@@ -1,0 +1,108 @@
+-- Rings of chips.
+use Rattle.std.proofs.Common.{inl, inr, ◌≡◌, ℕ, ◌+◌, ◌-◌, ◌*◌, ◌%◌, ◌<◌, ◌≤◌, refl, ap, ◌∙◌, arith}
+use Rattle.std.proofs.Common.{to_z, of_z, w32, FitsSigned}
+use Rattle.std.specs.Prelude.{ℤ, pos, ◌+ℤ◌, ◌⊎◌, List, get_or, slice_index, unsigned_abs}
+use Rattle.std.specs.Prelude.{length, take, drop}
+use Rattle.std.proofs.Math.ListN.{replicate}
+use Rattle.std.proofs.lemmas.Int.{to_z-of_z, fits_signed_from_abs}
+use Rattle.std.proofs.lemmas.List.{get_or-replicate, take_all, length-drop}
+use Rattle.std.proofs.lemmas.Bool.{cases_lt}
+use Rattle.std.proofs.lemmas.Simd.{get_or-chunk}
+use Rattle.acquisition.specs.Rings.{chip_from, IsRing}
+use Rattle.acquisition.specs.declared.chip_ring.TheConstants.{RAISED}
+use Rattle.acquisition.specs.declared.sums.TheConstants.{MOST_SUM}
+use Rattle.acquisition.proofs.SizeLemmas.{abs_add}
+
+-- the ring of a table of zeros
+raised_at : (i : ℕ) → i < 2061 → slice_index (replicate 2061 360000) i ≡ 360000
+raised_at i h = get_or-replicate {A = ℕ} 2061 i 360000 0 h
+
+pub small_everywhere : (i : ℕ) → i < 2061 → slice_index (replicate 2061 360000) i ≤ 2 * RAISED
+small_everywhere i h = rw (raised_at i h) (omega arith)
+
+pub ring_of_zeros : (table : List ℤ) → ((k : ℕ) → k < 2046 → get_or table k (pos 0) ≡ pos 0)
+    → IsRing table (replicate 2061 360000)
+ring_of_zeros table zeros i h =
+    let k : ℕ = (4091 - i) % 2046 in
+    let first : get_or table k (pos 0) ≡ pos 0 = zeros k (omega arith) in
+    let second : get_or table ((k + 1) % 2046) (pos 0) ≡ pos 0 =
+    zeros ((k + 1) % 2046) (omega arith) in
+    rw (raised_at i h, first, second) refl
+
+-- a lane of sixteen places
+pub lane_is : (chips : List ℕ) (at l : ℕ) → length chips ≡ 2061 → l < 16
+    → slice_index (take 16 (take (2061 - at) (drop at chips))) l ≡ slice_index chips (at + l)
+lane_is chips at l long h =
+    rw (take_all (2061 - at) (drop at chips) (rw (length-drop at chips, long) (omega arith)))
+    (get_or-chunk at 16 chips l 0 h)
+
+-- the sum of two entries of a table, in 32 bits
+pub record IsChip (a b chip : ℤ) : Type 0 where
+  pub fits : FitsSigned w32 (to_z w32 (of_z w32 a) +ℤ to_z w32 (of_z w32 b))
+  pub value : chip ≡ a +ℤ b
+  pub small : unsigned_abs chip ≤ RAISED
+
+pub chip_is : (a b : ℤ) → unsigned_abs a ≤ MOST_SUM → unsigned_abs b ≤ MOST_SUM
+    → IsChip a b (to_z w32 (of_z w32 (to_z w32 (of_z w32 a) +ℤ to_z w32 (of_z w32 b))))
+chip_is a b small_a small_b =
+    let kept_a : to_z w32 (of_z w32 a) ≡ a = kept a (omega (arith, small_a)) in
+    let kept_b : to_z w32 (of_z w32 b) ≡ b = kept b (omega (arith, small_b)) in
+    let small : unsigned_abs (a +ℤ b) ≤ RAISED =
+    omega (arith, abs_add a b, small_a, small_b) in
+    let whole : to_z w32 (of_z w32 (a +ℤ b)) ≡ a +ℤ b = kept (a +ℤ b) small in
+    record {
+      fits = rw (kept_a, kept_b) (fits_signed_from_abs w32 (a +ℤ b) (omega (arith, small)));
+      value = rw (kept_a, kept_b) whole;
+      small = rw (kept_a, kept_b, whole) small;
+    }
+  where
+    kept : (z : ℤ) → unsigned_abs z ≤ RAISED → to_z w32 (of_z w32 z) ≡ z
+    kept z small = to_z-of_z w32 z (fits_signed_from_abs w32 z (omega (arith, small)))
+
+-- the chips that begin at the first n half chips are put in
+abbrev pub AreSet : ℕ → List ℤ → List ℕ → Type 0
+AreSet n table ring = (j : ℕ) → j < n
+    → pos (slice_index ring (2045 - j)) ≡ pos RAISED +ℤ chip_from table j
+
+pub set_next : (n : ℕ) (chip : ℤ) (table : List ℤ) (old new : List ℕ) → n < 2046
+    → AreSet n table old → chip ≡ chip_from table n
+    → pos (slice_index new (2045 - n)) ≡ pos RAISED +ℤ chip
+    → ((i : ℕ) → (i ≡ 2045 - n → ⊥) → slice_index new i ≡ slice_index old i)
+    → AreSet (n + 1) table new
+set_next n chip table old new below before is put others j h = elim (last_or_before j n h) [
+  | inl same ↦ rw same (put ∙ rw is refl)
+  | inr earlier ↦ rw (others (2045 - j) (λ e. absurd (omega (arith, earlier, below, e))))
+      (before j earlier)
+]
+  where
+    last_or_before : (j k : ℕ) → j < k + 1 → (j ≡ k) ⊎ (j < k)
+    last_or_before j k h = grind arith
+
+-- and once all are, and the first ones again after the last
+pub ring_is : (table : List ℤ) (old new : List ℕ) → AreSet 2046 table old
+    → ((i : ℕ) → 2046 ≤ i → i < 2061 → slice_index new i ≡ slice_index old (i - 2046))
+    → ((i : ℕ) → i < 2046 → slice_index new i ≡ slice_index old i)
+    → IsRing table new
+ring_is table old new all after others i h = elim (cases_lt i 2046) [
+  | inl low ↦ ap pos (others i low ∙ ap (slice_index old) (back i low))
+      ∙ all (2045 - i) (omega arith)
+      ∙ ap raised (first_turn i low)
+  | inr high ↦ ap pos (after i high h ∙ ap (slice_index old) (back_again i high h))
+      ∙ all (4091 - i) (omega (arith, high))
+      ∙ ap raised (second_turn i high h)
+]
+  where
+    raised : ℕ → ℤ
+    raised k = pos RAISED +ℤ chip_from table k
+
+    back : (i : ℕ) → i < 2046 → i ≡ 2045 - (2045 - i)
+    back i h = omega (arith, h)
+
+    back_again : (i : ℕ) → 2046 ≤ i → i < 2061 → i - 2046 ≡ 2045 - (4091 - i)
+    back_again i high h = omega (arith, high, h)
+
+    first_turn : (i : ℕ) → i < 2046 → 2045 - i ≡ (4091 - i) % 2046
+    first_turn i low = omega (arith, low)
+
+    second_turn : (i : ℕ) → 2046 ≤ i → i < 2061 → 4091 - i ≡ (4091 - i) % 2046
+    second_turn i low high = omega (arith, low, high)

@@ -1,0 +1,11 @@
+use Rattle.std.proofs.Common.{◌≡◌, ◌≤◌, ◌<◌, ◌+◌, ℕ, get_or}
+use Rattle.acquisition.proofs.bin_powers.BinPowers.add.Given as goal
+
+abbrev pub invariant-loop-l : goal.invariant-loop-l
+invariant-loop-l l = record {
+  periods : l.self.periods ≡ l.fn.self.periods;
+  added : (k : ℕ) → k < l.l → get_or l.self.powers (l.at + k) 0
+      ≡ get_or l.fn.self.powers (l.at + k) 0 + get_or l.powers k 0;
+  before : (i : ℕ) → i < l.at → get_or l.self.powers i 0 ≡ get_or l.fn.self.powers i 0;
+  after : (i : ℕ) → l.at + l.l ≤ i → get_or l.self.powers i 0 ≡ get_or l.fn.self.powers i 0;
+}

@@ -1,9 +1,0 @@
-use Rattle.std.proofs.Common.{arith}
-use Rattle.acquisition.proofs.TableLemmas.{size_of_one, entry-kept}
-use Rattle.acquisition.proofs.chip_table.ChipTable.sum.Goals as goal
-
-pub returns-clause-small : goal.returns-clause-small
-returns-clause-small c =
-    let table = c.args.self.now in
-    rw (entry-kept table.sums c.args.place table.taken c.requires table.small table.few)
-    (omega (arith, size_of_one table.sums c.args.place 1024 c.requires, table.small, table.few))

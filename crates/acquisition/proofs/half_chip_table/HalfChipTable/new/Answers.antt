@@ -1,0 +1,10 @@
+use Rattle.std.proofs.Common.{pos, arith}
+use Rattle.acquisition.proofs.TableLemmas.{all_same, sizes-none}
+use Rattle.acquisition.proofs.half_chip_table.HalfChipTable.new.Goals as goal
+
+pub invariant_of-result-clause-small : goal.invariant_of-result-clause-small
+invariant_of-result-clause-small c =
+    rw (sizes-none _ 2046 (λ k h. all_same 2046 k (pos 0) h)) (omega arith)
+
+pub returns-clause-none : goal.returns-clause-none
+returns-clause-none c k h = all_same 2046 k (pos 0) h

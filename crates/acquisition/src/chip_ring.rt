@@ -1,0 +1,90 @@
+//! The sums over a chip, wherever it begins.
+
+ghost use Rattle.std.specs.Prelude.{◌≡◌, ◌+◌, ◌-◌, ◌*◌, ◌<◌, ◌≤◌, ℕ, length, slice_index};
+ghost use Rattle.std.specs.Prelude.{ℤ, pos, ◌+ℤ◌, List, get_or, unsigned_abs};
+ghost use Rattle.acquisition.specs.declared.chip_ring.TheConstants.{RING, RAISED, LANES};
+ghost use Rattle.acquisition.specs.declared.half_chip_table.TheConstants.{PLACES, LAST};
+
+use crate::half_chip_table::{HalfChipTable, LAST, PLACES};
+use std::simd::prelude::*;
+
+/// How many cells are summed up at once.
+pub(crate) const LANES: usize = 16;
+
+/// The places of a ring: those of a table, and the first 15 again after them, so that sixteen in a
+/// row never wrap.
+const RING: usize = PLACES + LANES - 1;
+
+/// What is added to each sum, so that none is below 0: each is of two entries of a table.
+pub(crate) const RAISED: u32 = 360_000;
+
+/// For each half chip the sum over the chip that begins there, raised by `RAISED`: the last half
+/// chip first, since a code that begins a half chip later has its chips a half chip earlier.
+#[derive(Drop)]
+pub(crate) struct ChipRing {
+    chips: [u32; RING],
+    ghost long: { length chips ≡ RING },
+    ghost small: { (i : ℕ) → i < RING → slice_index chips i ≤ 2 * RAISED },
+}
+
+impl ChipRing {
+    ghost use Rattle.acquisition.specs.Rings.{IsRing};
+
+    /// The ring of a table of zeros.
+    #[inline(always)]
+    pub(crate) fn new() -> ChipRing
+        ensures { (table : List ℤ) → ((k : ℕ) → k < PLACES → get_or table k (pos 0) ≡ pos 0)
+            → IsRing table result.chips }
+    {
+        ChipRing {
+            chips: [RAISED; RING],
+        }
+    }
+
+    /// Becomes that of a table.
+    pub(crate) fn set(&mut self, table: &HalfChipTable)
+        ensures { IsRing table.now.sums self.new.chips }
+    {
+        for k in 0..LAST {
+            self.put(k, table.sum(k) + table.sum(k + 1));
+        }
+        self.put(LAST, table.sum(LAST) + table.sum(0));
+        self.close();
+    }
+
+    /// Puts in the sum over the chip that begins at half chip `k`.
+    #[inline(always)]
+    fn put(&mut self, k: usize, chip: i32)
+        requires place { k < PLACES }
+        requires small { unsigned_abs chip ≤ RAISED }
+        ensures chip { pos (slice_index self.new.chips (LAST - k)) ≡ pos RAISED +ℤ chip }
+        ensures others { (i : ℕ) → (i ≡ LAST - k → ⊥)
+            → slice_index self.new.chips i ≡ slice_index self.old.chips i }
+    {
+        self.chips[LAST - k] = (chip + RAISED as i32) as u32;
+    }
+
+    /// Puts the first sums after the last.
+    fn close(&mut self)
+        ensures after { (i : ℕ) → PLACES ≤ i → i < RING
+            → slice_index self.new.chips i ≡ slice_index self.old.chips (i - PLACES) }
+        ensures others { (i : ℕ) → i < PLACES
+            → slice_index self.new.chips i ≡ slice_index self.old.chips i }
+    {
+        for i in PLACES..RING {
+            self.chips[i] = self.chips[i - PLACES];
+        }
+    }
+
+    /// The raised sums at sixteen places, from place `at` on.
+    #[inline(always)]
+    pub(crate) fn sixteen(&self, at: usize) -> u32x16
+        requires { at + LANES ≤ RING }
+        ensures long { length result ≡ LANES }
+        ensures lanes { (l : ℕ) → l < LANES
+            → slice_index result l ≡ slice_index self.now.chips (at + l) }
+        ensures small { (l : ℕ) → l < LANES → slice_index result l ≤ 2 * RAISED }
+    {
+        u32x16::from_slice(&self.chips[at..])
+    }
+}

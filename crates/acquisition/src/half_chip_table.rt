@@ -1,0 +1,63 @@
+//! Values added up by the half chips at which they lie.
+
+ghost use Rattle.std.specs.Prelude.{◌≡◌, ◌+◌, ◌*◌, ◌<◌, ◌≤◌, ◌+ℤ◌, ◌==◌, ℕ, pos, cond, length};
+ghost use Rattle.std.specs.Prelude.{get_or, unsigned_abs};
+ghost use Rattle.acquisition.specs.Folds.{sizes_to};
+ghost use Rattle.acquisition.specs.declared.half_chip_table.TheConstants.{PLACES};
+ghost use Rattle.acquisition.specs.declared.sums.TheConstants.{MOST_SUM};
+ghost use Rattle.oscillators.specs.declared.settings.TheConstants.{MOST_PER_MS};
+
+/// The places of a table: two for each of the code's 1,023 chips (IS-GPS-200, section 3.3.2.3).
+pub(crate) const PLACES: usize = 2046;
+
+/// The last place.
+pub(crate) const LAST: usize = PLACES - 1;
+
+/// Values of at most 9 in size, added up by the half chips at which they lie.
+#[derive(Drop)]
+pub(crate) struct HalfChipTable {
+    sums: [i32; PLACES],
+    /// How many values were added.
+    taken: u32,
+    ghost few: { taken ≤ MOST_PER_MS },
+    ghost long: { length sums ≡ PLACES },
+    ghost small: { sizes_to sums PLACES ≤ 9 * taken },
+}
+
+impl HalfChipTable {
+    /// The table of no values: each sum is 0.
+    #[inline(always)]
+    pub(crate) fn new() -> HalfChipTable
+        ensures none { (k : ℕ) → k < PLACES → get_or result.sums k (pos 0) ≡ pos 0 }
+        ensures taken { result.taken ≡ 0 }
+    {
+        HalfChipTable {
+            sums: [0; PLACES],
+            taken: 0,
+        }
+    }
+
+    /// Adds a value at a place.
+    #[inline(always)]
+    pub(crate) fn add(&mut self, place: usize, value: i32)
+        requires place { place < PLACES }
+        requires small { unsigned_abs value ≤ 9 }
+        requires few { self.old.taken < MOST_PER_MS }
+        ensures added { (k : ℕ) → k < PLACES → get_or self.new.sums k (pos 0)
+            ≡ get_or self.old.sums k (pos 0) +ℤ cond (place == k) value (pos 0) }
+        ensures taken { self.new.taken ≡ self.old.taken + 1 }
+    {
+        self.sums[place] += value;
+        self.taken += 1;
+    }
+
+    /// The sum at a place.
+    #[inline(always)]
+    pub(crate) fn sum(&self, place: usize) -> i32
+        requires { place < PLACES }
+        ensures value { result ≡ get_or self.now.sums place (pos 0) }
+        ensures small { unsigned_abs result ≤ MOST_SUM }
+    {
+        self.sums[place]
+    }
+}
