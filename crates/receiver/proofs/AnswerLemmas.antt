@@ -1,7 +1,7 @@
 -- Answers that are written one by one.
 use Rattle.std.proofs.Common.{◌≡◌, ◌+◌, ◌<◌, ◌≤◌, ℕ, List, [], ◌++◌, refl, sym, ap, ◌∙◌, subst}
 use Rattle.std.proofs.Common.{append_assoc, append-nil, add-one, length, drop, get_or}
-use Rattle.std.specs.Prelude.{Option, map}
+use Rattle.std.specs.Prelude.{Option, map, Result, Ok, Err, OnOk, MatchResult}
 use Rattle.std.proofs.Math.Seq.{drop-cons}
 use Rattle.std.proofs.Math.ListN.{drop_of_length-le}
 use Rattle.std.proofs.lemmas.Grind.{flat_map-append}
@@ -11,13 +11,15 @@ use Rattle.definitions.specs.Oscillators.{Settings}
 use Rattle.definitions.specs.Receiver.{Client}
 use Rattle.definitions.specs.Lines.{ended_line, as_bytes}
 use Rattle.definitions.specs.Receiver.{body, body_lines, full, full_lines, end_lines}
+use Rattle.definitions.specs.Receiver.{answer_lines}
 use Rattle.definitions.proofs.BodyLemmas.{as_bytes-append}
 use Rattle.channel_slots.specs.declared.event.SlotEvent.{SlotEvent}
 use Rattle.receiver.specs.declared.session.Session.{Session}
 use Rattle.receiver.specs.Texts.{AppendsPart}
 use Rattle.receiver.specs.Sessions.{StandsFor, Gives}
 use Rattle.channel_slots.specs.Events.{line_of}
-use Rattle.receiver.specs.Runs.{HasAnswered}
+use Rattle.receiver.specs.Outputs.{Adds}
+use Rattle.receiver.specs.Runs.{HasAnswered, IsWrittenTo}
 use Rattle.receiver.proofs.TextLemmas.{wrote-none, wrote-text, wrote-part, wrote-all, wrote-front}
 
 pub answered-none : (settings : Settings) (clients : List Client) (xs : List Sample)
@@ -117,6 +119,27 @@ stretch-part-answers start b c d before told answers all e p q r =
     (as_bytes answers) first refl q in
     wrote-part start c d (as_bytes all) (as_bytes answers) (as_bytes answers) [] second
     (sym (append-nil (as_bytes answers))) r
+
+-- the stretch's events and its answers were added to what was written by its begin
+pub stretch-taken : {A E : Type 0} (settings : Settings) (clients : List Client)
+    (start b c d : Option (List ℕ)) (after : Session) (xs more : List Sample)
+    (told : List (List ℕ)) (r : Result A E)
+    → body_lines settings more clients
+    ≡ body_lines settings xs clients ++ told ++ answer_lines settings clients more
+    → Appends start b (body settings xs clients) → Appends b c (as_bytes told)
+    → Adds c d (as_bytes (answer_lines settings clients more)) r
+    × OnOk r (StandsFor settings clients after more [])
+    → MatchResult r (λ _. IsWrittenTo settings clients start after d more)
+    (λ _. AppendsPart start d (body settings more clients))
+unfolding body
+stretch-taken settings clients start b c d after xs more told (Ok x) e p q a = record {
+  stands = a.1;
+  written = stretch-all start b c d (body_lines settings xs clients) told
+      (answer_lines settings clients more) (body_lines settings more clients) e p q a.0;
+}
+stretch-taken settings clients start b c d after xs more told (Err x) e p q a =
+    stretch-part-answers start b c d (body_lines settings xs clients) told
+    (answer_lines settings clients more) (body_lines settings more clients) e p q a.0
 
 -- ---- the whole text: the lines of all times, and then `end`
 pub full-is : (settings : Settings) (xs : List Sample) (clients : List Client)

@@ -35,17 +35,6 @@ kept-part a b text k = (
   },
 )
 
-pub part-kept : (a b c : Option (List ℕ)) (text : List ℕ) → AppendsPart a b text → Keeps b c
-    → AppendsPart a c text
-part-kept a b c text p k = (
-  p.0,
-  record {
-    written = (p.1).written;
-    appended = Appends-kept a b c (p.1).written (p.1).appended k;
-    whole = (p.1).whole;
-  },
-)
-
 same-front : (x more h written : List ℕ) → (x ++ more) ++ h ≡ x ++ written → more ++ h ≡ written
 same-front x more h written e =
     append_cancel_left x (more ++ h) written (sym (append_assoc x more h) ∙ e)

@@ -1,5 +1,6 @@
 pub mod TextLemmas
 pub mod HeldLemmas
+pub mod OutputLemmas
 pub mod AnswerLemmas
 pub mod PartLemmas
 pub mod ReadLemmas

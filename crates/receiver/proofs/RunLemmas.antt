@@ -1,6 +1,6 @@
 -- A run from its parts.
 use Rattle.std.proofs.Common.{◌≡◌, ◌≤◌, ◌<◌, ℕ, List, [], length, take, refl, sym, ap, ◌∙◌, subst}
-use Rattle.std.proofs.Common.{arith, ◌⊎◌, inl, inr}
+use Rattle.std.proofs.Common.{arith, ◌⊎◌, inl, inr, ◌++◌, append-nil}
 use Rattle.std.specs.Prelude.{Option}
 use Rattle.std.specs.Io.KnownBytes.{Appends, Keeps}
 use Rattle.std.proofs.KnownBytes.{Appends-kept}
@@ -15,32 +15,76 @@ use Rattle.receiver.specs.declared.session.Session.{Session}
 use Rattle.receiver.specs.declared.faults.Stop.{Stop}
 use Rattle.receiver.specs.declared.faults.Stop.TheVariants.{AtEnd, ReadFailed, PastLimit}
 use Rattle.receiver.specs.Texts.{AppendsPart}
-use Rattle.receiver.specs.HeldTexts.{held_text, promise}
-use Rattle.receiver.specs.declared.held_text.HeldText.{HeldText}
 use Rattle.receiver.proofs.HeldLemmas.{none-held}
+use Rattle.receiver.proofs.AnswerLemmas.{full-is}
+use Rattle.receiver.proofs.OpeningLemmas.{ends-are}
+use Rattle.receiver.proofs.SessionLemmas.{same-number}
+use Rattle.receiver.specs.LastLines.{ends, last_text}
+use Rattle.receiver.specs.Outputs.{held, promised}
+use Rattle.receiver.specs.declared.devices.Sink.{Ghosts as Sink}
+use Rattle.receiver.specs.declared.output.Output.{Output}
 use Rattle.definitions.specs.Receiver.{answer_lines}
-use Rattle.receiver.specs.Sessions.{StandsFor}
+use Rattle.receiver.specs.Sessions.{StandsFor, time_of}
 use Rattle.std.specs.Prelude.{Result, Ok, Err, ◌↔◌}
 use Rattle.std.proofs.lemmas.Bool.{cases_lt}
 use Rattle.receiver.specs.Runs.{Ran, Devices, IsOpen, IsWrittenTo, samples_read}
 use Rattle.receiver.specs.Runs.{text_for}
-use Rattle.receiver.proofs.TextLemmas.{appended-part}
+use Rattle.receiver.proofs.TextLemmas.{wrote-all, wrote-text, wrote-part, wrote-front}
 
 -- before the first read all answers at time 0 are written or held back, where nothing was held back
 -- before
 pub opened : (settings : Settings) (clients : List Client) (session answered : Session)
-    (start contents : Option (List ℕ)) (none later : HeldText) → held_text none ≡ []
-    → IsOpen settings clients session
-    → Appends (promise start none) (promise contents later)
-    (as_bytes (answer_lines settings clients []))
+    (start a b : Option (List ℕ)) → a ≡ start → IsOpen settings clients session
+    → Appends a b (as_bytes (answer_lines settings clients []))
     × StandsFor settings clients answered [] []
-    → IsWrittenTo settings clients start answered (promise contents later) []
+    → IsWrittenTo settings clients start answered b []
 unfolding body
-opened settings clients session answered start contents none later empty open_is p = record {
+opened settings clients session answered start a b none open_is p = record {
   stands = p.1;
-  written = subst (Appends start (promise contents later)) (ap as_bytes (sym open_is.first))
-      (rw (none-held start (held_text none) empty) at p.0);
+  written = subst (Appends start b) (ap as_bytes (sym open_is.first)) (rw none at p.0);
 }
+
+-- an output that was made holds nothing back
+pub promised-new : {W : Type 0} (sink : Sink W) (out : Output W) (writer : W)
+    → out.writer.now ≡ writer → held out ≡ [] → promised sink out ≡ sink.contents writer
+promised-new sink out writer same none =
+    none-held (sink.contents out.writer.now) (held out) none ∙ ap sink.contents same
+
+-- the text for a stop ends with what comes last
+pub text-whole : (settings : Settings) (clients : List Client) (session : Session)
+    (xs : List Sample) (stop : Stop) → StandsFor settings clients session xs []
+    → text_for stop settings xs clients
+    ≡ body settings xs clients ++ last_text stop session
+text-whole settings clients session xs AtEnd s =
+    full-is settings xs clients
+    ∙ ap (λ (l : List (List ℕ)). body settings xs clients ++ as_bytes l)
+    (ends-are (time_of session) xs clients (sym s.bank.now))
+    ∙ ap (λ (m : ℕ). body settings xs clients ++ as_bytes (ends (time_of session) 1 m))
+    (same-number xs s.done 1 clients session.queues.items s.queues ∙ session.clients)
+text-whole settings clients session xs ReadFailed s = sym (append-nil (body settings xs clients))
+text-whole settings clients session xs PastLimit s = sym (append-nil (body settings xs clients))
+
+-- what comes last was added to the lines, or a front of it
+pub last-all : (settings : Settings) (clients : List Client) (start b c : Option (List ℕ))
+    (session : Session) (xs : List Sample) (stop : Stop)
+    → IsWrittenTo settings clients start session b xs → Appends b c (last_text stop session)
+    → Appends start c (text_for stop settings xs clients)
+last-all settings clients start b c session xs stop at p =
+    wrote-all start c _ [] refl
+    (wrote-text start b c _ (last_text stop session) (last_text stop session) []
+    (wrote-front start b _ (body settings xs clients) (last_text stop session) at.written
+    (text-whole settings clients session xs stop at.stands))
+    (sym (append-nil (last_text stop session))) p)
+
+pub last-part : (settings : Settings) (clients : List Client) (start b c : Option (List ℕ))
+    (session : Session) (xs : List Sample) (stop : Stop)
+    → IsWrittenTo settings clients start session b xs → AppendsPart b c (last_text stop session)
+    → AppendsPart start c (text_for stop settings xs clients)
+last-part settings clients start b c session xs stop at p =
+    wrote-part start b c _ (last_text stop session) (last_text stop session) []
+    (wrote-front start b _ (body settings xs clients) (last_text stop session) at.written
+    (text-whole settings clients session xs stop at.stands))
+    (sym (append-nil (last_text stop session))) p
 
 pub samples-nil : (packing : Packing) → samples packing [] ≡ []
 unfolding samples_from
@@ -63,20 +107,6 @@ written-kept settings clients start session b c xs at k =
       stands = at.stands;
       written = Appends-kept start b c (body settings xs clients) at.written k;
     }
-
--- what was written stays through the flush
-pub flushed-part : (settings : Settings) (clients : List Client) (xs : List Sample)
-    (a b c : Option (List ℕ)) (stop : Stop) (text : List ℕ)
-    → text ≡ text_for stop settings xs clients → Appends a b text → Keeps b c
-    → AppendsPart a c (text_for stop settings xs clients)
-flushed-part settings clients xs a b c stop text e p k =
-    subst (AppendsPart a c) e (appended-part a b c text p k)
-
-pub no-end : (settings : Settings) (clients : List Client) (xs : List Sample) (stop : Stop)
-    → ((stop ≡ ReadFailed) ⊎ (stop ≡ PastLimit))
-    → body settings xs clients ≡ text_for stop settings xs clients
-no-end settings clients xs stop (inl e) = rw e refl
-no-end settings clients xs stop (inr e) = rw e refl
 
 -- what was opened isn't refused
 pub not-both : {A E W : Type 0} (opened : A) (fault : E) → (Ok opened ≡ Err fault) ↔ W → W → ⊥

@@ -1,6 +1,6 @@
 pub mod Devices
 pub mod Texts
-pub mod HeldTexts
+pub mod Outputs
 pub mod Clients
 pub mod Sessions
 pub mod Runs

@@ -1,6 +1,6 @@
 -- What a run reads and writes, by its answer.
 use Rattle.std.specs.Prelude.{◌≡◌, ◌≤◌, ◌<◌, ℕ, Bool, true, List, [], length, take}
-use Rattle.std.specs.Prelude.{◌++◌, Option, Result, Ok, Err, IfOk}
+use Rattle.std.specs.Prelude.{◌++◌, Option, Result, Ok, Err, IfOk, MatchResult, OnOk}
 use Rattle.std.specs.Io.KnownBytes.{Appends, Consumes, IsAtEnd}
 use Rattle.definitions.specs.Oscillators.{Settings}
 use Rattle.definitions.specs.Samples.{Sample, samples}
@@ -14,8 +14,8 @@ use Rattle.receiver.specs.Printed.{LinesAreRight}
 use Rattle.receiver.specs.Texts.{AppendsPart, WroteUpTo}
 use Rattle.definitions.specs.Receiver.{answer_lines}
 use Rattle.receiver.specs.Sessions.{StandsFor}
-use Rattle.receiver.specs.HeldTexts.{promise}
-use Rattle.receiver.specs.declared.held_text.HeldText.{HeldText}
+use Rattle.receiver.specs.Outputs.{Adds, promised}
+use Rattle.receiver.specs.declared.output.Output.{Output}
 use Rattle.receiver.specs.declared.devices.Source.{Ghosts as Source}
 use Rattle.receiver.specs.declared.devices.Sink.{Ghosts as Sink}
 use Rattle.receiver.specs.declared.session.Session.{Session}
@@ -44,14 +44,14 @@ devices_at source sink reader writer = record {
   write_failed = sink.has_failed writer;
 }
 
--- the same as though the writer had taken all text that is held back for it
-abbrev pub devices_once_sent : HeldText → Devices → Devices
-devices_once_sent text devices = record {
-  remaining = devices.remaining;
-  read_failed = devices.read_failed;
-  gave_none = devices.gave_none;
-  contents = promise devices.contents text;
-  write_failed = devices.write_failed;
+-- what a reader and an output show, as though the writer had taken all that is held back for it
+abbrev pub devices_once_sent : {R W : Type 0} → Source R → Sink W → R → Output W → Devices
+devices_once_sent source sink reader out = record {
+  remaining = source.remaining reader;
+  read_failed = source.has_failed reader;
+  gave_none = source.gave_none reader;
+  contents = promised sink out;
+  write_failed = sink.has_failed out.writer.now;
 }
 
 -- the samples of what was read, up to a limit
@@ -137,33 +137,24 @@ pub record IsWrittenTo (settings : Settings) (clients : List Client) (start : Op
   pub stands : StandsFor settings clients session xs []
   pub written : Appends start contents (body settings xs clients)
 
--- a run of samples was taken: all that is to be written by its end is written after what was
-abbrev pub TakesOn : List Sample → Session → Session → Option (List ℕ) → Option (List ℕ) → Type 0
-TakesOn run before after old new =
+-- a run of samples was taken: all that is to be written by its end is written after what was, or
+-- a front of it where a write failed
+abbrev pub TakesOn : {A E : Type 0} → List Sample → Session → Session → Option (List ℕ)
+    → Option (List ℕ) → Result A E → Type 0
+TakesOn run before after old new result =
     (settings : Settings) (clients : List Client) (start : Option (List ℕ)) (xs : List Sample)
     → IsWrittenTo settings clients start before old xs
-    → IsWrittenTo settings clients start after new (xs ++ run)
+    → MatchResult result (λ _. IsWrittenTo settings clients start after new (xs ++ run))
+    (λ _. AppendsPart start new (body settings (xs ++ run) clients))
 
--- a write failed on the way: a front of it is written
-abbrev pub TakesFront : List Sample → Session → Option (List ℕ) → Option (List ℕ) → Type 0
-TakesFront run before old new =
-    (settings : Settings) (clients : List Client) (start : Option (List ℕ)) (xs : List Sample)
-    → IsWrittenTo settings clients start before old xs
-    → AppendsPart start new (body settings (xs ++ run) clients)
-
--- after what was to be written so far, the whole text for a stop is written
-abbrev pub WritesAll : Stop → Session → Option (List ℕ) → Option (List ℕ) → Type 0
-WritesAll stop session old new =
-    (settings : Settings) (clients : List Client) (start : Option (List ℕ)) (xs : List Sample)
-    → IsWrittenTo settings clients start session old xs
-    → Appends start new (text_for stop settings xs clients)
-
--- a write failed on the way: a front of that text is written
-abbrev pub WritesFront : Stop → Session → Option (List ℕ) → Option (List ℕ) → Type 0
-WritesFront stop session old new =
-    (settings : Settings) (clients : List Client) (start : Option (List ℕ)) (xs : List Sample)
-    → IsWrittenTo settings clients start session old xs
-    → AppendsPart start new (text_for stop settings xs clients)
+-- the answers that waited are added, and none waits then
+abbrev pub AddsAnswers : {A E : Type 0} → Session → Session → Option (List ℕ) → Option (List ℕ)
+    → Result A E → Type 0
+AddsAnswers before after old new result =
+    (settings : Settings) (clients : List Client) (xs : List Sample) (waiting : List (List ℕ))
+    → StandsFor settings clients before xs waiting
+    → Adds old new (as_bytes waiting) result
+    × OnOk result (StandsFor settings clients after xs [])
 
 -- of these answers some have been written since the writer held `start`, and the session has the
 -- others
@@ -191,6 +182,15 @@ pub record BrokeOffReading (settings : Settings) (clients : List Client) (limit 
   pub ended : EndedAs runs.unfinished old new
   pub written : AppendsPart start new.contents
       (body settings (samples_read settings limit read) clients)
+
+-- reading went on from where nothing was read: to its stop, or to a write that failed
+abbrev pub ReadsOn : {E : Type 0} → ℕ → Session → Session → Devices → Devices → Result Stop E
+    → Type 0
+ReadsOn limit before after old new result =
+    (settings : Settings) (clients : List Client) (start : Option (List ℕ))
+    → IsWrittenTo settings clients start before old.contents []
+    → MatchResult result (HasRead settings clients limit start after old new)
+    (λ _. BrokeOffReading settings clients limit start old new)
 
 -- all of the text was written
 pub record Completes (settings : Settings) (clients : List Client) (limit : ℕ) (read : List ℕ)

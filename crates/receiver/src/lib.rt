@@ -20,7 +20,7 @@
 mod devices;
 mod due;
 mod faults;
-mod held_text;
+mod output;
 mod queue;
 mod queues;
 mod reading;

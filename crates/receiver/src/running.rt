@@ -12,7 +12,7 @@ ghost use Rattle.receiver.specs.Sessions.{time_of};
 
 use crate::devices::{DeviceFault, Sink, Source};
 use crate::faults::{RunFault, Stop};
-use crate::held_text::HeldText;
+use crate::output::Output;
 use crate::reading::read_all;
 use crate::session::Session;
 use crate::writing::{finish, put_answers};
@@ -45,10 +45,10 @@ fn run_session<R: Source, W: Sink>(
         (devices_at R.Source W.Sink reader.old writer.old)
         (devices_at R.Source W.Sink reader.new writer.new)) }
 {
-    let mut text = HeldText::new();
-    put_answers(session, &mut text, writer)?;
-    let stop = read_all(session, limit, reader, &mut text, writer)?;
-    finish(session, stop, &mut text, writer)?;
+    let mut out = Output::new(writer);
+    put_answers(session, &mut out)?;
+    let stop = read_all(session, limit, reader, &mut out)?;
+    finish(session, stop, &mut out)?;
     Ok(stop)
 }
 

@@ -25,6 +25,8 @@ pub const QUEUES: usize = MOST_CLIENTS;
 pub struct Session<'a> {
     bank: Bank,
     queues: ArrayVec<Queue<'a>, QUEUES>,
+    /// The slots' events over the last run of samples.
+    events: ArrayVec<SlotEvent, RUN_EVENTS>,
     ghost clients: { length queues.items ≡ length (shares_of bank) },
     ghost in_shares: { are_in_shares (shares_of bank) queues.items ≡ true },
 }
@@ -66,6 +68,7 @@ impl<'a> Session<'a> {
         Ok(Session {
             bank,
             queues: queues_of(scripts, shares),
+            events: ArrayVec::new(),
         })
     }
 
@@ -99,15 +102,21 @@ impl<'a> Session<'a> {
         self.bank.format()
     }
 
-    /// Takes a run of samples, none of them past the next command's time, and puts the slots'
-    /// events over it into an empty list.
-    pub fn feed(&mut self, run: &PackedSamples, events: &mut ArrayVec<SlotEvent, RUN_EVENTS>)
+    /// The slots' events over the last run of samples.
+    pub fn events(&self) -> &[SlotEvent]
+        ensures { result.now ≡ self.now.events.items }
+    {
+        &self.events
+    }
+
+    /// Takes a run of samples, none of them past the next command's time, and keeps the slots'
+    /// events over it.
+    pub fn feed(&mut self, run: &PackedSamples)
         requires packing { run.now.packing ≡ packing_in self.old }
         requires some { 0 < length run.now.samples }
         requires short { length run.now.samples ≤ MAX_SAMPLES }
         requires quiet { length run.now.samples ≤ until_next self.old }
         requires room { time_of self.old + length run.now.samples ≤ MOST_TIME }
-        requires empty { events.old.items ≡ [] }
         ensures packing { packing_in self.new ≡ packing_in self.old }
         ensures time { time_of self.new ≡ time_of self.old + length run.now.samples }
         ensures stands { (settings : DefinedSettings) (clients : List Client) (xs : List Sample)
@@ -117,10 +126,11 @@ impl<'a> Session<'a> {
         ensures told { (settings : DefinedSettings) (clients : List Client) (xs : List Sample)
             → StandsFor settings clients self.old xs []
             → body_lines settings (xs ++ run.now.samples) clients
-            ≡ body_lines settings xs clients ++ map line_of events.new.items
+            ≡ body_lines settings xs clients ++ map line_of self.new.events.items
             ++ answer_lines settings clients (xs ++ run.now.samples) }
     {
-        self.bank.feed_into(run, events);
+        self.events.clear();
+        self.bank.feed_into(run, &mut self.events);
     }
 
     /// The line of the next answer at this time, with its end.

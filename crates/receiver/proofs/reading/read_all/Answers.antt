@@ -4,6 +4,7 @@ use Rattle.std.specs.Prelude.{◌||◌}
 use Rattle.std.specs.Io.KnownBytes.{Consumes}
 use Rattle.std.proofs.Math.Bool.{or-false}
 use Rattle.std.proofs.lemmas.List.{length-take-le}
+use Rattle.std.proofs.lemmas.Result.{MatchResult-from_err}
 use Rattle.std.proofs.KnownBytes.{Consumes-trans, Consumes-kept, Consumes-nil}
 use Rattle.definitions.specs.Samples.{Sample, Packing, samples, sample_count, samples_per_byte}
 use Rattle.definitions.specs.Receiver.{body}
@@ -11,20 +12,23 @@ use Rattle.definitions.specs.Oscillators.{Settings}
 use Rattle.receiver.specs.Sessions.{packing_in, time_of}
 use Rattle.receiver.specs.Texts.{AppendsPart}
 use Rattle.receiver.specs.Runs.{IsWrittenTo}
-use Rattle.receiver.proofs.TextLemmas.{on_err, appended-part}
+use Rattle.receiver.proofs.TextLemmas.{appended-part}
 use Rattle.definitions.proofs.SampleLemmas.{samples-append, sample_count-append, count_of}
 use Rattle.receiver.proofs.RunLemmas.{samples-nil}
 use Rattle.receiver.proofs.ReadLemmas.{all-read, within-limit, none_counted, Uses, uses, up_to-used}
 use Rattle.receiver.proofs.ReadLemmas.{beyond-limit, some-given, none-given}
-use Rattle.receiver.specs.HeldTexts.{promise}
-use Rattle.receiver.proofs.HeldLemmas.{grows-none, grows-on}
+use Rattle.receiver.specs.Outputs.{promised}
+use Rattle.receiver.proofs.OutputLemmas.{nothing-written, wrote-then, writes-broke}
+use Rattle.receiver.proofs.OutputLemmas.{writes-ok}
 use Rattle.receiver.proofs.RunLemmas.{written-kept}
 use Rattle.receiver.proofs.reading.read_all.Goals as goal
 
-pub returns-in_err-take_piece-clause-broken : goal.returns-in_err-take_piece-clause-broken
-returns-in_err-take_piece-clause-broken g c =
+pub returns-in_err-take_piece-clause-reads : goal.returns-in_err-take_piece-clause-reads
+returns-in_err-take_piece-clause-reads g c =
     let s = g.W.Sink in let r = g.R.Source in
-    on_err c.from_residual-in_err-take_piece.result _ (λ settings clients start at.
+    λ settings clients start at.
+    MatchResult-from_err c.from_residual-in_err-take_piece.result _ _
+    c.from_residual-in_err-take_piece.ensures.0 (λ _.
     let was = c.loop-reader.invariant.read in
     let buffer = c.read.new.buffer in
     let n = c.in-Ok.count in
@@ -44,7 +48,7 @@ returns-in_err-take_piece-clause-broken g c =
     ∙ ap (λ (p : Packing). samples p (take used buffer)) (c.format-format.ensures ∙ same) in
     let Q : List Sample → Type 0 =
     λ ys. AppendsPart start
-    (promise (s.contents c.take_piece.new.writer) c.take_piece.new.text)
+    (promised s c.take_piece.new.out)
     (body settings ys clients) in
     record {
       read = was.0 ++ take n buffer;
@@ -60,15 +64,15 @@ returns-in_err-take_piece-clause-broken g c =
           subst Q (ap (λ (l : List Sample). samples settings.packing was.0 ++ l) is
           ∙ sym (up_to-used settings.packing was.0 buffer n used c.args.limit u.at_most
           c.in-Ok.ensures.bound.0 u.within u.reached))
-          (c.in_err-take_piece.ensures.err settings clients start
+          (c.in_err-take_piece.ensures.takes settings clients start
           (samples settings.packing was.0)
           (written-kept settings clients start c.loop-reader.session
           _ _ (samples settings.packing was.0) (was.3 settings clients start at)
-          c.send.ensures.same));
+          c.send.ensures.kept));
     })
 
-pub returns-then-used-count-clause-read : goal.returns-then-used-count-clause-read
-returns-then-used-count-clause-read g c =
+pub returns-then-used-count-clause-reads : goal.returns-then-used-count-clause-reads
+returns-then-used-count-clause-reads g c =
     let s = g.W.Sink in let r = g.R.Source in λ settings clients start at.
     let was = c.loop-reader.invariant.read in
     let buffer = c.read.new.buffer in
@@ -89,7 +93,7 @@ returns-then-used-count-clause-read g c =
     ∙ ap (λ (p : Packing). samples p (take used buffer)) (c.format-format.ensures ∙ same) in
     let Q : List Sample → Type 0 =
     λ ys. IsWrittenTo settings clients start c.take_piece.new.session
-    (promise (s.contents c.take_piece.new.writer) c.take_piece.new.text) ys in
+    (promised s c.take_piece.new.out) ys in
     record {
       read = was.0 ++ take n buffer;
       consumed =
@@ -108,10 +112,10 @@ returns-then-used-count-clause-read g c =
           subst Q (ap (λ (l : List Sample). samples settings.packing was.0 ++ l) is
           ∙ sym (up_to-used settings.packing was.0 buffer n used c.args.limit u.at_most
           c.in-Ok.ensures.bound.0 u.within u.reached))
-          (c.in_ok-take_piece.ensures.ok settings clients start (samples settings.packing was.0)
+          (c.in_ok-take_piece.ensures.takes settings clients start (samples settings.packing was.0)
           (written-kept settings clients start c.loop-reader.session
           _ _ (samples settings.packing was.0) (was.3 settings clients start at)
-          c.send.ensures.same));
+          c.send.ensures.kept));
     }
 
 pub loop-reader-preserved : goal.loop-reader-preserved
@@ -143,7 +147,6 @@ loop-reader-preserved g c =
     e.time ∙ ap (λ k. time_of c.loop-reader.session + k) many
     ∙ ap (λ t. t + sample_count packing piece) was.2 in
     record {
-      empty = e.empty;
       format = e.packing ∙ i.format;
       ready = e.ready;
       within =
@@ -156,12 +159,9 @@ loop-reader-preserved g c =
           λ sound. c.in-Ok.ensures.again
           ∙ ap₂ (λ again failed. again || failed) (i.asked_again sound) (i.read_failed ∙ sound)
           ∙ or-false _;
-      grows =
-          grows-on (s.contents c.args.writer.now) (s.contents c.send.new.writer)
-          (s.contents c.take_piece.new.writer)
-          (grows-on (s.contents c.args.writer.now) (s.contents c.loop-reader.writer)
-          (s.contents c.send.new.writer) i.grows c.send.ensures.grows) e.grows;
-      write_failed = e.failure ∙ c.in_ok-send.ensures.failure ∙ i.write_failed;
+      wrote = wrote-then s c.args.out.now c.send.new.self c.take_piece.new.out _
+          (wrote-then s c.args.out.now c.loop-reader.out c.send.new.self _ i.wrote
+          c.in_ok-send.ensures.writes) e.writes;
       read = (
         was.0 ++ take n buffer,
         Consumes-trans (r.remaining c.args.reader.now) (r.remaining c.loop-reader.reader)
@@ -175,28 +175,26 @@ loop-reader-preserved g c =
             ∙ ap (λ (p : Packing). samples p piece) (c.format-format.ensures ∙ same) in
             let Q : List Sample → Type 0 =
             λ ys. IsWrittenTo settings clients start c.take_piece.new.session
-            (promise (s.contents c.take_piece.new.writer) c.take_piece.new.text) ys in
+            (promised s c.take_piece.new.out) ys in
             subst Q (ap (λ (l : List Sample). samples settings.packing was.0 ++ l) is
             ∙ sym (samples-append settings.packing was.0 piece)
             ∙ ap (λ k. samples settings.packing (was.0 ++ take k buffer)) all)
-            (e.ok settings clients start (samples settings.packing was.0)
+            (e.takes settings clients start (samples settings.packing was.0)
             (written-kept settings clients start c.loop-reader.session
             _ _ (samples settings.packing was.0) (was.3 settings clients start at)
-            c.send.ensures.same)),
+            c.send.ensures.kept)),
       );
     }
 
 pub loop-reader-init : goal.loop-reader-init
 loop-reader-init g c = record {
-  empty = c.new-events.ensures;
   format = refl;
   ready = c.requires.ready;
   within = omega (arith, c.requires.start);
   read_failed = refl;
   gave_none = refl;
   asked_again = λ sound. refl;
-  grows = grows-none (g.W.Sink.contents c.args.writer.now);
-  write_failed = refl;
+  wrote = nothing-written g.W.Sink c.args.out.now;
   read = (
     [],
     Consumes-nil (g.R.Source.remaining c.args.reader.now),
@@ -206,40 +204,11 @@ loop-reader-init g c = record {
   );
 }
 
-pub returns-in_err-send-clause-grows : goal.returns-in_err-send-clause-grows
-returns-in_err-send-clause-grows g c = let s = g.W.Sink in
-    grows-on (s.contents c.args.writer.now) (s.contents c.loop-reader.writer)
-    (s.contents c.send.new.writer) c.loop-reader.invariant.grows c.send.ensures.grows
-
-pub returns-in_default-clause-grows : goal.returns-in_default-clause-grows
-returns-in_default-clause-grows g c = let s = g.W.Sink in
-    grows-on (s.contents c.args.writer.now) (s.contents c.loop-reader.writer)
-    (s.contents c.send.new.writer) c.loop-reader.invariant.grows c.send.ensures.grows
-
-pub returns-then-count-eq0-clause-grows : goal.returns-then-count-eq0-clause-grows
-returns-then-count-eq0-clause-grows g c = let s = g.W.Sink in
-    grows-on (s.contents c.args.writer.now) (s.contents c.loop-reader.writer)
-    (s.contents c.send.new.writer) c.loop-reader.invariant.grows c.send.ensures.grows
-
-pub returns-in_err-take_piece-clause-grows : goal.returns-in_err-take_piece-clause-grows
-returns-in_err-take_piece-clause-grows g c = let s = g.W.Sink in
-    grows-on (s.contents c.args.writer.now) (s.contents c.send.new.writer)
-    (s.contents c.take_piece.new.writer)
-    (grows-on (s.contents c.args.writer.now) (s.contents c.loop-reader.writer)
-    (s.contents c.send.new.writer) c.loop-reader.invariant.grows c.send.ensures.grows)
-    c.take_piece.ensures.grows
-
-pub returns-then-used-count-clause-grows : goal.returns-then-used-count-clause-grows
-returns-then-used-count-clause-grows g c = let s = g.W.Sink in
-    grows-on (s.contents c.args.writer.now) (s.contents c.send.new.writer)
-    (s.contents c.take_piece.new.writer)
-    (grows-on (s.contents c.args.writer.now) (s.contents c.loop-reader.writer)
-    (s.contents c.send.new.writer) c.loop-reader.invariant.grows c.send.ensures.grows)
-    c.take_piece.ensures.grows
-
-pub returns-in_err-send-clause-broken : goal.returns-in_err-send-clause-broken
-returns-in_err-send-clause-broken g c =
-    on_err c.from_residual.result _ (λ settings clients start at.
+pub returns-in_err-send-clause-reads : goal.returns-in_err-send-clause-reads
+returns-in_err-send-clause-reads g c =
+    λ settings clients start at.
+    MatchResult-from_err c.from_residual.result _ _
+    c.from_residual.ensures.0 (λ _.
     let was = c.loop-reader.invariant.read in
     let same = (ap (λ (r : Settings). r.packing) at.stands.bank.recorded) in
     let all =
@@ -252,11 +221,11 @@ returns-in_err-send-clause-broken g c =
       ended = (c.loop-reader.invariant.gave_none, c.loop-reader.invariant.read_failed);
       written =
           appended-part start _ _ _ (rw all (was.3 settings clients start at).written)
-          c.send.ensures.same;
+          c.send.ensures.kept;
     })
 
-pub returns-in_default-clause-read : goal.returns-in_default-clause-read
-returns-in_default-clause-read g c settings clients start at =
+pub returns-in_default-clause-reads : goal.returns-in_default-clause-reads
+returns-in_default-clause-reads g c settings clients start at =
     let r = g.R.Source in
     let was = c.loop-reader.invariant.read in
     let same = (ap (λ (r : Settings). r.packing) at.stands.bank.recorded) in
@@ -280,11 +249,11 @@ returns-in_default-clause-read g c settings clients start at =
       at =
           rw all (written-kept settings clients start c.loop-reader.session
           _ _ (samples settings.packing was.0) (was.3 settings clients start at)
-          c.send.ensures.same);
+          c.send.ensures.kept);
     }
 
-pub returns-then-count-eq0-clause-read : goal.returns-then-count-eq0-clause-read
-returns-then-count-eq0-clause-read g c settings clients start at =
+pub returns-then-count-eq0-clause-reads : goal.returns-then-count-eq0-clause-reads
+returns-then-count-eq0-clause-reads g c settings clients start at =
     let r = g.R.Source in
     let was = c.loop-reader.invariant.read in
     let same = (ap (λ (r : Settings). r.packing) at.stands.bank.recorded) in
@@ -315,5 +284,37 @@ returns-then-count-eq0-clause-read g c settings clients start at =
       at =
           rw all (written-kept settings clients start c.loop-reader.session
           _ _ (samples settings.packing was.0) (was.3 settings clients start at)
-          c.send.ensures.same);
+          c.send.ensures.kept);
     }
+
+pub returns-in_err-send-clause-writes : goal.returns-in_err-send-clause-writes
+returns-in_err-send-clause-writes g c =
+    writes-broke g.W.Sink c.args.out.now c.loop-reader.out c.send.new.self _ c.from_residual.result
+    c.loop-reader.invariant.wrote c.in_err-send.ensures.writes c.from_residual.ensures.0
+
+pub returns-in_default-clause-writes : goal.returns-in_default-clause-writes
+returns-in_default-clause-writes g c = let s = g.W.Sink in
+    writes-ok s c.args.out.now c.send.new.self _
+    (wrote-then s c.args.out.now c.loop-reader.out c.send.new.self _ c.loop-reader.invariant.wrote
+    c.in_ok-send.ensures.writes)
+
+pub returns-then-count-eq0-clause-writes : goal.returns-then-count-eq0-clause-writes
+returns-then-count-eq0-clause-writes g c = let s = g.W.Sink in
+    writes-ok s c.args.out.now c.send.new.self _
+    (wrote-then s c.args.out.now c.loop-reader.out c.send.new.self _ c.loop-reader.invariant.wrote
+    c.in_ok-send.ensures.writes)
+
+pub returns-in_err-take_piece-clause-writes : goal.returns-in_err-take_piece-clause-writes
+returns-in_err-take_piece-clause-writes g c = let s = g.W.Sink in
+    writes-broke s c.args.out.now c.send.new.self c.take_piece.new.out _
+    c.from_residual-in_err-take_piece.result
+    (wrote-then s c.args.out.now c.loop-reader.out c.send.new.self _ c.loop-reader.invariant.wrote
+    c.in_ok-send.ensures.writes) c.in_err-take_piece.ensures.writes
+    c.from_residual-in_err-take_piece.ensures.0
+
+pub returns-then-used-count-clause-writes : goal.returns-then-used-count-clause-writes
+returns-then-used-count-clause-writes g c = let s = g.W.Sink in
+    writes-ok s c.args.out.now c.take_piece.new.out _
+    (wrote-then s c.args.out.now c.send.new.self c.take_piece.new.out _
+    (wrote-then s c.args.out.now c.loop-reader.out c.send.new.self _ c.loop-reader.invariant.wrote
+    c.in_ok-send.ensures.writes) c.in_ok-take_piece.ensures.writes)

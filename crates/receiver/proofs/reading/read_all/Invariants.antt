@@ -7,13 +7,12 @@ use Rattle.definitions.specs.Receiver.{Client}
 use Rattle.receiver.specs.Sessions.{packing_in, time_of}
 use Rattle.receiver.specs.Sessions.{until_next}
 use Rattle.receiver.specs.Runs.{IsWrittenTo}
-use Rattle.receiver.specs.Texts.{Grows}
-use Rattle.receiver.specs.HeldTexts.{promise}
+use Rattle.receiver.specs.Outputs.{promised}
+use Rattle.receiver.proofs.OutputLemmas.{Wrote}
 use Rattle.receiver.proofs.reading.read_all.Given as goal
 
 abbrev pub invariant-loop-reader : goal.invariant-loop-reader
 invariant-loop-reader g l = let source = g.R.Source in let sink = g.W.Sink in record {
-  empty : l.events.items ≡ [];
   format : packing_in l.session ≡ packing_in l.fn.session;
   ready : 0 < until_next l.session;
   within : time_of l.session ≤ l.limit;
@@ -21,15 +20,14 @@ invariant-loop-reader g l = let source = g.R.Source in let sink = g.W.Sink in re
   gave_none : source.gave_none l.reader ≡ source.gave_none l.fn.reader;
   asked_again : source.has_failed l.fn.reader ≡ false
       → source.was_asked_again l.reader ≡ source.was_asked_again l.fn.reader;
-  grows : Grows (sink.contents l.fn.writer) (sink.contents l.writer);
-  write_failed : sink.has_failed l.writer ≡ sink.has_failed l.fn.writer;
+  wrote : Wrote sink l.fn.out l.out;
   read : (bytes : List ℕ)
       × Consumes (source.remaining l.fn.reader) (source.remaining l.reader) bytes
       × (time_of l.session ≡ sample_count (packing_in l.fn.session) bytes)
       × ((settings : Settings) (clients : List Client) (start : Option (List ℕ))
       → IsWrittenTo settings clients start l.fn.session
-      (promise (sink.contents l.fn.writer) l.fn.text) []
-      → IsWrittenTo settings clients start l.session (promise (sink.contents l.writer) l.text)
+      (promised sink l.fn.out) []
+      → IsWrittenTo settings clients start l.session (promised sink l.out)
       (samples settings.packing bytes));
 }
 

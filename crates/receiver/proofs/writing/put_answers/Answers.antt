@@ -1,55 +1,66 @@
 use Rattle.std.proofs.Common.{◌∙◌, ap, refl}
+use Rattle.std.proofs.lemmas.Result.{IfOk-from_err}
 use Rattle.definitions.specs.Lines.{as_bytes}
-use Rattle.receiver.proofs.AnswerLemmas.{answered-more, answered-part}
-use Rattle.receiver.proofs.TextLemmas.{wrote-all, on_err}
-use Rattle.receiver.specs.HeldTexts.{promise}
-use Rattle.receiver.proofs.HeldLemmas.{grows-on, kept-part}
+use Rattle.receiver.specs.Outputs.{promised}
+use Rattle.receiver.proofs.AnswerLemmas.{answered-none, answered-more, answered-part}
+use Rattle.receiver.proofs.TextLemmas.{wrote-all}
+use Rattle.receiver.proofs.HeldLemmas.{kept-part}
+use Rattle.receiver.proofs.OutputLemmas.{nothing-written, wrote-then, writes-broke, adds-err}
 use Rattle.receiver.proofs.writing.put_answers.Goals as goal
+
+pub loop-line-init : goal.loop-line-init
+loop-line-init g c = record {
+  format = refl;
+  time = refl;
+  wrote = nothing-written g.W.Sink c.args.out.now;
+  answered = λ settings clients xs waiting stands.
+      answered-none settings clients xs waiting c.args.session.now
+      (promised g.W.Sink c.args.out.now) stands;
+}
 
 pub loop-line-preserved : goal.loop-line-preserved
 loop-line-preserved g c = let s = g.W.Sink in let i = c.loop-line.invariant in record {
   format = c.in-Some.ensures.packing ∙ i.format;
   time = c.in-Some.ensures.time ∙ i.time;
-  failure = c.in_ok-put.ensures.failure ∙ i.failure;
-  grows =
-      grows-on (s.contents c.args.writer.now) (s.contents c.loop-line.writer)
-      (s.contents c.put.new.writer) i.grows c.put.ensures.grows;
+  wrote = wrote-then s c.args.out.now c.loop-line.out c.put.new.self _ i.wrote
+      c.in_ok-put.ensures.writes;
   answered =
       λ settings clients xs waiting stands. answered-more settings clients xs waiting
-      (promise (s.contents c.args.writer.now) c.args.text.now)
-      (promise (s.contents c.loop-line.writer) c.loop-line.text)
-      (promise (s.contents c.put.new.writer) c.put.new.self)
+      (promised s c.args.out.now) (promised s c.loop-line.out) (promised s c.put.new.self)
       c.loop-line.session c.answer.new.self c.deref.result.now
-      (rw c.deref.ensures.0 c.in-Some.ensures.some) c.in_ok-put.ensures.ok
+      (rw c.deref.ensures.0 c.in-Some.ensures.some) c.in_ok-put.ensures.puts
       (i.answered settings clients xs waiting stands);
 }
 
-pub returns-in_err-put-clause-err : goal.returns-in_err-put-clause-err
-returns-in_err-put-clause-err g c =
-    let s = g.W.Sink in on_err c.from_residual.result _ (λ settings clients xs waiting stands.
-    answered-part settings clients xs waiting
-    (promise (s.contents c.args.writer.now) c.args.text.now)
-    (promise (s.contents c.loop-line.writer) c.loop-line.text)
-    (promise (s.contents c.put.new.writer) c.put.new.self)
-    c.loop-line.session c.answer.new.self c.deref.result.now
-    (rw c.deref.ensures.0 c.in-Some.ensures.some) (kept-part _ _ _ c.in_err-put.ensures.err)
-    (c.loop-line.invariant.answered settings clients xs waiting stands))
+pub returns-in_err-put-clause-adds : goal.returns-in_err-put-clause-adds
+returns-in_err-put-clause-adds g c settings clients xs waiting stands =
+    let s = g.W.Sink in
+    let a = promised s c.args.out.now in
+    let b = promised s c.loop-line.out in
+    let d = promised s c.put.new.self in (
+      adds-err a d (as_bytes waiting) c.from_residual.result c.from_residual.ensures.0
+          (answered-part settings clients xs waiting a b d c.loop-line.session c.answer.new.self
+          c.deref.result.now (rw c.deref.ensures.0 c.in-Some.ensures.some)
+          (kept-part b d _ c.in_err-put.ensures.puts)
+          (c.loop-line.invariant.answered settings clients xs waiting stands)),
+      IfOk-from_err c.from_residual.result _ c.from_residual.ensures.0,
+    )
 
-pub returns-clause-ok : goal.returns-clause-ok
+pub returns-in_err-put-clause-writes : goal.returns-in_err-put-clause-writes
+returns-in_err-put-clause-writes g c =
+    writes-broke g.W.Sink c.args.out.now c.loop-line.out c.put.new.self _ c.from_residual.result
+    c.loop-line.invariant.wrote c.in_err-put.ensures.writes c.from_residual.ensures.0
+
+pub returns-clause-adds : goal.returns-clause-adds
 unfolding as_bytes
-returns-clause-ok g c = let s = g.W.Sink in λ settings clients xs waiting stands.
+returns-clause-adds g c settings clients xs waiting stands =
     let h = c.loop-line.invariant.answered settings clients xs waiting stands in
     let n = c.in_default.ensures.none refl settings clients xs h.left h.stands in (
-      wrote-all (promise (s.contents c.args.writer.now) c.args.text.now)
-          (promise (s.contents c.loop-line.writer) c.loop-line.text) (as_bytes waiting)
-          (as_bytes h.left) (ap as_bytes n.0) h.wrote,
+      wrote-all (promised g.W.Sink c.args.out.now) (promised g.W.Sink c.loop-line.out)
+          (as_bytes waiting) (as_bytes h.left) (ap as_bytes n.0) h.wrote,
       n.1,
     )
 
-pub returns-in_err-put-clause-grows : goal.returns-in_err-put-clause-grows
-returns-in_err-put-clause-grows g c = let s = g.W.Sink in
-    grows-on (s.contents c.args.writer.now) (s.contents c.loop-line.writer)
-    (s.contents c.put.new.writer) c.loop-line.invariant.grows c.put.ensures.grows
-
-pub returns-clause-grows : goal.returns-clause-grows
-returns-clause-grows g c = c.loop-line.invariant.grows
+pub returns-clause-writes : goal.returns-clause-writes
+returns-clause-writes g c = let w = c.loop-line.invariant.wrote in
+    record { same = w.same; grows = w.grows; failure = w.failure }

@@ -4,20 +4,19 @@ use Rattle.definitions.specs.Oscillators.{Settings}
 use Rattle.definitions.specs.Receiver.{Client}
 use Rattle.receiver.specs.Sessions.{StandsFor, packing_in, time_of, lines_left}
 use Rattle.receiver.specs.Runs.{HasAnswered}
-use Rattle.receiver.specs.Texts.{Grows}
-use Rattle.receiver.specs.HeldTexts.{promise}
+use Rattle.receiver.specs.Outputs.{promised}
+use Rattle.receiver.proofs.OutputLemmas.{Wrote}
 use Rattle.receiver.proofs.writing.put_answers.Given as goal
 
 abbrev pub invariant-loop-line : goal.invariant-loop-line
 invariant-loop-line g l = let sink = g.W.Sink in record {
   format : packing_in l.session ≡ packing_in l.fn.session;
   time : time_of l.session ≡ time_of l.fn.session;
-  grows : Grows (sink.contents l.fn.writer) (sink.contents l.writer);
-  failure : sink.has_failed l.writer ≡ sink.has_failed l.fn.writer;
+  wrote : Wrote sink l.fn.out l.out;
   answered : (settings : Settings) (clients : List Client) (xs : List Sample)
       (waiting : List (List ℕ)) → StandsFor settings clients l.fn.session xs waiting
-      → HasAnswered settings clients xs waiting (promise (sink.contents l.fn.writer) l.fn.text)
-      l.session (promise (sink.contents l.writer) l.text);
+      → HasAnswered settings clients xs waiting (promised sink l.fn.out) l.session
+      (promised sink l.out);
 }
 
 abbrev pub decreases-loop-line : goal.decreases-loop-line
