@@ -1,19 +1,23 @@
 //! One data bit, summed push by push.
 
-ghost use Rattle.std.specs.Prelude.{◌≡◌, ◌^◌, ◌<◌, ◌≤◌, ◌*◌, ℤ, List, [], ◌∷◌, ◌++◌, length, Some};
+ghost use Rattle.std.specs.Prelude.{◌≡◌, ◌<◌, ◌≤◌, ◌*◌, ℤ, List, [], ◌∷◌, ◌++◌, length, Some};
 ghost use Rattle.std.specs.Prelude.{None, unsigned_abs};
+ghost use Rattle.bit_sync.specs.declared.bit_sum.TheConstants.{PUSHES_OF_BIT, MOST_PUSH};
 
 /// The code periods of one data bit (IS-GPS-200, section 3.2.2).
 const PUSHES_OF_BIT: u8 = 20;
 
+/// The greatest size of a push: of a sum over one code period.
+pub const MOST_PUSH: u32 = 1 << 18;
+
 /// The pushes of the data bit that isn't whole yet.
 #[derive(Debug, Drop)]
 pub struct BitSum {
-    /// The number of pushes, fewer than 20.
+    /// The number of pushes, fewer than `PUSHES_OF_BIT`.
     count: u8,
     sum: i32,
-    ghost count_in_range: { count < 20 },
-    ghost sum_in_range: { unsigned_abs sum ≤ count * 2 ^ 18 },
+    ghost count_in_range: { count < PUSHES_OF_BIT },
+    ghost sum_in_range: { unsigned_abs sum ≤ count * MOST_PUSH },
 }
 
 impl BitSum {
@@ -22,7 +26,7 @@ impl BitSum {
 
     /// Begins bit 0 with the push that is the edge.
     pub fn begun_with(ip: i32) -> Self
-        requires { unsigned_abs ip ≤ 2 ^ 18 }
+        requires { unsigned_abs ip ≤ MOST_PUSH }
         ensures { (pushes : List ℤ) → edge_of (pushes ++ ip ∷ []) ≡ Some (length pushes)
             → IsSumming (pushes ++ ip ∷ []) result }
     {
@@ -32,7 +36,7 @@ impl BitSum {
     /// Takes the next push, and gives the bit that is whole with it, if one is: `true` where its
     /// pushes sum up to less than zero.
     pub fn push(&mut self, ip: i32) -> Option<bool>
-        requires { unsigned_abs ip ≤ 2 ^ 18 }
+        requires { unsigned_abs ip ≤ MOST_PUSH }
         ensures goes_on { (pushes : List ℤ) → IsSumming pushes self.old
             → IsSumming (pushes ++ ip ∷ []) self.new }
         ensures bit { (pushes : List ℤ) → IsSumming pushes self.old

@@ -1,6 +1,7 @@
 //! The data bits of a channel, found push by push.
 
-ghost use Rattle.std.specs.Prelude.{◌≡◌, ◌^◌, ◌≤◌, unsigned_abs, ℤ, List, [], ◌∷◌, ◌++◌};
+ghost use Rattle.std.specs.Prelude.{◌≡◌, ◌≤◌, unsigned_abs, ℤ, List, [], ◌∷◌, ◌++◌};
+ghost use Rattle.bit_sync.specs.declared.bit_sum.TheConstants.{MOST_PUSH};
 
 use crate::bit_sum::BitSum;
 use crate::edge_search::EdgeSearch;
@@ -48,9 +49,9 @@ impl BitSync {
         }
     }
 
-    /// Takes the next prompt sum in phase, at most 2^18 in size. There may be any number of pushes.
+    /// Takes the next prompt sum in phase, at most `MOST_PUSH` in size. There may be any number of pushes.
     pub fn push(&mut self, ip: i32) -> BitNews
-        requires { unsigned_abs ip ≤ 2 ^ 18 }
+        requires { unsigned_abs ip ≤ MOST_PUSH }
         ensures stands { (pushes : List ℤ) → StandsFor pushes self.old
             → StandsFor (pushes ++ ip ∷ []) self.new }
         ensures tells { (pushes : List ℤ) → StandsFor pushes self.old

@@ -3,6 +3,9 @@
 ghost use Rattle.std.specs.Prelude.{◌≡◌, ◌<◌, ◌+◌, ℕ, ℤ, List, [], ◌∷◌, ◌++◌, length, slice_index};
 ghost use Rattle.std.specs.Prelude.{nat_le, count_by, false};
 ghost use Rattle.bit_sync.specs.Changes.{sign_turns};
+ghost use Rattle.bit_sync.specs.declared.edge_search.TheConstants.{PLACES, EDGE_CHANGES};
+ghost use Rattle.bit_sync.specs.declared.edge_search.TheConstants.{CANDIDATE_CHANGES};
+ghost use Rattle.bit_sync.specs.declared.edge_search.TheConstants.{CROWDED_CANDIDATES};
 
 /// Places in a bit: the 20 code periods of one (IS-GPS-200, section 3.2.2).
 const PLACES: usize = 20;
@@ -20,14 +23,14 @@ const CROWDED_CANDIDATES: usize = 2;
 /// The search for the first push of bit 0.
 #[derive(Debug, Drop)]
 pub struct EdgeSearch {
-    /// The number of pushes, modulo 20, since there is no bound on it.
+    /// The number of pushes, modulo `PLACES`, since there is no bound on it.
     place: usize,
     /// Whether the last push is below zero. Before the first push there is none.
     last: Option<bool>,
     /// The changes at each place since they were last counted anew.
     changes: [u8; PLACES],
-    ghost place_in_range: { place < 20 },
-    ghost changes_in_range: { (at : ℕ) → at < 20 → slice_index changes at < 16 },
+    ghost place_in_range: { place < PLACES },
+    ghost changes_in_range: { (at : ℕ) → at < PLACES → slice_index changes at < EDGE_CHANGES },
 }
 
 impl EdgeSearch {
@@ -84,7 +87,8 @@ fn turns(last: Option<bool>, is_negative: bool) -> bool
 
 /// Says whether two places are candidates.
 fn is_crowded(changes: &[u8; PLACES]) -> bool
-    ensures { result ≡ nat_le 2 (count_by (λ n. nat_le 4 n) changes.now) }
+    ensures { result ≡ nat_le CROWDED_CANDIDATES
+        (count_by (λ n. nat_le CANDIDATE_CHANGES n) changes.now) }
 {
     changes.iter().filter(|n| **n >= CANDIDATE_CHANGES).count() >= CROWDED_CANDIDATES
 }

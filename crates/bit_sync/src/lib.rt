@@ -20,6 +20,7 @@ mod bit_sum;
 mod bit_sync;
 mod edge_search;
 
+pub use bit_sum::MOST_PUSH;
 pub use bit_sync::{BitNews, BitSync};
 
 #[cfg(test)]

@@ -1,7 +1,7 @@
 //! The words with which a slot begins to search for a satellite.
 
 ghost use Rattle.std.specs.Prelude.{◌≡◌, ◌∷◌, [], length};
-ghost use Rattle.definitions.specs.Scripts.{up_to, around_zero, values_in};
+ghost use Rattle.definitions.specs.Scripts.{plan_ranges, values_in};
 ghost use Rattle.client_commands.specs.Reading.{values_of_plan};
 
 use crate::refusal::Refusal;
@@ -10,9 +10,8 @@ use acquisition::{MOST_DWELL, MOST_SIDE_BINS, MOST_THRESHOLD, Plan};
 
 /// The plan of five words: satellite, centre, bins, dwell and threshold.
 pub(crate) fn read_plan(words: &mut Words<'_>) -> Result<Plan, Refusal>
-    requires { length words.old ≡ 5 }
-    ensures { values_of_plan result ≡ values_in
-        (up_to 1 32 ∷ around_zero 6000 ∷ up_to 0 40 ∷ up_to 1 10 ∷ up_to 1 1000 ∷ []) words.old }
+    requires { length words.old ≡ length plan_ranges }
+    ensures { values_of_plan result ≡ values_in plan_ranges words.old }
 {
     let prn = words.prn()?;
     let centre = words.centre()?;

@@ -1,7 +1,7 @@
 //! The words with which a slot begins to follow a satellite.
 
 ghost use Rattle.std.specs.Prelude.{◌≡◌, ◌∷◌, [], length};
-ghost use Rattle.definitions.specs.Scripts.{up_to, around_zero, values_in};
+ghost use Rattle.definitions.specs.Scripts.{start_ranges, values_in};
 ghost use Rattle.client_commands.specs.Reading.{values_of_start};
 
 use crate::refusal::Refusal;
@@ -23,9 +23,8 @@ pub(crate) struct Start {
 impl Start {
     /// The values of three words: satellite, Doppler shift and half chip.
     pub(crate) fn read(words: &mut Words<'_>) -> Result<Start, Refusal>
-        requires { length words.old ≡ 3 }
-        ensures { values_of_start result ≡ values_in
-            (up_to 1 32 ∷ around_zero 16000 ∷ up_to 0 2045 ∷ []) words.old }
+        requires { length words.old ≡ length start_ranges }
+        ensures { values_of_start result ≡ values_in start_ranges words.old }
     {
         Ok(Start {
             prn: words.prn()?,

@@ -83,7 +83,8 @@ impl<'a> Model for Words<'a> {
 
 impl<'a> Words<'a> {
     ghost use Rattle.std.specs.Prelude.{drop, get_or, ok_or, unsigned_abs, OkIff, IfOk, IfErr};
-    ghost use Rattle.definitions.specs.Scripts.{up_to, around_zero, values_in};
+    ghost use Rattle.definitions.specs.Scripts.{up_to, values_in, satellites, doppler_shifts};
+    ghost use Rattle.definitions.specs.Scripts.{half_chips, centres, dump_counts};
     ghost use Rattle.definitions.specs.Scripts.{signed_number_in as defined_signed_number_in};
     ghost use Rattle.client_commands.specs.Reading.{number_alone, integer_alone};
     ghost use Rattle.client_commands.specs.declared.words.TheConstants.{MOST_WORDS, MOST_DUMPS};
@@ -154,7 +155,7 @@ impl<'a> Words<'a> {
     /// The satellite that the next word names, 1 to 32.
     pub(crate) fn prn(&mut self) -> Result<Prn, Refusal>
         requires { 0 < length self.old }
-        ensures value { number_alone result ≡ values_in (up_to 1 32 ∷ []) self.old }
+        ensures value { number_alone result ≡ values_in (satellites ∷ []) self.old }
         ensures left { self.new ≡ drop 1 self.old }
     {
         let number = u8::try_from(self.number()?).ok();
@@ -164,7 +165,7 @@ impl<'a> Words<'a> {
     /// The Doppler shift that the next word writes, -16,000 to 16,000 Hz.
     pub(crate) fn doppler(&mut self) -> Result<Doppler, Refusal>
         requires { 0 < length self.old }
-        ensures value { integer_alone result ≡ values_in (around_zero 16000 ∷ []) self.old }
+        ensures value { integer_alone result ≡ values_in (doppler_shifts ∷ []) self.old }
         ensures left { self.new ≡ drop 1 self.old }
     {
         let hz = i32::try_from(self.number()?).ok();
@@ -174,7 +175,7 @@ impl<'a> Words<'a> {
     /// The centre of a search that the next word writes, -6,000 to 6,000 Hz.
     pub(crate) fn centre(&mut self) -> Result<i32, Refusal>
         requires { 0 < length self.old }
-        ensures value { integer_alone result ≡ values_in (around_zero 6000 ∷ []) self.old }
+        ensures value { integer_alone result ≡ values_in (centres ∷ []) self.old }
         ensures range { IfOk result (λ hz. unsigned_abs hz ≤ MOST_CENTRE) }
         ensures left { self.new ≡ drop 1 self.old }
     {
@@ -186,7 +187,7 @@ impl<'a> Words<'a> {
     /// The place in the code that the next word writes, 0 to 2,045 half chips.
     pub(crate) fn half_chip(&mut self) -> Result<HalfChip, Refusal>
         requires { 0 < length self.old }
-        ensures value { number_alone result ≡ values_in (up_to 0 2045 ∷ []) self.old }
+        ensures value { number_alone result ≡ values_in (half_chips ∷ []) self.old }
         ensures left { self.new ≡ drop 1 self.old }
     {
         let half_chips = u16::try_from(self.number()?).ok();
@@ -198,7 +199,7 @@ impl<'a> Words<'a> {
     /// The number of dumps that the next word writes, 0 to `MOST_DUMPS`.
     pub(crate) fn dumps(&mut self) -> Result<u32, Refusal>
         requires { 0 < length self.old }
-        ensures value { number_alone result ≡ values_in (up_to 0 MOST_DUMPS ∷ []) self.old }
+        ensures value { number_alone result ≡ values_in (dump_counts ∷ []) self.old }
         ensures left { self.new ≡ drop 1 self.old }
     {
         self.number_between(0, MOST_DUMPS)

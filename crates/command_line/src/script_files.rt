@@ -2,6 +2,7 @@
 
 ghost use Rattle.std.specs.Prelude.{◌≡◌, ◌≤◌, ◌⊎◌, ℕ, List, Option, None, length, map, IfOk, IfErr};
 ghost use Rattle.std.specs.Prelude.{IfSome};
+ghost use Rattle.command_line.specs.declared.script_files.TheConstants.{MOST_SCRIPT_BYTES};
 ghost use Rattle.command_line.specs.Programs.{IsTextOf, AreTextsOf, MayBeRefused, SomeMayBeRefused};
 
 use crate::failure::Failure;
@@ -10,7 +11,7 @@ use std::fs::{File, Files};
 use std::io::{ErrorKind, Read};
 
 /// The most bytes of a script file: 16 MiB.
-const MOST_BYTES: usize = 16 << 20;
+const MOST_SCRIPT_BYTES: usize = 16 << 20;
 
 /// What keeps script files.
 pub trait ScriptFiles {
@@ -53,14 +54,14 @@ impl<F: Files> ScriptFiles for Stored<'_, F> {
 /// The bytes of a script that a reader gives.
 pub fn script_from<R: Read + Drop>(alloc: Global, reader: R) -> Result<Vec<u8>, Failure>
     ensures whole { IfOk result (λ bytes. IsTextOf (R.remaining reader) bytes.items) }
-    ensures short { IfOk result (λ bytes. length bytes.items ≤ 16777216) }
+    ensures short { IfOk result (λ bytes. length bytes.items ≤ MOST_SCRIPT_BYTES) }
     ensures fault { IfErr result (λ failure.
         (failure ≡ Failure.NoMemory) ⊎ (failure ≡ Failure.Script)) }
 {
     let mut bytes = Vec::new(alloc);
     // One byte more than the most shows that there are too many.
-    match reader.take(MOST_BYTES as u64 + 1).read_to_end(&mut bytes) {
-        Ok(_) if bytes.len() <= MOST_BYTES => Ok(bytes),
+    match reader.take(MOST_SCRIPT_BYTES as u64 + 1).read_to_end(&mut bytes) {
+        Ok(_) if bytes.len() <= MOST_SCRIPT_BYTES => Ok(bytes),
         Err(error) if error.kind() == ErrorKind::OutOfMemory => Err(Failure::NoMemory),
         _ => Err(Failure::Script),
     }

@@ -10,7 +10,7 @@ use std::env::{Env, FillError};
 use std::str::from_utf8;
 
 /// The most bytes of a word: Linux takes none of 128 KiB.
-const MOST_BYTES: usize = 128 << 10;
+const MOST_WORD_BYTES: usize = 128 << 10;
 
 /// What gives the words of a command line.
 pub trait CommandLine {
@@ -43,7 +43,7 @@ impl<E: Env> CommandLine for SystemCommandLine<'_, E> {
     // The room for a word is on the stack, more of it than the run takes.
     #[inline(never)]
     fn words(&self, alloc: Global) -> Result<Vec<String>, Failure> {
-        let mut buffer = [0; MOST_BYTES];
+        let mut buffer = [0; MOST_WORD_BYTES];
         let mut words = Vec::new(alloc);
         for i in 0..usize::MAX {
             match self.env.arg(i, &mut buffer) {

@@ -36,6 +36,40 @@ up_to low high = record { low = pos low; high = pos high }
 abbrev pub around_zero : ℕ → Range
 around_zero size = record { low = neg_ℤ (pos size); high = pos size }
 
+-- the satellite, the Doppler shift in Hz and the half chip with which a slot begins to follow
+abbrev pub satellites : Range
+satellites = up_to 1 32
+
+abbrev pub doppler_shifts : Range
+doppler_shifts = around_zero 16000
+
+abbrev pub half_chips : Range
+half_chips = up_to 0 2045
+
+abbrev pub start_ranges : List Range
+start_ranges = satellites ∷ doppler_shifts ∷ half_chips ∷ []
+
+-- a plan: the satellite, the centre in Hz, the bins to each side, the periods of the dwell and the
+-- threshold in tenths
+abbrev pub centres : Range
+centres = around_zero 6000
+
+abbrev pub side_bins : Range
+side_bins = up_to 0 40
+
+abbrev pub dwells : Range
+dwells = up_to 1 10
+
+abbrev pub thresholds : Range
+thresholds = up_to 1 1000
+
+abbrev pub plan_ranges : List Range
+plan_ranges = satellites ∷ centres ∷ side_bins ∷ dwells ∷ thresholds ∷ []
+
+-- how many dumps are to be shown
+abbrev pub dump_counts : Range
+dump_counts = up_to 0 1000000
+
 -- a verb: its name, the ranges of its words, and what they mean
 pub record Verb : Type 0 where
   pub name : List ℕ
@@ -62,31 +96,28 @@ plan_of values = record {
 abbrev pub hold_verb : Verb
 hold_verb = record {
   name = codes "hold";
-  ranges =
-      up_to 1 32 ∷ around_zero 16000 ∷ up_to 0 2045 ∷ [];
+  ranges = start_ranges;
   meaning = λ v. begin (hold (number v 0) (integer v 1) (number v 2));
 }
 
 abbrev pub track_verb : Verb
 track_verb = record {
   name = codes "track";
-  ranges =
-      up_to 1 32 ∷ around_zero 16000 ∷ up_to 0 2045 ∷ [];
+  ranges = start_ranges;
   meaning = λ v. begin (track (number v 0) (integer v 1) (number v 2));
 }
 
 abbrev pub acquire_verb : Verb
 acquire_verb = record {
   name = codes "acquire";
-  ranges =
-      up_to 1 32 ∷ around_zero 6000 ∷ up_to 0 40 ∷ up_to 1 10 ∷ up_to 1 1000 ∷ [];
+  ranges = plan_ranges;
   meaning = λ v. begin (acquire (plan_of v));
 }
 
 abbrev pub counts_verb : Verb
 counts_verb = record {
   name = codes "counts";
-  ranges = up_to 0 1000000 ∷ [];
+  ranges = dump_counts ∷ [];
   meaning =
       λ v. counts (number v 0);
 }

@@ -1,10 +1,11 @@
 //! The message that is read from the prompt sums.
 
-ghost use Rattle.std.specs.Prelude.{◌≡◌, ◌^◌, ◌≤◌, ◌<◌, ◌+◌, unsigned_abs, ℤ};
+ghost use Rattle.std.specs.Prelude.{◌≡◌, ◌≤◌, ◌<◌, ◌+◌, unsigned_abs, ℤ};
 ghost use Rattle.std.specs.Prelude.{Bool, List, [], ◌∷◌, ◌++◌};
 ghost use Rattle.definitions.specs.BitEdge.{has_edge};
 ghost use Rattle.definitions.specs.Frames.{found_by};
 ghost use Rattle.definitions.specs.Events.{bit_events, push_events};
+ghost use Rattle.bit_sync.specs.declared.bit_sum.TheConstants.{MOST_PUSH};
 ghost use Rattle.nav_message.specs.declared.message.TheConstants.{MOST_BITS};
 ghost use Rattle.nav_message.specs.News.{events_in};
 
@@ -41,12 +42,13 @@ impl Message {
         }
     }
 
-    /// Takes the prompt sum in phase of the next dump, at most 2^18 in size. Gives what it reports:
-    /// nothing, the edge of the bits, or a subframe with the gap before it and what its page makes
-    /// reported. A bit is 20 dumps (IS-GPS-200, section 3.2.2), and a subframe 300 bits (section
-    /// 20.3.2). A message takes up to [`MOST_BITS`] bits. A push brings one at most.
+    /// Takes the prompt sum in phase of the next dump, at most `MOST_PUSH` of `bit_sync` in size.
+    /// Gives what it reports: nothing, the edge of the bits, or a subframe with the gap before it
+    /// and what its page makes reported. A bit is 20 dumps (IS-GPS-200, section 3.2.2), and a
+    /// subframe 300 bits (section 20.3.2). A message takes up to [`MOST_BITS`] bits. A push brings
+    /// one at most.
     pub fn push(&mut self, ip: i32) -> MessageNews
-        requires small { unsigned_abs ip ≤ 2 ^ 18 }
+        requires small { unsigned_abs ip ≤ MOST_PUSH }
         requires room { bit_count self.old < MOST_BITS }
         ensures counted { bit_count self.new ≤ bit_count self.old + 1 }
         ensures stands { (pushes : List ℤ) → StandsFor pushes self.old

@@ -5,6 +5,7 @@ ghost use Rattle.std.specs.Prelude.{unsigned_abs, ◌+◌};
 ghost use Rattle.definitions.specs.Correlation.{Counts as DefinedCounts};
 ghost use Rattle.lane_correlator.specs.Counting.{counts_in};
 ghost use Rattle.tracking_loops.specs.declared.limits.TheConstants.{MOST_SUM};
+ghost use Rattle.tracking_loops.specs.declared.window.TheConstants.{DUMPS_OF_WINDOW};
 
 use lane_correlator::Counts;
 
@@ -14,13 +15,13 @@ const DUMPS_OF_WINDOW: u8 = 20;
 /// The window that isn't whole yet.
 #[derive(Debug, Drop)]
 pub struct Window {
-    /// The number of dumps of the window, fewer than 20.
+    /// The number of dumps of the window, fewer than `DUMPS_OF_WINDOW`.
     count: u8,
     /// The sum of the sizes of the window's prompt sums in phase.
     in_phase: u32,
     /// The sum of the sizes of the window's prompt sums in quadrature.
     quadrature: u32,
-    ghost count_in_range: { count < 20 },
+    ghost count_in_range: { count < DUMPS_OF_WINDOW },
     ghost in_phase_in_range: { in_phase ≤ count * MOST_SUM },
     ghost quadrature_in_range: { quadrature ≤ count * MOST_SUM },
 }
