@@ -15,7 +15,7 @@ use channel_slots::{Bank, MOST_CLIENTS, OpenFault, RUN_EVENTS, SlotEvent};
 use oscillators::Settings;
 use printed_lines::Line;
 use sample_planes::{Format, PackedSamples};
-use std::alloc::Global;
+use std::alloc::{AllocError, Global};
 
 /// Room for the script of each client.
 pub const QUEUES: usize = MOST_CLIENTS;
@@ -25,8 +25,8 @@ pub const QUEUES: usize = MOST_CLIENTS;
 pub struct Session<'a> {
     bank: Bank,
     queues: ArrayVec<Queue<'a>, QUEUES>,
-    /// The slots' events over the last run of samples.
-    events: ArrayVec<SlotEvent, RUN_EVENTS>,
+    /// The slots' events over the last run of samples. The list is large, so it is on the heap.
+    events: Box<ArrayVec<SlotEvent, RUN_EVENTS>>,
     ghost clients: { length queues.items ≡ length (shares_of bank) },
     ghost in_shares: { are_in_shares (shares_of bank) queues.items ≡ true },
 }
@@ -65,10 +65,13 @@ impl<'a> Session<'a> {
             (clients_with shares.now (map (λ script. script.now) scripts.now)) [])) }
     {
         let bank = Bank::open(alloc, settings, shares)?;
+        let Ok(events) = boxed_events(alloc) else {
+            return Err(OpenFault::NoMemory);
+        };
         Ok(Session {
             bank,
             queues: queues_of(scripts, shares),
-            events: ArrayVec::new(),
+            events,
         })
     }
 
@@ -104,9 +107,9 @@ impl<'a> Session<'a> {
 
     /// The slots' events over the last run of samples.
     pub fn events(&self) -> &[SlotEvent]
-        ensures { result.now ≡ self.now.events.items }
+        ensures { result.now ≡ self.now.events.value.items }
     {
-        &self.events
+        self.events.as_slice()
     }
 
     /// Takes a run of samples, none of them past the next command's time, and keeps the slots'
@@ -126,11 +129,12 @@ impl<'a> Session<'a> {
         ensures told { (settings : DefinedSettings) (clients : List Client) (xs : List Sample)
             → StandsFor settings clients self.old xs []
             → body_lines settings (xs ++ run.now.samples) clients
-            ≡ body_lines settings xs clients ++ map line_of self.new.events.items
+            ≡ body_lines settings xs clients ++ map line_of self.new.events.value.items
             ++ answer_lines settings clients (xs ++ run.now.samples) }
     {
-        self.events.clear();
-        self.bank.feed_into(run, &mut self.events);
+        let events = self.events.as_mut();
+        events.clear();
+        self.bank.feed_into(run, events);
     }
 
     /// The line of the next answer at this time, with its end.
@@ -150,4 +154,12 @@ impl<'a> Session<'a> {
         let due = take_due(&mut self.queues, now)?;
         Some(due.answer(&mut self.bank))
     }
+}
+
+/// A list of no events, on the heap. It stands apart, so that the list is on the stack for no longer
+/// than it takes to move it.
+#[cold]
+#[inline(never)]
+fn boxed_events(alloc: Global) -> Result<Box<ArrayVec<SlotEvent, RUN_EVENTS>>, AllocError> {
+    Ok(Box::new(alloc, ArrayVec::new())?)
 }
