@@ -4,8 +4,6 @@ ghost use Rattle.std.specs.Prelude.{◌≡◌, ◌<◌, ◌+◌, ℕ, ℤ, List,
 ghost use Rattle.std.specs.Prelude.{nat_le, count_by, false};
 ghost use Rattle.bit_sync.specs.Changes.{sign_turns};
 ghost use Rattle.bit_sync.specs.declared.edge_search.TheConstants.{PLACES, EDGE_CHANGES};
-ghost use Rattle.bit_sync.specs.declared.edge_search.TheConstants.{CANDIDATE_CHANGES};
-ghost use Rattle.bit_sync.specs.declared.edge_search.TheConstants.{CROWDED_CANDIDATES};
 
 /// Places in a bit: the 20 code periods of one (IS-GPS-200, section 3.2.2).
 const PLACES: usize = 20;
@@ -87,8 +85,7 @@ fn turns(last: Option<bool>, is_negative: bool) -> bool
 
 /// Says whether two places are candidates.
 fn is_crowded(changes: &[u8; PLACES]) -> bool
-    ensures { result ≡ nat_le CROWDED_CANDIDATES
-        (count_by (λ n. nat_le CANDIDATE_CHANGES n) changes.now) }
+    ensures { result ≡ nat_le 2 (count_by (λ n. nat_le 4 n) changes.now) }
 {
     changes.iter().filter(|n| **n >= CANDIDATE_CHANGES).count() >= CROWDED_CANDIDATES
 }

@@ -7,7 +7,7 @@ ghost use Rattle.definitions.specs.Lock.{news_of};
 ghost use Rattle.lane_correlator.specs.Counting.{counts_in};
 ghost use Rattle.tracking_loops.specs.NewsIn.{news_in, news_by};
 ghost use Rattle.tracking_loops.specs.declared.limits.TheConstants.{MOST_SUM};
-ghost use Rattle.tracking_loops.specs.declared.lock.TheConstants.{UNLOCK_WINDOWS, LOST_WINDOWS};
+ghost use Rattle.tracking_loops.specs.declared.lock.TheConstants.{LOST_WINDOWS};
 
 use crate::news::News;
 use crate::window::Window;
@@ -61,12 +61,12 @@ impl Lock {
 
     /// Takes a whole window.
     fn take_window(&mut self, is_good: bool) -> News
-        ensures run { self.new.bad_windows ≡ (if is_good then 0 else min LOST_WINDOWS
+        ensures run { self.new.bad_windows ≡ (if is_good then 0 else min 50
             (self.old.bad_windows + 1)) }
         ensures locked { self.new.is_locked ≡ (is_good ||
-            (self.old.is_locked && nat_lt self.new.bad_windows UNLOCK_WINDOWS)) }
+            (self.old.is_locked && nat_lt self.new.bad_windows 10)) }
         ensures window { self.new.window ≡ self.old.window }
-        ensures news { news_in result ≡ news_by (self.new.bad_windows == LOST_WINDOWS) self.old.is_locked
+        ensures news { news_in result ≡ news_by (self.new.bad_windows == 50) self.old.is_locked
             self.new.is_locked }
     {
         let was_locked = self.is_locked;
