@@ -64,8 +64,10 @@ impl<'a> Session<'a> {
             (answer_lines settings
             (clients_with shares.now (map (λ script. script.now) scripts.now)) [])) }
     {
+        // They come first, while there is memory for the stack that they pass over.
+        let events = boxed_events(alloc);
         let bank = Bank::open(alloc, settings, shares)?;
-        let Ok(events) = boxed_events(alloc) else {
+        let Ok(events) = events else {
             return Err(OpenFault::NoMemory);
         };
         Ok(Session {
