@@ -60,7 +60,10 @@ pub fn script_from<R: Read + Drop>(alloc: Global, reader: R) -> Result<Vec<u8>, 
 {
     let mut bytes = Vec::new(alloc);
     // One byte more than the most shows that there are too many.
-    match reader.take(MOST_SCRIPT_BYTES as u64 + 1).read_to_end(&mut bytes) {
+    match reader
+        .take(MOST_SCRIPT_BYTES as u64 + 1)
+        .read_to_end(&mut bytes)
+    {
         Ok(_) if bytes.len() <= MOST_SCRIPT_BYTES => Ok(bytes),
         Err(error) if error.kind() == ErrorKind::OutOfMemory => Err(Failure::NoMemory),
         _ => Err(Failure::Script),
