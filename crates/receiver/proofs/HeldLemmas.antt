@@ -72,21 +72,6 @@ moved a b c bytes sent n k p =
     Keeps-trans a _ _ k
     (append_known-moved b c (take n (drop sent bytes)) rest (drop sent bytes) p cut)
 
--- a line is held back after the others
-pub held-more : (a b : Option (List ℕ)) (bytes line : List ℕ) (sent : ℕ) → sent ≤ length bytes
-    → Keeps a (append_known b (drop sent bytes))
-    → Appends a (append_known b (drop sent (bytes ++ line))) line
-held-more a b bytes line sent within k =
-    append_known-grown a b (drop sent bytes) (drop sent (bytes ++ line)) line k
-    (drop-append-le sent bytes line within)
-
--- all that was held back is written
-pub nothing-left : (a b : Option (List ℕ)) (bytes none : List ℕ) (sent : ℕ) → length bytes ≤ sent
-    → none ≡ [] → Keeps a (append_known b (drop sent bytes))
-    → Keeps a (append_known b (drop 0 none))
-nothing-left a b bytes none sent h e k =
-    subst (λ r. Keeps a (append_known b r)) (drop_of_length-le bytes h ∙ sym e) k
-
 -- a slice from a place on, of the same list
 pub slice-from : (xs ys : List ℕ) (k : ℕ) → xs ≡ ys → take (length xs - k) (drop k xs) ≡ drop k ys
 slice-from xs ys k e =
