@@ -3,12 +3,11 @@ use Rattle.std.proofs.Common.{◌≡◌, ◌≤◌, ◌+◌, ◌-◌, ℕ, List,
 use Rattle.std.proofs.Common.{ap, ◌∙◌, append_assoc, append-nil, subst, take-append-drop, arith}
 use Rattle.std.proofs.Common.{None, Some}
 use Rattle.std.specs.Prelude.{Option}
-use Rattle.std.proofs.lemmas.List.{append_cancel_left, drop-append-le, drop-drop, length-drop}
+use Rattle.std.proofs.lemmas.List.{append_cancel_left, drop-drop, length-drop}
 use Rattle.std.proofs.lemmas.List.{take_all}
-use Rattle.std.proofs.Math.ListN.{drop_of_length-le}
 use Rattle.std.specs.Io.KnownBytes.{Appends, Keeps, append_known}
 use Rattle.std.proofs.KnownBytes.{Appends-nil, Appends-trans, Appends-kept, Keeps-trans}
-use Rattle.std.proofs.KnownBytes.{append_known-moved, append_known-grown}
+use Rattle.std.proofs.KnownBytes.{append_known-moved}
 use Rattle.receiver.specs.Texts.{AppendsPart, Grows}
 
 -- ---- what a writer holds grows

@@ -1,7 +1,6 @@
-use Rattle.std.proofs.Common.{◌≡◌, ◌-◌, ◌<◌, ◌∙◌, length, drop, take, refl, subst, arith}
+use Rattle.std.proofs.Common.{◌∙◌, drop, take, subst}
 use Rattle.std.specs.Io.KnownBytes.{Appends}
-use Rattle.std.proofs.KnownBytes.{Keeps-refl, Keeps-trans, append_known-kept}
-use Rattle.std.proofs.lemmas.List.{length-drop}
+use Rattle.std.proofs.KnownBytes.{Keeps-refl}
 use Rattle.receiver.specs.Outputs.{promised}
 use Rattle.receiver.proofs.HeldLemmas.{grows-kept, grows-on, moved, slice-from}
 use Rattle.receiver.proofs.OutputLemmas.{nothing-written, tells-err}
