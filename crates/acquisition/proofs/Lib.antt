@@ -6,6 +6,7 @@ pub mod TableLemmas
 pub mod FoldLemmas
 pub mod WipedLemmas
 pub mod PowerLemmas
+pub mod SoFarLemmas
 pub mod TallyLemmas
 pub mod SearchLemmas
 pub mod StandingLemmas

@@ -6,6 +6,7 @@ pub mod Cells
 pub mod Searches
 pub mod Folds
 pub mod FoldStates
+pub mod Periods
 pub mod Powers
 pub mod Ones
 pub mod Rings

@@ -1,14 +1,19 @@
--- What the powers of cells of a bin stand for.
-use Rattle.std.specs.Prelude.{◌≡◌, ◌<◌, ◌+◌, ℕ, get_or}
+-- What the powers of a bin's cells stand for.
+use Rattle.std.specs.Prelude.{◌≡◌, ◌<◌, ◌*◌, ◌/◌, ◌%◌, ℕ, get_or}
 use Rattle.definitions.specs.Samples.{Sample}
 use Rattle.definitions.specs.Correlation.{replica_of}
+use Rattle.acquisition.specs.FoldStates.{IsFold}
+use Rattle.acquisition.specs.Periods.{periods_of}
 use Rattle.acquisition.specs.Replicas.{phases, power_of_periods}
-use Rattle.acquisition.specs.declared.bin_powers.BinCells.{BinCells}
 use Rattle.acquisition.specs.declared.bin_powers.BinPowers.{BinPowers}
+use Rattle.acquisition.specs.declared.bin_steps.Steps.{Steps}
 
--- those over so many periods of so many samples, whose codes begin at the cells' half chips
-abbrev pub ArePowers : (ℕ → Sample) → ℕ → ℕ → ℕ → BinCells → BinPowers → Type 0
-ArePowers x prn length_of_period periods cells bin = (i : ℕ) → i < cells.count
-    → get_or bin.powers i 0 ≡ power_of_periods x
-    (replica_of prn (phases (cells.first + i) cells.code_step cells.carrier_step))
-    length_of_period periods
+-- each is that of its cell over periods of so many samples, and the sums are those of the period
+-- that is worked on
+pub record AreSoFar (x : ℕ → Sample) (prn length_of_period : ℕ) (steps : Steps) (bin : BinPowers)
+    : Type 0 where
+  pub powers : (cell : ℕ) → cell < 2046 → get_or bin.powers cell 0 ≡ power_of_periods x
+      (replica_of prn (phases cell steps.code steps.carrier)) length_of_period
+      (periods_of cell bin.added)
+  pub sums : 0 < bin.added % 2046 → IsFold x steps.code steps.carrier
+      (bin.added / 2046 * length_of_period) length_of_period bin.sums.fold

@@ -20,7 +20,7 @@ pub(crate) const RAISED: u32 = 360_000;
 
 /// For each half chip the sum over the chip that begins there, raised by `RAISED`: the last half
 /// chip first, since a code that begins a half chip later has its chips a half chip earlier.
-#[derive(Drop)]
+#[derive(Debug, Drop)]
 pub(crate) struct ChipRing {
     chips: [u32; RING],
     ghost long: { length chips ≡ RING },

@@ -19,7 +19,7 @@ const CYCLE: u64 = 1023 << 32;
 
 /// A period's samples, each times the conjugate of the carrier, added up by the half chips at which
 /// they lie for a code that begins at phase 0.
-#[derive(Drop)]
+#[derive(Debug, Drop)]
 pub(crate) struct Fold {
     pub(crate) in_phase: HalfChipTable,
     pub(crate) quadrature: HalfChipTable,

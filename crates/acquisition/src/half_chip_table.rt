@@ -14,7 +14,7 @@ pub(crate) const PLACES: usize = 2046;
 pub(crate) const LAST: usize = PLACES - 1;
 
 /// Values of at most 9 in size, added up by the half chips at which they lie.
-#[derive(Drop)]
+#[derive(Debug, Drop)]
 pub(crate) struct HalfChipTable {
     sums: [i32; PLACES],
     /// How many values were added.

@@ -29,7 +29,6 @@
 #![tactic(auto)]
 
 mod bin_powers;
-mod bin_room;
 mod bin_steps;
 mod cell;
 mod chip_ring;

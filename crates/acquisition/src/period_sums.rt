@@ -23,7 +23,7 @@ use std::simd::prelude::*;
 
 /// The sums over a period's samples without their carrier: by half chip, over a chip wherever it
 /// begins, and over all.
-#[derive(Drop)]
+#[derive(Debug, Drop)]
 pub(crate) struct PeriodSums {
     fold: Fold,
     in_phase: ChipRing,

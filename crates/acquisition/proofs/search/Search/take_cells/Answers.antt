@@ -1,49 +1,76 @@
-use Rattle.std.proofs.Common.{◌≡◌, ◌≤◌, ◌<◌, ◌+◌, ◌*◌, ◌/◌, ◌∙◌, ℕ, ap, arith}
-use Rattle.definitions.specs.Acquisition.{Plan as DefinedPlan, power_of}
-use Rattle.definitions.specs.Samples.{sample_at}
-use Rattle.acquisition.proofs.SearchLemmas.{power-of_cell, bin_of_next, half_of_next}
+use Rattle.std.proofs.Common.{◌≡◌, ◌≤◌, ◌<◌, ◌+◌, ◌*◌, ◌/◌, ◌%◌, ◌∙◌, ℕ, List, ap, refl, arith}
+use Rattle.definitions.specs.Acquisition.{Plan, power_of, dwell_end}
+use Rattle.definitions.specs.Oscillators.{Settings, samples_per_ms}
+use Rattle.definitions.specs.Samples.{Sample, sample_at}
+use Rattle.sample_planes.specs.Sources.{AreSamplesOf}
+use Rattle.acquisition.specs.Powers.{AreSoFar}
+use Rattle.acquisition.specs.Searches.{StandsFor, dwell_length}
+use Rattle.acquisition.specs.Steps.{steps_in}
+use Rattle.acquisition.specs.Tallies.{Tallies}
+use Rattle.acquisition.proofs.SearchLemmas.{power-of_whole}
+use Rattle.acquisition.proofs.search.Search.take_cells.Given.{Over}
 use Rattle.acquisition.proofs.search.Search.take_cells.Goals as goal
+use Rattle.acquisition.proofs.search.Search.take_cells.Goals.{then-first-count-eq-HALF_CHIPS}
+use Rattle.acquisition.proofs.search.Search.take_cells.Goals.{else-first-count-eq-HALF_CHIPS}
 
-pub loop-i-preserved : goal.loop-i-preserved
-loop-i-preserved g c =
-    let here = c.loop-i.invariant in
-    let search = c.args.self.now in
-    let cells = c.next_cells-cells.result in
-    let is = c.next_cells-cells.ensures in
-    let done : ℕ = search.tally.done in
-    let i : ℕ = c.loop-i.i in
-    let inside : i < cells.count = c.loop-i-test.true in
-    let bin : (done + i) / 2046 ≡ done / 2046 =
-    bin_of_next done cells.first cells.count i is.first cells.within inside in
-    record {
-      plan = here.plan;
-      dwell = here.dwell;
-      steps = here.steps;
-      done = omega (arith, here.done, c.take.ensures.done);
-      stands = λ settings plan start xs holds s.
-          let before = here.stands settings plan start xs holds s in
-          let few : done / 2046 ≤ 2 * plan.bins = omega
-          (arith, rw s.plan_is at c.requires.end, c.requires.some) in
-          let power : power_of settings plan xs start (done + i) ≡ c.power.result =
-          power-of_cell settings plan xs start (done + i) c.args.ones.now.prn (cells.first + i)
-          cells.code_step cells.carrier_step search.dwell.per_period search.dwell.periods
-          c.power.result
-          (c.requires.ones ∙ ap (λ (p : DefinedPlan). p.prn) s.plan_is)
-          (half_of_next done cells.first cells.count i is.first cells.within inside)
-          (rw bin (is.code ∙ s.steps.code (done / 2046) few))
-          (rw bin (is.carrier ∙ s.steps.carrier (done / 2046) few))
-          s.per_period
-          s.periods
-          (c.power.ensures.value ∙ c.powers.ensures (λ j. sample_at xs (start + j)) (λ j h.
-          let within = rw (s.periods, s.per_period) at h in
-          rw s.start_is (holds (start + j) (omega arith) (omega (arith, within)))) i inside) in
-          record {
-            plan_is = before.plan_is;
-            start_is = before.start_is;
-            periods = before.periods;
-            per_period = before.per_period;
-            steps = before.steps;
-            tally = c.take.ensures.tallies (power_of settings plan xs start) (rw here.done power)
-                before.tally;
-          };
-    }
+module _ (g : Over) (c : goal.After-self-1 g) (settings : Settings) (plan : Plan) (start : ℕ)
+    (xs : List Sample) (holds : AreSamplesOf xs start (dwell_end settings plan start)
+    (g.S.SampleSource.held c.args.source.now))
+    (s : StandsFor settings plan start xs c.args.self.now)
+  where
+    abbrev bin : ℕ
+    bin = c.args.self.now.done / 2046
+
+    few : bin ≤ 2 * plan.bins
+    few = omega (arith, rw s.plan_is at c.requires.end, c.requires.some)
+
+    of_plan : c.args.ones.now.prn ≡ plan.prn
+    of_plan = c.requires.ones ∙ ap (λ (p : Plan). p.prn) s.plan_is
+
+    so_far : (x : ℕ → Sample)
+        → ((j : ℕ) → j < dwell_length settings plan → sample_at xs (start + j) ≡ x j)
+        → AreSoFar x plan.prn (samples_per_ms settings) (steps_in c.args.self.now.steps bin)
+        c.advance.new.self
+    so_far x same =
+        rw (of_plan, s.per_period, c.bin-steps.ensures) at (c.advance.ensures.powers x
+        (λ j h. let within = rw (s.periods, s.per_period) at h in
+        rw s.start_is (holds (start + j) (omega arith) (omega (arith, within))) ∙ same j within))
+        (s.powers x same)
+
+    tally : Tallies (power_of settings plan xs start)
+        c.if-first-count-eq-HALF_CHIPS.self.1.1.1.1.0
+    tally = elim c.if-first-count-eq-HALF_CHIPS.branch [
+      | then-first-count-eq-HALF_CHIPS w ↦
+          let all : c.advance.new.self.added ≡ 2046 * plan.dwell =
+          c.advance.ensures.added ∙ rw (w.if-first-count-eq-HALF_CHIPS.true, s.periods) refl in
+          rw w.self-is (w.take_bin.ensures.tallies (power_of settings plan xs start)
+          (λ i h. rw c.args.self.now.whole_bins (power-of_whole settings plan xs start bin i
+          c.args.self.now.steps c.advance.new.self few h all s.steps
+          (so_far (λ j. sample_at xs (start + j)) (λ j within. refl)))) s.tally)
+      | else-first-count-eq-HALF_CHIPS w ↦ rw w.self-is s.tally
+    ]
+
+    powers : (x : ℕ → Sample)
+        → ((j : ℕ) → j < dwell_length settings plan → sample_at xs (start + j) ≡ x j)
+        → AreSoFar x plan.prn (samples_per_ms settings) (steps_in c.args.self.now.steps
+        ((c.args.self.now.done + c.min-count.result) / 2046))
+        c.if-first-count-eq-HALF_CHIPS.self.1.1.1.1.1.1.0
+    powers x same = elim c.if-first-count-eq-HALF_CHIPS.branch [
+      | then-first-count-eq-HALF_CHIPS w ↦
+          rw w.self-is (w.clear.ensures.powers x plan.prn (samples_per_ms settings) _)
+      | else-first-count-eq-HALF_CHIPS w ↦
+          let here : (c.args.self.now.done + c.min-count.result) / 2046 ≡ bin = omega
+          (arith, c.min-count.ensures, w.if-first-count-eq-HALF_CHIPS.false) in
+          rw (w.self-is, here) (so_far x same)
+    ]
+
+pub returns-clause-stands : goal.returns-clause-stands
+returns-clause-stands g c settings plan start xs holds s = record {
+  plan_is = s.plan_is;
+  start_is = s.start_is;
+  periods = s.periods;
+  per_period = s.per_period;
+  steps = s.steps;
+  tally = tally g c settings plan start xs holds s;
+  powers = powers g c settings plan start xs holds s;
+}
