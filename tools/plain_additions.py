@@ -1,5 +1,5 @@
 """What Rust wants beside a source that was made plain: premises that are checked, the usual traits,
-and leave for names that only the prover uses."""
+leave for names that only the prover uses, and what rustc has to be told about sixteen lanes."""
 import re
 import textwrap
 
@@ -12,6 +12,14 @@ FUNCTION = re.compile(
 
 # A loop of a function.
 LOOP = re.compile(r'^ *(?:for|while|loop)\b', re.M)
+
+# A loop of four turns that don't ask which they are.
+FOUR = re.compile(r'^( *)for _ in 0\.\.4\w* (?=\{$)', re.M)
+
+# The type of sixteen lanes.
+LANES = re.compile(r'\b[iu]\d+x16\b')
+
+ALWAYS = '#[inline(always)]'
 
 # A law: a public function with clauses that does nothing.
 LAW = re.compile(r'^(pub fn [^{;/]*\n(?: *// .*\n)+\{\})$', re.M)
@@ -31,10 +39,16 @@ def contract(clauses, indent):
     return ''.join(f'{indent}/// {row}'.rstrip() + '\n' for row in rows)
 
 
+def is_inlined(text, found):
+    """Whether a source says of a function in it that it is always inlined."""
+    return re.search(r'inline\(always\)\]\n(?: *///.*\n)*\Z', text[:found.start()]) is not None
+
+
 def checked_text(text, constants):
     """A source whose functions say what they require, and see to the simple ones by themselves:
-    those with a loop in every build, since rustc can then leave out checks in the loop, and the
-    others in a debug build. It may name constants, whose types are given."""
+    those with a loop and those that take or give lanes in every build, since rustc can then leave
+    out more checks after these, and the others in a debug build. It may name constants, whose types
+    are given."""
     code = code_of(text)
 
     def checked(found):
@@ -43,10 +57,34 @@ def checked_text(text, constants):
         types = types_in(head, code, constants)
         holds = filter(None, (condition(premise, types) for premise in premises(clauses)))
         body = code_of(text[found.end():block_end(text, found.end() - 1)])
-        check = 'assert' if LOOP.search(body) else 'debug_assert'
+        check = 'assert' if LOOP.search(body) or LANES.search(head) else 'debug_assert'
         return docs + found[0] + ''.join(f'\n    {indent}{check}!({hold});' for hold in holds)
 
     return LAW.sub(r'#[doc(hidden)]\n\1', FUNCTION.sub(checked, text))
+
+
+def laned_text(text):
+    """A source of a crate that works on lanes. An operation on sixteen lanes counts as sixteen to
+    rustc until it makes vectors of them, which it does last. So it leaves as calls and as loops
+    what is a few instructions in the end. Here it is told to inline the functions that take or give
+    lanes, those with a loop of four turns, and those that only call such a one. The turns of such a
+    loop are written out."""
+    names = {'no function'}
+    for found in reversed([*FOUR.finditer(text)]):
+        end = block_end(text, found.end())
+        if not re.search(r'\b(?:break|continue)\b', code_of(text[found.end():end])):
+            turn = text[found.end():end]
+            names.add(re.findall(r'\bfn (\w+)', text[:found.start()])[-1])
+            text = f'{text[:found.start()]}{found[1]}lanes::four_times!({turn});{text[end:]}'
+    call = re.compile(rf'\{{\s*self\.(?:{"|".join(names)})\([\w, ]*\)\s*\}}')
+
+    def inlined(found):
+        head, _, indent = found.groups()
+        body = text[found.end() - 1:block_end(text, found.end() - 1)]
+        is_short = LANES.search(head) or 'four_times!' in body or call.fullmatch(body)
+        return f'{indent}{ALWAYS}\n' * bool(is_short and not is_inlined(text, found)) + found[0]
+
+    return FUNCTION.sub(inlined, text)
 
 
 def allow(found, is_unused, lint='dead_code'):

@@ -10,6 +10,20 @@ mod tests;
 use core::array::from_fn;
 use core::ops::{Add, BitAnd, Shr};
 
+/// Does a block four times. rustc leaves such a loop as it is where the block works on lanes: until it
+/// makes vectors of them, the block looks too long to be written out.
+#[macro_export]
+macro_rules! four_times {
+    ($turn:block) => {
+        $turn
+        $turn
+        $turn
+        // What this turn leaves for another one isn't read.
+        #[allow(unused_assignments)]
+        $turn
+    };
+}
+
 /// Sixteen lanes of a number.
 #[derive(Clone, Copy, Debug)]
 pub struct Lanes<T>([T; 16]);

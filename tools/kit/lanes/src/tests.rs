@@ -69,3 +69,12 @@ fn words() {
         );
     });
 }
+
+#[test]
+fn four_turns() {
+    let mut product = 1;
+    crate::four_times!({
+        product *= 3;
+    });
+    assert_eq!(product, 81);
+}
