@@ -10,8 +10,8 @@ mod tests;
 use core::array::from_fn;
 use core::ops::{Add, BitAnd, Shr};
 
-/// Does a block four times. rustc leaves such a loop as it is where the block works on lanes: until it
-/// makes vectors of them, the block looks too long to be written out.
+/// Does a block four times. rustc leaves such a loop as it is where the block works on lanes: until
+/// it makes vectors of them, the block looks too long to be written out.
 #[macro_export]
 macro_rules! four_times {
     ($turn:block) => {
