@@ -15,7 +15,7 @@ ghost use Rattle.bit_planes.specs.declared.plane.TheConstants.{PLACES, WORDS};
 use crate::half_chip::HalfChip;
 use crate::strides::{Strides, second_halves, whole_chips};
 use bit_planes::{Plane, second_bits, top_bits, with_sixteen};
-use ca_codes::{CodeBook, Prn};
+use ca_codes::{CodeBook, Prn, look_up};
 use std::marker::Model;
 
 /// The code's cycle of 1,023 chips, in 2^-32 chip.
@@ -142,13 +142,14 @@ impl CodeOsc {
             ≡ record self.old { phase = code_phase_after self.old.phase self.old.step 64 } }
     {
         let turn = 16 * self.step as u64;
+        let table = book.table(prn);
         let mut early = 0;
         let mut late = 0;
         let mut second_half = 0;
         let mut ahead = in_cycle(self.phase + HALF_CHIP);
         for group in 0..4u32 {
             let halves = self.strides.half_chips((ahead % CHIP) as u32);
-            let chips = book.look_up(prn, (ahead >> 32) as usize, whole_chips(halves));
+            let chips = look_up(table, (ahead >> 32) as usize, whole_chips(halves));
             early = with_sixteen(early, top_bits(chips));
             // The late chip is the one before the early one.
             late = with_sixteen(late, second_bits(chips));

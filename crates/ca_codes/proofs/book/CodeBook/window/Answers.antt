@@ -1,4 +1,4 @@
-use Rattle.std.proofs.Common.{◌≡◌, ◌+◌, ◌-◌, ◌*◌, ◌%◌, ◌<◌, ◌≤◌, ℕ, get_or, ap, sym, ◌∙◌, arith}
+use Rattle.std.proofs.Common.{◌≡◌, ◌+◌, ◌-◌, ◌*◌, ℕ, ◌∙◌, arith}
 use Rattle.definitions.specs.Codes.{chip}
 use Rattle.ca_codes.proofs.BookLemmas.{downward_lane, windowed}
 use Rattle.ca_codes.proofs.book.CodeBook.window.Goals as goal
@@ -12,7 +12,7 @@ loop-group-preserved c =
       word = rw next at (c.with_sixteen-word.ensures (λ (i : ℕ). chip prn (c.args.first + i))
           (16 * g) (omega arith) c.loop-group.invariant.word (λ r h.
           c.top_bits.ensures.bits (15 - r) (omega arith)
-          ∙ c.look_up-chips.ensures.chips (15 - r) (omega arith)
+          ∙ c.look_up-chips.ensures.chips prn c.table-table.ensures (15 - r) (omega arith)
           ∙ windowed prn c.args.first c.place_of-start.result (16 * g) r _ c.place_of-start.ensures
           (downward_lane r h)));
     }

@@ -5,5 +5,5 @@ use Rattle.ca_codes.proofs.book.CodeBook.window.Given as goal
 
 abbrev pub invariant-loop-group : goal.invariant-loop-group
 invariant-loop-group l = record {
-  word : IsBegun (λ i. chip l.prn (l.first + i)) (16 * l.group) l.word;
+  word : IsBegun (λ i. chip l.fn.prn (l.first + i)) (16 * l.group) l.word;
 }

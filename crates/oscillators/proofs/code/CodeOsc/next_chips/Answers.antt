@@ -44,14 +44,14 @@ loop-group-preserved c =
           (λ (n : ℕ). chip c.args.prn (code_phase_after (phase + 2 ^ 31) step n / 2 ^ 32)) (16 * g)
           few i.early (λ r h.
           c.top_bits.ensures.bits (15 - r) (omega arith)
-          ∙ c.look_up-chips.ensures.chips (15 - r) (omega arith)
+          ∙ c.look_up-chips.ensures.chips c.args.prn c.table-table.ensures (15 - r) (omega arith)
           ∙ chip_found c.args.prn (phase + 2 ^ 31) step g r ahead
           (get_or c.whole_chips.result (15 - r) 0) h small i.ahead (cell r h)));
       late = rw next at (c.with_sixteen-late.ensures
           (λ (n : ℕ). chip c.args.prn (code_phase_after (phase + 2 ^ 31) step n / 2 ^ 32 + 1022))
           (16 * g) few i.late (λ r h.
           c.second_bits.ensures.bits (15 - r) (omega arith)
-          ∙ c.look_up-chips.ensures.before (15 - r) (omega arith)
+          ∙ c.look_up-chips.ensures.before c.args.prn c.table-table.ensures (15 - r) (omega arith)
           ∙ chip_before_found c.args.prn (phase + 2 ^ 31) step g r ahead
           (get_or c.whole_chips.result (15 - r) 0) h small i.ahead (cell r h)));
       second_half = rw next at (c.with_sixteen-second_half.ensures
