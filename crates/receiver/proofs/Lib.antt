@@ -6,6 +6,7 @@ pub mod PartLemmas
 pub mod ReadLemmas
 pub mod RunLemmas
 pub mod TableLemmas
+pub mod RefusalLemmas
 pub mod QueueLemmas
 pub mod SessionLemmas
 pub mod ShareLemmas

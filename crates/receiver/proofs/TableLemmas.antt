@@ -392,6 +392,16 @@ module _ {A : Type 0} (text : A → List ℕ) (settings : Settings) (shares : Li
       (answer_lines settings (clients_with shares (map text handed)) []))
       is stands)
 
+  -- what wasn't opened for want of memory
+  pub shares-are : {S : Type 0} (opened : Result S OpenFault) → opened ≡ Err Faults.NoMemory
+      → (opened ≡ Err Faults.Share) ↔ ((0 < length handed) × (length handed ≤ 8)
+      × (list_all is_share shares ≡ false))
+      → are_shares shares (map text handed) ≡ true
+  shares-are opened memory when =
+      right-shares shares (map text handed) (each ∙ sym number)
+      (shares-without-memory opened (length handed) shares (some-of (length handed) some) few
+      memory when)
+
   pub refused-memory : {S : Type 0} (opened : Result S OpenFault) (old : Devices)
       → opened ≡ Err Faults.NoMemory
       → (opened ≡ Err Faults.Share) ↔ ((0 < length handed) × (length handed ≤ 8)
@@ -399,9 +409,7 @@ module _ {A : Type 0} (text : A → List ℕ) (settings : Settings) (shares : Li
       → IsRun (task_of settings shares (map text handed) limit) old old (Err NoMemory)
   refused-memory opened old memory when =
       without-memory settings shares (map text handed) limit old right-number
-      (right-shares shares (map text handed) (each ∙ sym number)
-      (shares-without-memory opened (length handed) shares (some-of (length handed) some) few
-      memory when))
+      (shares-are opened memory when)
 
   pub refused-share : (old : Devices) → list_all is_share shares ≡ false
       → IsRun (task_of settings shares (map text handed) limit) old old (Err Share)

@@ -1,4 +1,4 @@
-use Rattle.std.proofs.Common.{◌≡◌, ℕ, List, length, map, ap, sym, ◌∙◌, arith, inl, inr}
+use Rattle.std.proofs.Common.{◌≡◌, ℕ, List, length, map, refl, ap, sym, ◌∙◌, arith, inl, inr}
 use Rattle.std.specs.Prelude.{Err}
 use Rattle.std.proofs.lemmas.List.{length-map}
 use Rattle.channel_slots.specs.declared.open_fault.OpenFault.{OpenFault}
@@ -6,6 +6,9 @@ use Rattle.receiver.proofs.TableLemmas.{opened-for, refused-memory, refused-shar
 use Rattle.receiver.proofs.TableLemmas.{without-clients, without-shares, wrong-number, no-fault}
 use Rattle.receiver.proofs.TableLemmas.{some-of, none-of, broke-off, ran-to-end, ran-to-fault}
 use Rattle.receiver.proofs.TableLemmas.{ran-to-limit}
+use Rattle.receiver.proofs.TableLemmas.{wrong-share, shares-are}
+use Rattle.receiver.proofs.RefusalLemmas.{are-none-or-many, refused-for-clients, not-shares-before}
+use Rattle.receiver.proofs.RefusalLemmas.{not-clients, not-shares, refused-for-shares}
 use Rattle.receiver.proofs.running.run_shares.Goals as goal
 
 pub returns-then-is_empty-clause-run : goal.returns-then-is_empty-clause-run
@@ -95,3 +98,132 @@ returns-clause-run g c =
     c.open-opened.ensures.stands in
     broke-off a.settings a.shares.now texts a.limit _ _ is.right
     (c.in-Err.ensures.broken a.settings a.shares.now texts is.is_open)
+
+-- the clauses of scripts and shares, by the answer
+
+pub returns-then-is_empty-clause-clients : goal.returns-then-is_empty-clause-clients
+returns-then-is_empty-clause-clients g c =
+    refused-for-clients _ _ refl
+    (are-none-or-many (length c.args.scripts.now) c.is_empty.result c.is_empty.ensures
+    c.then-is_empty.either)
+
+pub returns-then-is_empty-clause-share : goal.returns-then-is_empty-clause-share
+returns-then-is_empty-clause-share g c =
+    not-shares-before c.args.shares.now (map (λ script. script.now) c.args.scripts.now) _ _ refl
+    (are-none-or-many (length c.args.scripts.now) c.is_empty.result c.is_empty.ensures
+    c.then-is_empty.either)
+
+pub returns-then-shares-scripts-clause-clients : goal.returns-then-shares-scripts-clause-clients
+returns-then-shares-scripts-clause-clients g c =
+    not-clients c.args.shares.now (map (λ script. script.now) c.args.scripts.now) _
+    c.if-is_empty.ensures c.if-scripts-gt-MOST_CLIENTS.false _ refl
+
+pub returns-then-shares-scripts-clause-share : goal.returns-then-shares-scripts-clause-share
+returns-then-shares-scripts-clause-share g c =
+    let texts : List (List ℕ) = map (λ script. script.now) c.args.scripts.now in
+    let number : length texts ≡ length c.args.scripts.now = length-map c.args.scripts.now _ in
+    refused-for-shares c.args.shares.now texts _
+    c.if-is_empty.ensures c.if-scripts-gt-MOST_CLIENTS.false _ refl
+    (wrong-number c.args.shares.now texts (λ same. c.if-shares-scripts.true (same ∙ number)))
+
+pub returns-in-Err-NoMemory-clause-clients : goal.returns-in-Err-NoMemory-clause-clients
+returns-in-Err-NoMemory-clause-clients g c =
+    not-clients c.args.shares.now (map (λ script. script.now) c.args.scripts.now) _
+    c.if-is_empty.ensures c.if-scripts-gt-MOST_CLIENTS.false _ refl
+
+pub returns-in-Err-NoMemory-clause-share : goal.returns-in-Err-NoMemory-clause-share
+returns-in-Err-NoMemory-clause-share g c =
+    let a = c.args in
+    not-shares a.shares.now _ _ c.if-is_empty.ensures c.if-scripts-gt-MOST_CLIENTS.false _ refl
+    (shares-are (λ script. script.now) a.settings a.shares.now a.scripts.now a.limit
+    c.if-is_empty.ensures c.if-scripts-gt-MOST_CLIENTS.false c.if-shares-scripts.false
+    c.open-opened.result (c.in-Err-NoMemory.is ∙ ap (λ (fault : OpenFault). Err fault)
+    (rw c.in-Err-NoMemory.is at c.in-Err-NoMemory.field-0-is))
+    c.open-opened.ensures.share)
+
+pub returns-in-Err-Clients-clause-clients : goal.returns-in-Err-Clients-clause-clients
+returns-in-Err-Clients-clause-clients g c =
+    refused-for-clients _ _ refl
+    (c.open-opened.ensures.clients.0 (c.in-Err-Clients.is
+    ∙ ap (λ (fault : OpenFault). Err fault)
+    (rw c.in-Err-Clients.is at c.in-Err-Clients.field-0-is)))
+
+pub returns-in-Err-Clients-clause-share : goal.returns-in-Err-Clients-clause-share
+returns-in-Err-Clients-clause-share g c =
+    not-shares-before c.args.shares.now (map (λ script. script.now) c.args.scripts.now) _ _ refl
+    (c.open-opened.ensures.clients.0 (c.in-Err-Clients.is
+    ∙ ap (λ (fault : OpenFault). Err fault)
+    (rw c.in-Err-Clients.is at c.in-Err-Clients.field-0-is)))
+
+pub returns-in-Err-Share-clause-clients : goal.returns-in-Err-Share-clause-clients
+returns-in-Err-Share-clause-clients g c =
+    not-clients c.args.shares.now (map (λ script. script.now) c.args.scripts.now) _
+    c.if-is_empty.ensures c.if-scripts-gt-MOST_CLIENTS.false _ refl
+
+pub returns-in-Err-Share-clause-share : goal.returns-in-Err-Share-clause-share
+returns-in-Err-Share-clause-share g c =
+    refused-for-shares c.args.shares.now _ _
+    c.if-is_empty.ensures c.if-scripts-gt-MOST_CLIENTS.false _ refl
+    (wrong-share c.args.shares.now _ (c.open-opened.ensures.share.0 (c.in-Err-Share.is
+    ∙ ap (λ (fault : OpenFault). Err fault)
+    (rw c.in-Err-Share.is at c.in-Err-Share.field-0-is))).2)
+
+pub returns-in-Ok-AtEnd-clause-clients : goal.returns-in-Ok-AtEnd-clause-clients
+returns-in-Ok-AtEnd-clause-clients g c =
+    not-clients c.args.shares.now (map (λ script. script.now) c.args.scripts.now) _
+    c.if-is_empty.ensures c.if-scripts-gt-MOST_CLIENTS.false _ refl
+
+pub returns-in-Ok-AtEnd-clause-share : goal.returns-in-Ok-AtEnd-clause-share
+returns-in-Ok-AtEnd-clause-share g c =
+    let a = c.args in
+    let is = opened-for (λ script. script.now) a.settings a.shares.now a.scripts.now a.limit
+    c.if-is_empty.ensures c.if-scripts-gt-MOST_CLIENTS.false c.if-shares-scripts.false
+    c.open-opened.result c.in-Ok.session c.in-Ok.is c.open-opened.ensures.share
+    c.open-opened.ensures.stands in
+    not-shares a.shares.now _ _ c.if-is_empty.ensures c.if-scripts-gt-MOST_CLIENTS.false _ refl
+    is.right.1
+
+pub returns-in-Ok-ReadFailed-clause-clients : goal.returns-in-Ok-ReadFailed-clause-clients
+returns-in-Ok-ReadFailed-clause-clients g c =
+    not-clients c.args.shares.now (map (λ script. script.now) c.args.scripts.now) _
+    c.if-is_empty.ensures c.if-scripts-gt-MOST_CLIENTS.false _ refl
+
+pub returns-in-Ok-ReadFailed-clause-share : goal.returns-in-Ok-ReadFailed-clause-share
+returns-in-Ok-ReadFailed-clause-share g c =
+    let a = c.args in
+    let is = opened-for (λ script. script.now) a.settings a.shares.now a.scripts.now a.limit
+    c.if-is_empty.ensures c.if-scripts-gt-MOST_CLIENTS.false c.if-shares-scripts.false
+    c.open-opened.result c.in-Ok.session c.in-Ok.is c.open-opened.ensures.share
+    c.open-opened.ensures.stands in
+    not-shares a.shares.now _ _ c.if-is_empty.ensures c.if-scripts-gt-MOST_CLIENTS.false _ refl
+    is.right.1
+
+pub returns-in-Ok-PastLimit-clause-clients : goal.returns-in-Ok-PastLimit-clause-clients
+returns-in-Ok-PastLimit-clause-clients g c =
+    not-clients c.args.shares.now (map (λ script. script.now) c.args.scripts.now) _
+    c.if-is_empty.ensures c.if-scripts-gt-MOST_CLIENTS.false _ refl
+
+pub returns-in-Ok-PastLimit-clause-share : goal.returns-in-Ok-PastLimit-clause-share
+returns-in-Ok-PastLimit-clause-share g c =
+    let a = c.args in
+    let is = opened-for (λ script. script.now) a.settings a.shares.now a.scripts.now a.limit
+    c.if-is_empty.ensures c.if-scripts-gt-MOST_CLIENTS.false c.if-shares-scripts.false
+    c.open-opened.result c.in-Ok.session c.in-Ok.is c.open-opened.ensures.share
+    c.open-opened.ensures.stands in
+    not-shares a.shares.now _ _ c.if-is_empty.ensures c.if-scripts-gt-MOST_CLIENTS.false _ refl
+    is.right.1
+
+pub returns-clause-clients : goal.returns-clause-clients
+returns-clause-clients g c =
+    not-clients c.args.shares.now (map (λ script. script.now) c.args.scripts.now) _
+    c.if-is_empty.ensures c.if-scripts-gt-MOST_CLIENTS.false _ refl
+
+pub returns-clause-share : goal.returns-clause-share
+returns-clause-share g c =
+    let a = c.args in
+    let is = opened-for (λ script. script.now) a.settings a.shares.now a.scripts.now a.limit
+    c.if-is_empty.ensures c.if-scripts-gt-MOST_CLIENTS.false c.if-shares-scripts.false
+    c.open-opened.result c.in-Ok.session c.in-Ok.is c.open-opened.ensures.share
+    c.open-opened.ensures.stands in
+    not-shares a.shares.now _ _ c.if-is_empty.ensures c.if-scripts-gt-MOST_CLIENTS.false _ refl
+    is.right.1
