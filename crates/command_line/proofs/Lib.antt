@@ -1,4 +1,3 @@
-pub mod OptionLemmas
 pub mod CommandLineLemmas
 pub mod FileLemmas
 pub mod ReceivingLemmas

@@ -9,9 +9,11 @@ use Rattle.receiver.specs.Runs.{Devices, IsRun, task_of}
 use Rattle.command_line.specs.declared.failure.Failure.{Failure}
 use Rattle.command_line.specs.declared.failure.Failure.TheVariants.{NoMemory, Shares, Script}
 use Rattle.command_line.specs.declared.failure.Failure.TheVariants.{Settings, Run}
-use Rattle.command_line.specs.Programs.{Asked, IsAllowed, recording_of, AreTextsOf}
+use Rattle.receiver_options.specs.Requests.{Asked, IsAllowed, recording_of}
+use Rattle.command_line.specs.Programs.{AreTextsOf}
 use Rattle.command_line.specs.Programs.{SomeMayBeRefused, one_or_more, RunsTexts, RunsFiles}
-use Rattle.command_line.specs.Programs.{Receives, shares_by, clients_of}
+use Rattle.receiver_options.specs.Requests.{shares_by}
+use Rattle.command_line.specs.Programs.{Receives, clients_of}
 
 -- the scripts of a run are those that were handed to it
 pub ran-handed : {A : Type 0} (text : A → List ℕ) (settings : DefinedSettings) (shares : List ℕ)

@@ -9,8 +9,9 @@ use Rattle.clap.specs.declared.error.kind.ErrorKind.{ErrorKind}
 use Rattle.clap.specs.declared.error.kind.ErrorKind.TheVariants.{OutOfMemory, DisplayHelp}
 use Rattle.clap.specs.declared.error.kind.ErrorKind.TheVariants.{DisplayVersion}
 use Rattle.receiver.specs.Runs.{Devices}
-use Rattle.command_line.specs.CommandLines.{receiver, NamesFormats}
-use Rattle.command_line.specs.Programs.{Receives, asked_in, paths_in, status_of}
+use Rattle.receiver_options.specs.CommandLines.{receiver, NamesFormats}
+use Rattle.receiver_options.specs.Requests.{asked_in, paths_in}
+use Rattle.command_line.specs.Programs.{Receives, status_of}
 use Rattle.command_line.specs.declared.failure.Failure.{Failure}
 
 -- the status where the option parser gives no options: it shows the help, has no memory, or refuses

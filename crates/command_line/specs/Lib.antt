@@ -1,3 +1,2 @@
 pub mod Programs
-pub mod CommandLines
 pub mod Endings

@@ -20,10 +20,10 @@
 #![tactic(auto)]
 
 mod failure;
-mod options;
 mod program;
 mod receiving;
 mod script_files;
+mod shares;
 #[cfg(test)]
 mod tests;
 mod words;

@@ -8,7 +8,6 @@ ghost use Rattle.command_line.specs.Programs.{status_of};
 ghost use Rattle.command_line.specs.Endings.{HasEnded, parser_status};
 
 use crate::failure::{Failure, status};
-use crate::options;
 use crate::receiving::receive;
 use crate::script_files::ScriptFiles;
 use crate::words::CommandLine;
@@ -82,7 +81,7 @@ where
         Ok(words) => words,
         Err(failure) => return tell(rt, Err(failure)),
     };
-    match options::matches(rt.alloc(), &words) {
+    match receiver_options::matches(rt.alloc(), &words) {
         Ok(matches) => tell(rt, receive(rt.alloc(), files, &matches, reader, writer)),
         Err(error) => refuse(rt, &error),
     }

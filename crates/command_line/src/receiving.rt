@@ -1,14 +1,14 @@
 //! The program, from its options to the end of its run.
 
 ghost use Rattle.std.specs.Prelude.{◌≡◌, map, IfOk, IfErr};
-ghost use Rattle.command_line.specs.CommandLines.{options_in};
+ghost use Rattle.receiver_options.specs.CommandLines.{options_in};
+ghost use Rattle.receiver_options.specs.Requests.{asked_in, paths_in};
 ghost use Rattle.receiver.specs.Runs.{devices_at};
-ghost use Rattle.command_line.specs.Programs.{Receives, RunsTexts, IsBeforeReading, asked_in};
-ghost use Rattle.command_line.specs.Programs.{paths_in, one_or_more};
+ghost use Rattle.command_line.specs.Programs.{Receives, RunsTexts, IsBeforeReading, one_or_more};
 
 use crate::failure::Failure;
-use crate::options;
 use crate::script_files::{ScriptFiles, read_scripts};
+use crate::shares::shares;
 use channel_slots::MOST_TIME;
 use clap::ArgMatches;
 use oscillators::Settings;
@@ -32,12 +32,12 @@ pub fn receive<S: ScriptFiles, R: Source, W: Sink>(
         (devices_at R.Source W.Sink reader.old writer.old)
         (devices_at R.Source W.Sink reader.new writer.new) result }
 {
-    let settings = match options::settings(matches) {
+    let settings = match receiver_options::settings(matches) {
         Ok(settings) => settings,
         Err(fault) => return Err(Failure::Settings(fault)),
     };
-    let paths = options::scripts(matches);
-    let shares = options::shares(alloc, matches, paths.len().max(1))?;
+    let paths = receiver_options::scripts(matches);
+    let shares = shares(alloc, matches, paths.len().max(1))?;
     let texts = read_scripts(alloc, files, paths)?;
     run_texts(alloc, settings, &shares, &texts, reader, writer)
 }

@@ -1,7 +1,6 @@
 //! The words that the system passes, of which some are no text.
 
 use crate::failure::Failure;
-use crate::options;
 use crate::script_files::{ScriptFiles, Stored};
 use crate::words::{CommandLine, SystemCommandLine};
 use std::env::{Env, FillError};
@@ -54,17 +53,17 @@ fn a_name_that_is_no_text(rt: HostRuntime) -> Result<(), Fail> {
         words: &[b"receiver", b"\xff"],
     };
     let words = SystemCommandLine::new(&line).words(rt.alloc())?;
-    let Ok(matches) = options::matches(rt.alloc(), &words) else {
+    let Ok(matches) = receiver_options::matches(rt.alloc(), &words) else {
         return Err("options that are understood".into());
     };
     std::fs::write(&rt, "\u{fffd}", b"")?;
     let files = Stored::new(&rt);
-    for path in options::scripts(&matches) {
+    for path in receiver_options::scripts(&matches) {
         assert_eq!(rt; files.read(rt.alloc(), path).err(), Some(Failure::Script));
     }
     assert!(rt; files.read(rt.alloc(), "\u{fffd}").is_ok());
     std::fs::remove_file(&rt, "\u{fffd}")?;
-    assert_eq!(rt; options::scripts(&matches).len(), 1);
+    assert_eq!(rt; receiver_options::scripts(&matches).len(), 1);
     Ok(())
 }
 
@@ -75,7 +74,7 @@ fn options_that_are_no_text(rt: HostRuntime) -> Result<(), Fail> {
     let flag: &[&[u8]] = &[b"receiver", b"--minus\xff"];
     for words in [rate, format, flag] {
         let words = SystemCommandLine::new(&Words { words }).words(rt.alloc())?;
-        let status = options::matches(rt.alloc(), &words)
+        let status = receiver_options::matches(rt.alloc(), &words)
             .err()
             .map(|error| error.exit_code());
         assert_eq!(rt; status, Some(2));

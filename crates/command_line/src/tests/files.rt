@@ -3,7 +3,6 @@
 ghost use Rattle.std.specs.Prelude.{Some};
 
 use crate::failure::Failure;
-use crate::options;
 use crate::receiving::receive;
 use crate::script_files::{ScriptFiles, script_from};
 use crate::tests::fakes::{Giving, Holding};
@@ -53,7 +52,7 @@ fn known_files(rt: HostRuntime) -> Result<(), Fail> {
     for word in ["0 state 2", "0 state 3", "0 fly"] {
         line.push(String::from_str(rt.alloc(), word)?)?;
     }
-    let Ok(matches) = options::matches(rt.alloc(), &line) else {
+    let Ok(matches) = receiver_options::matches(rt.alloc(), &line) else {
         return Err("options that are understood".into());
     };
     let mut reader = Giving::whole(&[]);

@@ -1,8 +1,9 @@
 use Rattle.std.proofs.Common.{◌≡◌, ◌∙◌, ap, sym, subst, ℕ, List, map}
 use Rattle.std.specs.Prelude.{Option}
 use Rattle.std.proofs.lemmas.Simd.{map-map}
-use Rattle.command_line.specs.CommandLines.{options_in}
-use Rattle.command_line.specs.Programs.{paths_in, AreTextsOf, clients_of}
+use Rattle.receiver_options.specs.CommandLines.{options_in}
+use Rattle.receiver_options.specs.Requests.{paths_in}
+use Rattle.command_line.specs.Programs.{AreTextsOf, clients_of}
 use Rattle.command_line.proofs.ReceivingLemmas.{failed-before, failed-at-shares, received, err-is}
 use Rattle.command_line.proofs.ReceivingLemmas.{is-some, as-many-clients}
 use Rattle.command_line.proofs.receiving.receive.Goals as goal

@@ -1,5 +1,0 @@
-use Rattle.std.proofs.Common.{◌≡◌, replicate}
-use Rattle.command_line.proofs.options.four_each.Given as goal
-
-abbrev pub invariant-loop : goal.invariant-loop
-invariant-loop l = l.shares.items ≡ replicate l.counter 4
