@@ -1,4 +1,4 @@
-use Rattle.std.proofs.Common.{rules, append-nil, ◌≡◌, ◌∙◌, ℕ, ◌+◌, ◌-◌, ◌/◌, ◌≤◌, List, ◌++◌}
+use Rattle.std.proofs.Common.{rules, append-nil, ◌≡◌, ◌∙◌, ℕ, ◌+◌, ◌-◌, ◌*◌, ◌/◌, ◌≤◌, List, ◌++◌}
 use Rattle.std.proofs.Common.{length, take, ap, sym, refl, [], subst, ap₂, arith, min}
 use Rattle.std.specs.Prelude.{◌||◌}
 use Rattle.std.specs.Io.KnownBytes.{Consumes}
@@ -14,6 +14,7 @@ use Rattle.receiver.specs.Texts.{AppendsPart}
 use Rattle.receiver.specs.Runs.{IsWrittenTo}
 use Rattle.receiver.proofs.TextLemmas.{appended-part}
 use Rattle.definitions.proofs.SampleLemmas.{samples-append, sample_count-append, count_of}
+use Rattle.definitions.proofs.SampleLemmas.{samples-length}
 use Rattle.receiver.proofs.RunLemmas.{samples-nil}
 use Rattle.receiver.proofs.ReadLemmas.{all-read, within-limit, none_counted, Uses, uses, up_to-used}
 use Rattle.receiver.proofs.ReadLemmas.{beyond-limit, some-given, none-given}
@@ -318,3 +319,30 @@ returns-then-used-count-clause-writes g c = let s = g.W.Sink in
     (wrote-then s c.args.out.now c.send.new.self c.take_piece.new.out _
     (wrote-then s c.args.out.now c.loop-reader.out c.send.new.self _ c.loop-reader.invariant.wrote
     c.in_ok-send.ensures.writes) c.in_ok-take_piece.ensures.writes)
+
+pub slice_bounds-new-end : goal.slice_bounds-new-end
+slice_bounds-new-end g c =
+    sym (length-take-le c.min-used.result c.read.new.buffer
+    (omega (arith, c.min-used.ensures, c.in-Ok.ensures.bound, c.min-used.array_long)))
+
+pub take_piece-requires-clause-room : goal.take_piece-requires-clause-room
+take_piece-requires-clause-room g c =
+    let was = c.loop-reader.invariant.read in
+    let used = c.min-used.result in
+    let packing : Packing = packing_in c.args.session.now in
+    let bytes : List ℕ = take used c.read.new.buffer in
+    let fits : Uses packing was.0 c.in-Ok.count used c.args.limit =
+    uses packing was.0 c.in-Ok.count used c.args.limit (time_of c.loop-reader.session)
+    c.per_byte-per_byte.result
+    (c.per_byte-per_byte.ensures ∙ ap (λ (p : Packing). samples_per_byte p) c.format-format.ensures)
+    c.requires.whole was.2 c.loop-reader.invariant.within
+    (c.min-used.ensures
+    ∙ ap (λ t. min c.in-Ok.count ((c.args.limit - t) / c.per_byte-per_byte.result))
+    c.time.ensures) in
+    let many : length c.new-piece.result.samples ≡ samples_per_byte packing * used =
+    ap length (c.new-piece.ensures.samples
+    ∙ ap (λ (p : Packing). samples p bytes) c.format-format.ensures)
+    ∙ samples-length packing bytes
+    ∙ count_of packing bytes used (length-take-le used c.read.new.buffer
+    (omega (arith, c.min-used.ensures, c.in-Ok.ensures.bound, c.min-used.array_long))) in
+    omega (arith, fits.within, many, was.2, c.requires.limit)

@@ -2,7 +2,7 @@ use Rattle.std.proofs.Common.{◌≡◌, ◌∙◌, ℕ, ◌+◌, ◌≤◌, Lis
 use Rattle.std.proofs.Common.{subst, append-nil, append_assoc, arith, refl}
 use Rattle.std.proofs.lemmas.List.{take-append-drop}
 use Rattle.std.proofs.lemmas.Result.{MatchResult-from_err}
-use Rattle.sample_planes.specs.PackedRuns.{PackedRun}
+use Rattle.sample_planes.specs.PackedRuns.{PackedRun, front_of, back_of}
 use Rattle.definitions.specs.Samples.{Sample}
 use Rattle.channel_slots.proofs.TellingLemmas.{take_part}
 use Rattle.channels.proofs.PartLemmas.{part-length}
@@ -15,6 +15,12 @@ use Rattle.receiver.proofs.reading.take_piece.Goals as goal
 
 same-samples : (r s : PackedRun) → r ≡ s → r.samples ≡ s.samples
 same-samples r s e = ap (λ (t : PackedRun). t.samples) e
+
+-- a part has as many samples as were wanted
+part-many : (part run : PackedRun) (first len : ℕ) → part ≡ front_of len (back_of first run)
+    → first + len ≤ length run.samples → length part.samples ≡ len
+part-many part run first len e within =
+    ap length (same-samples part _ e) ∙ part-length run.samples first len within
 
 -- a part of the piece after those before it
 behind : (xs piece : List Sample) (n m : ℕ)
@@ -65,8 +71,7 @@ loop-first-preserved g c =
     let within : first + len ≤ length piece =
     omega (arith, c.len-count.ensures, c.min-most.ensures, c.min-len.ensures) in
     let many : length c.part.result.samples ≡ len =
-    ap length (same-samples c.part.result _ c.part.ensures)
-    ∙ part-length piece first len within in
+    part-many c.part.result c.args.piece.now first len c.part.ensures within in
     let more : time_of c.take_samples.new.session
     ≡ time_of c.loop-first.session + length c.part.result.samples = e.time in
     record {
@@ -95,3 +100,51 @@ returns-in_err-take_samples-clause-writes g c =
 pub returns-clause-writes : goal.returns-clause-writes
 returns-clause-writes g c = let w = c.loop-first.invariant.wrote in
     record { same = w.same; grows = w.grows; failure = w.failure }
+
+pub part-requires : goal.part-requires
+part-requires g c =
+    omega (arith, c.len-count.ensures, c.min-most.ensures, c.min-len.ensures)
+
+pub take_samples-requires-clause-some : goal.take_samples-requires-clause-some
+take_samples-requires-clause-some g c =
+    let within : c.loop-first.first + c.min-len.result ≤ length c.args.piece.now.samples =
+    omega (arith, c.len-count.ensures, c.min-most.ensures, c.min-len.ensures) in
+    let many : length c.part.result.samples ≡ c.min-len.result =
+    part-many c.part.result c.args.piece.now c.loop-first.first c.min-len.result c.part.ensures
+    within in
+    omega (
+      arith,
+      many,
+      c.min-len.ensures,
+      c.min-most.ensures,
+      c.until_next.ensures,
+      c.loop-first-test.true,
+      c.loop-first.invariant.ready,
+    )
+
+pub take_samples-requires-clause-short : goal.take_samples-requires-clause-short
+take_samples-requires-clause-short g c =
+    let within : c.loop-first.first + c.min-len.result ≤ length c.args.piece.now.samples =
+    omega (arith, c.len-count.ensures, c.min-most.ensures, c.min-len.ensures) in
+    let many : length c.part.result.samples ≡ c.min-len.result =
+    part-many c.part.result c.args.piece.now c.loop-first.first c.min-len.result c.part.ensures
+    within in
+    omega (arith, many, c.min-len.ensures, c.min-most.ensures)
+
+pub take_samples-requires-clause-quiet : goal.take_samples-requires-clause-quiet
+take_samples-requires-clause-quiet g c =
+    let within : c.loop-first.first + c.min-len.result ≤ length c.args.piece.now.samples =
+    omega (arith, c.len-count.ensures, c.min-most.ensures, c.min-len.ensures) in
+    let many : length c.part.result.samples ≡ c.min-len.result =
+    part-many c.part.result c.args.piece.now c.loop-first.first c.min-len.result c.part.ensures
+    within in
+    omega (arith, many, c.min-len.ensures, c.until_next.ensures)
+
+pub take_samples-requires-clause-room : goal.take_samples-requires-clause-room
+take_samples-requires-clause-room g c =
+    let within : c.loop-first.first + c.min-len.result ≤ length c.args.piece.now.samples =
+    omega (arith, c.len-count.ensures, c.min-most.ensures, c.min-len.ensures) in
+    let many : length c.part.result.samples ≡ c.min-len.result =
+    part-many c.part.result c.args.piece.now c.loop-first.first c.min-len.result c.part.ensures
+    within in
+    omega (arith, many, within, c.loop-first.invariant.time, c.requires.room)
