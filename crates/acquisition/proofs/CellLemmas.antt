@@ -7,7 +7,7 @@ use Rattle.std.proofs.lemmas.Int.{ints}
 use Rattle.definitions.specs.Sums.{total}
 use Rattle.definitions.specs.Codes.{chip, chip_sign}
 use Rattle.definitions.proofs.SumsLemmas.{total-same}
-use Rattle.acquisition.specs.Folds.{correlation, correlation_to, total_to}
+use Rattle.acquisition.specs.Folds.{correlation, correlation_to, sizes_to, total_to}
 use Rattle.acquisition.specs.Ones.{AreOnes}
 use Rattle.acquisition.specs.Rings.{chip_from, IsRing, IsSumAtOnes, place_of}
 use Rattle.acquisition.specs.declared.chip_ring.TheConstants.{RAISED}
@@ -15,7 +15,11 @@ use Rattle.acquisition.specs.declared.half_chip_table.HalfChipTable.{HalfChipTab
 use Rattle.acquisition.specs.declared.ones.Ones.{Ones}
 use Rattle.acquisition.specs.declared.sums.TheConstants.{MOST_SUM}
 use Rattle.acquisition.proofs.SignLemmas.{sign_of_one, sign_of_zero}
-use Rattle.acquisition.proofs.TableLemmas.{correlation_size}
+use Rattle.acquisition.specs.declared.fold.TheConstants.{MOST_SMALL}
+use Rattle.acquisition.specs.declared.period_sums.PeriodSums.{PeriodSums}
+use Rattle.acquisition.proofs.TableLemmas.{correlation_size, total_size}
+use Rattle.std.proofs.Common.{to_z, of_z, w32}
+use Rattle.std.proofs.lemmas.Int.{to_z-of_z, fits_signed_from_abs}
 
 -- a sum whose terms go round by one
 total-next : (f : ℕ → ℤ) (n : ℕ) → total (λ k. f (suc k)) n +ℤ f 0 ≡ total f n +ℤ f n
@@ -156,7 +160,7 @@ total-raised b f (suc n) =
 
 -- the raised sum over a ring at the chips of 1
 pub raised_ones : (prn half l count : ℕ) (chips ring : List ℕ) (table : List ℤ) → half < 2046
-    → l < 16 → AreOnes prn 1023 chips count → IsRing table ring
+    → l < 64 → AreOnes prn 1023 chips count → IsRing table ring
     → total (λ k. pos (slice_index ring (place_of half (slice_index chips k) + l))) count
     ≡ pos (RAISED * count) +ℤ sum_at_ones prn (half + l) table
 unfolding sum_at_ones
@@ -181,7 +185,7 @@ pub record IsCellSum (prn cell : ℕ) (table : List ℤ) (sum : ℤ) : Type 0 wh
   pub small : unsigned_abs sum ≤ MOST_SUM
 
 pub cell_sum : (ones : Ones) (half l lane : ℕ) (table : HalfChipTable) (ring : List ℕ)
-    (whole sum : ℤ) → half < 2046 → l < 16 → IsRing table.sums ring
+    (whole sum : ℤ) → half < 2046 → l < 64 → IsRing table.sums ring
     → whole ≡ total_to table.sums 2046 → IsSumAtOnes ones ring half l lane
     → sum ≡ whole -ℤ pos 2 *ℤ (pos lane -ℤ pos (RAISED * ones.count))
     → IsCellSum ones.prn (half + l) table.sums sum
@@ -205,3 +209,23 @@ cell_sum ones half l lane table ring whole sum inside few is all at is_sum =
   where
     lowered : (n : ℕ) (z : ℤ) → pos n +ℤ z -ℤ pos n ≡ z
     lowered n z = omega (arith, ints)
+
+-- sums over all samples that fit in 16 bits
+pub whole_small_in_phase : (sums : PeriodSums) → sums.is_small ≡ true
+    → unsigned_abs sums.whole.in_phase ≤ MOST_SMALL
+whole_small_in_phase sums is = rw sums.all.in_phase
+    (omega (arith, total_size 2046 sums.fold.in_phase.sums, (sums.small is).in_phase))
+
+pub whole_small_quadrature : (sums : PeriodSums) → sums.is_small ≡ true
+    → unsigned_abs sums.whole.quadrature ≤ MOST_SMALL
+whole_small_quadrature sums is = rw sums.all.quadrature
+    (omega (arith, total_size 2046 sums.fold.quadrature.sums, (sums.small is).quadrature))
+
+pub kept_small : (z : ℤ) → unsigned_abs z ≤ MOST_SMALL → to_z w32 (of_z w32 z) ≡ z
+kept_small z small = to_z-of_z w32 z (fits_signed_from_abs w32 z (omega (arith, small)))
+
+-- a cell's sum is no greater than the sizes of the entries
+pub small_sum : (prn cell : ℕ) (table : List ℤ) (sum : ℤ) → IsCellSum prn cell table sum
+    → sizes_to table 2046 ≤ MOST_SMALL → unsigned_abs sum ≤ MOST_SMALL
+small_sum prn cell table sum is small =
+    rw is.value (omega (arith, correlation_size prn cell 2046 table, small))

@@ -1,7 +1,7 @@
 -- Samples that are held, and the powers of periods, which add up.
-use Rattle.std.proofs.Common.{◌≡◌, ℕ, ◌+◌, ◌*◌, ◌<◌, ◌≤◌, List, map, length, refl, sym, ◌∙◌}
-use Rattle.std.proofs.Common.{arith}
-use Rattle.std.specs.Prelude.{ℤ, pos, get_or, ◌⊎◌}
+use Rattle.std.proofs.Common.{inl, inr, ◌≡◌, ℕ, ◌+◌, ◌-◌, ◌*◌, ◌<◌, ◌≤◌, List, map, length, refl}
+use Rattle.std.proofs.Common.{sym, subst, ◌∙◌, arith}
+use Rattle.std.specs.Prelude.{ℤ, pos, get_or, slice_index, ◌⊎◌}
 use Rattle.std.specs.List.{range_with_len}
 use Rattle.std.proofs.Math.Nat.{mul-le-mul_right}
 use Rattle.std.proofs.Math.ListN.{replicate, set}
@@ -78,3 +78,28 @@ apart_behind j k h e = absurd (omega (arith, h, e))
 pub set_there : (powers : List ℕ) (i j power : ℕ) → j ≡ i → i < length powers
     → get_or (set powers i power) j 0 ≡ power
 set_there powers i j power same inside = rw same (get_or-set_same powers i power 0 inside)
+
+-- the first n of a list of powers each have a property
+abbrev pub AreEach : (ℕ → ℕ → Type 0) → ℕ → List ℕ → Type 0
+AreEach property n powers = (i : ℕ) → i < n → property i (slice_index powers i)
+
+pub each-none : (property : ℕ → ℕ → Type 0) (powers : List ℕ) → AreEach property 0 powers
+each-none property powers i h = absurd (omega (arith, h))
+
+pub each-sixteen : (property : ℕ → ℕ → Type 0) (n : ℕ) (old new sixteen : List ℕ)
+    → ((l : ℕ) → l < 16 → slice_index new (n + l) ≡ slice_index sixteen l)
+    → ((i : ℕ) → i < n → slice_index new i ≡ slice_index old i)
+    → ((l : ℕ) → l < 16 → property (n + l) (slice_index sixteen l))
+    → AreEach property n old → AreEach property (n + 16) new
+each-sixteen property n old new sixteen there before are each i h = elim (before_or_there i n) [
+  | inl early ↦ subst (λ (power : ℕ). property i power) (sym (before i early)) (each i early)
+  | inr late ↦
+      let l : ℕ = i - n in
+      let few : l < 16 = omega (arith, late, h) in
+      let at : n + l ≡ i = omega (arith, late) in
+      subst (λ (k : ℕ). property k (slice_index new k)) at
+      (subst (λ (power : ℕ). property (n + l) power) (sym (there l few)) (are l few))
+]
+  where
+    before_or_there : (i n : ℕ) → (i < n) ⊎ (n ≤ i)
+    before_or_there i n = grind arith

@@ -6,22 +6,24 @@ use Rattle.std.specs.Prelude.{length, take, drop}
 use Rattle.std.proofs.Math.ListN.{replicate}
 use Rattle.std.proofs.lemmas.Int.{to_z-of_z, fits_signed_from_abs}
 use Rattle.std.proofs.lemmas.List.{get_or-replicate, take_all, length-drop}
+use Rattle.std.proofs.lemmas.List.{get_or-take, get_or-drop, length-take-le}
+use Rattle.std.specs.Simd.Lanes.{chunk}
 use Rattle.std.proofs.lemmas.Bool.{cases_lt}
-use Rattle.std.proofs.lemmas.Simd.{get_or-chunk}
-use Rattle.acquisition.specs.Rings.{chip_from, IsRing}
+use Rattle.std.proofs.lemmas.Simd.{get_or-chunk, length-chunk}
+use Rattle.acquisition.specs.Rings.{chip_from, IsRing, AreEntries}
 use Rattle.acquisition.specs.declared.chip_ring.TheConstants.{RAISED}
 use Rattle.acquisition.specs.declared.sums.TheConstants.{MOST_SUM}
 use Rattle.acquisition.proofs.SizeLemmas.{abs_add}
 
 -- the ring of a table of zeros
-raised_at : (i : ℕ) → i < 2061 → slice_index (replicate 2061 360000) i ≡ 360000
-raised_at i h = get_or-replicate {A = ℕ} 2061 i 360000 0 h
+raised_at : (i : ℕ) → i < 2109 → slice_index (replicate 2109 524288) i ≡ 524288
+raised_at i h = get_or-replicate {A = ℕ} 2109 i 524288 0 h
 
-pub small_everywhere : (i : ℕ) → i < 2061 → slice_index (replicate 2061 360000) i ≤ 2 * RAISED
+pub small_everywhere : (i : ℕ) → i < 2109 → slice_index (replicate 2109 524288) i ≤ 2 * RAISED
 small_everywhere i h = rw (raised_at i h) (omega arith)
 
 pub ring_of_zeros : (table : List ℤ) → ((k : ℕ) → k < 2046 → get_or table k (pos 0) ≡ pos 0)
-    → IsRing table (replicate 2061 360000)
+    → IsRing table (replicate 2109 524288)
 ring_of_zeros table zeros i h =
     let k : ℕ = (4091 - i) % 2046 in
     let first : get_or table k (pos 0) ≡ pos 0 = zeros k (omega arith) in
@@ -30,11 +32,28 @@ ring_of_zeros table zeros i h =
     rw (raised_at i h, first, second) refl
 
 -- a lane of sixteen places
-pub lane_is : (chips : List ℕ) (at l : ℕ) → length chips ≡ 2061 → l < 16
-    → slice_index (take 16 (take (2061 - at) (drop at chips))) l ≡ slice_index chips (at + l)
+pub lane_is : (chips : List ℕ) (at l : ℕ) → length chips ≡ 2109 → l < 16
+    → slice_index (take 16 (take (2109 - at) (drop at chips))) l ≡ slice_index chips (at + l)
 lane_is chips at l long h =
-    rw (take_all (2061 - at) (drop at chips) (rw (length-drop at chips, long) (omega arith)))
+    rw (take_all (2109 - at) (drop at chips) (rw (length-drop at chips, long) (omega arith)))
     (get_or-chunk at 16 chips l 0 h)
+
+-- sixteen of 64 places
+pub entries_of : (chips : List ℕ) (at n k : ℕ) → length chips ≡ 2109 → at + 64 ≤ 2109 → n ≡ 64
+    → k + 16 ≤ 64 → AreEntries chips (at + k) (chunk k 16 (take n (drop at chips)))
+entries_of chips at n k long within whole inside =
+    let rest : length (drop at chips) ≡ 2109 - at = length-drop at chips ∙ rw long refl in
+    let of : length (take n (drop at chips)) ≡ 64 =
+    length-take-le n (drop at chips) (omega (arith, whole, within, rest)) ∙ whole in
+    record {
+      long = length-chunk k 16 (take n (drop at chips)) (omega (arith, of, inside));
+      are = λ l h. get_or-chunk k 16 (take n (drop at chips)) l 0 h
+          ∙ get_or-take n (drop at chips) (k + l) 0 (omega (arith, whole, inside, h))
+          ∙ get_or-drop at chips (k + l) 0 ∙ ap (slice_index chips) (on at k l);
+    }
+  where
+    on : (at k l : ℕ) → at + (k + l) ≡ at + k + l
+    on at k l = omega arith
 
 -- the sum of two entries of a table, in 32 bits
 pub record IsChip (a b chip : ℤ) : Type 0 where
@@ -80,7 +99,7 @@ set_next n chip table old new below before is put others j h = elim (last_or_bef
 
 -- and once all are, and the first ones again after the last
 pub ring_is : (table : List ℤ) (old new : List ℕ) → AreSet 2046 table old
-    → ((i : ℕ) → 2046 ≤ i → i < 2061 → slice_index new i ≡ slice_index old (i - 2046))
+    → ((i : ℕ) → 2046 ≤ i → i < 2109 → slice_index new i ≡ slice_index old (i - 2046))
     → ((i : ℕ) → i < 2046 → slice_index new i ≡ slice_index old i)
     → IsRing table new
 ring_is table old new all after others i h = elim (cases_lt i 2046) [
@@ -98,11 +117,11 @@ ring_is table old new all after others i h = elim (cases_lt i 2046) [
     back : (i : ℕ) → i < 2046 → i ≡ 2045 - (2045 - i)
     back i h = omega (arith, h)
 
-    back_again : (i : ℕ) → 2046 ≤ i → i < 2061 → i - 2046 ≡ 2045 - (4091 - i)
+    back_again : (i : ℕ) → 2046 ≤ i → i < 2109 → i - 2046 ≡ 2045 - (4091 - i)
     back_again i high h = omega (arith, high, h)
 
     first_turn : (i : ℕ) → i < 2046 → 2045 - i ≡ (4091 - i) % 2046
     first_turn i low = omega (arith, low)
 
-    second_turn : (i : ℕ) → 2046 ≤ i → i < 2061 → 4091 - i ≡ (4091 - i) % 2046
+    second_turn : (i : ℕ) → 2046 ≤ i → i < 2109 → 4091 - i ≡ (4091 - i) % 2046
     second_turn i low high = omega (arith, low, high)

@@ -1,5 +1,6 @@
 -- The powers of a bin's cells so far, and some more of them.
-use Rattle.std.proofs.Common.{inl, inr, ◌≡◌, ℕ, ◌+◌, ◌-◌, ◌*◌, ◌/◌, ◌%◌, ◌<◌, ◌≤◌, List, ◌∙◌, arith, refl}
+use Rattle.std.proofs.Common.{inl, inr, ◌≡◌, ℕ, ◌+◌, ◌-◌, ◌*◌, ◌/◌, ◌%◌, ◌<◌, ◌≤◌, List, ◌∙◌, arith}
+use Rattle.std.proofs.Common.{refl}
 use Rattle.std.specs.Prelude.{get_or, ◌⊎◌}
 use Rattle.definitions.specs.Samples.{Sample}
 use Rattle.definitions.specs.Correlation.{Replica, replica_of}
@@ -7,11 +8,11 @@ use Rattle.definitions.specs.Acquisition.{power_over}
 use Rattle.acquisition.specs.FoldStates.{IsFold}
 use Rattle.acquisition.specs.Periods.{periods_of}
 use Rattle.acquisition.specs.Powers.{AreSoFar}
-use Rattle.acquisition.specs.Replicas.{phases, power_of_periods}
+use Rattle.acquisition.specs.Replicas.{phases}
 use Rattle.acquisition.specs.declared.bin_powers.BinPowers.{BinPowers}
 use Rattle.acquisition.specs.declared.bin_steps.Steps.{Steps}
 use Rattle.acquisition.specs.declared.fold.Fold.{Fold}
-use Rattle.acquisition.proofs.PowerLemmas.{none_yet, power-none, power-more}
+use Rattle.acquisition.proofs.PowerLemmas.{power-none, power-more}
 
 -- over how many periods a cell's power is
 pub periods-none : (cell : ℕ) → periods_of cell 0 ≡ 0
@@ -43,7 +44,8 @@ pub periods-after : (added cell count i : ℕ) → IsRun added cell count → ce
 periods-after added cell count i run after inside =
     omega (arith, run.from, run.within, after, inside)
 
-pub three : (i cell count : ℕ) → (i < cell) ⊎ ((cell + count ≤ i) ⊎ ((cell ≤ i) × (i < cell + count)))
+pub three : (i cell count : ℕ)
+    → (i < cell) ⊎ ((cell + count ≤ i) ⊎ ((cell ≤ i) × (i < cell + count)))
 three i cell count = grind arith
 
 -- none of them
@@ -83,7 +85,8 @@ so_far-more x prn long steps old new fold cell count more run folded powers ther
               let at : cell + l ≡ i = omega (arith, from) in
               let replica : Replica = replica_of prn (phases i steps.code steps.carrier) in
               rw at at (there l few)
-              ∙ power-more x replica long (old.added / 2046) (get_or old.powers i 0) (get_or more l 0)
+              ∙ power-more x replica long (old.added / 2046) (get_or old.powers i 0)
+              (get_or more l 0)
               (so_far.powers i inside ∙ rw (rw at at (periods-there old.added cell count l run few))
               refl) (rw at at (powers l few))
               ∙ rw (added, rw at at (periods-more old.added cell count l run few)) refl

@@ -55,6 +55,26 @@ sizes-none table zero none = refl
 sizes-none table (suc n) none =
     rw (sizes-none table n (λ k h. none k (omega arith)), none n (omega arith)) refl
 
+pub sizes-first : (table : List ℤ) → sizes_to table 0 ≡ 0
+unfolding sizes_to
+sizes-first table = refl
+
+pub sizes-next : (table : List ℤ) (k : ℕ)
+    → sizes_to table (k + 1) ≡ sizes_to table k + unsigned_abs (get_or table k (pos 0))
+unfolding sizes_to
+sizes-next table k = let e : k + 1 ≡ suc k = omega arith in rw e refl
+
+pub sizes-within : (table : List ℤ) (k n : ℕ) → k ≤ n → sizes_to table k ≤ sizes_to table n
+unfolding sizes_to
+sizes-within table k zero h = let e : k ≡ 0 = omega (arith, h) in rw e (omega arith)
+sizes-within table k (suc n) h = elim (within_or_all k n h) [
+  | inl before ↦ omega (arith, sizes-within table k n before)
+  | inr all ↦ rw all (omega arith)
+]
+  where
+    within_or_all : (k n : ℕ) → k ≤ suc n → (k ≤ n) ⊎ (k ≡ suc n)
+    within_or_all k n h = grind arith
+
 pub size_of_one : (table : List ℤ) (k n : ℕ) → k < n
     → unsigned_abs (get_or table k (pos 0)) ≤ sizes_to table n
 unfolding sizes_to

@@ -1,9 +1,10 @@
 -- What a fold stands for.
-use Rattle.std.specs.Prelude.{◌≡◌, ℕ}
+use Rattle.std.specs.Prelude.{◌≡◌, ◌≤◌, ℕ}
 use Rattle.definitions.specs.Samples.{Sample}
-use Rattle.acquisition.specs.Folds.{IsTable, in_phase_at, quadrature_at, total_to}
+use Rattle.acquisition.specs.Folds.{IsTable, in_phase_at, quadrature_at, total_to, sizes_to}
 use Rattle.acquisition.specs.declared.half_chip_table.TheConstants.{PLACES}
 use Rattle.acquisition.specs.declared.fold.Fold.{Fold}
+use Rattle.acquisition.specs.declared.fold.TheConstants.{MOST_SMALL}
 use Rattle.acquisition.specs.declared.sums.Sums.{Sums}
 
 -- of n samples from offset `from` on
@@ -15,6 +16,11 @@ pub record IsFold (x : ℕ → Sample) (step carrier_step from n : ℕ) (fold : 
 pub record IsWhole (sums : Sums) (fold : Fold) : Type 0 where
   pub in_phase : sums.in_phase ≡ total_to fold.in_phase.sums PLACES
   pub quadrature : sums.quadrature ≡ total_to fold.quadrature.sums PLACES
+
+-- the sums of its entries with any signs fit in 16 bits
+pub record IsSmall (fold : Fold) : Type 0 where
+  pub in_phase : sizes_to fold.in_phase.sums PLACES ≤ MOST_SMALL
+  pub quadrature : sizes_to fold.quadrature.sums PLACES ≤ MOST_SMALL
 
 -- how many samples it has taken
 abbrev pub taken_of : Fold → ℕ

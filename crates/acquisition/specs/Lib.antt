@@ -10,3 +10,4 @@ pub mod Periods
 pub mod Powers
 pub mod Ones
 pub mod Rings
+pub mod Pairs

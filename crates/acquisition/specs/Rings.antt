@@ -1,9 +1,9 @@
 -- What a ring of chips stands for.
-use Rattle.std.specs.Prelude.{◌≡◌, ◌<◌, ◌+◌, ◌*◌, ◌%◌, ℕ, ℤ, pos, ◌+ℤ◌, ◌-◌}
-use Rattle.std.specs.Prelude.{List, get_or, slice_index}
+use Rattle.std.specs.Prelude.{◌≡◌, ◌<◌, ◌+◌, ◌*◌, ◌%◌, ◌^◌, ℕ, ℤ, pos, ◌+ℤ◌, ◌-◌}
+use Rattle.std.specs.Prelude.{List, get_or, slice_index, length}
 use Rattle.definitions.specs.Sums.{total}
 use Rattle.acquisition.specs.declared.ones.Ones.{Ones}
-use Rattle.acquisition.specs.declared.chip_ring.TheConstants.{RING, RAISED}
+use Rattle.acquisition.specs.declared.chip_ring.TheConstants.{RING, RAISED, LANES}
 
 -- the sum over the chip that begins at half chip k, from a table by half chips
 abbrev pub chip_from : List ℤ → ℕ → ℤ
@@ -14,6 +14,16 @@ abbrev pub IsRing : List ℤ → List ℕ → Type 0
 IsRing table ring = (i : ℕ) → i < RING → pos (slice_index ring i)
     ≡ pos RAISED +ℤ chip_from table ((4091 - i) % 2046)
 
+-- each entry of a ring is that of a first one plus 2^16 times that of a second one, modulo 2^32
+abbrev pub ArePaired : List ℕ → List ℕ → List ℕ → Type 0
+ArePaired first second pairs = (i : ℕ) → i < RING → slice_index pairs i
+    ≡ (slice_index first i + 2 ^ 16 * slice_index second i) % 2 ^ 32
+
+-- a vector's lanes are the entries of a ring from a place on
+pub record AreEntries (ring : List ℕ) (at : ℕ) (lanes : List ℕ) : Type 0 where
+  pub long : length lanes ≡ LANES
+  pub are : (l : ℕ) → l < LANES → slice_index lanes l ≡ slice_index ring (at + l)
+
 -- the place of a chip for a code that begins at a half chip
 abbrev pub place_of : ℕ → ℕ → ℕ
 place_of half chip = (half + 2045 - 2 * chip) % 2046
@@ -23,3 +33,11 @@ abbrev pub IsSumAtOnes : Ones → List ℕ → ℕ → ℕ → ℕ → Type 0
 IsSumAtOnes ones ring half l sum = pos sum
     ≡ total (λ k. pos (slice_index ring (place_of half (slice_index ones.chips k) + l)))
     ones.count
+
+-- the pair of such sums over two rings, modulo 2^32
+pub record IsPairAtOnes (ones : Ones) (first second : List ℕ) (half l pair : ℕ) : Type 0 where
+  pub of_first : ℕ
+  pub of_second : ℕ
+  pub is_first : IsSumAtOnes ones first half l of_first
+  pub is_second : IsSumAtOnes ones second half l of_second
+  pub is_pair : pair ≡ (of_first + 2 ^ 16 * of_second) % 2 ^ 32

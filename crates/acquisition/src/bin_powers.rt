@@ -3,13 +3,13 @@
 ghost use Rattle.std.specs.Prelude.{◌≡◌, ◌+◌, ◌*◌, ◌%◌, ◌<◌, ◌≤◌, ℕ, get_or, length};
 ghost use Rattle.acquisition.specs.Periods.{periods_of};
 ghost use Rattle.acquisition.specs.declared.bin_powers.TheConstants.{BIN_CELLS};
-ghost use Rattle.acquisition.specs.declared.chip_ring.TheConstants.{LANES};
+ghost use Rattle.acquisition.specs.declared.chip_ring.TheConstants.{CELLS_AT_ONCE};
 ghost use Rattle.acquisition.specs.declared.plan.TheConstants.{MOST_DWELL};
 ghost use Rattle.acquisition.specs.declared.sums.TheConstants.{MOST_PERIOD_POWER};
 ghost use Rattle.acquisition.specs.declared.tally.TheConstants.{MOST_POWER};
 
 use crate::bin_steps::Steps;
-use crate::chip_ring::LANES;
+use crate::chip_ring::CELLS_AT_ONCE;
 use crate::dwell::Dwell;
 use crate::ones::Ones;
 use crate::period_sums::PeriodSums;
@@ -86,20 +86,20 @@ impl BinPowers {
                 let period = (self.added / BIN_CELLS) as u32;
                 dwell.sum_up(period, steps, source, &mut self.sums);
             }
-            let count = (to - self.added).min(BIN_CELLS - cell).min(LANES);
+            let count = (to - self.added).min(BIN_CELLS - cell).min(CELLS_AT_ONCE);
             let powers = self.sums.powers(ones, cell);
             self.add(cell, count, &powers);
         }
     }
 
-    /// Adds the first `count` of sixteen powers over a period: those of `cell`, the next one, and of
+    /// Adds the first `count` of 64 powers over a period: those of `cell`, the next one, and of
     /// the cells after it.
-    fn add(&mut self, cell: usize, count: usize, powers: &[u64; LANES])
+    fn add(&mut self, cell: usize, count: usize, powers: &[u64; CELLS_AT_ONCE])
         requires cell { cell ≡ self.old.added % BIN_CELLS }
         requires within { cell + count ≤ BIN_CELLS }
         requires few { self.old.added + count ≤ BIN_CELLS * MOST_DWELL }
-        requires lanes { count ≤ LANES }
-        requires most { (l : ℕ) → l < LANES → get_or powers.now l 0 ≤ MOST_PERIOD_POWER }
+        requires lanes { count ≤ CELLS_AT_ONCE }
+        requires most { (l : ℕ) → l < CELLS_AT_ONCE → get_or powers.now l 0 ≤ MOST_PERIOD_POWER }
         ensures powers { (l : ℕ) → l < count → get_or self.new.powers (cell + l) 0
             ≡ get_or self.old.powers (cell + l) 0 + get_or powers.now l 0 }
         ensures before { (i : ℕ) → i < cell

@@ -4,19 +4,25 @@ ghost use Rattle.std.specs.Prelude.{◌≡◌, ◌+◌, ◌-◌, ◌*◌, ◌<�
 ghost use Rattle.std.specs.Prelude.{ℤ, pos, ◌+ℤ◌, List, get_or, unsigned_abs};
 ghost use Rattle.acquisition.specs.declared.chip_ring.TheConstants.{RING, RAISED, LANES};
 ghost use Rattle.acquisition.specs.declared.half_chip_table.TheConstants.{PLACES, LAST};
+ghost use Rattle.acquisition.specs.declared.ones.TheConstants.{CHIPS};
+ghost use Rattle.acquisition.specs.Rings.{place_of};
 
 use crate::half_chip_table::{HalfChipTable, LAST, PLACES};
 use std::simd::prelude::*;
 
-/// How many cells are summed up at once.
+/// The lanes of a vector: one for each of sixteen cells that follow one another.
 pub(crate) const LANES: usize = 16;
 
-/// The places of a ring: those of a table, and the first 15 again after them, so that sixteen in a
-/// row never wrap.
-const RING: usize = PLACES + LANES - 1;
+/// How many cells are summed up at once: those of four vectors.
+pub(crate) const CELLS_AT_ONCE: usize = 64;
 
-/// What is added to each sum, so that none is below 0: each is of two entries of a table.
-pub(crate) const RAISED: u32 = 360_000;
+/// The places of a ring: those of a table, and the first 63 again after them, so that 64 in a row
+/// never wrap.
+pub(crate) const RING: usize = PLACES + CELLS_AT_ONCE - 1;
+
+/// What is added to each sum, so that none is below 0: each is of two entries of a table, and at
+/// most 360,000 in size. Times 2^16 it is 0 modulo 2^32.
+pub(crate) const RAISED: u32 = 1 << 19;
 
 /// For each half chip the sum over the chip that begins there, raised by `RAISED`: the last half
 /// chip first, since a code that begins a half chip later has its chips a half chip earlier.
@@ -76,6 +82,15 @@ impl ChipRing {
         }
     }
 
+    /// The raised sum at place `i`.
+    #[inline(always)]
+    pub(crate) fn chip(&self, i: usize) -> u32
+        requires { i < RING }
+        ensures { result ≡ slice_index self.now.chips i }
+    {
+        self.chips[i]
+    }
+
     /// The raised sums at sixteen places, from place `at` on.
     #[inline(always)]
     pub(crate) fn sixteen(&self, at: usize) -> u32x16
@@ -86,5 +101,21 @@ impl ChipRing {
         ensures small { (l : ℕ) → l < LANES → slice_index result l ≤ 2 * RAISED }
     {
         u32x16::from_slice(&self.chips[at..])
+    }
+}
+
+/// The place in a ring of a chip, for a code that begins at half chip `half`.
+#[inline(always)]
+pub(crate) fn place_of(half: usize, chip: usize) -> usize
+    requires half { half < PLACES }
+    requires chip { chip < CHIPS }
+    ensures place { result ≡ place_of half chip }
+    ensures inside { result < PLACES }
+{
+    let place = half + LAST - 2 * chip;
+    if place < PLACES {
+        place
+    } else {
+        place - PLACES
     }
 }

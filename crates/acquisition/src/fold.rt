@@ -1,7 +1,7 @@
 //! Samples without their carrier, added up by the half chips at which they lie.
 
 ghost use Rattle.std.specs.Prelude.{◌≡◌, ◌+◌, ◌*◌, ◌<◌, ◌≤◌, ◌%◌, ◌^◌, ℕ, length, get_or, pos};
-ghost use Rattle.std.specs.Prelude.{unsigned_abs};
+ghost use Rattle.std.specs.Prelude.{unsigned_abs, true};
 ghost use Rattle.definitions.specs.Oscillators.{code_cycle};
 ghost use Rattle.definitions.specs.Samples.{Sample, sample_at};
 ghost use Rattle.definitions.specs.Correlation.{wiped_in_phase, wiped_quadrature};
@@ -17,6 +17,9 @@ use sample_planes::{MAX_SAMPLES, Planes, SampleSource};
 /// The code's cycle of 1,023 chips (IS-GPS-200, section 3.3.2.3), in 2^-32 chip.
 const CYCLE: u64 = 1023 << 32;
 
+/// The greatest sum in size that fits in 16 bits.
+pub(crate) const MOST_SMALL: u32 = (1 << 15) - 1;
+
 /// A period's samples, each times the conjugate of the carrier, added up by the half chips at which
 /// they lie for a code that begins at phase 0.
 #[derive(Debug, Drop)]
@@ -29,7 +32,7 @@ pub(crate) struct Fold {
 impl Fold {
     ghost use Rattle.definitions.specs.Oscillators.{code_phase_after, carrier_phase_after};
     ghost use Rattle.acquisition.specs.Folds.{half_chip_at, in_phase_at, quadrature_at};
-    ghost use Rattle.acquisition.specs.FoldStates.{IsFold, IsWhole, taken_of};
+    ghost use Rattle.acquisition.specs.FoldStates.{IsFold, IsSmall, IsWhole, taken_of};
 
     /// The sums over no samples.
     #[inline(always)]
@@ -117,6 +120,13 @@ impl Fold {
     {
         self.in_phase.add(place, sample.in_phase);
         self.quadrature.add(place, sample.quadrature);
+    }
+
+    /// Whether the sums that it gives with any code fit in 16 bits.
+    pub(crate) fn is_small(&self) -> bool
+        ensures { result ≡ true → IsSmall self.now }
+    {
+        self.in_phase.sizes() <= MOST_SMALL && self.quadrature.sizes() <= MOST_SMALL
     }
 
     /// The sums of all entries.

@@ -60,4 +60,14 @@ impl HalfChipTable {
     {
         self.sums[place]
     }
+    /// The sizes of all sums, added up.
+    pub(crate) fn sizes(&self) -> u32
+        ensures { result ≡ sizes_to self.now.sums PLACES }
+    {
+        let mut sizes = 0;
+        for k in 0..PLACES {
+            sizes += self.sums[k].unsigned_abs();
+        }
+        sizes
+    }
 }

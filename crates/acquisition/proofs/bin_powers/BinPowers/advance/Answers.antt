@@ -1,7 +1,5 @@
-use Rattle.std.proofs.Common.{◌≡◌, ◌<◌, ◌≤◌, ◌+◌, ◌*◌, ◌/◌, ◌%◌, ℕ, refl, arith}
-use Rattle.definitions.specs.Samples.{Sample}
+use Rattle.std.proofs.Common.{◌≡◌, ◌*◌, ◌/◌, ◌%◌, ℕ, refl, arith}
 use Rattle.acquisition.specs.FoldStates.{IsFold}
-use Rattle.acquisition.specs.Powers.{AreSoFar}
 use Rattle.acquisition.proofs.SoFarLemmas.{so_far-more, IsRun}
 use Rattle.acquisition.proofs.bin_powers.BinPowers.advance.Given.{Over}
 use Rattle.acquisition.proofs.bin_powers.BinPowers.advance.Goals as goal

@@ -22,7 +22,8 @@ returns g c x same =
     ∙ ap (code_phase_after 0 steps.code) is in
     let carrier : c.advance.new.self.phase ≡ carrier_phase_after 0 steps.carrier before =
     ap (λ (o : Oscillation). o.phase) c.advance.ensures
-    ∙ ap (λ (o : Oscillation). carrier_phase_after o.phase o.step behind) c.new-carrier.ensures ∙ ap (carrier_phase_after 0 steps.carrier) is in
+    ∙ ap (λ (o : Oscillation). carrier_phase_after o.phase o.step behind) c.new-carrier.ensures
+    ∙ ap (carrier_phase_after 0 steps.carrier) is in
     let step : c.advance.new.self.step ≡ steps.carrier =
     ap (λ (o : Oscillation). o.step) c.advance.ensures
     ∙ ap (λ (o : Oscillation). o.step) c.new-carrier.ensures in

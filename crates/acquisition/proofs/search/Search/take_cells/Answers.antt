@@ -1,4 +1,4 @@
-use Rattle.std.proofs.Common.{◌≡◌, ◌≤◌, ◌<◌, ◌+◌, ◌*◌, ◌/◌, ◌%◌, ◌∙◌, ℕ, List, ap, refl, arith}
+use Rattle.std.proofs.Common.{◌≡◌, ◌≤◌, ◌<◌, ◌+◌, ◌*◌, ◌/◌, ◌∙◌, ℕ, List, ap, refl, arith}
 use Rattle.definitions.specs.Acquisition.{Plan, power_of, dwell_end}
 use Rattle.definitions.specs.Oscillators.{Settings, samples_per_ms}
 use Rattle.definitions.specs.Samples.{Sample, sample_at}

@@ -7,7 +7,7 @@ use Rattle.acquisition.proofs.CellLemmas.{cell_sum, IsCellSum}
 use Rattle.acquisition.proofs.FoldLemmas.{fold_power, entry_in_32}
 use Rattle.acquisition.proofs.PowerLemmas.{last_or_before, apart_before}
 use Rattle.acquisition.proofs.TableLemmas.{total_size}
-use Rattle.acquisition.proofs.period_sums.PeriodSums.powers.Goals as goal
+use Rattle.acquisition.proofs.period_sums.PeriodSums.sixteen_powers.Goals as goal
 
 whole_in_phase : (sums : PeriodSums) → unsigned_abs sums.whole.in_phase ≤ MOST_SUM
 whole_in_phase sums =
@@ -30,24 +30,28 @@ less_twice-requires-in-loop-l-clause-whole c =
     (whole_quadrature c.args.self.now)
 
 in_phase : (c : goal.After-less_twice-in-loop-l) → IsCellSum c.args.ones.now.prn
-    (c.args.half + c.loop-l.l) c.args.self.now.fold.in_phase.sums c.less_twice.result
+    (c.args.half + (c.args.shift + c.loop-l.l)) c.args.self.now.fold.in_phase.sums
+    c.less_twice.result
 in_phase c =
     let sums = c.args.self.now in
-    cell_sum c.args.ones.now c.args.half c.loop-l.l _ sums.fold.in_phase sums.in_phase.chips
+    cell_sum c.args.ones.now c.args.half (c.args.shift + c.loop-l.l) _ sums.fold.in_phase
+    sums.in_phase.chips
     sums.whole.in_phase c.less_twice.result
-    c.requires.half c.loop-l-test.true sums.ring_in_phase sums.all.in_phase
+    c.requires.half (omega (arith, c.requires.shift, c.loop-l-test.true)) sums.ring_in_phase
+    sums.all.in_phase
     (c.at_ones-picked.ensures.in_phase c.loop-l.l c.loop-l-test.true)
     (c.less_twice.ensures
     ∙ rw (entry_in_32 sums.whole.in_phase (whole_in_phase sums), c.count.ensures.value) refl)
 
 quadrature : (c : goal.After-less_twice-in-loop-l) → IsCellSum c.args.ones.now.prn
-    (c.args.half + c.loop-l.l) c.args.self.now.fold.quadrature.sums
+    (c.args.half + (c.args.shift + c.loop-l.l)) c.args.self.now.fold.quadrature.sums
     c.less_twice-in-loop-l.result
 quadrature c =
     let sums = c.args.self.now in
-    cell_sum c.args.ones.now c.args.half c.loop-l.l _ sums.fold.quadrature
+    cell_sum c.args.ones.now c.args.half (c.args.shift + c.loop-l.l) _ sums.fold.quadrature
     sums.quadrature.chips sums.whole.quadrature c.less_twice-in-loop-l.result
-    c.requires.half c.loop-l-test.true sums.ring_quadrature sums.all.quadrature
+    c.requires.half (omega (arith, c.requires.shift, c.loop-l-test.true)) sums.ring_quadrature
+    sums.all.quadrature
     (c.at_ones-picked.ensures.quadrature c.loop-l.l c.loop-l-test.true)
     (c.less_twice-in-loop-l.ensures
     ∙ rw (entry_in_32 sums.whole.quadrature (whole_quadrature sums), c.count.ensures.value) refl)
@@ -95,7 +99,8 @@ returns-clause-powers c x step carrier_step from n fold l h =
     let here = c.loop-l.invariant in
     let table = c.args.self.now.fold in
     here.done l (omega (arith, h, c.loop-l-test.false))
-    ∙ fold_power x c.args.ones.now.prn (c.args.half + l) step carrier_step from n table _ _ fold
+    ∙ fold_power x c.args.ones.now.prn (c.args.half + (c.args.shift + l)) step carrier_step from n
+    table _ _ fold
     refl refl
 
 pub returns-clause-most : goal.returns-clause-most

@@ -1,0 +1,6 @@
+use Rattle.std.proofs.Common.{◌≡◌, ◌<◌, ◌+◌, ◌*◌, ◌%◌, ◌^◌, ℕ, slice_index}
+use Rattle.acquisition.proofs.pair_ring.PairRing.set.Given as goal
+
+abbrev pub invariant-loop-i : goal.invariant-loop-i
+invariant-loop-i l = (j : ℕ) → j < l.i → slice_index l.self.chips j
+    ≡ (slice_index l.first.chips j + 2 ^ 16 * slice_index l.second.chips j) % 2 ^ 32

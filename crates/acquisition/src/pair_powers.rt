@@ -1,0 +1,145 @@
+//! The powers of cells where the sums in phase and in quadrature are added up at once.
+
+ghost use Rattle.std.specs.Prelude.{◌≡◌, ◌+◌, ◌*◌, ◌/◌, ◌%◌, ◌^◌, ◌<◌, ◌≤◌, ◌+ℤ◌, ◌-ℤ◌, ℕ, pos};
+ghost use Rattle.std.specs.Prelude.{true, length, slice_index, unsigned_abs};
+ghost use Rattle.definitions.specs.Samples.{Sample};
+ghost use Rattle.acquisition.specs.FoldStates.{IsFold};
+ghost use Rattle.acquisition.specs.Pairs.{ArePairsAtOnes, IsRaisedWhole, cell_pair, power_of_pair};
+ghost use Rattle.acquisition.specs.declared.chip_ring.TheConstants.{CELLS_AT_ONCE, LANES};
+ghost use Rattle.acquisition.specs.declared.fold.TheConstants.{MOST_SMALL};
+ghost use Rattle.acquisition.specs.declared.half_chip_table.TheConstants.{PLACES};
+ghost use Rattle.acquisition.specs.declared.ones.TheConstants.{CHIPS};
+ghost use Rattle.acquisition.specs.declared.sums.TheConstants.{MOST_PERIOD_POWER};
+
+use crate::chip_ring::{CELLS_AT_ONCE, LANES, RAISED, place_of};
+use crate::half_chip_table::PLACES;
+use crate::ones::Ones;
+use crate::pair_ring::{PairLanes, pair};
+use crate::period_sums::PeriodSums;
+use crate::power_runs::put_sixteen;
+use crate::sums::Sums;
+use std::simd::prelude::*;
+
+impl PeriodSums {
+    ghost use Rattle.definitions.specs.Correlation.{replica_of};
+    ghost use Rattle.definitions.specs.Acquisition.{power_over};
+    ghost use Rattle.acquisition.specs.Replicas.{phases};
+
+    /// The powers of 64 cells from half chip `half` on, where each sum of a cell fits in 16 bits.
+    #[inline(never)]
+    pub(crate) fn powers_by_pairs(&self, ones: &Ones, half: usize) -> [u64; CELLS_AT_ONCE]
+        requires small { self.now.is_small ≡ true }
+        requires half { half < PLACES }
+        ensures long { length result ≡ CELLS_AT_ONCE }
+        ensures powers { (x : ℕ → Sample) (step carrier_step from n : ℕ)
+            → IsFold x step carrier_step from n self.now.fold → (l : ℕ) → l < CELLS_AT_ONCE
+            → slice_index result l ≡ power_over x
+            (replica_of ones.now.prn (phases (half + l) step carrier_step)) from (from + n) }
+        ensures most { (l : ℕ) → l < CELLS_AT_ONCE → slice_index result l ≤ MOST_PERIOD_POWER }
+    {
+        let picked = self.pairs_at_ones(ones, half);
+        let whole = self.raised_whole(ones.count());
+        let mut powers = [0; CELLS_AT_ONCE];
+        put_sixteen(&mut powers, 0, &powers_of(whole, &picked.first.to_array()));
+        put_sixteen(
+            &mut powers,
+            LANES,
+            &powers_of(whole, &picked.second.to_array()),
+        );
+        put_sixteen(
+            &mut powers,
+            2 * LANES,
+            &powers_of(whole, &picked.third.to_array()),
+        );
+        put_sixteen(
+            &mut powers,
+            3 * LANES,
+            &powers_of(whole, &picked.fourth.to_array()),
+        );
+        powers
+    }
+
+    /// The pairs over the chips of 1, for 64 cells from half chip `half` on.
+    #[inline(always)]
+    fn pairs_at_ones(&self, ones: &Ones, half: usize) -> PairLanes
+        requires half { half < PLACES }
+        ensures first { ArePairsAtOnes self.now ones.now half 0 result.first }
+        ensures second { ArePairsAtOnes self.now ones.now half 16 result.second }
+        ensures third { ArePairsAtOnes self.now ones.now half 32 result.third }
+        ensures fourth { ArePairsAtOnes self.now ones.now half 48 result.fourth }
+    {
+        let mut first = u32x16::splat(0);
+        let mut second = u32x16::splat(0);
+        let mut third = u32x16::splat(0);
+        let mut fourth = u32x16::splat(0);
+        for k in 0..ones.count() {
+            let more = self.pairs.sixty_four(place_of(half, ones.chip(k)));
+            first = first + more.first;
+            second = second + more.second;
+            third = third + more.third;
+            fourth = fourth + more.fourth;
+        }
+        PairLanes {
+            first,
+            second,
+            third,
+            fourth,
+        }
+    }
+
+    /// The pair of the sums over all samples, modulo 2^32. Each is raised by 2^15, and the first by
+    /// twice what raises the sum over `ones` chips of 1.
+    #[inline(always)]
+    fn raised_whole(&self, ones: usize) -> u32
+        requires small { self.now.is_small ≡ true }
+        requires ones { ones ≤ CHIPS }
+        ensures { IsRaisedWhole self.now ones result }
+    {
+        let first = raised(self.whole.in_phase) + 2 * RAISED * ones as u32;
+        let second = raised(self.whole.quadrature);
+        pair(first, second)
+    }
+}
+
+/// What raises a sum that is smaller, so that it isn't below 0.
+const HALF: i32 = 1 << 15;
+
+/// A sum that fits in 16 bits, raised by 2^15.
+#[inline(always)]
+fn raised(sum: i32) -> u32
+    requires { unsigned_abs sum ≤ MOST_SMALL }
+    ensures value { pos result ≡ sum +ℤ pos (2 ^ 15) }
+    ensures most { result < 2 ^ 16 }
+{
+    (sum + HALF) as u32
+}
+
+/// The powers of sixteen cells, from their pairs at the chips of 1.
+#[inline(always)]
+fn powers_of(whole: u32, picked: &[u32; LANES]) -> [u64; LANES]
+    ensures long { length result ≡ LANES }
+    ensures powers { (l : ℕ) → l < LANES → slice_index result l
+        ≡ power_of_pair (cell_pair whole (slice_index picked.now l)) }
+    ensures most { (l : ℕ) → l < LANES → slice_index result l ≤ MOST_PERIOD_POWER }
+{
+    let mut powers = [0; LANES];
+    for l in 0..LANES {
+        let pair = whole.wrapping_sub(picked[l].wrapping_mul(2));
+        powers[l] = sums_of(pair).power();
+    }
+    powers
+}
+
+/// The sums of a pair, each of which is raised by 2^15.
+#[inline(always)]
+fn sums_of(pair: u32) -> Sums
+    ensures in_phase { result.in_phase ≡ pos (pair % 2 ^ 16) -ℤ pos (2 ^ 15) }
+    ensures quadrature { result.quadrature ≡ pos (pair / 2 ^ 16) -ℤ pos (2 ^ 15) }
+    ensures small_in_phase { unsigned_abs result.in_phase ≤ 2 ^ 15 }
+    ensures small_quadrature { unsigned_abs result.quadrature ≤ 2 ^ 15 }
+{
+    Sums {
+        in_phase: (pair % (1 << 16)) as i32 - HALF,
+        quadrature: (pair >> 16) as i32 - HALF,
+    }
+}
