@@ -1,7 +1,7 @@
 //! Plans at the ends of their ranges, searches whose cells were worked out by hand, and a made
 //! signal against a plain double loop.
 
-ghost use Rattle.std.specs.Prelude.{◌+◌, ◌≤◌, ◌^◌, length};
+ghost use Rattle.std.specs.Prelude.{◌+◌, ◌<◌, ◌≤◌, ◌^◌, length};
 ghost use Rattle.definitions.specs.Acquisition.{dwell_end};
 
 mod made_signal;
@@ -83,6 +83,49 @@ fn equal_cells(rt: HostRuntime) -> Result<(), Fail> {
             "at {threshold}"
         );
     }
+    Ok(())
+}
+
+/// The code of satellite 1, in samples of two bits and of size 3: so many bytes, of four samples
+/// each, for a chip.
+fn code_in_threes(bytes_a_chip: usize) -> [u8; 4092]
+    requires { 0 < bytes_a_chip }
+{
+    let signs = made_signal::signs(1, 5);
+    let mut bytes = [0; 4092];
+    for k in 0..4092 {
+        let is_minus = signs[k / bytes_a_chip % 1023] < 0;
+        bytes[k] = if is_minus { 0xff } else { 0x55 };
+    }
+    bytes
+}
+
+// With the replica of half chip 0 each product is 6 in phase and -3 in quadrature. At 4.092 MHz
+// their sums fit in 16 bits: 24,552 and -12,276. At 16.368 MHz they don't: 98,208 and -49,104.
+#[test]
+fn sums_beside_16_bits(rt: HostRuntime) -> Result<(), Fail> {
+    let plan = Plan::new(Prn::new(1).ok_or("a satellite")?, 0, 0, 1, 1_000)?;
+    let half = HalfChip::new(0).ok_or("a half chip")?;
+    let named = |power| {
+        Some(Cell {
+            bin: 0,
+            half,
+            power,
+            found: true,
+        })
+    };
+
+    let settings = Settings::new(4_092_000, 0, Format::Real2)?;
+    let bytes = code_in_threes(1);
+    let source = NumberedSamples::new(PackedSamples::new(Format::Real2, &bytes), 0);
+    let cell = search_in_steps(&settings, plan, 0, &source, 300);
+    assert_eq!(rt; cell, named(753_500_880));
+
+    let settings = Settings::new(16_368_000, 0, Format::Real2)?;
+    let bytes = code_in_threes(4);
+    let source = NumberedSamples::new(PackedSamples::new(Format::Real2, &bytes), 0);
+    let cell = search_in_steps(&settings, plan, 0, &source, 300);
+    assert_eq!(rt; cell, named(12_056_014_080));
     Ok(())
 }
 
