@@ -1,7 +1,7 @@
 //! The options of the program `receiver`. `matches` has the option parser read the words of a
-//! command line, and the rest says what the options that it found ask for: the recording's settings,
-//! and the names of the script files. What is found in which words is proved by the parser's own
-//! definitions, of the command that the specs define.
+//! command line, and the rest says what the options that it found ask for: the recording's
+//! settings, and the names of the script files. What is found in which words is proved by the
+//! parser's own definitions, of the command that the specs define.
 //!
 //!     use oscillators::Settings;
 //!     use receiver_options::{matches, settings};

@@ -9,7 +9,8 @@ returns-clause-chips c prn table k h =
     let r = c.requires in
     let n : ℕ = get_or c.args.numbers k 0 in
     chip-top prn (c.args.first + n) (get_or c.pick_bytes.result k 0)
-    (c.pick_bytes.ensures.picked k h ∙ table (c.args.first + n) (omega (arith, r.first, r.below k h)))
+    (c.pick_bytes.ensures.picked k h ∙ table (c.args.first + n)
+    (omega (arith, r.first, r.below k h)))
 
 pub returns-clause-before : goal.returns-clause-before
 unfolding IsTable
@@ -17,4 +18,5 @@ returns-clause-before c prn table k h =
     let r = c.requires in
     let n : ℕ = get_or c.args.numbers k 0 in
     chip-next prn (c.args.first + n) (get_or c.pick_bytes.result k 0)
-    (c.pick_bytes.ensures.picked k h ∙ table (c.args.first + n) (omega (arith, r.first, r.below k h)))
+    (c.pick_bytes.ensures.picked k h ∙ table (c.args.first + n)
+    (omega (arith, r.first, r.below k h)))
