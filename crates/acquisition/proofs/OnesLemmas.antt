@@ -1,10 +1,12 @@
 -- The chips of 1, one after another.
-use Rattle.std.proofs.Common.{inl, inr, ◌≡◌, ℕ, suc, ◌+◌, ◌<◌, refl, ap, arith}
+use Rattle.std.proofs.Common.{inl, inr, ◌≡◌, ℕ, suc, ◌+◌, ◌<◌, ◌≤◌, refl, ap, arith}
 use Rattle.std.specs.Prelude.{ℤ, pos, ◌+ℤ◌, ◌==◌, true, false, cond, ◌⊎◌, List, slice_index}
 use Rattle.std.proofs.lemmas.Int.{ints}
 use Rattle.definitions.specs.Sums.{total}
 use Rattle.definitions.specs.Codes.{chip}
 use Rattle.definitions.proofs.SumsLemmas.{total-same}
+use Rattle.ca_codes.specs.Filled.{IsTable}
+use Rattle.ca_codes.proofs.BookLemmas.{chip_below_two}
 use Rattle.acquisition.specs.Ones.{AreOnes}
 
 pub ones-none : (prn : ℕ) (chips : List ℕ) → AreOnes prn 0 chips 0
@@ -64,3 +66,22 @@ ones-same prn n count old new are alike zero =
   where
     no_more : (z : ℤ) → z ≡ z +ℤ pos 0
     no_more z = omega (arith, ints)
+
+-- whether a chip is 1, by the top bit of its byte in a table of the code
+pub of_one : (prn k : ℕ) (table : List ℕ) → IsTable prn table → k < 1023
+    → 128 ≤ slice_index table k → (chip prn k == 1) ≡ true
+unfolding IsTable
+of_one prn k table is inside high =
+    let one : chip prn k ≡ 1 =
+    omega (arith, is k (omega (arith, inside)), high, chip_below_two prn k,
+    chip_below_two prn (k + 1022)) in
+    rw one refl
+
+pub of_zero : (prn k : ℕ) (table : List ℕ) → IsTable prn table → k < 1023
+    → slice_index table k < 128 → (chip prn k == 1) ≡ false
+unfolding IsTable
+of_zero prn k table is inside low =
+    let nought : chip prn k ≡ 0 =
+    omega (arith, is k (omega (arith, inside)), low, chip_below_two prn k,
+    chip_below_two prn (k + 1022)) in
+    rw nought refl

@@ -24,11 +24,12 @@ impl Ones {
     pub(crate) fn new(prn: Prn, book: &mut CodeBook) -> Ones
         ensures { result.prn ≡ prn }
     {
+        let table = book.table(prn);
         let mut chips = [0; CHIPS];
         let mut count = 0;
         for chip in 0..CHIPS {
             chips[count] = chip as u16;
-            if book.chip(prn, chip as u32) {
+            if table[chip] >= 1 << 7 {
                 count += 1;
             }
         }

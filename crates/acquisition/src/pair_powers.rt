@@ -26,7 +26,6 @@ impl PeriodSums {
     ghost use Rattle.acquisition.specs.Replicas.{phases};
 
     /// The powers of 64 cells from half chip `half` on, where each sum of a cell fits in 16 bits.
-    #[inline(never)]
     pub(crate) fn powers_by_pairs(&self, ones: &Ones, half: usize) -> [u64; CELLS_AT_ONCE]
         requires small { self.now.is_small ≡ true }
         requires half { half < PLACES }
@@ -60,7 +59,7 @@ impl PeriodSums {
     }
 
     /// The pairs over the chips of 1, for 64 cells from half chip `half` on.
-    #[inline(always)]
+    #[inline(never)]
     fn pairs_at_ones(&self, ones: &Ones, half: usize) -> PairLanes
         requires half { half < PLACES }
         ensures first { ArePairsAtOnes self.now ones.now half 0 result.first }

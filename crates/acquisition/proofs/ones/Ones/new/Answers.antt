@@ -1,9 +1,8 @@
 use Rattle.std.proofs.Common.{◌≡◌, ◌<◌, ◌∙◌, ℕ, length, slice_index, List, arith, refl}
-use Rattle.std.proofs.Common.{sym}
 use Rattle.std.proofs.Math.ListN.{set}
 use Rattle.std.proofs.lemmas.List.{get_or-set_same, get_or-set_other, length-set}
-use Rattle.acquisition.proofs.OnesLemmas.{ones-none, ones-more, ones-same}
-use Rattle.acquisition.proofs.ones.Ones.new.Goals.{then-chip, else-chip}
+use Rattle.acquisition.proofs.OnesLemmas.{ones-none, ones-more, ones-same, of_one, of_zero}
+use Rattle.acquisition.proofs.ones.Ones.new.Goals.{then-table-chip, else-table-chip}
 use Rattle.acquisition.proofs.ones.Ones.new.Goals as goal
 
 pub loop-chip-init : goal.loop-chip-init
@@ -22,10 +21,12 @@ loop-chip-preserved c =
     λ k h. get_or-set_other old count k n 0 (λ e. absurd (omega (arith, h, e))) in
     record {
       long = length-set old count n ∙ here.long;
-      are = elim c.if-chip.branch [
-        | then-chip w ↦ rw w.count-is (ones-more prn n count old (set old count n) here.are alike
-            (get_or-set_same old count n 0 inside) (sym c.chip.ensures ∙ w.if-chip.true))
-        | else-chip w ↦ rw w.count-is (ones-same prn n count old (set old count n) here.are alike
-            (sym c.chip.ensures ∙ w.if-chip.false))
+      are = elim c.if-table-chip.branch [
+        | then-table-chip w ↦ rw w.count-is (ones-more prn n count old (set old count n) here.are alike
+            (get_or-set_same old count n 0 inside) (of_one prn n c.table-table.result.now c.table-table.ensures
+            c.loop-chip-test.true w.if-table-chip.true))
+        | else-table-chip w ↦ rw w.count-is (ones-same prn n count old (set old count n) here.are alike
+            (of_zero prn n c.table-table.result.now c.table-table.ensures
+            c.loop-chip-test.true w.if-table-chip.false))
       ];
     }
