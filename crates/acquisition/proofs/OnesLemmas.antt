@@ -73,8 +73,13 @@ pub of_one : (prn k : ℕ) (table : List ℕ) → IsTable prn table → k < 1023
 unfolding IsTable
 of_one prn k table is inside high =
     let one : chip prn k ≡ 1 =
-    omega (arith, is k (omega (arith, inside)), high, chip_below_two prn k,
-    chip_below_two prn (k + 1022)) in
+    omega (
+      arith,
+      is k (omega (arith, inside)),
+      high,
+      chip_below_two prn k,
+      chip_below_two prn (k + 1022),
+    ) in
     rw one refl
 
 pub of_zero : (prn k : ℕ) (table : List ℕ) → IsTable prn table → k < 1023
@@ -82,6 +87,11 @@ pub of_zero : (prn k : ℕ) (table : List ℕ) → IsTable prn table → k < 102
 unfolding IsTable
 of_zero prn k table is inside low =
     let nought : chip prn k ≡ 0 =
-    omega (arith, is k (omega (arith, inside)), low, chip_below_two prn k,
-    chip_below_two prn (k + 1022)) in
+    omega (
+      arith,
+      is k (omega (arith, inside)),
+      low,
+      chip_below_two prn k,
+      chip_below_two prn (k + 1022),
+    ) in
     rw nought refl
