@@ -16,8 +16,7 @@ use Rattle.acquisition.specs.declared.ones.Ones.{Ones}
 use Rattle.acquisition.specs.declared.sums.TheConstants.{MOST_SUM}
 use Rattle.acquisition.proofs.SignLemmas.{sign_of_one, sign_of_zero}
 use Rattle.acquisition.specs.declared.fold.TheConstants.{MOST_SMALL}
-use Rattle.acquisition.specs.declared.period_sums.PeriodSums.{PeriodSums}
-use Rattle.acquisition.proofs.TableLemmas.{correlation_size, total_size}
+use Rattle.acquisition.proofs.TableLemmas.{correlation_size}
 use Rattle.std.proofs.Common.{to_z, of_z, w32}
 use Rattle.std.proofs.lemmas.Int.{to_z-of_z, fits_signed_from_abs}
 
@@ -210,17 +209,7 @@ cell_sum ones half l lane table ring whole sum inside few is all at is_sum =
     lowered : (n : ℕ) (z : ℤ) → pos n +ℤ z -ℤ pos n ≡ z
     lowered n z = omega (arith, ints)
 
--- sums over all samples that fit in 16 bits
-pub whole_small_in_phase : (sums : PeriodSums) → sums.is_small ≡ true
-    → unsigned_abs sums.whole.in_phase ≤ MOST_SMALL
-whole_small_in_phase sums is = rw sums.all.in_phase
-    (omega (arith, total_size 2046 sums.fold.in_phase.sums, (sums.small is).in_phase))
-
-pub whole_small_quadrature : (sums : PeriodSums) → sums.is_small ≡ true
-    → unsigned_abs sums.whole.quadrature ≤ MOST_SMALL
-whole_small_quadrature sums is = rw sums.all.quadrature
-    (omega (arith, total_size 2046 sums.fold.quadrature.sums, (sums.small is).quadrature))
-
+-- a small number in 32 bits
 pub kept_small : (z : ℤ) → unsigned_abs z ≤ MOST_SMALL → to_z w32 (of_z w32 z) ≡ z
 kept_small z small = to_z-of_z w32 z (fits_signed_from_abs w32 z (omega (arith, small)))
 

@@ -5,13 +5,13 @@ use Rattle.std.specs.Prelude.{get_or, ◌⊎◌}
 use Rattle.definitions.specs.Samples.{Sample}
 use Rattle.definitions.specs.Correlation.{Replica, replica_of}
 use Rattle.definitions.specs.Acquisition.{power_over}
-use Rattle.acquisition.specs.FoldStates.{IsFold}
+use Rattle.acquisition.specs.PeriodStates.{AreSumsOf}
 use Rattle.acquisition.specs.Periods.{periods_of}
 use Rattle.acquisition.specs.Powers.{AreSoFar}
 use Rattle.acquisition.specs.Replicas.{phases}
 use Rattle.acquisition.specs.declared.bin_powers.BinPowers.{BinPowers}
 use Rattle.acquisition.specs.declared.bin_steps.Steps.{Steps}
-use Rattle.acquisition.specs.declared.fold.Fold.{Fold}
+use Rattle.acquisition.specs.declared.period_sums.PeriodSums.{PeriodSums}
 use Rattle.acquisition.proofs.PowerLemmas.{power-none, power-more}
 
 -- over how many periods a cell's power is
@@ -60,8 +60,8 @@ so_far-none x prn long steps bin none zeros = record {
 
 -- some more
 pub so_far-more : (x : ℕ → Sample) (prn long : ℕ) (steps : Steps) (old new : BinPowers)
-    (fold : Fold) (cell count : ℕ) (more : List ℕ) → IsRun old.added cell count
-    → IsFold x steps.code steps.carrier (old.added / 2046 * long) long fold
+    (sums : PeriodSums) (cell count : ℕ) (more : List ℕ) → IsRun old.added cell count
+    → AreSumsOf x steps.code steps.carrier (old.added / 2046 * long) long sums
     → ((l : ℕ) → l < count → get_or more l 0 ≡ power_over x
     (replica_of prn (phases (cell + l) steps.code steps.carrier)) (old.added / 2046 * long)
     (old.added / 2046 * long + long))
@@ -69,9 +69,9 @@ pub so_far-more : (x : ℕ → Sample) (prn long : ℕ) (steps : Steps) (old new
     ≡ get_or old.powers (cell + l) 0 + get_or more l 0)
     → ((i : ℕ) → i < cell → get_or new.powers i 0 ≡ get_or old.powers i 0)
     → ((i : ℕ) → cell + count ≤ i → get_or new.powers i 0 ≡ get_or old.powers i 0)
-    → new.added ≡ old.added + count → new.sums.fold ≡ fold → AreSoFar x prn long steps old
+    → new.added ≡ old.added + count → new.sums ≡ sums → AreSoFar x prn long steps old
     → AreSoFar x prn long steps new
-so_far-more x prn long steps old new fold cell count more run folded powers there before after
+so_far-more x prn long steps old new sums cell count more run folded powers there before after
     added same so_far = record {
       powers = λ i inside. elim (three i cell count) [
         | inl early ↦ before i early ∙ so_far.powers i inside

@@ -7,6 +7,7 @@ pub mod Searches
 pub mod Folds
 pub mod FoldStates
 pub mod Periods
+pub mod PeriodStates
 pub mod Powers
 pub mod Ones
 pub mod Rings

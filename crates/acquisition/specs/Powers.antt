@@ -2,7 +2,7 @@
 use Rattle.std.specs.Prelude.{◌≡◌, ◌<◌, ◌*◌, ◌/◌, ◌%◌, ℕ, get_or}
 use Rattle.definitions.specs.Samples.{Sample}
 use Rattle.definitions.specs.Correlation.{replica_of}
-use Rattle.acquisition.specs.FoldStates.{IsFold}
+use Rattle.acquisition.specs.PeriodStates.{AreSumsOf}
 use Rattle.acquisition.specs.Periods.{periods_of}
 use Rattle.acquisition.specs.Replicas.{phases, power_of_periods}
 use Rattle.acquisition.specs.declared.bin_powers.BinPowers.{BinPowers}
@@ -15,5 +15,5 @@ pub record AreSoFar (x : ℕ → Sample) (prn length_of_period : ℕ) (steps : S
   pub powers : (cell : ℕ) → cell < 2046 → get_or bin.powers cell 0 ≡ power_of_periods x
       (replica_of prn (phases cell steps.code steps.carrier)) length_of_period
       (periods_of cell bin.added)
-  pub sums : 0 < bin.added % 2046 → IsFold x steps.code steps.carrier
-      (bin.added / 2046 * length_of_period) length_of_period bin.sums.fold
+  pub sums : 0 < bin.added % 2046 → AreSumsOf x steps.code steps.carrier
+      (bin.added / 2046 * length_of_period) length_of_period bin.sums

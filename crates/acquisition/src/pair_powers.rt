@@ -3,7 +3,7 @@
 ghost use Rattle.std.specs.Prelude.{◌≡◌, ◌+◌, ◌*◌, ◌/◌, ◌%◌, ◌^◌, ◌<◌, ◌≤◌, ◌+ℤ◌, ◌-ℤ◌, ℕ, pos};
 ghost use Rattle.std.specs.Prelude.{true, length, slice_index, unsigned_abs};
 ghost use Rattle.definitions.specs.Samples.{Sample};
-ghost use Rattle.acquisition.specs.FoldStates.{IsFold};
+ghost use Rattle.acquisition.specs.PeriodStates.{AreSumsOf};
 ghost use Rattle.acquisition.specs.Pairs.{ArePairsAtOnes, IsRaisedWhole, cell_pair, power_of_pair};
 ghost use Rattle.acquisition.specs.declared.chip_ring.TheConstants.{CELLS_AT_ONCE, LANES};
 ghost use Rattle.acquisition.specs.declared.fold.TheConstants.{MOST_SMALL};
@@ -31,7 +31,7 @@ impl PeriodSums {
         requires half { half < PLACES }
         ensures long { length result ≡ CELLS_AT_ONCE }
         ensures powers { (x : ℕ → Sample) (step carrier_step from n : ℕ)
-            → IsFold x step carrier_step from n self.now.fold → (l : ℕ) → l < CELLS_AT_ONCE
+            → AreSumsOf x step carrier_step from n self.now → (l : ℕ) → l < CELLS_AT_ONCE
             → slice_index result l ≡ power_over x
             (replica_of ones.now.prn (phases (half + l) step carrier_step)) from (from + n) }
         ensures most { (l : ℕ) → l < CELLS_AT_ONCE → slice_index result l ≤ MOST_PERIOD_POWER }

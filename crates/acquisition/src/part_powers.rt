@@ -3,7 +3,7 @@
 ghost use Rattle.std.specs.Prelude.{◌≡◌, ◌+◌, ◌*◌, ◌<◌, ◌≤◌, ◌-ℤ◌, ◌*ℤ◌, ℕ, pos, length};
 ghost use Rattle.std.specs.Prelude.{slice_index, unsigned_abs};
 ghost use Rattle.definitions.specs.Samples.{Sample};
-ghost use Rattle.acquisition.specs.FoldStates.{IsFold};
+ghost use Rattle.acquisition.specs.PeriodStates.{AreSumsOf};
 ghost use Rattle.acquisition.specs.Rings.{IsSumAtOnes};
 ghost use Rattle.acquisition.specs.declared.chip_ring.TheConstants.{CELLS_AT_ONCE, LANES, RAISED};
 ghost use Rattle.acquisition.specs.declared.half_chip_table.TheConstants.{PLACES};
@@ -35,7 +35,7 @@ impl PeriodSums {
         requires half { half < PLACES }
         ensures long { length result ≡ CELLS_AT_ONCE }
         ensures powers { (x : ℕ → Sample) (step carrier_step from n : ℕ)
-            → IsFold x step carrier_step from n self.now.fold → (l : ℕ) → l < CELLS_AT_ONCE
+            → AreSumsOf x step carrier_step from n self.now → (l : ℕ) → l < CELLS_AT_ONCE
             → slice_index result l ≡ power_over x
             (replica_of ones.now.prn (phases (half + l) step carrier_step)) from (from + n) }
         ensures most { (l : ℕ) → l < CELLS_AT_ONCE → slice_index result l ≤ MOST_PERIOD_POWER }
@@ -55,7 +55,7 @@ impl PeriodSums {
         requires shift { shift + LANES ≤ CELLS_AT_ONCE }
         ensures long { length result ≡ LANES }
         ensures powers { (x : ℕ → Sample) (step carrier_step from n : ℕ)
-            → IsFold x step carrier_step from n self.now.fold → (l : ℕ) → l < LANES
+            → AreSumsOf x step carrier_step from n self.now → (l : ℕ) → l < LANES
             → slice_index result l ≡ power_over x
             (replica_of ones.now.prn (phases (half + (shift + l)) step carrier_step))
             from (from + n) }

@@ -1,13 +1,14 @@
 //! The sums over a period, and the powers of cells from them.
 
-ghost use Rattle.std.specs.Prelude.{◌≡◌, ◌+◌, ◌*◌, ◌<◌, ◌≤◌, ℕ, true, length, slice_index};
+ghost use Rattle.std.specs.Prelude.{◌≡◌, ◌+◌, ◌*◌, ◌<◌, ◌≤◌, ℕ, true, length};
+ghost use Rattle.std.specs.Prelude.{slice_index, unsigned_abs};
 ghost use Rattle.definitions.specs.Samples.{Sample};
-ghost use Rattle.acquisition.specs.FoldStates.{IsFold, IsSmall, IsWhole};
-ghost use Rattle.acquisition.specs.Rings.{ArePaired, IsRing};
+ghost use Rattle.acquisition.specs.Rings.{ArePaired};
 ghost use Rattle.acquisition.specs.declared.chip_ring.TheConstants.{CELLS_AT_ONCE};
 ghost use Rattle.acquisition.specs.declared.dwell.TheConstants.{MOST_START};
+ghost use Rattle.acquisition.specs.declared.fold.TheConstants.{MOST_SMALL};
 ghost use Rattle.acquisition.specs.declared.half_chip_table.TheConstants.{PLACES};
-ghost use Rattle.acquisition.specs.declared.sums.TheConstants.{MOST_PERIOD_POWER};
+ghost use Rattle.acquisition.specs.declared.sums.TheConstants.{MOST_SUM, MOST_PERIOD_POWER};
 ghost use Rattle.oscillators.specs.declared.settings.TheConstants.{MOST_PER_MS};
 
 use crate::chip_ring::{CELLS_AT_ONCE, ChipRing};
@@ -22,7 +23,6 @@ use sample_planes::SampleSource;
 /// begins, and over all.
 #[derive(Debug, Drop)]
 pub(crate) struct PeriodSums {
-    pub(crate) fold: Fold,
     pub(crate) in_phase: ChipRing,
     pub(crate) quadrature: ChipRing,
     pub(crate) whole: Sums,
@@ -30,17 +30,18 @@ pub(crate) struct PeriodSums {
     pub(crate) pairs: PairRing,
     /// Whether each sum of a cell fits in 16 bits.
     is_small: bool,
-    ghost ring_in_phase: { IsRing fold.in_phase.sums in_phase.chips },
-    ghost ring_quadrature: { IsRing fold.quadrature.sums quadrature.chips },
-    ghost all: { IsWhole whole fold },
+    ghost in_phase_most: { unsigned_abs whole.in_phase ≤ MOST_SUM },
+    ghost quadrature_most: { unsigned_abs whole.quadrature ≤ MOST_SUM },
     ghost paired: { ArePaired in_phase.chips quadrature.chips pairs.chips },
-    ghost small: { is_small ≡ true → IsSmall fold },
+    ghost in_phase_small: { is_small ≡ true → unsigned_abs whole.in_phase ≤ MOST_SMALL },
+    ghost quadrature_small: { is_small ≡ true → unsigned_abs whole.quadrature ≤ MOST_SMALL },
 }
 
 impl PeriodSums {
     ghost use Rattle.definitions.specs.Oscillators.{code_phase_after, carrier_phase_after};
     ghost use Rattle.definitions.specs.Correlation.{replica_of};
     ghost use Rattle.definitions.specs.Acquisition.{power_over};
+    ghost use Rattle.acquisition.specs.PeriodStates.{AreSumsOf};
     ghost use Rattle.acquisition.specs.Replicas.{phases};
 
     /// The sums over no samples.
@@ -51,7 +52,6 @@ impl PeriodSums {
         let mut pairs = PairRing::new();
         pairs.set(&in_phase, &quadrature);
         PeriodSums {
-            fold: Fold::new(),
             in_phase,
             quadrature,
             whole: Sums {
@@ -81,14 +81,15 @@ impl PeriodSums {
         ensures { (x : ℕ → Sample) (from : ℕ) → code.phase ≡ code_phase_after 0 code_step from
             → carrier.phase ≡ carrier_phase_after 0 carrier.step from
             → ((j : ℕ) → j < len → S.held source.now (first + j) ≡ x (from + j))
-            → IsFold x code_step carrier.step from len self.new.fold }
+            → AreSumsOf x code_step carrier.step from len self.new }
     {
-        self.fold.fill(source, first, len, code, code_step, carrier);
-        self.in_phase.set(&self.fold.in_phase);
-        self.quadrature.set(&self.fold.quadrature);
-        self.whole = self.fold.whole();
+        let mut fold = Fold::new();
+        fold.fill(source, first, len, code, code_step, carrier);
+        self.in_phase.set(&fold.in_phase);
+        self.quadrature.set(&fold.quadrature);
+        self.whole = fold.whole();
         self.pairs.set(&self.in_phase, &self.quadrature);
-        self.is_small = self.fold.is_small();
+        self.is_small = fold.is_small();
     }
 
     /// The powers over the period of 64 cells that follow one another, whose codes begin at half
@@ -98,7 +99,7 @@ impl PeriodSums {
         requires half { half < PLACES }
         ensures long { length result ≡ CELLS_AT_ONCE }
         ensures powers { (x : ℕ → Sample) (step carrier_step from n : ℕ)
-            → IsFold x step carrier_step from n self.now.fold → (l : ℕ) → l < CELLS_AT_ONCE
+            → AreSumsOf x step carrier_step from n self.now → (l : ℕ) → l < CELLS_AT_ONCE
             → slice_index result l ≡ power_over x
             (replica_of ones.now.prn (phases (half + l) step carrier_step)) from (from + n) }
         ensures most { (l : ℕ) → l < CELLS_AT_ONCE → slice_index result l ≤ MOST_PERIOD_POWER }

@@ -1,5 +1,5 @@
 use Rattle.std.proofs.Common.{◌≡◌, ◌*◌, ◌/◌, ◌%◌, ℕ, refl, arith}
-use Rattle.acquisition.specs.FoldStates.{IsFold}
+use Rattle.acquisition.specs.PeriodStates.{AreSumsOf}
 use Rattle.acquisition.proofs.SoFarLemmas.{so_far-more, IsRun}
 use Rattle.acquisition.proofs.bin_powers.BinPowers.advance.Given.{Over}
 use Rattle.acquisition.proofs.bin_powers.BinPowers.advance.Goals as goal
@@ -44,17 +44,17 @@ loop-self-preserved g c =
       );
       powers = λ x same begun.
           let before = here.powers x same begun in
-          let fold : IsFold x steps.code steps.carrier (old.added / 2046 * long) long
-          c.if-cell-eq0.self.sums.fold = elim c.if-cell-eq0.branch [
+          let sums : AreSumsOf x steps.code steps.carrier (old.added / 2046 * long) long
+          c.if-cell-eq0.self.sums = elim c.if-cell-eq0.branch [
             | then-cell-eq0 w ↦ rw w.self-is (w.sum_up.ensures x same)
             | else-cell-eq0 w ↦ rw w.self-is (before.sums (omega (arith, w.if-cell-eq0.false)))
           ] in
           so_far-more x c.args.ones.now.prn long steps old c.add.new.self
-          c.if-cell-eq0.self.sums.fold (old.added % 2046) c.min-count.result
-          c.powers-powers.result (run g c) fold
+          c.if-cell-eq0.self.sums (old.added % 2046) c.min-count.result
+          c.powers-powers.result (run g c) sums
           (λ l h. c.powers-powers.ensures.powers x steps.code steps.carrier
-          (old.added / 2046 * long) long fold l (omega (arith, h, c.min-count.ensures)))
+          (old.added / 2046 * long) long sums l (omega (arith, h, c.min-count.ensures)))
           (rw (powers_stay g c) at more.powers) (rw (powers_stay g c) at more.before)
           (rw (powers_stay g c) at more.after) (rw (as_many g c) at more.added)
-          (rw more.sums refl) before;
+          more.sums before;
     }

@@ -1,6 +1,41 @@
+use Rattle.std.proofs.Common.{arith}
+use Rattle.acquisition.proofs.TableLemmas.{total_size}
 use Rattle.acquisition.proofs.period_sums.PeriodSums.fill.Goals as goal
 
+pub invariant_of-self-clause-in_phase_most : goal.invariant_of-self-clause-in_phase_most
+invariant_of-self-clause-in_phase_most g c =
+    let table = c.fill.new.self.in_phase in
+    rw c.whole-self.ensures.in_phase
+    (omega (arith, total_size 2046 table.sums, table.small, table.few))
+
+pub invariant_of-self-clause-quadrature_most : goal.invariant_of-self-clause-quadrature_most
+invariant_of-self-clause-quadrature_most g c =
+    let table = c.fill.new.self.quadrature in
+    rw c.whole-self.ensures.quadrature
+    (omega (arith, total_size 2046 table.sums, table.small, table.few))
+
+pub invariant_of-self-clause-in_phase_small : goal.invariant_of-self-clause-in_phase_small
+invariant_of-self-clause-in_phase_small g c is =
+    rw c.whole-self.ensures.in_phase (omega (
+      arith,
+      total_size 2046 c.fill.new.self.in_phase.sums,
+      (c.is_small-self.ensures is).in_phase,
+    ))
+
+pub invariant_of-self-clause-quadrature_small : goal.invariant_of-self-clause-quadrature_small
+invariant_of-self-clause-quadrature_small g c is =
+    rw c.whole-self.ensures.quadrature (omega (
+      arith,
+      total_size 2046 c.fill.new.self.quadrature.sums,
+      (c.is_small-self.ensures is).quadrature,
+    ))
+
 pub returns : goal.returns
-returns g c x from code carrier same =
-    let fold = c.fill.ensures x from code carrier same in
-    record { in_phase = fold.in_phase; quadrature = fold.quadrature }
+returns g c x from code carrier same = record {
+  fold = c.fill.new.self;
+  is_fold = c.fill.ensures x from code carrier same;
+  in_phase = c.set.ensures;
+  quadrature = c.set-2.ensures;
+  whole = c.whole-self.ensures;
+  small = c.is_small-self.ensures;
+}

@@ -5,7 +5,7 @@ use Rattle.std.specs.Prelude.{ℤ, ◌-ℤ◌, ◌*ℤ◌}
 use Rattle.definitions.specs.Acquisition.{power_over}
 use Rattle.definitions.specs.Correlation.{replica_of}
 use Rattle.definitions.specs.Samples.{Sample}
-use Rattle.acquisition.specs.FoldStates.{IsFold}
+use Rattle.acquisition.specs.PeriodStates.{AreSumsOf}
 use Rattle.acquisition.specs.Pairs.{cell_pair, power_of_pair}
 use Rattle.acquisition.specs.Replicas.{phases}
 use Rattle.acquisition.specs.Rings.{IsPairAtOnes}
@@ -22,10 +22,10 @@ power : (c : goal.After-put_sixteen-4) (i lane : ℕ) → i < 64
     → IsPairAtOnes c.args.ones.now c.args.self.now.in_phase.chips
     c.args.self.now.quadrature.chips c.args.half i lane
     → (x : ℕ → Sample) (step carrier_step from n : ℕ)
-    → IsFold x step carrier_step from n c.args.self.now.fold
+    → AreSumsOf x step carrier_step from n c.args.self.now
     → power_of_pair (cell_pair c.raised_whole-whole.result lane) ≡ power_over x
     (replica_of c.args.ones.now.prn (phases (c.args.half + i) step carrier_step)) from (from + n)
-power c i lane inside is x step carrier_step from n fold =
+power c i lane inside is x step carrier_step from n of =
     let sums = c.args.self.now in
     let ones = c.args.ones.now in
     let whole = c.raised_whole-whole.ensures in
@@ -33,24 +33,24 @@ power c i lane inside is x step carrier_step from n fold =
     in
     let second : ℤ =
     sums.whole.quadrature -ℤ pos 2 *ℤ (pos is.of_second -ℤ pos (RAISED * ones.count)) in
-    let at_first : IsCellSum ones.prn (c.args.half + i) sums.fold.in_phase.sums first =
-    cell_sum ones c.args.half i is.of_first sums.fold.in_phase sums.in_phase.chips
-    sums.whole.in_phase first c.requires.half inside sums.ring_in_phase sums.all.in_phase
+    let at_first : IsCellSum ones.prn (c.args.half + i) of.fold.in_phase.sums first =
+    cell_sum ones c.args.half i is.of_first of.fold.in_phase sums.in_phase.chips
+    sums.whole.in_phase first c.requires.half inside of.in_phase of.whole.in_phase
     is.is_first refl in
-    let at_second : IsCellSum ones.prn (c.args.half + i) sums.fold.quadrature.sums second =
-    cell_sum ones c.args.half i is.of_second sums.fold.quadrature sums.quadrature.chips
-    sums.whole.quadrature second c.requires.half inside sums.ring_quadrature sums.all.quadrature
+    let at_second : IsCellSum ones.prn (c.args.half + i) of.fold.quadrature.sums second =
+    cell_sum ones c.args.half i is.of_second of.fold.quadrature sums.quadrature.chips
+    sums.whole.quadrature second c.requires.half inside of.quadrature of.whole.quadrature
     is.is_second refl in
-    let small = sums.small c.requires.small in
+    let small = of.small c.requires.small in
     let pair : IsPairOf (cell_pair c.raised_whole-whole.result lane) first second =
     pair_is first second sums.whole.in_phase sums.whole.quadrature ones.count is.of_first
     is.of_second whole.first whole.second c.raised_whole-whole.result lane
-    (small_sum ones.prn (c.args.half + i) sums.fold.in_phase.sums first at_first small.in_phase)
-    (small_sum ones.prn (c.args.half + i) sums.fold.quadrature.sums second at_second
+    (small_sum ones.prn (c.args.half + i) of.fold.in_phase.sums first at_first small.in_phase)
+    (small_sum ones.prn (c.args.half + i) of.fold.quadrature.sums second at_second
     small.quadrature) refl refl (rw c.count.ensures.value at whole.is_first) whole.is_second
     whole.is_pair is.is_pair in
     rw (pair.is_first, pair.is_second)
-    (fold_power x ones.prn (c.args.half + i) step carrier_step from n sums.fold first second fold
+    (fold_power x ones.prn (c.args.half + i) step carrier_step from n of.fold first second of.is_fold
     at_first.value at_second.value)
 
 each : (c : goal.After-put_sixteen-4) (property : ℕ → ℕ → Type 0)

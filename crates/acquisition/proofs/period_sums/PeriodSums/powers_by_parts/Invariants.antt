@@ -2,7 +2,7 @@ use Rattle.std.proofs.Common.{◌≡◌, ◌≤◌, ◌+◌, ◌-◌, ◌%◌, �
 use Rattle.definitions.specs.Acquisition.{power_over}
 use Rattle.definitions.specs.Correlation.{replica_of}
 use Rattle.definitions.specs.Samples.{Sample}
-use Rattle.acquisition.specs.FoldStates.{IsFold}
+use Rattle.acquisition.specs.PeriodStates.{AreSumsOf}
 use Rattle.acquisition.specs.Replicas.{phases}
 use Rattle.acquisition.specs.declared.sums.TheConstants.{MOST_PERIOD_POWER}
 use Rattle.acquisition.proofs.PowerLemmas.{AreEach}
@@ -15,7 +15,7 @@ invariant-loop-shift l = record {
   long : length l.powers ≡ 64;
   most : AreEach (λ i power. power ≤ MOST_PERIOD_POWER) l.shift l.powers;
   powers : (x : ℕ → Sample) (step carrier_step from n : ℕ)
-      → IsFold x step carrier_step from n l.self.fold → AreEach (λ i power. power ≡ power_over x
+      → AreSumsOf x step carrier_step from n l.self → AreEach (λ i power. power ≡ power_over x
       (replica_of l.ones.prn (phases (l.half + i) step carrier_step)) from (from + n)) l.shift
       l.powers;
 }
