@@ -22,11 +22,11 @@ loop-chip-preserved c =
     record {
       long = length-set old count n ∙ here.long;
       are = elim c.if-table-chip.branch [
-        | then-table-chip w ↦ rw w.count-is (ones-more prn n count old (set old count n) here.are alike
-            (get_or-set_same old count n 0 inside) (of_one prn n c.table-table.result.now c.table-table.ensures
-            c.loop-chip-test.true w.if-table-chip.true))
-        | else-table-chip w ↦ rw w.count-is (ones-same prn n count old (set old count n) here.are alike
-            (of_zero prn n c.table-table.result.now c.table-table.ensures
+        | then-table-chip w ↦ rw w.count-is (ones-more prn n count old (set old count n) here.are
+            alike (get_or-set_same old count n 0 inside) (of_one prn n c.table-table.result.now
+            c.table-table.ensures c.loop-chip-test.true w.if-table-chip.true))
+        | else-table-chip w ↦ rw w.count-is (ones-same prn n count old (set old count n) here.are
+            alike (of_zero prn n c.table-table.result.now c.table-table.ensures
             c.loop-chip-test.true w.if-table-chip.false))
       ];
     }

@@ -50,8 +50,8 @@ power c i lane inside is x step carrier_step from n of =
     small.quadrature) refl refl (rw c.count.ensures.value at whole.is_first) whole.is_second
     whole.is_pair is.is_pair in
     rw (pair.is_first, pair.is_second)
-    (fold_power x ones.prn (c.args.half + i) step carrier_step from n of.fold first second of.is_fold
-    at_first.value at_second.value)
+    (fold_power x ones.prn (c.args.half + i) step carrier_step from n of.fold first second
+    of.is_fold at_first.value at_second.value)
 
 each : (c : goal.After-put_sixteen-4) (property : ℕ → ℕ → Type 0)
     → ((l : ℕ) → l < 16 → property l (slice_index c.powers_of.result l))
