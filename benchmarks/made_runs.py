@@ -14,11 +14,16 @@ RATE = 2046000
 JOBS = 2
 
 
-def build():
-    """Builds the maker, and the receiver and pack as plain Rust where they aren't built."""
+def build_maker():
+    """Builds the maker, and pack as plain Rust where it isn't built."""
     subprocess.run(['cargo', 'build', '--release', '--quiet', '--offline'], check=True,
                    cwd=os.path.join(HERE, 'maker'))
     program('packer_cli', 'pack')
+
+
+def build():
+    """Builds these, and the receiver as plain Rust where it isn't built."""
+    build_maker()
     program('receiver_cli', 'receiver')
 
 
