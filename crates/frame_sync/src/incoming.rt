@@ -6,7 +6,10 @@ use crate::subframe::Subframe;
 use crate::window::Window;
 
 /// The bits by which a start is recognised: words 1 and 2.
-const HEADER_BITS: u64 = 60;
+pub const HEADER_BITS: u64 = 60;
+
+/// The bits of a subframe's ten words (IS-GPS-200, section 20.3.2).
+pub const SUBFRAME_BITS: u64 = 300;
 
 /// The bits of a word (IS-GPS-200, section 20.3.2).
 const WORD_BITS: u64 = 30;
@@ -24,6 +27,7 @@ pub(crate) struct Incoming {
 
 impl Incoming {
     ghost use Rattle.frame_sync.specs.Incoming.{StartsHere, header_in, with_word_in};
+    ghost use Rattle.frame_sync.specs.declared.incoming.TheConstants.{HEADER_BITS, SUBFRAME_BITS};
 
     /// The subframe whose header ends with the newest bit, if there is one and it may start there:
     /// not inside the subframe before it, at whose end it is awaited.
@@ -41,8 +45,8 @@ impl Incoming {
 
     /// With the word that ends with the newest bit, if one does.
     pub(crate) fn with_word(self, window: &Window, pushed: u64) -> Self
-        requires behind_header { self.start + 60 < pushed }
-        requires within { pushed ≤ self.start + 300 }
+        requires behind_header { self.start + HEADER_BITS < pushed }
+        requires within { pushed ≤ self.start + SUBFRAME_BITS }
         ensures { result ≡ with_word_in window.now.bits pushed self }
     {
         let taken = pushed - self.start;

@@ -4,20 +4,36 @@ ghost use Rattle.std.specs.Prelude.{◌≡◌, ◌-◌, ◌^◌, ◌<◌, ◌≤
 ghost use Rattle.std.specs.Prelude.{slice_set, length};
 ghost use Rattle.definitions.specs.Frames.{word_of, id_of, tow_of, id_in, is_complete};
 ghost use Rattle.frame_sync.specs.Words.{IsWord, IsSubframe, has_header};
+ghost use Rattle.frame_sync.specs.declared.subframe.TheConstants.{SUBFRAME_WORDS, HEADER_WORDS};
+ghost use Rattle.frame_sync.specs.declared.subframe.TheConstants.{DATA_LIMIT, LAST_ID, COUNT_LIMIT};
 
 use std::marker::Model;
 
 /// d1 to d8 of each telemetry word (IS-GPS-200, section 20.3.3.1).
 const PREAMBLE: u32 = 0b1000_1011;
 
-/// The data of a word, d1 to d24, are below this.
-const DATA_LIMIT: u32 = 1 << 24;
+/// The words of a subframe (IS-GPS-200, section 20.3.2).
+pub const SUBFRAME_WORDS: usize = 10;
+
+/// The words by which a subframe is recognised: telemetry and handover (IS-GPS-200, sections
+/// 20.3.3.1 and 20.3.3.2).
+pub const HEADER_WORDS: usize = 2;
+
+/// The data of a word, d1 to d24 as a number with d24 lowest, are below this (IS-GPS-200, section
+/// 20.3.5).
+pub const DATA_LIMIT: u32 = 1 << 24;
+
+/// The greatest ID of a subframe; the least is 1 (IS-GPS-200, section 20.3.3.2).
+pub const LAST_ID: u8 = 5;
+
+/// A time-of-week count, of 17 bits, is below this (IS-GPS-200, section 20.3.3.2).
+pub const COUNT_LIMIT: u32 = 1 << 17;
 
 /// The words of a subframe (IS-GPS-200, section 20.3.2), each as its data, d1 to d24 with d24
 /// lowest, or missing where it did not pass the parity. Words 1 and 2 are always there.
 #[derive(Clone, Copy, Debug, PartialEq, Eq)]
 pub struct Subframe {
-    words: [Option<u32>; 10],
+    words: [Option<u32>; SUBFRAME_WORDS],
 }
 
 impl Model for Subframe {
@@ -37,7 +53,7 @@ impl Subframe {
     /// The subframe of these words, word 1 first, or `None` unless each word that is there is below
     /// 2^24, word 1 is there and begins with the preamble, and word 2 is there and has an ID of
     /// 1 to 5 (IS-GPS-200, sections 20.3.3.1 and 20.3.3.2).
-    pub fn from_words(words: [Option<u32>; 10]) -> Option<Subframe>
+    pub fn from_words(words: [Option<u32>; SUBFRAME_WORDS]) -> Option<Subframe>
         ensures { SomeIff result (IsSubframe words) (record { words = words }) }
     {
         if has_header(words[0], words[1]) && words.iter().all(|word| is_word(*word)) {
@@ -51,10 +67,10 @@ impl Subframe {
     /// (IS-GPS-200, section 20.3.5).
     pub fn word(&self, i: usize) -> Option<u32>
         requires from_one { 1 ≤ i }
-        requires to_ten { i ≤ 10 }
+        requires to_ten { i ≤ SUBFRAME_WORDS }
         ensures word { result ≡ word_of self.now i }
-        ensures ten { length self.now.words ≡ 10 }
-        ensures in_range { IfSome result (λ found. found < 2 ^ 24) }
+        ensures ten { length self.now.words ≡ SUBFRAME_WORDS }
+        ensures in_range { IfSome result (λ found. found < DATA_LIMIT) }
     {
         self.words[i - 1]
     }
@@ -64,7 +80,7 @@ impl Subframe {
     pub fn id(&self) -> u8
         ensures id { result ≡ id_of self.now }
         ensures from_one { 1 ≤ result }
-        ensures to_five { result ≤ 5 }
+        ensures to_five { result ≤ LAST_ID }
     {
         id_in(self.handover())
     }
@@ -73,7 +89,7 @@ impl Subframe {
     /// units of 6 seconds (IS-GPS-200, section 20.3.3.2).
     pub fn tow(&self) -> u32
         ensures tow { result ≡ tow_of self.now }
-        ensures in_range { result < 2 ^ 17 }
+        ensures in_range { result < COUNT_LIMIT }
     {
         self.handover() >> 7
     }
@@ -87,8 +103,8 @@ impl Subframe {
 
     /// The same subframe with this as word `i`, or with that word missing.
     pub(crate) fn with_word(self, i: usize, word: Option<u32>) -> Subframe
-        requires behind_header { 3 ≤ i }
-        requires to_ten { i ≤ 10 }
+        requires behind_header { HEADER_WORDS < i }
+        requires to_ten { i ≤ SUBFRAME_WORDS }
         requires in_range { IsWord word }
         ensures { result ≡ record { words = slice_set self.words (i - 1) word } }
     {
@@ -101,8 +117,8 @@ impl Subframe {
     fn handover(&self) -> u32
         ensures handover { word_of self.now 2 ≡ Some result }
         ensures from_one { 1 ≤ id_in result }
-        ensures to_five { id_in result ≤ 5 }
-        ensures in_range { result < 2 ^ 24 }
+        ensures to_five { id_in result ≤ LAST_ID }
+        ensures in_range { result < DATA_LIMIT }
     {
         match self.words[1] {
             Some(handover) => handover,

@@ -3,13 +3,15 @@
 ghost use Rattle.std.specs.Prelude.{◌≡◌, ◌+◌, ◌^◌, ◌<◌, ◌≤◌, Bool, List, [], ◌∷◌, ◌++◌, length};
 ghost use Rattle.std.specs.Option.{ForSome};
 ghost use Rattle.definitions.specs.Frames.{gap_from};
+ghost use Rattle.frame_sync.specs.declared.incoming.TheConstants.{HEADER_BITS, SUBFRAME_BITS};
+ghost use Rattle.frame_sync.specs.declared.sync.TheConstants.{MOST_BITS};
 
-use crate::incoming::Incoming;
+use crate::incoming::{Incoming, SUBFRAME_BITS};
 use crate::subframe::Subframe;
 use crate::window::Window;
 
-/// The bits of a subframe's ten words (IS-GPS-200, section 20.3.2).
-const SUBFRAME_BITS: u64 = 300;
+/// The most bits that are pushed to a search: those of more than 600 years.
+pub const MOST_BITS: u64 = 1 << 40;
 
 /// A subframe that was found, and the gap before it.
 #[derive(Clone, Copy, Debug, PartialEq, Eq)]
@@ -30,8 +32,8 @@ pub struct FrameSync {
     pushed: u64,
     awaited: Option<u64>,
     incoming: Option<Incoming>,
-    ghost has_header: { ForSome incoming (λ i. i.start + 60 ≤ pushed) },
-    ghost is_open: { ForSome incoming (λ i. pushed < i.start + 300) },
+    ghost has_header: { ForSome incoming (λ i. i.start + HEADER_BITS ≤ pushed) },
+    ghost is_open: { ForSome incoming (λ i. pushed < i.start + SUBFRAME_BITS) },
     ghost is_behind: { ForSome incoming (λ i. ForSome awaited (λ place. place ≤ i.start)) },
 }
 
@@ -68,7 +70,7 @@ impl FrameSync {
     /// bits before it are equal, and so are they to the last two. That search is this project's
     /// own.
     pub fn push(&mut self, bit: bool) -> Option<Found>
-        requires { pushed_of self.old < 2 ^ 40 }
+        requires { pushed_of self.old < MOST_BITS }
         ensures counted { pushed_of self.new ≡ pushed_of self.old + 1 }
         ensures stands { (bits : List Bool) → StandsFor bits self.old →
             StandsFor (bits ++ bit ∷ []) self.new }

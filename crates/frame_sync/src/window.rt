@@ -4,9 +4,18 @@ ghost use Rattle.std.specs.Prelude.{◌≡◌, ◌+◌, ◌*◌, ◌%◌, ◌^�
 ghost use Rattle.definitions.specs.Frames.{bit_number};
 ghost use Rattle.frame_sync.specs.Bits.{bits_in, word_in, is_framed_in, has_header_in};
 ghost use Rattle.frame_sync.specs.Bits.{header_words_in};
+ghost use Rattle.frame_sync.specs.declared.subframe.TheConstants.{DATA_LIMIT};
+ghost use Rattle.frame_sync.specs.declared.window.TheConstants.{WINDOW_BITS, CHECKED_BITS};
 
-use crate::subframe::Subframe;
+use crate::subframe::{SUBFRAME_WORDS, Subframe};
 use nav_parity::check;
+
+/// The bits that a window keeps.
+pub const WINDOW_BITS: u32 = 64;
+
+/// The bits that a word is checked with: its own and the two before it (IS-GPS-200, section
+/// 20.3.5).
+pub const CHECKED_BITS: u32 = 32;
 
 /// The last 64 bits, the newest lowest, with 0 in place of those before the first.
 #[derive(Clone, Copy, Debug)]
@@ -23,7 +32,7 @@ impl Window {
 
     #[tactic(auto, using(crate::proofs::Windows::pushed_in))]
     pub(crate) fn push(&mut self, bit: bool)
-        ensures { self.new.bits ≡ (self.old.bits * 2 + bit_number bit) % 2 ^ 64 }
+        ensures { self.new.bits ≡ (self.old.bits * 2 + bit_number bit) % 2 ^ WINDOW_BITS }
     {
         self.bits = (self.bits << 1) | u64::from(bit);
     }
@@ -39,7 +48,7 @@ impl Window {
         if !self.is_framed() {
             return None;
         }
-        let mut words = [None; 10];
+        let mut words = [None; SUBFRAME_WORDS];
         words[0] = self.word(30);
         words[1] = self.word(0);
         Subframe::from_words(words)
@@ -59,9 +68,9 @@ impl Window {
     /// the two bits before it (IS-GPS-200, section 20.3.5).
     #[tactic(auto, unfolding(crate::specs::Bits::word_in))]
     pub(crate) fn word(&self, behind: u32) -> Option<u32>
-        requires { behind ≤ 32 }
+        requires { behind + CHECKED_BITS ≤ WINDOW_BITS }
         ensures word { result ≡ word_in self.now.bits behind }
-        ensures in_range { IfSome result (λ found. found < 2 ^ 24) }
+        ensures in_range { IfSome result (λ found. found < DATA_LIMIT) }
     {
         let word = self.number(behind, 30);
         let prior = self.number(behind + 30, 2);
@@ -72,9 +81,9 @@ impl Window {
     /// of all.
     #[tactic(auto, using(crate::proofs::Windows::masked))]
     fn number(&self, behind: u32, count: u32) -> u64
-        requires within { behind + count ≤ 64 }
-        requires behind_one { behind < 64 }
-        requires small { count < 64 }
+        requires within { behind + count ≤ WINDOW_BITS }
+        requires behind_one { behind < WINDOW_BITS }
+        requires small { count < WINDOW_BITS }
         ensures { result ≡ bits_in self.now.bits behind count }
     {
         (self.bits >> behind) & ((1 << count) - 1)

@@ -16,7 +16,7 @@ use frame_sync::FrameSync;
 use subframes::Page;
 
 /// The most bits of a message: those of more than 600 years.
-pub const MOST_BITS: u64 = 1 << 40;
+pub const MOST_BITS: u64 = frame_sync::MOST_BITS;
 
 /// What is known of a satellite's message: the edge of its bits, the subframe that is coming in and
 /// what is kept of its pages. It stands for the prompt sums that were pushed.
