@@ -13,7 +13,7 @@ use Rattle.acquisition.specs.Rings.{chip_from, IsRing, IsSumAtOnes, place_of}
 use Rattle.acquisition.specs.declared.chip_ring.TheConstants.{RAISED}
 use Rattle.acquisition.specs.declared.half_chip_table.HalfChipTable.{HalfChipTable}
 use Rattle.acquisition.specs.declared.ones.Ones.{Ones}
-use Rattle.acquisition.specs.declared.sums.TheConstants.{MOST_SUM}
+use Rattle.acquisition.specs.declared.sums.TheConstants.{MOST_PERIOD_SUM}
 use Rattle.acquisition.proofs.SignLemmas.{sign_of_one, sign_of_zero}
 use Rattle.acquisition.specs.declared.fold.TheConstants.{MOST_SMALL}
 use Rattle.acquisition.proofs.TableLemmas.{correlation_size}
@@ -181,7 +181,7 @@ raised_ones prn half l count chips ring table inside lane ones is =
 -- the sum of all samples less twice those at chips of 1, from a lane
 pub record IsCellSum (prn cell : ℕ) (table : List ℤ) (sum : ℤ) : Type 0 where
   pub value : sum ≡ correlation prn cell table
-  pub small : unsigned_abs sum ≤ MOST_SUM
+  pub small : unsigned_abs sum ≤ MOST_PERIOD_SUM
 
 pub cell_sum : (ones : Ones) (half l lane : ℕ) (table : HalfChipTable) (ring : List ℕ)
     (whole sum : ℤ) → half < 2046 → l < 64 → IsRing table.sums ring

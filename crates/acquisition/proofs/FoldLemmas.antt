@@ -10,8 +10,8 @@ use Rattle.definitions.specs.Codes.{chip_sign}
 use Rattle.definitions.specs.Oscillators.{prompt_sign, code_phase_after}
 use Rattle.definitions.specs.Correlation.{replica_of, in_phase_sum, quadrature_sum}
 use Rattle.definitions.specs.Acquisition.{square, power_over}
-use Rattle.acquisition.specs.declared.sums.TheConstants.{MOST_SUM}
-use Rattle.acquisition.specs.declared.half_chip_table.TheConstants.{PLACES}
+use Rattle.acquisition.specs.declared.sums.TheConstants.{MOST_PERIOD_SUM}
+use Rattle.acquisition.specs.declared.half_chip_table.TheConstants.{HALF_CHIPS}
 use Rattle.acquisition.specs.declared.fold.Fold.{Fold}
 use Rattle.acquisition.specs.FoldStates.{IsFold}
 use Rattle.acquisition.specs.Replicas.{phases}
@@ -34,11 +34,11 @@ from_table y prn half step from n table is =
     (λ i. y (from + i) *ℤ chip_sign prn ((half + half_chip_at step (from + i)) / 2)) n
     (λ i h. ap (λ (s : ℤ). y (from + i) *ℤ s) (chip_of_place prn half step (from + i)))
     ∙ regrouped (λ i. y (from + i)) (λ i. half_chip_at step (from + i))
-    (λ k. chip_sign prn ((half + k) / 2)) n PLACES (λ i h. place_below step (from + i))
+    (λ k. chip_sign prn ((half + k) / 2)) n HALF_CHIPS (λ i h. place_below step (from + i))
     ∙ total-same
     (λ k. sum_at_key (λ i. y (from + i)) (λ i. half_chip_at step (from + i)) n k
     *ℤ chip_sign prn ((half + k) / 2))
-    (λ k. get_or table k (pos 0) *ℤ chip_sign prn ((half + k) / 2)) PLACES
+    (λ k. get_or table k (pos 0) *ℤ chip_sign prn ((half + k) / 2)) HALF_CHIPS
     (λ k h. ap (λ (v : ℤ). v *ℤ chip_sign prn ((half + k) / 2)) (sym (is k h)))
 
 -- the power of a cell from its correlations with a fold
@@ -64,15 +64,15 @@ pub record IsKept (sum term : ℤ) (k : ℕ) : Type 0 where
   pub fits : FitsSigned w32 (sum +ℤ to_z w32 (of_z w32 term))
   pub value : to_z w32 (of_z w32 (sum +ℤ to_z w32 (of_z w32 term))) ≡ sum +ℤ term
   pub small : unsigned_abs (to_z w32 (of_z w32 (sum +ℤ to_z w32 (of_z w32 term))))
-      ≤ MOST_SUM * (k + 1)
+      ≤ MOST_PERIOD_SUM * (k + 1)
 
-pub entry_in_32 : (z : ℤ) → unsigned_abs z ≤ MOST_SUM → to_z w32 (of_z w32 z) ≡ z
+pub entry_in_32 : (z : ℤ) → unsigned_abs z ≤ MOST_PERIOD_SUM → to_z w32 (of_z w32 z) ≡ z
 entry_in_32 z small = to_z-of_z w32 z (fits_signed_from_abs w32 z (omega (arith, small)))
 
-pub sum-kept : (sum term : ℤ) (k : ℕ) → unsigned_abs sum ≤ MOST_SUM * k
-    → unsigned_abs term ≤ MOST_SUM → k < PLACES → IsKept sum term k
+pub sum-kept : (sum term : ℤ) (k : ℕ) → unsigned_abs sum ≤ MOST_PERIOD_SUM * k
+    → unsigned_abs term ≤ MOST_PERIOD_SUM → k < HALF_CHIPS → IsKept sum term k
 sum-kept sum term k before small h =
-    let more : unsigned_abs (sum +ℤ term) ≤ MOST_SUM * (k + 1) =
+    let more : unsigned_abs (sum +ℤ term) ≤ MOST_PERIOD_SUM * (k + 1) =
     omega (arith, abs_add sum term, before, small) in
     let fits : FitsSigned w32 (sum +ℤ term) = fits_signed_from_abs w32 (sum +ℤ term)
     (omega (arith, more, h)) in

@@ -6,7 +6,7 @@ use Rattle.definitions.specs.Codes.{chip, chip_sign}
 use Rattle.definitions.specs.Oscillators.{prompt_sign, code_phase_after, carrier_phase_after}
 use Rattle.definitions.specs.Oscillators.{cosine, sine, cosines, sines}
 use Rattle.acquisition.specs.Folds.{half_chip_at}
-use Rattle.acquisition.specs.declared.half_chip_table.TheConstants.{PLACES}
+use Rattle.acquisition.specs.declared.half_chip_table.TheConstants.{HALF_CHIPS}
 
 -- the chip of a sample, for a code that begins at a half chip
 chip_place : (half way : ℕ) → (half * 2 ^ 31 + way) % (1023 * 2 ^ 32) / 2 ^ 32 % 1023
@@ -19,7 +19,7 @@ pub chip_of_place : (prn half step j : ℕ)
 unfolding chip
 chip_of_place prn half step j = rw (chip_place half (j * step)) refl
 
-pub place_below : (step j : ℕ) → half_chip_at step j < PLACES
+pub place_below : (step j : ℕ) → half_chip_at step j < HALF_CHIPS
 place_below step j = omega arith
 
 -- the half chip of a phase

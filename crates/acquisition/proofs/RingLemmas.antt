@@ -12,7 +12,7 @@ use Rattle.std.proofs.lemmas.Bool.{cases_lt}
 use Rattle.std.proofs.lemmas.Simd.{get_or-chunk, length-chunk}
 use Rattle.acquisition.specs.Rings.{chip_from, IsRing, AreEntries}
 use Rattle.acquisition.specs.declared.chip_ring.TheConstants.{RAISED}
-use Rattle.acquisition.specs.declared.sums.TheConstants.{MOST_SUM}
+use Rattle.acquisition.specs.declared.sums.TheConstants.{MOST_PERIOD_SUM}
 use Rattle.acquisition.proofs.SizeLemmas.{abs_add}
 
 -- the ring of a table of zeros
@@ -61,7 +61,7 @@ pub record IsChip (a b chip : ℤ) : Type 0 where
   pub value : chip ≡ a +ℤ b
   pub small : unsigned_abs chip ≤ RAISED
 
-pub chip_is : (a b : ℤ) → unsigned_abs a ≤ MOST_SUM → unsigned_abs b ≤ MOST_SUM
+pub chip_is : (a b : ℤ) → unsigned_abs a ≤ MOST_PERIOD_SUM → unsigned_abs b ≤ MOST_PERIOD_SUM
     → IsChip a b (to_z w32 (of_z w32 (to_z w32 (of_z w32 a) +ℤ to_z w32 (of_z w32 b))))
 chip_is a b small_a small_b =
     let kept_a : to_z w32 (of_z w32 a) ≡ a = kept a (omega (arith, small_a)) in

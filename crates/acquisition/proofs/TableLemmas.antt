@@ -12,7 +12,7 @@ use Rattle.definitions.specs.Sums.{total}
 use Rattle.definitions.specs.Codes.{chip_sign}
 use Rattle.acquisition.specs.Folds.{sum_at_key, half_chip_at, IsTable, total_to, sizes_to}
 use Rattle.acquisition.specs.Folds.{correlation_to}
-use Rattle.acquisition.specs.declared.half_chip_table.TheConstants.{PLACES}
+use Rattle.acquisition.specs.declared.half_chip_table.TheConstants.{HALF_CHIPS}
 use Rattle.oscillators.specs.declared.settings.TheConstants.{MOST_PER_MS}
 use Rattle.acquisition.proofs.SizeLemmas.{abs_add}
 use Rattle.acquisition.proofs.SignLemmas.{sign_cases}
@@ -23,12 +23,12 @@ all_same n k z h = get_or-replicate {A = ℤ} n k z (pos 0) h
 
 -- a table of no values, and of one more
 pub table-none : (y : ℕ → ℤ) (step from : ℕ) (table : List ℤ)
-    → ((k : ℕ) → k < PLACES → get_or table k (pos 0) ≡ pos 0) → IsTable y step from 0 table
+    → ((k : ℕ) → k < HALF_CHIPS → get_or table k (pos 0) ≡ pos 0) → IsTable y step from 0 table
 unfolding sum_at_key total
 table-none y step from table none k h = none k h
 
 pub none_is : (y : ℕ → ℤ) (step from : ℕ) (table : List ℤ) → IsTable y step from 0 table
-    → (k : ℕ) → k < PLACES → get_or table k (pos 0) ≡ pos 0
+    → (k : ℕ) → k < HALF_CHIPS → get_or table k (pos 0) ≡ pos 0
 unfolding sum_at_key total
 none_is y step from table is k h = is k h
 
@@ -40,7 +40,7 @@ sum_at_key-more y key n k = let e : n + 1 ≡ suc n = omega arith in rw e refl
 pub table-more : (y : ℕ → ℤ) (step from n place : ℕ) (value : ℤ) (old new : List ℤ)
     → IsTable y step from n old → place ≡ half_chip_at step (from + n)
     → value ≡ y (from + n)
-    → ((k : ℕ) → k < PLACES → get_or new k (pos 0)
+    → ((k : ℕ) → k < HALF_CHIPS → get_or new k (pos 0)
     ≡ get_or old k (pos 0) +ℤ cond (place == k) value (pos 0))
     → IsTable y step from (n + 1) new
 table-more y step from n place value old new is at same more k h =
@@ -206,12 +206,12 @@ sum_fits z value size taken within small few one =
 pub value-kept : (value : ℤ) → unsigned_abs value ≤ 9 → to_z w32 (of_z w32 value) ≡ value
 value-kept value one = to_z-of_z w32 value (fits_signed_from_abs w32 value (omega (arith, one)))
 
-pub entry-kept : (table : List ℤ) (k taken : ℕ) → k < PLACES → sizes_to table PLACES ≤ 9 * taken
-    → taken ≤ MOST_PER_MS
+pub entry-kept : (table : List ℤ) (k taken : ℕ) → k < HALF_CHIPS
+    → sizes_to table HALF_CHIPS ≤ 9 * taken → taken ≤ MOST_PER_MS
     → to_z w32 (of_z w32 (get_or table k (pos 0))) ≡ get_or table k (pos 0)
 entry-kept table k taken h small few = to_z-of_z w32 (get_or table k (pos 0))
-    (entry_fits (get_or table k (pos 0)) (sizes_to table PLACES) taken
-    (size_of_one table k PLACES h) small few)
+    (entry_fits (get_or table k (pos 0)) (sizes_to table HALF_CHIPS) taken
+    (size_of_one table k HALF_CHIPS h) small few)
 
 -- an entry and a value added to it, in 32 bits
 pub record AddsUp (entry value : ℤ) : Type 0 where
@@ -219,13 +219,14 @@ pub record AddsUp (entry value : ℤ) : Type 0 where
   pub is : to_z w32 (of_z w32 (to_z w32 (of_z w32 entry) +ℤ to_z w32 (of_z w32 value)))
       ≡ entry +ℤ value
 
-pub adds_up : (table : List ℤ) (place taken : ℕ) (value : ℤ) → place < PLACES
-    → sizes_to table PLACES ≤ 9 * taken → taken ≤ MOST_PER_MS → unsigned_abs value ≤ 9
+pub adds_up : (table : List ℤ) (place taken : ℕ) (value : ℤ) → place < HALF_CHIPS
+    → sizes_to table HALF_CHIPS ≤ 9 * taken → taken ≤ MOST_PER_MS → unsigned_abs value ≤ 9
     → AddsUp (get_or table place (pos 0)) value
 adds_up table place taken value inside small few one =
     let entry : ℤ = get_or table place (pos 0) in
-    let sum : FitsSigned w32 (entry +ℤ value) = sum_fits entry value (sizes_to table PLACES) taken
-    (size_of_one table place PLACES inside) small few one in
+    let sum : FitsSigned w32 (entry +ℤ value) =
+    sum_fits entry value (sizes_to table HALF_CHIPS) taken
+    (size_of_one table place HALF_CHIPS inside) small few one in
     let kept = entry-kept table place taken inside small few in
     record {
       fits = rw (kept, value-kept value one) sum;
@@ -233,8 +234,8 @@ adds_up table place taken value inside small few one =
     }
 
 -- a table with a value added to an entry
-pub entry_set : (table : List ℤ) (place k : ℕ) (entry value : ℤ) → place < PLACES
-    → length table ≡ PLACES → entry ≡ get_or table place (pos 0) +ℤ value
+pub entry_set : (table : List ℤ) (place k : ℕ) (entry value : ℤ) → place < HALF_CHIPS
+    → length table ≡ HALF_CHIPS → entry ≡ get_or table place (pos 0) +ℤ value
     → get_or (set table place entry) k (pos 0)
     ≡ get_or table k (pos 0) +ℤ cond (place == k) value (pos 0)
 entry_set table place k entry value h long is = elim (three place k) [

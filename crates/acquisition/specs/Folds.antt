@@ -6,7 +6,7 @@ use Rattle.definitions.specs.Samples.{Sample}
 use Rattle.definitions.specs.Codes.{chip_sign}
 use Rattle.definitions.specs.Oscillators.{carrier_phase_after, cosine, sine}
 use Rattle.definitions.specs.Correlation.{wiped_in_phase, wiped_quadrature}
-use Rattle.acquisition.specs.declared.half_chip_table.TheConstants.{PLACES}
+use Rattle.acquisition.specs.declared.half_chip_table.TheConstants.{HALF_CHIPS}
 
 -- those of the first n values whose key is k, added up
 unfoldable pub sum_at_key : (ℕ → ℤ) → (ℕ → ℕ) → ℕ → ℕ → ℤ
@@ -27,7 +27,7 @@ quadrature_at x carrier_step j = wiped_quadrature (x j)
 
 -- a table is the fold of these values by half chip, n of them from offset `from` on
 abbrev pub IsTable : (ℕ → ℤ) → ℕ → ℕ → ℕ → List ℤ → Type 0
-IsTable y step from n table = (k : ℕ) → k < PLACES → get_or table k (pos 0)
+IsTable y step from n table = (k : ℕ) → k < HALF_CHIPS → get_or table k (pos 0)
     ≡ sum_at_key (λ i. y (from + i)) (λ i. half_chip_at step (from + i)) n k
 
 -- the sum of a table's first n entries, and that of their sizes
@@ -45,4 +45,4 @@ correlation_to prn half table n = total
     (λ k. get_or table k (pos 0) *ℤ chip_sign prn ((half + k) / 2)) n
 
 abbrev pub correlation : ℕ → ℕ → List ℤ → ℤ
-correlation prn half table = correlation_to prn half table PLACES
+correlation prn half table = correlation_to prn half table HALF_CHIPS

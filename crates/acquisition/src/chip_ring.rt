@@ -3,11 +3,11 @@
 ghost use Rattle.std.specs.Prelude.{◌≡◌, ◌+◌, ◌-◌, ◌*◌, ◌<◌, ◌≤◌, ℕ, length, slice_index};
 ghost use Rattle.std.specs.Prelude.{ℤ, pos, ◌+ℤ◌, List, get_or, unsigned_abs};
 ghost use Rattle.acquisition.specs.declared.chip_ring.TheConstants.{RING, RAISED, LANES};
-ghost use Rattle.acquisition.specs.declared.half_chip_table.TheConstants.{PLACES, LAST};
+ghost use Rattle.acquisition.specs.declared.half_chip_table.TheConstants.{HALF_CHIPS, LAST};
 ghost use Rattle.acquisition.specs.declared.ones.TheConstants.{CHIPS};
 ghost use Rattle.acquisition.specs.Rings.{place_of};
 
-use crate::half_chip_table::{HalfChipTable, LAST, PLACES};
+use crate::half_chip_table::{HALF_CHIPS, HalfChipTable, LAST};
 use std::simd::prelude::*;
 
 /// The lanes of a vector: one for each of sixteen cells that follow one another.
@@ -18,7 +18,7 @@ pub(crate) const CELLS_AT_ONCE: usize = 64;
 
 /// The places of a ring: those of a table, and the first 63 again after them, so that 64 in a row
 /// never wrap.
-pub(crate) const RING: usize = PLACES + CELLS_AT_ONCE - 1;
+pub(crate) const RING: usize = HALF_CHIPS + CELLS_AT_ONCE - 1;
 
 /// What is added to each sum, so that none is below 0: each is of two entries of a table, and at
 /// most 360,000 in size. Times 2^16 it is 0 modulo 2^32.
@@ -39,7 +39,7 @@ impl ChipRing {
     /// The ring of a table of zeros.
     #[inline(always)]
     pub(crate) fn new() -> ChipRing
-        ensures { (table : List ℤ) → ((k : ℕ) → k < PLACES → get_or table k (pos 0) ≡ pos 0)
+        ensures { (table : List ℤ) → ((k : ℕ) → k < HALF_CHIPS → get_or table k (pos 0) ≡ pos 0)
             → IsRing table result.chips }
     {
         ChipRing {
@@ -61,7 +61,7 @@ impl ChipRing {
     /// Puts in the sum over the chip that begins at half chip `k`.
     #[inline(always)]
     fn put(&mut self, k: usize, chip: i32)
-        requires place { k < PLACES }
+        requires place { k < HALF_CHIPS }
         requires small { unsigned_abs chip ≤ RAISED }
         ensures chip { pos (slice_index self.new.chips (LAST - k)) ≡ pos RAISED +ℤ chip }
         ensures others { (i : ℕ) → (i ≡ LAST - k → ⊥)
@@ -72,13 +72,13 @@ impl ChipRing {
 
     /// Puts the first sums after the last.
     fn close(&mut self)
-        ensures after { (i : ℕ) → PLACES ≤ i → i < RING
-            → slice_index self.new.chips i ≡ slice_index self.old.chips (i - PLACES) }
-        ensures others { (i : ℕ) → i < PLACES
+        ensures after { (i : ℕ) → HALF_CHIPS ≤ i → i < RING
+            → slice_index self.new.chips i ≡ slice_index self.old.chips (i - HALF_CHIPS) }
+        ensures others { (i : ℕ) → i < HALF_CHIPS
             → slice_index self.new.chips i ≡ slice_index self.old.chips i }
     {
-        for i in PLACES..RING {
-            self.chips[i] = self.chips[i - PLACES];
+        for i in HALF_CHIPS..RING {
+            self.chips[i] = self.chips[i - HALF_CHIPS];
         }
     }
 
@@ -107,15 +107,15 @@ impl ChipRing {
 /// The place in a ring of a chip, for a code that begins at half chip `half`.
 #[inline(always)]
 pub(crate) fn place_of(half: usize, chip: usize) -> usize
-    requires half { half < PLACES }
+    requires half { half < HALF_CHIPS }
     requires chip { chip < CHIPS }
     ensures place { result ≡ place_of half chip }
-    ensures inside { result < PLACES }
+    ensures inside { result < HALF_CHIPS }
 {
     let place = half + LAST - 2 * chip;
-    if place < PLACES {
+    if place < HALF_CHIPS {
         place
     } else {
-        place - PLACES
+        place - HALF_CHIPS
     }
 }

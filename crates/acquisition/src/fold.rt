@@ -6,10 +6,10 @@ ghost use Rattle.definitions.specs.Oscillators.{code_cycle};
 ghost use Rattle.definitions.specs.Samples.{Sample, sample_at};
 ghost use Rattle.definitions.specs.Correlation.{wiped_in_phase, wiped_quadrature};
 ghost use Rattle.acquisition.specs.declared.dwell.TheConstants.{MOST_START};
-ghost use Rattle.acquisition.specs.declared.half_chip_table.TheConstants.{PLACES};
+ghost use Rattle.acquisition.specs.declared.half_chip_table.TheConstants.{HALF_CHIPS};
 ghost use Rattle.oscillators.specs.declared.settings.TheConstants.{MOST_PER_MS};
 
-use crate::half_chip_table::{HalfChipTable, PLACES};
+use crate::half_chip_table::{HALF_CHIPS, HalfChipTable};
 use crate::sums::Sums;
 use oscillators::{CarrierOsc, CarrierPlanes, CodeOsc};
 use sample_planes::{MAX_SAMPLES, Planes, SampleSource};
@@ -106,7 +106,7 @@ impl Fold {
     /// Adds a sample without its carrier at a half chip.
     #[inline(always)]
     fn add(&mut self, place: usize, sample: Sums)
-        requires place { place < PLACES }
+        requires place { place < HALF_CHIPS }
         requires in_phase { unsigned_abs sample.in_phase ≤ 9 }
         requires quadrature { unsigned_abs sample.quadrature ≤ 9 }
         requires few { taken_of self.old < MOST_PER_MS }
@@ -135,7 +135,7 @@ impl Fold {
     {
         let mut in_phase = 0;
         let mut quadrature = 0;
-        for k in 0..PLACES {
+        for k in 0..HALF_CHIPS {
             in_phase += self.in_phase.sum(k);
             quadrature += self.quadrature.sum(k);
         }

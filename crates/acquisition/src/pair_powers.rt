@@ -7,12 +7,12 @@ ghost use Rattle.acquisition.specs.PeriodStates.{AreSumsOf};
 ghost use Rattle.acquisition.specs.Pairs.{ArePairsAtOnes, IsRaisedWhole, cell_pair, power_of_pair};
 ghost use Rattle.acquisition.specs.declared.chip_ring.TheConstants.{CELLS_AT_ONCE, LANES};
 ghost use Rattle.acquisition.specs.declared.fold.TheConstants.{MOST_SMALL};
-ghost use Rattle.acquisition.specs.declared.half_chip_table.TheConstants.{PLACES};
+ghost use Rattle.acquisition.specs.declared.half_chip_table.TheConstants.{HALF_CHIPS};
 ghost use Rattle.acquisition.specs.declared.ones.TheConstants.{CHIPS};
 ghost use Rattle.acquisition.specs.declared.sums.TheConstants.{MOST_PERIOD_POWER};
 
 use crate::chip_ring::{CELLS_AT_ONCE, LANES, RAISED, place_of};
-use crate::half_chip_table::PLACES;
+use crate::half_chip_table::HALF_CHIPS;
 use crate::ones::Ones;
 use crate::pair_ring::{PairLanes, pair};
 use crate::period_sums::PeriodSums;
@@ -28,7 +28,7 @@ impl PeriodSums {
     /// The powers of 64 cells from half chip `half` on, where each sum of a cell fits in 16 bits.
     pub(crate) fn powers_by_pairs(&self, ones: &Ones, half: usize) -> [u64; CELLS_AT_ONCE]
         requires small { self.now.is_small ≡ true }
-        requires half { half < PLACES }
+        requires half { half < HALF_CHIPS }
         ensures long { length result ≡ CELLS_AT_ONCE }
         ensures powers { (x : ℕ → Sample) (step carrier_step from n : ℕ)
             → AreSumsOf x step carrier_step from n self.now → (l : ℕ) → l < CELLS_AT_ONCE
@@ -61,7 +61,7 @@ impl PeriodSums {
     /// The pairs over the chips of 1, for 64 cells from half chip `half` on.
     #[inline(never)]
     fn pairs_at_ones(&self, ones: &Ones, half: usize) -> PairLanes
-        requires half { half < PLACES }
+        requires half { half < HALF_CHIPS }
         ensures first { ArePairsAtOnes self.now ones.now half 0 result.first }
         ensures second { ArePairsAtOnes self.now ones.now half 16 result.second }
         ensures third { ArePairsAtOnes self.now ones.now half 32 result.third }

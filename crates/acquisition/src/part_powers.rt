@@ -6,12 +6,12 @@ ghost use Rattle.definitions.specs.Samples.{Sample};
 ghost use Rattle.acquisition.specs.PeriodStates.{AreSumsOf};
 ghost use Rattle.acquisition.specs.Rings.{IsSumAtOnes};
 ghost use Rattle.acquisition.specs.declared.chip_ring.TheConstants.{CELLS_AT_ONCE, LANES, RAISED};
-ghost use Rattle.acquisition.specs.declared.half_chip_table.TheConstants.{PLACES};
+ghost use Rattle.acquisition.specs.declared.half_chip_table.TheConstants.{HALF_CHIPS};
 ghost use Rattle.acquisition.specs.declared.ones.TheConstants.{CHIPS};
-ghost use Rattle.acquisition.specs.declared.sums.TheConstants.{MOST_SUM, MOST_PERIOD_POWER};
+ghost use Rattle.acquisition.specs.declared.sums.TheConstants.{MOST_PERIOD_SUM, MOST_PERIOD_POWER};
 
 use crate::chip_ring::{CELLS_AT_ONCE, LANES, RAISED, place_of};
-use crate::half_chip_table::PLACES;
+use crate::half_chip_table::HALF_CHIPS;
 use crate::ones::Ones;
 use crate::period_sums::PeriodSums;
 use crate::power_runs::put_sixteen;
@@ -32,7 +32,7 @@ impl PeriodSums {
 
     /// The powers of 64 cells from half chip `half` on, whatever the size of their sums.
     pub(crate) fn powers_by_parts(&self, ones: &Ones, half: usize) -> [u64; CELLS_AT_ONCE]
-        requires half { half < PLACES }
+        requires half { half < HALF_CHIPS }
         ensures long { length result ≡ CELLS_AT_ONCE }
         ensures powers { (x : ℕ → Sample) (step carrier_step from n : ℕ)
             → AreSumsOf x step carrier_step from n self.now → (l : ℕ) → l < CELLS_AT_ONCE
@@ -51,7 +51,7 @@ impl PeriodSums {
 
     /// The powers of sixteen of these cells, from number `shift` on.
     fn sixteen_powers(&self, ones: &Ones, half: usize, shift: usize) -> [u64; LANES]
-        requires half { half < PLACES }
+        requires half { half < HALF_CHIPS }
         requires shift { shift + LANES ≤ CELLS_AT_ONCE }
         ensures long { length result ≡ LANES }
         ensures powers { (x : ℕ → Sample) (step carrier_step from n : ℕ)
@@ -80,7 +80,7 @@ impl PeriodSums {
     /// number `shift` on.
     #[inline(always)]
     fn at_ones(&self, ones: &Ones, half: usize, shift: usize) -> SumsAtOnes
-        requires half { half < PLACES }
+        requires half { half < HALF_CHIPS }
         requires shift { shift + LANES ≤ CELLS_AT_ONCE }
         ensures long_in_phase { length result.in_phase ≡ LANES }
         ensures long_quadrature { length result.quadrature ≡ LANES }
@@ -110,7 +110,7 @@ impl PeriodSums {
 /// A sum over all samples less twice what is `picked` of them, which was raised by `raised`.
 #[inline(always)]
 fn less_twice(whole: i32, picked: u32, raised: u32) -> i32
-    requires whole { unsigned_abs whole ≤ MOST_SUM }
+    requires whole { unsigned_abs whole ≤ MOST_PERIOD_SUM }
     requires picked { picked ≤ 2 * RAISED * CHIPS }
     requires raised { raised ≤ RAISED * CHIPS }
     ensures { result ≡ whole -ℤ pos 2 *ℤ (pos picked -ℤ pos raised) }

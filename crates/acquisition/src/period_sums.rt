@@ -7,8 +7,8 @@ ghost use Rattle.acquisition.specs.Rings.{ArePaired};
 ghost use Rattle.acquisition.specs.declared.chip_ring.TheConstants.{CELLS_AT_ONCE};
 ghost use Rattle.acquisition.specs.declared.dwell.TheConstants.{MOST_START};
 ghost use Rattle.acquisition.specs.declared.fold.TheConstants.{MOST_SMALL};
-ghost use Rattle.acquisition.specs.declared.half_chip_table.TheConstants.{PLACES};
-ghost use Rattle.acquisition.specs.declared.sums.TheConstants.{MOST_SUM, MOST_PERIOD_POWER};
+ghost use Rattle.acquisition.specs.declared.half_chip_table.TheConstants.{HALF_CHIPS};
+ghost use Rattle.acquisition.specs.declared.sums.TheConstants.{MOST_PERIOD_SUM, MOST_PERIOD_POWER};
 ghost use Rattle.oscillators.specs.declared.settings.TheConstants.{MOST_PER_MS};
 
 use crate::chip_ring::{CELLS_AT_ONCE, ChipRing};
@@ -30,8 +30,8 @@ pub(crate) struct PeriodSums {
     pub(crate) pairs: PairRing,
     /// Whether each sum of a cell fits in 16 bits.
     is_small: bool,
-    ghost in_phase_most: { unsigned_abs whole.in_phase ≤ MOST_SUM },
-    ghost quadrature_most: { unsigned_abs whole.quadrature ≤ MOST_SUM },
+    ghost in_phase_most: { unsigned_abs whole.in_phase ≤ MOST_PERIOD_SUM },
+    ghost quadrature_most: { unsigned_abs whole.quadrature ≤ MOST_PERIOD_SUM },
     ghost paired: { ArePaired in_phase.chips quadrature.chips pairs.chips },
     ghost in_phase_small: { is_small ≡ true → unsigned_abs whole.in_phase ≤ MOST_SMALL },
     ghost quadrature_small: { is_small ≡ true → unsigned_abs whole.quadrature ≤ MOST_SMALL },
@@ -96,7 +96,7 @@ impl PeriodSums {
     /// chip `half` and at those after it. A sum with a code is that of all samples less twice that
     /// of those at chips of 1.
     pub(crate) fn powers(&self, ones: &Ones, half: usize) -> [u64; CELLS_AT_ONCE]
-        requires half { half < PLACES }
+        requires half { half < HALF_CHIPS }
         ensures long { length result ≡ CELLS_AT_ONCE }
         ensures powers { (x : ℕ → Sample) (step carrier_step from n : ℕ)
             → AreSumsOf x step carrier_step from n self.now → (l : ℕ) → l < CELLS_AT_ONCE

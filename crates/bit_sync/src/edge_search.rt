@@ -3,10 +3,10 @@
 ghost use Rattle.std.specs.Prelude.{◌≡◌, ◌<◌, ◌+◌, ℕ, ℤ, List, [], ◌∷◌, ◌++◌, length, slice_index};
 ghost use Rattle.std.specs.Prelude.{nat_le, count_by, false};
 ghost use Rattle.bit_sync.specs.Changes.{sign_turns};
-ghost use Rattle.bit_sync.specs.declared.edge_search.TheConstants.{PLACES, EDGE_CHANGES};
+ghost use Rattle.bit_sync.specs.declared.edge_search.TheConstants.{BIT_PLACES, EDGE_CHANGES};
 
 /// Places in a bit: the 20 code periods of one (IS-GPS-200, section 3.2.2).
-const PLACES: usize = 20;
+const BIT_PLACES: usize = 20;
 
 /// With this number of changes at one place, the last of them is the edge. (This project's own, as
 /// is all of the search.)
@@ -21,14 +21,14 @@ const CROWDED_CANDIDATES: usize = 2;
 /// The search for the first push of bit 0.
 #[derive(Debug, Drop)]
 pub struct EdgeSearch {
-    /// The number of pushes, modulo `PLACES`, since there is no bound on it.
+    /// The number of pushes, modulo `BIT_PLACES`, since there is no bound on it.
     place: usize,
     /// Whether the last push is below zero. Before the first push there is none.
     last: Option<bool>,
     /// The changes at each place since they were last counted anew.
-    changes: [u8; PLACES],
-    ghost place_in_range: { place < PLACES },
-    ghost changes_in_range: { (at : ℕ) → at < PLACES → slice_index changes at < EDGE_CHANGES },
+    changes: [u8; BIT_PLACES],
+    ghost place_in_range: { place < BIT_PLACES },
+    ghost changes_in_range: { (at : ℕ) → at < BIT_PLACES → slice_index changes at < EDGE_CHANGES },
 }
 
 impl EdgeSearch {
@@ -42,7 +42,7 @@ impl EdgeSearch {
         EdgeSearch {
             place: 0,
             last: None,
-            changes: [0; PLACES],
+            changes: [0; BIT_PLACES],
         }
     }
 
@@ -57,7 +57,7 @@ impl EdgeSearch {
         let is_change = turns(self.last, is_negative);
         let place = self.place;
         self.last = Some(is_negative);
-        self.place = (self.place + 1) % PLACES;
+        self.place = (self.place + 1) % BIT_PLACES;
         if !is_change {
             return false;
         }
@@ -67,7 +67,7 @@ impl EdgeSearch {
         }
         self.changes[place] = changes;
         if is_crowded(&self.changes) {
-            self.changes = [0; PLACES];
+            self.changes = [0; BIT_PLACES];
         }
         false
     }
@@ -84,7 +84,7 @@ fn turns(last: Option<bool>, is_negative: bool) -> bool
 }
 
 /// Says whether two places are candidates.
-fn is_crowded(changes: &[u8; PLACES]) -> bool
+fn is_crowded(changes: &[u8; BIT_PLACES]) -> bool
     ensures { result ≡ nat_le 2 (count_by (λ n. nat_le 4 n) changes.now) }
 {
     changes.iter().filter(|n| **n >= CANDIDATE_CHANGES).count() >= CROWDED_CANDIDATES

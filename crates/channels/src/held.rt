@@ -1,7 +1,7 @@
 //! A satellite at a fixed Doppler shift.
 
 ghost use Rattle.std.specs.Prelude.{◌≡◌, ◌≤◌, ◌<◌, ◌+◌, ◌-◌, ◌^◌};
-ghost use Rattle.channels.specs.declared.held.TheConstants.{MOST_DUMPS};
+ghost use Rattle.channels.specs.declared.held.TheConstants.{MOST_COUNTED_DUMPS};
 
 use crate::follower::Follower;
 use ca_codes::{CodeBook, Prn};
@@ -10,7 +10,7 @@ use oscillators::{Doppler, HalfChip, Settings};
 use sample_planes::Planes;
 
 /// The most dumps that a channel counts.
-pub const MOST_DUMPS: u64 = 1 << 62;
+pub const MOST_COUNTED_DUMPS: u64 = 1 << 62;
 
 /// A satellite that is followed at a fixed Doppler shift, and the number of its dumps. It stands
 /// for its channel and the samples so far.
@@ -67,7 +67,7 @@ impl Held {
         book: &mut CodeBook,
     ) -> (usize, Option<Counts>)
         requires some { from < length run.now }
-        requires few { dumps_of self.old < MOST_DUMPS }
+        requires few { dumps_of self.old < MOST_COUNTED_DUMPS }
         ensures as_far { IsAsFar (length run.now - from) result.0 result.1 }
         ensures takes { (settings : DefinedSettings) (channel : Channel) (xs : List Sample)
             → Holds settings channel xs self.old

@@ -36,7 +36,7 @@ mod tracked;
 
 pub use dump::Dump;
 pub use follower::Follower;
-pub use held::{Held, MOST_DUMPS};
+pub use held::{Held, MOST_COUNTED_DUMPS};
 pub use locked_message::LockedMessage;
 pub use sought::Sought;
 pub use tracked::Tracked;

@@ -3,7 +3,7 @@
 ghost use Rattle.std.specs.Prelude.{◌≡◌, ◌≤◌, ◌<◌, ◌+◌, ◌-◌, unsigned_abs};
 ghost use Rattle.tracking_loops.specs.Standing.{dump_count};
 ghost use Rattle.channels.specs.LockedMessages.{bit_count};
-ghost use Rattle.tracking_loops.specs.declared.limits.TheConstants.{MOST_DUMPS, MOST_SHIFT};
+ghost use Rattle.tracking_loops.specs.declared.limits.TheConstants.{MOST_STEERED_DUMPS, MOST_SHIFT};
 ghost use Rattle.tracking_loops.specs.declared.limits.TheConstants.{MOST_CORRECTION};
 
 use crate::dump::Dump;
@@ -155,7 +155,7 @@ impl Tracked {
     /// book of codes.
     pub fn take(&mut self, run: &Planes, from: usize, book: &mut CodeBook) -> (usize, Option<Dump>)
         requires some { from < length run.now }
-        requires few { dumps_of self.old < MOST_DUMPS }
+        requires few { dumps_of self.old < MOST_STEERED_DUMPS }
         ensures as_far { IsAsFar (length run.now - from) result.0 result.1 }
         ensures takes { (settings : DefinedSettings) (channel : Channel) (xs : List Sample)
             → Tracks settings channel xs self.old

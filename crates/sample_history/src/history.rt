@@ -4,7 +4,7 @@ ghost use Rattle.std.specs.Prelude.{◌≡◌, ◌+◌, ◌-◌, ◌*◌, ◌/�
 ghost use Rattle.definitions.specs.Samples.{sample_count, samples_per_byte};
 ghost use Rattle.sample_planes.specs.Packings.{packing_of};
 ghost use Rattle.sample_planes.specs.declared.planes.TheConstants.{MAX_SAMPLES};
-ghost use Rattle.sample_history.specs.declared.history.TheConstants.{MOST_TAKEN, NEAR_BYTES};
+ghost use Rattle.sample_history.specs.declared.history.TheConstants.{MOST_TAKEN, MOST_SPAN_BYTES};
 
 use crate::ring_bytes::{copy_out, grow};
 use circular_buffer::HeapCircularBuffer;
@@ -15,7 +15,7 @@ use std::alloc::{AllocError, Global};
 pub const MOST_TAKEN: u64 = 1 << 40;
 
 /// The most bytes that `MAX_SAMPLES` samples of any packing lie in.
-const NEAR_BYTES: usize = 513;
+const MOST_SPAN_BYTES: usize = 513;
 
 /// The last samples of a stream, packed. The earliest sample of a byte stands in its top bits.
 #[derive(Drop)]
@@ -106,15 +106,15 @@ impl SampleHistory {
 
     /// `count` of its bytes from byte `from` of the ring on, and zeros after them. The byte that
     /// isn't full comes after those of the ring.
-    fn near_bytes(&self, from: usize, count: usize) -> [u8; NEAR_BYTES]
+    fn near_bytes(&self, from: usize, count: usize) -> [u8; MOST_SPAN_BYTES]
         requires from { from ≤ length self.now.whole.items }
         requires within { from + count ≤ length self.now.whole.items + 1 }
-        requires short { count ≤ NEAR_BYTES }
+        requires short { count ≤ MOST_SPAN_BYTES }
         ensures bytes { (k : ℕ) → k < count
             → slice_index result k ≡ slice_index (bytes_of self.now) (from + k) }
-        ensures long { length result ≡ NEAR_BYTES }
+        ensures long { length result ≡ MOST_SPAN_BYTES }
     {
-        let mut near = [0; NEAR_BYTES];
+        let mut near = [0; MOST_SPAN_BYTES];
         let inside = count.min(self.whole.len() - from);
         copy_out(&self.whole, from, &mut near[..inside]);
         if inside < count {

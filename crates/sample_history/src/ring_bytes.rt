@@ -5,9 +5,9 @@ ghost use Rattle.std.specs.Prelude.{drop};
 ghost use Rattle.std.specs.List.{slice_range};
 ghost use Rattle.circular_buffer.specs.Buffer.{buffer, keep_last};
 ghost use Rattle.sample_history.specs.Shifts.{bytes_from, with_bits_behind};
-ghost use Rattle.sample_history.specs.declared.shifted_bytes.TheConstants.{MOST_BYTES};
+ghost use Rattle.sample_history.specs.declared.shifted_bytes.TheConstants.{MOST_RUN_BYTES};
 
-use crate::shifted_bytes::{MOST_BYTES, filled_byte, shifted_byte, shifted_bytes};
+use crate::shifted_bytes::{MOST_RUN_BYTES, filled_byte, shifted_byte, shifted_bytes};
 use circular_buffer::HeapCircularBuffer;
 
 /// Appends `count` bytes, which are the bits of some bytes from bit `place` on. The ring keeps
@@ -18,7 +18,7 @@ pub(crate) fn append_bits(
     place: usize,
     count: usize,
 )
-    requires few { count ≤ MOST_BYTES }
+    requires few { count ≤ MOST_RUN_BYTES }
     requires within { place + 8 * count ≤ 8 * length bytes.now }
     ensures { ring.new ≡ buffer (keep_last ring.old.capacity (ring.old.items
         ++ bytes_from bytes.now place count)) ring.old.capacity }
@@ -43,7 +43,7 @@ pub(crate) fn grow(
 ) -> u8
     requires used { used < 8 }
     requires start { start < 8 }
-    requires few { whole ≤ MOST_BYTES }
+    requires few { whole ≤ MOST_RUN_BYTES }
     requires within { start + 8 * whole ≤ 8 * length bytes.now + used }
     requires holds { length ring.old.items ≤ ring.old.capacity }
     ensures capacity { ring.new.capacity ≡ ring.old.capacity }

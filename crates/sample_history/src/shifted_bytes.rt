@@ -2,10 +2,10 @@
 
 ghost use Rattle.std.specs.Prelude.{◌≡◌, ◌+◌, ◌/◌, ◌<◌, ◌≤◌, length, take};
 ghost use Rattle.sample_history.specs.Shifts.{eight_bits, byte_from, byte_of_two, bytes_from};
-ghost use Rattle.sample_history.specs.declared.shifted_bytes.TheConstants.{MOST_BYTES};
+ghost use Rattle.sample_history.specs.declared.shifted_bytes.TheConstants.{MOST_RUN_BYTES};
 
 /// The most bytes that a run of samples fills.
-pub(crate) const MOST_BYTES: usize = 512;
+pub(crate) const MOST_RUN_BYTES: usize = 512;
 
 /// The eight bits of two bytes from bit `place` on, 0 to 7, which is counted from the top one.
 fn bits_of_two(high: u8, low: u8, place: usize) -> u8
@@ -39,13 +39,13 @@ pub(crate) fn filled_byte(before: u8, behind: u8, place: usize) -> u8
 }
 
 /// `count` bytes, which are the bits of some bytes from bit `place` on. Zeros follow them.
-pub(crate) fn shifted_bytes(bytes: &[u8], place: usize, count: usize) -> [u8; MOST_BYTES]
-    requires few { count ≤ MOST_BYTES }
+pub(crate) fn shifted_bytes(bytes: &[u8], place: usize, count: usize) -> [u8; MOST_RUN_BYTES]
+    requires few { count ≤ MOST_RUN_BYTES }
     requires within { place / 8 + count < length bytes.now }
     ensures { take count result ≡ bytes_from bytes.now place count }
 {
     let at = place / 8;
-    let mut out = [0; MOST_BYTES];
+    let mut out = [0; MOST_RUN_BYTES];
     let mut high = bytes[at];
     for k in 0..count {
         let low = bytes[at + k + 1];

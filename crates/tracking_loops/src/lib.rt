@@ -27,6 +27,6 @@ mod steering;
 mod tests;
 mod window;
 
-pub use limits::{MOST_CORRECTION, MOST_DUMPS, MOST_ERROR, MOST_SHIFT, MOST_SUM};
+pub use limits::{MOST_CORRECTION, MOST_ERROR, MOST_SHIFT, MOST_STEERED_DUMPS, MOST_SUM};
 pub use loops::Loops;
 pub use news::News;

@@ -10,7 +10,7 @@ pub const MOST_SHIFT: u32 = 1 << 30;
 pub const MOST_CORRECTION: u32 = 1 << 16;
 
 /// The most dumps that loops take.
-pub const MOST_DUMPS: u64 = 1 << 40;
+pub const MOST_STEERED_DUMPS: u64 = 1 << 40;
 
 /// The greatest size of an error: a quotient of 1.
 pub const MOST_ERROR: u32 = 4096;

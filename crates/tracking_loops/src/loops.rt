@@ -8,7 +8,8 @@ ghost use Rattle.definitions.specs.Lock.{is_locked, news_of};
 ghost use Rattle.lane_correlator.specs.Counting.{counts_in, AreWithin};
 ghost use Rattle.tracking_loops.specs.NewsIn.{news_in};
 ghost use Rattle.tracking_loops.specs.declared.limits.TheConstants.{MOST_SUM, MOST_SHIFT};
-ghost use Rattle.tracking_loops.specs.declared.limits.TheConstants.{MOST_DUMPS, MOST_CORRECTION};
+ghost use Rattle.tracking_loops.specs.declared.limits.TheConstants.{MOST_STEERED_DUMPS};
+ghost use Rattle.tracking_loops.specs.declared.limits.TheConstants.{MOST_CORRECTION};
 
 use crate::lock::Lock;
 use crate::news::News;
@@ -47,7 +48,7 @@ impl Loops {
     /// of the lock. After `Lost` the rules stay the same; a channel ends there.
     pub fn take(&mut self, counts: Counts) -> News
         requires small { AreWithin MOST_SUM (counts_in counts) }
-        requires room { dump_count self.old < MOST_DUMPS }
+        requires room { dump_count self.old < MOST_STEERED_DUMPS }
         ensures counted { dump_count self.new ≡ dump_count self.old + 1 }
         ensures stands { (start : ℤ) (dumps : List DefinedCounts) → StandsFor start dumps self.old
             → StandsFor start (dumps ++ counts_in counts ∷ []) self.new }

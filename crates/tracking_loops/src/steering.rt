@@ -5,7 +5,8 @@ ghost use Rattle.definitions.specs.Loops.{loops_start, loops_after_dump};
 ghost use Rattle.definitions.specs.Loops.{clamp_shift as defined_clamp_shift};
 ghost use Rattle.lane_correlator.specs.Counting.{counts_in, AreWithin};
 ghost use Rattle.tracking_loops.specs.declared.limits.TheConstants.{MOST_SUM, MOST_SHIFT};
-ghost use Rattle.tracking_loops.specs.declared.limits.TheConstants.{MOST_DUMPS, MOST_CORRECTION};
+ghost use Rattle.tracking_loops.specs.declared.limits.TheConstants.{MOST_STEERED_DUMPS};
+ghost use Rattle.tracking_loops.specs.declared.limits.TheConstants.{MOST_CORRECTION};
 
 use crate::discriminators::{code_error, frequency_error, phase_error};
 use lane_correlator::Counts;
@@ -67,7 +68,7 @@ impl Steering {
     /// Takes the next dump.
     pub fn take(&mut self, counts: Counts)
         requires small { AreWithin MOST_SUM (counts_in counts) }
-        requires room { self.old.dumps < MOST_DUMPS }
+        requires room { self.old.dumps < MOST_STEERED_DUMPS }
         ensures { steering_in self.new ≡ loops_after_dump (steering_in self.old)
             (counts_in counts) }
     {
@@ -80,7 +81,7 @@ impl Steering {
     /// The new `u` and `v`, with one more dump.
     fn carrier_with(&self, counts: &Counts) -> (i64, i64)
         requires small { AreWithin MOST_SUM (counts_in counts.now) }
-        requires room { self.now.dumps < MOST_DUMPS }
+        requires room { self.now.dumps < MOST_STEERED_DUMPS }
         ensures u { result.0 ≡ (loops_after_dump (steering_in self.now) (counts_in counts.now)).u }
         ensures v { result.1 ≡ (loops_after_dump (steering_in self.now) (counts_in counts.now)).v }
         ensures u_small { unsigned_abs result.0 ≤ MOST_SHIFT }
