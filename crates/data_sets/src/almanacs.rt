@@ -7,7 +7,7 @@ ghost use Rattle.subframes.specs.PageViews.{page_in};
 ghost use Rattle.data_sets.specs.Reports.{almanacs_in};
 ghost use Rattle.data_sets.specs.Standing.{last_almanacs, page_with};
 
-use crate::almanac_set::AlmanacSet;
+use crate::almanac_set::{AlmanacSet, SATELLITES};
 use subframes::{AlmanacField, Page};
 
 /// Where the number of the satellite stands among the numbers of an almanac.
@@ -16,8 +16,8 @@ const SV: usize = AlmanacField::Sv as usize;
 /// The last almanac of each of the satellites 1 to 32, and those of the set that was reported last.
 #[derive(Debug, Drop)]
 pub struct Almanacs {
-    last: [Option<[i64; 13]>; 32],
-    reported: [Option<[i64; 13]>; 32],
+    last: [Option<[i64; 13]>; SATELLITES],
+    reported: [Option<[i64; 13]>; SATELLITES],
 }
 
 impl Almanacs {
@@ -28,8 +28,8 @@ impl Almanacs {
         ensures { FollowsAlmanacs [] result }
     {
         Almanacs {
-            last: [None; 32],
-            reported: [None; 32],
+            last: [None; SATELLITES],
+            reported: [None; SATELLITES],
         }
     }
 

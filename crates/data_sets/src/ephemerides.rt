@@ -6,13 +6,14 @@ ghost use Rattle.definitions.specs.DataSets.{ephemerides, new_set, differing, la
 ghost use Rattle.subframes.specs.PageViews.{page_in};
 
 use crate::last_pages::LastPages;
+use crate::report::FIELDS_OF_EPHEMERIS;
 use subframes::Page;
 
 /// The last pages of which a set is made, and the set that was reported last.
 #[derive(Debug, Drop)]
 pub struct Ephemerides {
     last: LastPages,
-    reported: Option<[i64; 31]>,
+    reported: Option<[i64; FIELDS_OF_EPHEMERIS]>,
 }
 
 impl Ephemerides {
@@ -29,7 +30,7 @@ impl Ephemerides {
     }
 
     /// Takes the next page, of whatever kind, and gives the set that is reported with it.
-    pub fn take(&mut self, page: &Page) -> Option<[i64; 31]>
+    pub fn take(&mut self, page: &Page) -> Option<[i64; FIELDS_OF_EPHEMERIS]>
         ensures follows { (pages : List DefinedPage) → Follows pages self.old
             → Follows (pages ++ page_in page.now ∷ []) self.new }
         ensures set { (pages : List DefinedPage) → Follows pages self.old
@@ -45,7 +46,10 @@ impl Ephemerides {
 
     /// Gives the set that is there now, if one is, where it differs from the one reported last. It
     /// is the one reported last from then on.
-    fn report(&mut self, set: Option<[i64; 31]>) -> Option<[i64; 31]>
+    fn report(
+        &mut self,
+        set: Option<[i64; FIELDS_OF_EPHEMERIS]>,
+    ) -> Option<[i64; FIELDS_OF_EPHEMERIS]>
         ensures set { result ≡ differing self.old.reported set }
         ensures reported { self.new.reported ≡ later self.old.reported result }
         ensures last { self.new.last ≡ self.old.last }

@@ -4,6 +4,7 @@
 ghost use Rattle.std.specs.Prelude.{◌≡◌, ◌++◌};
 ghost use Rattle.data_sets.specs.Standing.{are_of_one_issue};
 
+use crate::report::{FIELDS_OF_CLOCK, FIELDS_OF_EPH2, FIELDS_OF_EPH3, FIELDS_OF_EPHEMERIS};
 use subframes::{ClockField, Eph2Field, Eph3Field};
 
 /// Where the issue of data stands among the numbers of a clock page (ten bits).
@@ -17,7 +18,11 @@ const IODE3: usize = Eph3Field::Iode as usize;
 
 /// Says whether the low eight bits of the clock's issue of data are that of both ephemeris pages.
 /// For a number below 0, which no subframe holds, they are its remainder modulo 256, from 0 up.
-pub fn are_of_one_issue(clock: &[i64; 11], eph2: &[i64; 11], eph3: &[i64; 9]) -> bool
+pub fn are_of_one_issue(
+    clock: &[i64; FIELDS_OF_CLOCK],
+    eph2: &[i64; FIELDS_OF_EPH2],
+    eph3: &[i64; FIELDS_OF_EPH3],
+) -> bool
     ensures { result ≡ are_of_one_issue clock.now eph2.now eph3.now }
 {
     clock[IODC].rem_euclid(256) == eph2[IODE] && eph2[IODE] == eph3[IODE3]
@@ -25,10 +30,14 @@ pub fn are_of_one_issue(clock: &[i64; 11], eph2: &[i64; 11], eph3: &[i64; 9]) ->
 
 /// The numbers of the three pages, one page after the other.
 #[tactic(auto, using(crate::proofs::Parts::two_written, crate::proofs::Parts::three_written))]
-pub fn numbers_of_pages(clock: &[i64; 11], eph2: &[i64; 11], eph3: &[i64; 9]) -> [i64; 31]
+pub fn numbers_of_pages(
+    clock: &[i64; FIELDS_OF_CLOCK],
+    eph2: &[i64; FIELDS_OF_EPH2],
+    eph3: &[i64; FIELDS_OF_EPH3],
+) -> [i64; FIELDS_OF_EPHEMERIS]
     ensures { result ≡ clock.now ++ eph2.now ++ eph3.now }
 {
-    let mut numbers = [0; 31];
+    let mut numbers = [0; FIELDS_OF_EPHEMERIS];
     numbers[..11].copy_from_slice(clock);
     numbers[11..22].copy_from_slice(eph2);
     numbers[22..].copy_from_slice(eph3);

@@ -6,14 +6,15 @@ ghost use Rattle.definitions.specs.DataSets.{is_ephemeris};
 ghost use Rattle.subframes.specs.PageViews.{page_in};
 
 use crate::issue::{are_of_one_issue, numbers_of_pages};
+use crate::report::{FIELDS_OF_CLOCK, FIELDS_OF_EPH2, FIELDS_OF_EPH3, FIELDS_OF_EPHEMERIS};
 use subframes::Page;
 
 /// The numbers of the last clock page and of the last of both ephemeris pages.
 #[derive(Debug, Drop)]
 pub struct LastPages {
-    clock: Option<[i64; 11]>,
-    eph2: Option<[i64; 11]>,
-    eph3: Option<[i64; 9]>,
+    clock: Option<[i64; FIELDS_OF_CLOCK]>,
+    eph2: Option<[i64; FIELDS_OF_EPH2]>,
+    eph3: Option<[i64; FIELDS_OF_EPH3]>,
 }
 
 impl LastPages {
@@ -46,7 +47,7 @@ impl LastPages {
     }
 
     /// The numbers of all three, where they are there and are of one issue of data.
-    pub fn set(&self) -> Option<[i64; 31]>
+    pub fn set(&self) -> Option<[i64; FIELDS_OF_EPHEMERIS]>
         ensures { result ≡ set_in self.now }
     {
         let clock = &self.clock?;

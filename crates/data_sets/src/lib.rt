@@ -36,9 +36,9 @@ mod last_pages;
 mod report;
 mod reports;
 
-pub use almanac_set::AlmanacSet;
+pub use almanac_set::{AlmanacSet, SATELLITES};
 pub use data_sets::DataSets;
-pub use report::Report;
+pub use report::{FIELDS_OF_EPHEMERIS, Report};
 pub use reports::Reports;
 
 #[cfg(test)]

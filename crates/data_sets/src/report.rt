@@ -4,14 +4,22 @@ ghost use Rattle.std.specs.Prelude.{◌≡◌, ◌<◌, IfSome, length, map};
 ghost use Rattle.subframes.specs.Entries.{entry_of};
 ghost use Rattle.data_sets.specs.Reports.{fields_in, number_named, numbers_in, report_in};
 ghost use Rattle.data_sets.specs.Reports.{place_in_ephemeris};
+ghost use Rattle.data_sets.specs.declared.report.TheConstants.{FIELDS_OF_EPHEMERIS};
 
 use subframes::{Field, Kind, Page, ephemeris_fields};
 
-/// How many fields a clock page has.
-const CLOCK_FIELDS: usize = 11;
+/// The fields of a clock page: of subframe 1 (IS-GPS-200, section 20.3.3.3.1).
+pub const FIELDS_OF_CLOCK: usize = 11;
 
-/// How many fields a subframe 2 has.
-const EPH2_FIELDS: usize = 11;
+/// The fields of the first ephemeris page: of subframe 2 (IS-GPS-200, section 20.3.3.4.1).
+pub const FIELDS_OF_EPH2: usize = 11;
+
+/// The fields of the second ephemeris page: of subframe 3 (IS-GPS-200, section 20.3.3.4.1).
+pub const FIELDS_OF_EPH3: usize = 9;
+
+/// The fields of a clock and ephemeris: of subframes 1, 2 and 3 (IS-GPS-200, sections 20.3.3.3.1
+/// and 20.3.3.4.1).
+pub const FIELDS_OF_EPHEMERIS: usize = FIELDS_OF_CLOCK + FIELDS_OF_EPH2 + FIELDS_OF_EPH3;
 
 /// A set of pages or a single page: the numbers of its fields in the order of their tables, or the
 /// characters of its message (IS-GPS-200, section 20.3.3).
@@ -19,7 +27,7 @@ const EPH2_FIELDS: usize = 11;
 pub enum Report {
     /// The clock and ephemeris of one issue of data: the fields of subframe 1, then of subframe 2,
     /// then of subframe 3 (sections 20.3.3.3.1 and 20.3.3.4.1).
-    Eph([i64; 31]),
+    Eph([i64; FIELDS_OF_EPHEMERIS]),
     /// An almanac (section 20.3.3.5.1.2).
     Alm([i64; 13]),
     /// The ionosphere and coordinated universal time (sections 20.3.3.5.1.6 and 20.3.3.5.1.7).
@@ -77,12 +85,12 @@ impl Report {
 #[tactic(auto, unfolding(subframes::specs::Entries::name_of))]
 fn place(field: Field) -> Option<usize>
     ensures place { result ≡ place_in_ephemeris field }
-    ensures within { IfSome result (λ place. place < 31) }
+    ensures within { IfSome result (λ place. place < FIELDS_OF_EPHEMERIS) }
 {
     match field {
         Field::Clock(field) => Some(field as usize),
-        Field::Eph2(field) => Some(CLOCK_FIELDS + field as usize),
-        Field::Eph3(field) => Some(CLOCK_FIELDS + EPH2_FIELDS + field as usize),
+        Field::Eph2(field) => Some(FIELDS_OF_CLOCK + field as usize),
+        Field::Eph3(field) => Some(FIELDS_OF_CLOCK + FIELDS_OF_EPH2 + field as usize),
         _ => None,
     }
 }
