@@ -5,16 +5,17 @@ ghost use Rattle.std.specs.Fmt.{signed_decimal};
 ghost use Rattle.definitions.specs.Events.{almanacs};
 ghost use Rattle.definitions.specs.Texts.{event_text};
 ghost use Rattle.data_sets.specs.Reports.{almanacs_in};
+ghost use Rattle.data_sets.specs.declared.almanac_set.TheConstants.{SATELLITES};
 ghost use Rattle.printed_lines.specs.Room.{HasRoom, TakesUp};
 ghost use Rattle.printed_lines.specs.SpacedWords.{with_spaces};
 ghost use Rattle.printed_lines.specs.declared.almanacs.TheConstants.{ALMANACS_BYTES};
 ghost use Rattle.printed_lines.specs.declared.words.TheConstants.{WORD_BYTES};
 
 use crate::words::{KIND_BYTES, Line, NUMBER_BYTES, WORD_BYTES};
-use data_sets::AlmanacSet;
+use data_sets::{AlmanacSet, SATELLITES};
 
 /// The most bytes that the words of the almanacs take up.
-pub const ALMANACS_BYTES: usize = KIND_BYTES + NUMBER_BYTES + 8 + 32 * WORD_BYTES;
+pub const ALMANACS_BYTES: usize = KIND_BYTES + NUMBER_BYTES + 8 + SATELLITES * WORD_BYTES;
 
 /// Adds the time of the almanacs, in units of 2^12 seconds, and the health of satellites 1 to 32
 /// (IS-GPS-200, section 20.3.3.5.1.2).
@@ -31,10 +32,10 @@ pub(crate) fn put_almanacs(line: &mut Line, slot: u8, set: &AlmanacSet)
 }
 
 /// Adds the health of each satellite.
-fn put_health(line: &mut Line, health: &[i64; 32])
-    requires room { HasRoom (32 * WORD_BYTES) line.old }
+fn put_health(line: &mut Line, health: &[i64; SATELLITES])
+    requires room { HasRoom (SATELLITES * WORD_BYTES) line.old }
     ensures text { line.new ≡ line.old ++ with_spaces signed_decimal health.now }
-    ensures longer { TakesUp (32 * WORD_BYTES) line.old line.new }
+    ensures longer { TakesUp (SATELLITES * WORD_BYTES) line.old line.new }
 {
     for value in health {
         line.signed(*value);

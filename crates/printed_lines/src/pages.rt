@@ -10,11 +10,11 @@ ghost use Rattle.data_sets.specs.Reports.{fields_in, numbers_in, report_in};
 ghost use Rattle.printed_lines.specs.Room.{HasRoom, TakesUp};
 ghost use Rattle.printed_lines.specs.SpacedWords.{with_spaces};
 ghost use Rattle.printed_lines.specs.declared.pages.TheConstants.{FIELD_BYTES, PAGE_BYTES};
-ghost use Rattle.printed_lines.specs.declared.pages.TheConstants.{MESSAGE_BYTES};
+ghost use Rattle.printed_lines.specs.declared.pages.TheConstants.{MESSAGE_BYTES, MESSAGE_DIGITS};
 ghost use Rattle.printed_lines.specs.declared.words.TheConstants.{NUMBER_BYTES, KIND_LETTERS};
 
 use crate::words::{KIND_BYTES, Line, NUMBER_BYTES};
-use data_sets::Report;
+use data_sets::{FIELDS_OF_EPHEMERIS, Report};
 use subframes::Field;
 
 /// The most bytes that a field takes up: a space, a name, `=`, a number of 64 bits, `:` and an
@@ -23,10 +23,14 @@ pub const FIELD_BYTES: usize = NUMBER_BYTES + 11;
 
 /// The most bytes that the words of a page take up, and room for one number more: before its last
 /// exponent a line wants room for a number of any length.
-pub const PAGE_BYTES: usize = KIND_BYTES + 31 * FIELD_BYTES + NUMBER_BYTES;
+pub const PAGE_BYTES: usize = KIND_BYTES + FIELDS_OF_EPHEMERIS * FIELD_BYTES + NUMBER_BYTES;
 
-/// The bytes that the characters of a message take up: a space and 44 digits.
-pub const MESSAGE_BYTES: usize = 45;
+/// The digits of a message: two for each of its 22 characters (IS-GPS-200, section
+/// 20.3.3.5.1.8).
+pub const MESSAGE_DIGITS: usize = 44;
+
+/// The bytes that the characters of a message take up: a space and their digits.
+pub const MESSAGE_BYTES: usize = MESSAGE_DIGITS + 1;
 
 /// Adds the words of a page, or of a clock and ephemeris (IS-GPS-200, sections 20.3.3.3 to
 /// 20.3.3.5).
@@ -98,9 +102,9 @@ fn put_message(line: &mut Line, slot: u8, characters: &[u8; 22])
 
 /// Adds two digits for each character to the last word.
 fn put_characters(line: &mut Line, characters: &[u8; 22])
-    requires room { HasRoom 44 line.old }
+    requires room { HasRoom MESSAGE_DIGITS line.old }
     ensures text { line.new ≡ line.old ++ hex_of_bytes characters.now }
-    ensures longer { TakesUp 44 line.old line.new }
+    ensures longer { TakesUp MESSAGE_DIGITS line.old line.new }
 {
     for character in characters {
         line.hex(*character);

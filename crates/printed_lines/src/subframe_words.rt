@@ -3,19 +3,20 @@
 ghost use Rattle.std.specs.Prelude.{◌≡◌, ◌++◌, ◌∷◌, ◌+◌, ◌*◌};
 ghost use Rattle.definitions.specs.Texts.{event_text, word_text};
 ghost use Rattle.definitions.specs.Events as events;
+ghost use Rattle.frame_sync.specs.declared.subframe.TheConstants.{SUBFRAME_WORDS};
 ghost use Rattle.printed_lines.specs.Room.{HasRoom, TakesUp};
 ghost use Rattle.printed_lines.specs.SpacedWords.{with_spaces};
 ghost use Rattle.printed_lines.specs.declared.subframe_words.TheConstants.{DATA_BYTES};
 ghost use Rattle.printed_lines.specs.declared.subframe_words.TheConstants.{SUBFRAME_BYTES};
 
 use crate::words::{KIND_BYTES, Line, WORD_BYTES};
-use frame_sync::Subframe;
+use frame_sync::{SUBFRAME_WORDS, Subframe};
 
 /// The bytes that a data word takes up: a space and six digits.
 pub const DATA_BYTES: usize = 7;
 
 /// The most bytes that the words of a subframe take up.
-pub const SUBFRAME_BYTES: usize = KIND_BYTES + 2 * WORD_BYTES + 10 * DATA_BYTES;
+pub const SUBFRAME_BYTES: usize = KIND_BYTES + 2 * WORD_BYTES + SUBFRAME_WORDS * DATA_BYTES;
 
 /// Adds the ID, the time of week and the ten words of a subframe (IS-GPS-200, section 20.3.3).
 pub(crate) fn put_subframe(line: &mut Line, slot: u8, subframe: &Subframe)
@@ -31,11 +32,11 @@ pub(crate) fn put_subframe(line: &mut Line, slot: u8, subframe: &Subframe)
 
 /// Adds the ten words of a subframe.
 fn put_words(line: &mut Line, subframe: &Subframe)
-    requires room { HasRoom (10 * DATA_BYTES) line.old }
+    requires room { HasRoom (SUBFRAME_WORDS * DATA_BYTES) line.old }
     ensures text { line.new ≡ line.old ++ with_spaces word_text subframe.now.words }
-    ensures longer { TakesUp (10 * DATA_BYTES) line.old line.new }
+    ensures longer { TakesUp (SUBFRAME_WORDS * DATA_BYTES) line.old line.new }
 {
-    for i in 0..10 {
+    for i in 0..SUBFRAME_WORDS {
         put_word(line, subframe.word(i + 1));
     }
 }
