@@ -29,4 +29,4 @@ mod words;
 
 pub use refusal::Refusal;
 pub use script::{Script, Timed};
-pub use words::MOST_DUMPS;
+pub use words::MOST_SHOWN_DUMPS;

@@ -16,8 +16,8 @@ use crate::verb::Verb;
 use crate::words::next_word;
 use channel_slots::Command;
 
-/// The most bytes of a line.
-const LINE_BYTES: usize = 80;
+/// The most bytes of a line of a script.
+const SCRIPT_LINE_BYTES: usize = 80;
 
 /// The latest time of a command, in samples.
 const LAST_TIME: u64 = 1 << 40;
@@ -30,7 +30,7 @@ pub(crate) fn entry(line: &[u8], before: u64, share: u8) -> Option<Timed>
     requires most { share ≤ MOST_SLOTS }
     ensures { entries_in result ≡ entry_of verbs share before line.now }
 {
-    if LINE_BYTES < line.len() {
+    if SCRIPT_LINE_BYTES < line.len() {
         return refusal_at(before, Refusal::LineTooLong);
     }
     if !is_printable(line) {

@@ -16,7 +16,7 @@ use std::marker::Model;
 pub(crate) const MOST_WORDS: usize = 6;
 
 /// The most dumps that a client can ask for at once.
-pub const MOST_DUMPS: u32 = 1_000_000;
+pub const MOST_SHOWN_DUMPS: u32 = 1_000_000;
 
 /// The place of the first byte `end` of a text.
 fn place_of(end: u8, text: &[u8]) -> Option<usize>
@@ -87,7 +87,8 @@ impl<'a> Words<'a> {
     ghost use Rattle.definitions.specs.Scripts.{half_chips, centres, dump_counts};
     ghost use Rattle.definitions.specs.Scripts.{signed_number_in as defined_signed_number_in};
     ghost use Rattle.client_commands.specs.Reading.{number_alone, integer_alone};
-    ghost use Rattle.client_commands.specs.declared.words.TheConstants.{MOST_WORDS, MOST_DUMPS};
+    ghost use Rattle.client_commands.specs.declared.words.TheConstants.{MOST_WORDS};
+    ghost use Rattle.client_commands.specs.declared.words.TheConstants.{MOST_SHOWN_DUMPS};
     ghost use Rattle.acquisition.specs.declared.plan.TheConstants.{MOST_CENTRE};
     ghost use Rattle.channel_slots.specs.declared.command.TheConstants.{MOST_SLOTS};
     ghost use Rattle.std.specs.Prelude.{◌-◌};
@@ -196,12 +197,12 @@ impl<'a> Words<'a> {
             .ok_or(Refusal::OutOfRange)
     }
 
-    /// The number of dumps that the next word writes, 0 to `MOST_DUMPS`.
+    /// The number of dumps that the next word writes, 0 to `MOST_SHOWN_DUMPS`.
     pub(crate) fn dumps(&mut self) -> Result<u32, Refusal>
         requires { 0 < length self.old }
         ensures value { number_alone result ≡ values_in (dump_counts ∷ []) self.old }
         ensures left { self.new ≡ drop 1 self.old }
     {
-        self.number_between(0, MOST_DUMPS)
+        self.number_between(0, MOST_SHOWN_DUMPS)
     }
 }
