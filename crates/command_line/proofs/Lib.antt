@@ -1,3 +1,2 @@
 pub mod CommandLineLemmas
-pub mod FileLemmas
 pub mod ReceivingLemmas

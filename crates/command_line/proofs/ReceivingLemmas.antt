@@ -10,10 +10,12 @@ use Rattle.command_line.specs.declared.failure.Failure.{Failure}
 use Rattle.command_line.specs.declared.failure.Failure.TheVariants.{NoMemory, Shares, Script}
 use Rattle.command_line.specs.declared.failure.Failure.TheVariants.{Settings, Run}
 use Rattle.receiver_options.specs.Requests.{Asked, IsAllowed, recording_of}
-use Rattle.command_line.specs.Programs.{AreTextsOf}
-use Rattle.command_line.specs.Programs.{SomeMayBeRefused, one_or_more, RunsTexts, RunsFiles}
+use Rattle.receiver_options.specs.declared.fault.OptionFault.{OptionFault}
+use Rattle.receiver_options.specs.declared.fault.OptionFault.TheVariants as options
+use Rattle.receiver_options.specs.ScriptTexts.{AreTextsOf, SomeMayBeRefused}
+use Rattle.command_line.specs.Programs.{one_or_more, RunsTexts, RunsFiles}
 use Rattle.receiver_options.specs.Requests.{shares_by}
-use Rattle.command_line.specs.Programs.{Receives, clients_of}
+use Rattle.command_line.specs.Programs.{Receives, clients_of, failure_of}
 
 -- the scripts of a run are those that were handed to it
 pub ran-handed : {A : Type 0} (text : A → List ℕ) (settings : DefinedSettings) (shares : List ℕ)
@@ -40,22 +42,22 @@ as-many-clients known text handed paths n are is =
 
 -- the program ends before its run
 pub failed-before : (asked : Asked) (files : List (Option (List ℕ))) (devices : Devices)
-    (failure : Failure) (r : Result ℕ Failure) → r ≡ Err failure → IsAllowed asked
+    (fault : OptionFault) (r : Result ℕ Failure) → r ≡ Err (failure_of fault) → IsAllowed asked
     → IsSome (shares_by (clients_of files) asked.shares)
-    → ((failure ≡ NoMemory) ⊎ ((failure ≡ Script) × SomeMayBeRefused files))
+    → ((fault ≡ options.NoMemory) ⊎ ((fault ≡ options.Script) × SomeMayBeRefused files))
     → Receives asked files devices devices r
-failed-before asked files devices failure r is allowed shared (inl e) = rw (is, e) (allowed, refl)
-failed-before asked files devices failure r is allowed shared (inr h) =
+failed-before asked files devices fault r is allowed shared (inl e) = rw (is, e) (allowed, refl)
+failed-before asked files devices fault r is allowed shared (inr h) =
     rw (is, h.0) (allowed, shared, h.1, refl)
 
 -- for its shares
 pub failed-at-shares : (asked : Asked) (files : List (Option (List ℕ))) (devices : Devices)
-    (failure : Failure) (r : Result ℕ Failure) → r ≡ Err failure → IsAllowed asked
-    → ((failure ≡ NoMemory) ⊎ ((failure ≡ Shares)
+    (fault : OptionFault) (r : Result ℕ Failure) → r ≡ Err (failure_of fault) → IsAllowed asked
+    → ((fault ≡ options.NoMemory) ⊎ ((fault ≡ options.Shares)
     × (shares_by (clients_of files) asked.shares ≡ None)))
     → Receives asked files devices devices r
-failed-at-shares asked files devices failure r is allowed (inl e) = rw (is, e) (allowed, refl)
-failed-at-shares asked files devices failure r is allowed (inr h) =
+failed-at-shares asked files devices fault r is allowed (inl e) = rw (is, e) (allowed, refl)
+failed-at-shares asked files devices fault r is allowed (inr h) =
     rw (is, h.0) (allowed, h.1, refl)
 
 pub is-some : {A : Type 0} (o : Option A) (x : A) → o ≡ Some x → IsSome o

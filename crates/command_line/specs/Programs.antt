@@ -1,5 +1,5 @@
 -- How the program runs what its command line asks for, and how it ends.
-use Rattle.std.specs.Prelude.{◌≡◌, ◌<◌, ◌*◌, ◌⊎◌, ℕ, List, [], ◌∷◌, length, Option, IfSome}
+use Rattle.std.specs.Prelude.{◌≡◌, ◌<◌, ◌*◌, ℕ, List, [], ◌∷◌, length, Option}
 use Rattle.std.specs.Prelude.{Result, Ok, Err, Some, None, max, IsSome}
 use Rattle.definitions.specs.Oscillators.{Settings as DefinedSettings}
 use Rattle.oscillators.specs.Limits.{IsRate}
@@ -9,32 +9,12 @@ use Rattle.receiver.specs.declared.faults.RunFault.{RunFault}
 use Rattle.receiver.specs.declared.faults.RunFault.TheVariants as faults
 use Rattle.receiver.specs.Runs.{Devices, IsRun, task_of}
 use Rattle.receiver_options.specs.Requests.{Asked, IsAllowed, recording_of, shares_by}
+use Rattle.receiver_options.specs.ScriptTexts.{AreTextsOf, SomeMayBeRefused}
+use Rattle.receiver_options.specs.declared.fault.OptionFault.{OptionFault}
+use Rattle.receiver_options.specs.declared.fault.OptionFault.TheVariants as options
 use Rattle.command_line.specs.declared.failure.Failure.{Failure}
 use Rattle.command_line.specs.declared.failure.Failure.TheVariants.{NoMemory, Shares, Script}
 use Rattle.command_line.specs.declared.failure.Failure.TheVariants.{Settings, Run}
-
--- ---- script files, whose bytes may be known
-
--- these are a file's bytes
-abbrev pub IsTextOf : Option (List ℕ) → List ℕ → Type 0
-IsTextOf known text = IfSome known (λ all. text ≡ all)
-
--- each of these is the text of its file
-abbrev pub AreTextsOf : List (Option (List ℕ)) → List (List ℕ) → Type 0
-AreTextsOf [] [] = Unit {0}
-AreTextsOf [] (text ∷ texts) = ⊥
-AreTextsOf (known ∷ files) [] = ⊥
-AreTextsOf (known ∷ files) (text ∷ texts) = IsTextOf known text × AreTextsOf files texts
-
--- a file that may be refused: its bytes aren't known, or are more than 16 MiB
-abbrev pub MayBeRefused : Option (List ℕ) → Type 0
-MayBeRefused known = IfSome known (λ all. 16777216 < length all)
-
-abbrev pub SomeMayBeRefused : List (Option (List ℕ)) → Type 0
-SomeMayBeRefused [] = ⊥
-SomeMayBeRefused (known ∷ files) = MayBeRefused known ⊎ SomeMayBeRefused files
-
--- ---- how the program ends
 
 -- the scripts of a run: one a file, or an empty one
 abbrev pub one_or_more : List (List ℕ) → List (List ℕ)
@@ -105,3 +85,9 @@ status_of (Err Shares) = 2
 status_of (Err Script) = 2
 status_of (Err (Settings fault)) = 2
 status_of (Err (Run fault)) = 1
+
+-- the failure of shares or scripts that can't be had
+abbrev pub failure_of : OptionFault → Failure
+failure_of options.NoMemory = NoMemory
+failure_of options.Shares = Shares
+failure_of options.Script = Script

@@ -2,10 +2,11 @@
 
 ghost use Rattle.std.specs.Prelude.{◌≡◌};
 ghost use Rattle.command_line.specs.declared.failure.Failure.TheVariants.{NoMemory};
-ghost use Rattle.command_line.specs.Programs.{status_of};
+ghost use Rattle.command_line.specs.Programs.{status_of, failure_of};
 
 use oscillators::SettingsFault;
 use receiver::RunFault;
+use receiver_options::OptionFault;
 use std::alloc::{AllocError, AllocFailed};
 use thiserror::Error;
 
@@ -52,5 +53,17 @@ impl<T: Drop> From<AllocFailed<T>> for Failure {
 
     fn from(_: AllocFailed<T>) -> Failure {
         Failure::NoMemory
+    }
+}
+
+impl From<OptionFault> for Failure {
+    ghost from_gives = { λ fault failure. failure ≡ failure_of fault };
+
+    fn from(fault: OptionFault) -> Failure {
+        match fault {
+            OptionFault::NoMemory => Failure::NoMemory,
+            OptionFault::Shares => Failure::Shares,
+            OptionFault::Script => Failure::Script,
+        }
     }
 }

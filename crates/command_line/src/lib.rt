@@ -7,8 +7,9 @@
 //! or written. Which of them comes for which words follows from the command line that the specs
 //! define, by the option parser's own definitions.
 //!
-//!     use command_line::{Stored, SystemCommandLine, carry_out};
+//!     use command_line::carry_out;
 //!     use receiver::Plain;
+//!     use receiver_options::{Stored, SystemCommandLine};
 //!     use std::io;
 //!     use std::process::ExitCode;
 //!
@@ -22,13 +23,8 @@
 mod failure;
 mod program;
 mod receiving;
-mod script_files;
-mod shares;
 #[cfg(test)]
 mod tests;
-mod words;
 
 pub use failure::Failure;
 pub use program::carry_out;
-pub use script_files::{ScriptFiles, Stored};
-pub use words::{CommandLine, SystemCommandLine};

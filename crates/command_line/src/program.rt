@@ -9,11 +9,10 @@ ghost use Rattle.command_line.specs.Endings.{HasEnded, parser_status};
 
 use crate::failure::{Failure, status};
 use crate::receiving::receive;
-use crate::script_files::ScriptFiles;
-use crate::words::CommandLine;
 use clap::Error;
 use clap::error::ErrorKind;
 use receiver::{Sink, Source};
+use receiver_options::{CommandLine, ScriptFiles};
 use std::alloc::{AllocError, Global};
 use std::io::{Eprint, Print};
 use std::process::ExitCode;
@@ -79,7 +78,7 @@ where
 {
     let words = match line.words(rt.alloc()) {
         Ok(words) => words,
-        Err(failure) => return tell(rt, Err(failure)),
+        Err(AllocError) => return tell(rt, Err(Failure::NoMemory)),
     };
     match receiver_options::matches(rt.alloc(), &words) {
         Ok(matches) => tell(rt, receive(rt.alloc(), files, &matches, reader, writer)),

@@ -7,12 +7,11 @@ ghost use Rattle.receiver.specs.Runs.{devices_at};
 ghost use Rattle.command_line.specs.Programs.{Receives, RunsTexts, IsBeforeReading, one_or_more};
 
 use crate::failure::Failure;
-use crate::script_files::{ScriptFiles, read_scripts};
-use crate::shares::shares;
 use channel_slots::MOST_TIME;
 use clap::ArgMatches;
 use oscillators::Settings;
 use receiver::{Sink, Source, run_shares};
+use receiver_options::{ScriptFiles, read_scripts, shares};
 use std::alloc::Global;
 
 /// Runs the scripts that the options name, in their order, or an empty one where they name none,

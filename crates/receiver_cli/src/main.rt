@@ -3,8 +3,9 @@
 //! Its stored run ends with status 0: two scripts over the beginning of a recording.
 #![tactic(auto)]
 
-use command_line::{Stored, SystemCommandLine, carry_out};
+use command_line::carry_out;
 use receiver::Plain;
+use receiver_options::{Stored, SystemCommandLine};
 use std::io;
 use std::process::ExitCode;
 

@@ -1,2 +1,3 @@
 pub mod OptionLemmas
 pub mod CommandLineLemmas
+pub mod FileLemmas

@@ -1,7 +1,8 @@
-//! The options of the program `receiver`. `matches` has the option parser read the words of a
-//! command line, and the rest says what the options that it found ask for: the recording's
-//! settings, and the names of the script files. What is found in which words is proved by the
-//! parser's own definitions, of the command that the specs define.
+//! The options of the program `receiver`, and what they name. `matches` has the option parser read
+//! the words of a command line, and the rest says what the options that it found ask for: the
+//! recording's settings, the shares of the slots, and the script files, whose texts `read_scripts`
+//! reads. What is found in which words is proved by the parser's own definitions, of the command
+//! that the specs define.
 //!
 //!     use oscillators::Settings;
 //!     use receiver_options::{matches, settings};
@@ -15,6 +16,14 @@
 
 mod asked;
 mod command;
+mod fault;
+mod script_files;
+mod slot_shares;
+mod words;
 
-pub use asked::{scripts, settings, text};
+pub use asked::{scripts, settings};
 pub use command::matches;
+pub use fault::OptionFault;
+pub use script_files::{MOST_SCRIPT_BYTES, ScriptFiles, Stored, read_scripts, script_from};
+pub use slot_shares::shares;
+pub use words::{CommandLine, SystemCommandLine};

@@ -1,8 +1,6 @@
 //! The words that the system passes, of which some are no text.
 
-use crate::failure::Failure;
-use crate::script_files::{ScriptFiles, Stored};
-use crate::words::{CommandLine, SystemCommandLine};
+use receiver_options::{CommandLine, OptionFault, ScriptFiles, Stored, SystemCommandLine};
 use std::env::{Env, FillError};
 use std::test::Fail;
 
@@ -59,7 +57,10 @@ fn a_name_that_is_no_text(rt: HostRuntime) -> Result<(), Fail> {
     std::fs::write(&rt, "\u{fffd}", b"")?;
     let files = Stored::new(&rt);
     for path in receiver_options::scripts(&matches) {
-        assert_eq!(rt; files.read(rt.alloc(), path).err(), Some(Failure::Script));
+        assert_eq!(rt;
+            files.read(rt.alloc(), path).err(),
+            Some(OptionFault::Script)
+        );
     }
     assert!(rt; files.read(rt.alloc(), "\u{fffd}").is_ok());
     std::fs::remove_file(&rt, "\u{fffd}")?;

@@ -1,10 +1,9 @@
 //! How the program ends, as a test sees it.
 
 use crate::program::carry_out;
-use crate::script_files::Stored;
 use crate::tests::fakes::{Giving, Holding};
 use crate::tests::systems::System;
-use crate::words::SystemCommandLine;
+use receiver_options::{Stored, SystemCommandLine};
 use std::alloc::{Alloc, Global};
 use std::fs::Files;
 use std::process::{Abort, ExitCode};

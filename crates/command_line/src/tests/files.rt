@@ -2,10 +2,9 @@
 
 ghost use Rattle.std.specs.Prelude.{Some};
 
-use crate::failure::Failure;
 use crate::receiving::receive;
-use crate::script_files::{ScriptFiles, script_from};
 use crate::tests::fakes::{Giving, Holding};
+use receiver_options::{OptionFault, ScriptFiles, script_from};
 use std::alloc::Global;
 use std::io::{self, Read};
 use std::test::Fail;
@@ -17,7 +16,7 @@ struct Named;
 impl ScriptFiles for Named {
     ghost bytes_of = { λ _ path. Some path };
 
-    fn read(&self, alloc: Global, path: &str) -> Result<Vec<u8>, Failure> {
+    fn read(&self, alloc: Global, path: &str) -> Result<Vec<u8>, OptionFault> {
         let mut bytes = Vec::new(alloc);
         bytes.extend_from_slice(path.as_bytes())?;
         Ok(bytes)
@@ -67,6 +66,6 @@ fn known_files(rt: HostRuntime) -> Result<(), Fail> {
 #[test]
 fn file_that_breaks_off(rt: HostRuntime) -> Result<(), Fail> {
     let script = script_from(rt.alloc(), Failing { is_read: false });
-    assert_eq!(rt; script.err(), Some(Failure::Script));
+    assert_eq!(rt; script.err(), Some(OptionFault::Script));
     Ok(())
 }

@@ -1,9 +1,7 @@
-use Rattle.std.proofs.Common.{refl, map, ap, ◌∙◌}
-use Rattle.std.specs.Prelude.{Err, string_bytes}
+use Rattle.std.proofs.Common.{refl, map}
+use Rattle.std.specs.Prelude.{string_bytes}
 use Rattle.clap.specs.Values.{kind_of}
 use Rattle.command_line.specs.Endings.{received, without_options}
-use Rattle.command_line.specs.Programs.{status_of}
-use Rattle.command_line.specs.declared.failure.Failure.{Failure}
 use Rattle.command_line.proofs.CommandLineLemmas.{without-memory}
 use Rattle.command_line.proofs.program.carry_out_in_room.Goals as goal
 
@@ -11,8 +9,7 @@ pub returns-in-Err : goal.returns-in-Err
 returns-in-Err g c = record {
   status =
       without-memory (g.C.CommandLine.given c.args.line.now) _ _ _
-      (c.tell.ensures.status
-      ∙ ap (λ (failure : Failure). status_of (Err failure)) c.in-Err.ensures.fault);
+      c.tell.ensures.status;
 }
 
 pub returns-in-Ok-matches : goal.returns-in-Ok-matches

@@ -1,7 +1,7 @@
 use Rattle.std.proofs.Common.{◌∙◌, ap, map}
 use Rattle.std.proofs.lemmas.List.{map_push}
-use Rattle.command_line.proofs.FileLemmas.{texts-more, read-refused}
-use Rattle.command_line.proofs.script_files.read_scripts.Goals as goal
+use Rattle.receiver_options.proofs.FileLemmas.{texts-more, read-refused}
+use Rattle.receiver_options.proofs.script_files.read_scripts.Goals as goal
 
 pub returns-in_err-read-clause-fault : goal.returns-in_err-read-clause-fault
 returns-in_err-read-clause-fault g c =

@@ -1,7 +1,7 @@
 use Rattle.std.proofs.Common.{◌≡◌, ◌-◌, true, map, take}
 use Rattle.std.specs.List.{list_all}
 use Rattle.receiver_options.specs.Requests.{is_share_digit}
-use Rattle.command_line.proofs.shares.shares_of.Given as goal
+use Rattle.receiver_options.proofs.slot_shares.shares_of.Given as goal
 
 abbrev pub invariant-loop-digit : goal.invariant-loop-digit
 invariant-loop-digit l = record {

@@ -1,7 +1,7 @@
 use Rattle.std.proofs.Common.{take, ap, rules}
 use Rattle.std.specs.Prelude.{option_map}
-use Rattle.command_line.proofs.FileLemmas.{whole-text}
-use Rattle.command_line.proofs.script_files.script_from.Goals as goal
+use Rattle.receiver_options.proofs.FileLemmas.{whole-text}
+use Rattle.receiver_options.proofs.script_files.script_from.Goals as goal
 
 pub returns-in-Ok-clause-whole : goal.returns-in-Ok-clause-whole
 returns-in-Ok-clause-whole g c =

@@ -1,6 +1,6 @@
 use Rattle.std.proofs.Common.{map, take}
-use Rattle.command_line.specs.Programs.{AreTextsOf}
-use Rattle.command_line.proofs.script_files.read_scripts.Given as goal
+use Rattle.receiver_options.specs.ScriptTexts.{AreTextsOf}
+use Rattle.receiver_options.proofs.script_files.read_scripts.Given as goal
 
 abbrev pub invariant-loop-path : goal.invariant-loop-path
 invariant-loop-path g l =

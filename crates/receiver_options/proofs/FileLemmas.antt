@@ -3,10 +3,10 @@ use Rattle.std.proofs.Common.{◌≡◌, ℕ, zero, suc, ◌+◌, ◌<◌, ◌�
 use Rattle.std.proofs.Common.{get_or, map, ap, ◌∙◌, arith, inl, inr}
 use Rattle.std.specs.Prelude.{Option, Some, None, IfSome, option_map, min, Result, Ok, Err, IfErr}
 use Rattle.std.specs.Prelude.{IsErrAnd, ◌⊎◌}
-use Rattle.command_line.specs.declared.failure.Failure.{Failure}
-use Rattle.command_line.specs.declared.failure.Failure.TheVariants.{NoMemory, Script}
+use Rattle.receiver_options.specs.declared.fault.OptionFault.{OptionFault}
+use Rattle.receiver_options.specs.declared.fault.OptionFault.TheVariants.{NoMemory, Script}
 use Rattle.std.proofs.lemmas.List.{take_all, length-take, map_more}
-use Rattle.command_line.specs.Programs.{IsTextOf, AreTextsOf, MayBeRefused, SomeMayBeRefused}
+use Rattle.receiver_options.specs.ScriptTexts.{IsTextOf, AreTextsOf, MayBeRefused, SomeMayBeRefused}
 
 -- what was read of a file, up to one byte more than it may have
 pub whole-text : (known left : Option (List ℕ)) (limit : ℕ) (before text : List ℕ)
@@ -48,11 +48,11 @@ texts-more known paths i d texts more text below is all one =
 
 -- a file is refused
 pub read-refused : {A T : Type 0} (known : A → Option (List ℕ)) (paths : List A) (i : ℕ) (d : A)
-    (r : Result T Failure) (failure : Failure) → i < length paths → IsErrAnd r (λ x. x ≡ failure)
-    → ((failure ≡ NoMemory) ⊎ ((failure ≡ Script) × MayBeRefused (known (get_or paths i d))))
-    → IfErr r (λ failure. (failure ≡ NoMemory)
-    ⊎ ((failure ≡ Script) × SomeMayBeRefused (map known paths)))
-read-refused known paths i d (Ok x) failure below is h = tt
-read-refused known paths i d (Err x) failure below is (inl e) = inl (is ∙ e)
-read-refused known paths i d (Err x) failure below is (inr h) =
+    (r : Result T OptionFault) (fault : OptionFault) → i < length paths → IsErrAnd r (λ x. x ≡ fault)
+    → ((fault ≡ NoMemory) ⊎ ((fault ≡ Script) × MayBeRefused (known (get_or paths i d))))
+    → IfErr r (λ fault. (fault ≡ NoMemory)
+    ⊎ ((fault ≡ Script) × SomeMayBeRefused (map known paths)))
+read-refused known paths i d (Ok x) fault below is h = tt
+read-refused known paths i d (Err x) fault below is (inl e) = inl (is ∙ e)
+read-refused known paths i d (Err x) fault below is (inr h) =
     inr (is ∙ h.0, refused-at known paths i d below h.1)

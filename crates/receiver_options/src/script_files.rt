@@ -2,16 +2,16 @@
 
 ghost use Rattle.std.specs.Prelude.{◌≡◌, ◌≤◌, ◌⊎◌, ℕ, List, Option, None, length, map, IfOk, IfErr};
 ghost use Rattle.std.specs.Prelude.{IfSome};
-ghost use Rattle.command_line.specs.declared.script_files.TheConstants.{MOST_SCRIPT_BYTES};
-ghost use Rattle.command_line.specs.Programs.{IsTextOf, AreTextsOf, MayBeRefused, SomeMayBeRefused};
+ghost use Rattle.receiver_options.specs.declared.script_files.TheConstants.{MOST_SCRIPT_BYTES};
+ghost use Rattle.receiver_options.specs.ScriptTexts.{IsTextOf, AreTextsOf, MayBeRefused, SomeMayBeRefused};
 
-use crate::failure::Failure;
+use crate::fault::OptionFault;
 use std::alloc::Global;
 use std::fs::{File, Files};
 use std::io::{ErrorKind, Read};
 
 /// The most bytes of a script file: 16 MiB.
-const MOST_SCRIPT_BYTES: usize = 16 << 20;
+pub const MOST_SCRIPT_BYTES: usize = 16 << 20;
 
 /// What keeps script files.
 pub trait ScriptFiles {
@@ -19,10 +19,10 @@ pub trait ScriptFiles {
     ghost bytes_of: { Self → List ℕ → Option (List ℕ) };
 
     /// Reads a file whole, of 16 MiB at most.
-    fn read(&self, alloc: Global, path: &str) -> Result<Vec<u8>, Failure>
+    fn read(&self, alloc: Global, path: &str) -> Result<Vec<u8>, OptionFault>
         ensures whole { IfOk result (λ bytes. IsTextOf (bytes_of self.now path.now) bytes.items) }
-        ensures fault { IfErr result (λ failure. (failure ≡ Failure.NoMemory)
-            ⊎ ((failure ≡ Failure.Script) × MayBeRefused (bytes_of self.now path.now))) };
+        ensures fault { IfErr result (λ fault. (fault ≡ OptionFault.NoMemory)
+            ⊎ ((fault ≡ OptionFault.Script) × MayBeRefused (bytes_of self.now path.now))) };
 }
 
 /// The files of a file system. No contract knows their bytes.
@@ -43,20 +43,21 @@ impl<'a, F> Stored<'a, F> {
 impl<F: Files> ScriptFiles for Stored<'_, F> {
     ghost bytes_of = { λ _ _. None };
 
-    fn read(&self, alloc: Global, path: &str) -> Result<Vec<u8>, Failure> {
+    fn read(&self, alloc: Global, path: &str) -> Result<Vec<u8>, OptionFault> {
         match File::open(self.files, path) {
             Ok(file) => script_from(alloc, file),
-            Err(_) => Err(Failure::Script),
+            Err(_) => Err(OptionFault::Script),
         }
     }
 }
 
-/// The bytes of a script that a reader gives.
-pub fn script_from<R: Read + Drop>(alloc: Global, reader: R) -> Result<Vec<u8>, Failure>
+/// The bytes of a script that a reader gives: all of them, or `Script` where it fails or gives more
+/// than 16 MiB.
+pub fn script_from<R: Read + Drop>(alloc: Global, reader: R) -> Result<Vec<u8>, OptionFault>
     ensures whole { IfOk result (λ bytes. IsTextOf (R.remaining reader) bytes.items) }
     ensures short { IfOk result (λ bytes. length bytes.items ≤ MOST_SCRIPT_BYTES) }
-    ensures fault { IfErr result (λ failure.
-        (failure ≡ Failure.NoMemory) ⊎ (failure ≡ Failure.Script)) }
+    ensures fault { IfErr result (λ fault.
+        (fault ≡ OptionFault.NoMemory) ⊎ (fault ≡ OptionFault.Script)) }
 {
     let mut bytes = Vec::new(alloc);
     // One byte more than the most shows that there are too many.
@@ -65,8 +66,8 @@ pub fn script_from<R: Read + Drop>(alloc: Global, reader: R) -> Result<Vec<u8>, 
         .read_to_end(&mut bytes)
     {
         Ok(_) if bytes.len() <= MOST_SCRIPT_BYTES => Ok(bytes),
-        Err(error) if error.kind() == ErrorKind::OutOfMemory => Err(Failure::NoMemory),
-        _ => Err(Failure::Script),
+        Err(error) if error.kind() == ErrorKind::OutOfMemory => Err(OptionFault::NoMemory),
+        _ => Err(OptionFault::Script),
     }
 }
 
@@ -75,12 +76,12 @@ pub fn read_scripts<S: ScriptFiles>(
     alloc: Global,
     files: &S,
     paths: &[&str],
-) -> Result<Vec<Vec<u8>>, Failure>
+) -> Result<Vec<Vec<u8>>, OptionFault>
     ensures each { IfOk result (λ texts. AreTextsOf
         (map (λ path. S.bytes_of files.now path.now) paths.now)
         (map (λ text. text.items) texts.items)) }
-    ensures fault { IfErr result (λ failure. (failure ≡ Failure.NoMemory)
-        ⊎ ((failure ≡ Failure.Script)
+    ensures fault { IfErr result (λ fault. (fault ≡ OptionFault.NoMemory)
+        ⊎ ((fault ≡ OptionFault.Script)
         × SomeMayBeRefused (map (λ path. S.bytes_of files.now path.now) paths.now))) }
 {
     let mut texts = Vec::new(alloc);

@@ -1,10 +1,9 @@
 //! The words of the command line, as text.
 
 ghost use Rattle.std.specs.Prelude.{◌≡◌, ◌++◌, ◌∷◌, ℕ, List, [], map, string_bytes};
-ghost use Rattle.std.specs.Prelude.{Option, None, IfSome, IfOk, IfErr};
+ghost use Rattle.std.specs.Prelude.{Option, None, IfSome, IfOk};
 ghost use Rattle.std.specs.Str.{IsUtf8};
 
-use crate::failure::Failure;
 use std::alloc::{AllocError, Global};
 use std::env::{Env, FillError};
 use std::str::from_utf8;
@@ -18,10 +17,9 @@ pub trait CommandLine {
     ghost given: { Self → Option (List (List ℕ)) };
 
     /// The words, the program's name first.
-    fn words(&self, alloc: Global) -> Result<Vec<String>, Failure>
+    fn words(&self, alloc: Global) -> Result<Vec<String>, AllocError>
         ensures all { IfOk result (λ words. IfSome (given self.now)
-            (λ all. map (λ word. string_bytes word) words.items ≡ all)) }
-        ensures fault { IfErr result (λ failure. failure ≡ Failure.NoMemory) };
+            (λ all. map (λ word. string_bytes word) words.items ≡ all)) };
 }
 
 /// The command line that a system has for the program. No contract knows its words.
@@ -42,14 +40,14 @@ impl<E: Env> CommandLine for SystemCommandLine<'_, E> {
 
     // The room for a word is on the stack, more of it than the run takes.
     #[inline(never)]
-    fn words(&self, alloc: Global) -> Result<Vec<String>, Failure> {
+    fn words(&self, alloc: Global) -> Result<Vec<String>, AllocError> {
         let mut buffer = [0; MOST_WORD_BYTES];
         let mut words = Vec::new(alloc);
         for i in 0..usize::MAX {
             match self.env.arg(i, &mut buffer) {
                 Ok(len) => words.push(word(alloc, &buffer[..len])?)?,
                 Err(FillError::NotPresent) => break,
-                Err(FillError::TooLong) => return Err(Failure::NoMemory),
+                Err(FillError::TooLong) => return Err(AllocError),
             }
         }
         Ok(words)
