@@ -48,7 +48,8 @@ texts-more known paths i d texts more text below is all one =
 
 -- a file is refused
 pub read-refused : {A T : Type 0} (known : A → Option (List ℕ)) (paths : List A) (i : ℕ) (d : A)
-    (r : Result T OptionFault) (fault : OptionFault) → i < length paths → IsErrAnd r (λ x. x ≡ fault)
+    (r : Result T OptionFault) (fault : OptionFault) → i < length paths
+    → IsErrAnd r (λ x. x ≡ fault)
     → ((fault ≡ NoMemory) ⊎ ((fault ≡ Script) × MayBeRefused (known (get_or paths i d))))
     → IfErr r (λ fault. (fault ≡ NoMemory)
     ⊎ ((fault ≡ Script) × SomeMayBeRefused (map known paths)))

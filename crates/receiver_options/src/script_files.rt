@@ -3,7 +3,8 @@
 ghost use Rattle.std.specs.Prelude.{◌≡◌, ◌≤◌, ◌⊎◌, ℕ, List, Option, None, length, map, IfOk, IfErr};
 ghost use Rattle.std.specs.Prelude.{IfSome};
 ghost use Rattle.receiver_options.specs.declared.script_files.TheConstants.{MOST_SCRIPT_BYTES};
-ghost use Rattle.receiver_options.specs.ScriptTexts.{IsTextOf, AreTextsOf, MayBeRefused, SomeMayBeRefused};
+ghost use Rattle.receiver_options.specs.ScriptTexts.{IsTextOf, AreTextsOf};
+ghost use Rattle.receiver_options.specs.ScriptTexts.{MayBeRefused, SomeMayBeRefused};
 
 use crate::fault::OptionFault;
 use std::alloc::Global;
