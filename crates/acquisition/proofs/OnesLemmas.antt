@@ -68,30 +68,18 @@ ones-same prn n count old new are alike zero =
     no_more z = omega (arith, ints)
 
 -- whether a chip is 1, by the top bit of its byte in a table of the code
-pub of_one : (prn k : ℕ) (table : List ℕ) → IsTable prn table → k < 1023
-    → 128 ≤ slice_index table k → (chip prn k == 1) ≡ true
-unfolding IsTable
-of_one prn k table is inside high =
-    let one : chip prn k ≡ 1 =
-    omega (
-      arith,
-      is k (omega (arith, inside)),
-      high,
-      chip_below_two prn k,
-      chip_below_two prn (k + 1022),
-    ) in
-    rw one refl
+pub record IsInTable (prn k byte : ℕ) : Type 0 where
+  pub one : 128 ≤ byte → (chip prn k == 1) ≡ true
+  pub nought : byte < 128 → (chip prn k == 1) ≡ false
 
-pub of_zero : (prn k : ℕ) (table : List ℕ) → IsTable prn table → k < 1023
-    → slice_index table k < 128 → (chip prn k == 1) ≡ false
+pub in_table : (prn k : ℕ) (table : List ℕ) → IsTable prn table → k < 1023
+    → IsInTable prn k (slice_index table k)
 unfolding IsTable
-of_zero prn k table is inside low =
-    let nought : chip prn k ≡ 0 =
-    omega (
-      arith,
-      is k (omega (arith, inside)),
-      low,
-      chip_below_two prn k,
-      chip_below_two prn (k + 1022),
-    ) in
-    rw nought refl
+in_table prn k table is inside =
+    let byte = is k (omega (arith, inside)) in
+    let small = chip_below_two prn k in
+    let before = chip_below_two prn (k + 1022) in
+    record {
+      one = λ high. let e : chip prn k ≡ 1 = omega (arith, byte, high, small, before) in rw e refl;
+      nought = λ low. let e : chip prn k ≡ 0 = omega (arith, byte, low, small, before) in rw e refl;
+    }

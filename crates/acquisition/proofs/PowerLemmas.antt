@@ -5,7 +5,7 @@ use Rattle.std.specs.Prelude.{ℤ, pos, get_or, slice_index, ◌⊎◌}
 use Rattle.std.specs.List.{range_with_len}
 use Rattle.std.proofs.Math.Nat.{mul-le-mul_right}
 use Rattle.std.proofs.Math.ListN.{replicate, set}
-use Rattle.std.proofs.lemmas.List.{get_or-replicate, get_or-set_same}
+use Rattle.std.proofs.lemmas.List.{get_or-replicate, get_or-set_same, get_or-set_other}
 use Rattle.std.proofs.lemmas.List.FromFn.{get_or-map-range_with_len, length-map-range_with_len}
 use Rattle.definitions.specs.Samples.{Sample, sample_at, real}
 use Rattle.definitions.specs.Correlation.{Replica}
@@ -85,6 +85,17 @@ AreEach property n powers = (i : ℕ) → i < n → property i (slice_index powe
 
 pub each-none : (property : ℕ → ℕ → Type 0) (powers : List ℕ) → AreEach property 0 powers
 each-none property powers i h = absurd (omega (arith, h))
+
+pub each-one : (property : ℕ → ℕ → Type 0) (n power : ℕ) (powers : List ℕ) → n < length powers
+    → property n power → AreEach property n powers → AreEach property (n + 1) (set powers n power)
+each-one property n power powers inside has each i h = elim (last_or_before i n h) [
+  | inl same ↦
+      subst (λ (k : ℕ). property k (slice_index (set powers n power) k)) (sym same)
+      (subst (λ (it : ℕ). property n it) (sym (get_or-set_same powers n power 0 inside)) has)
+  | inr before ↦
+      subst (λ (it : ℕ). property i it)
+      (sym (get_or-set_other powers n i power 0 (apart_before i n before))) (each i before)
+]
 
 pub each-sixteen : (property : ℕ → ℕ → Type 0) (n : ℕ) (old new sixteen : List ℕ)
     → ((l : ℕ) → l < 16 → slice_index new (n + l) ≡ slice_index sixteen l)

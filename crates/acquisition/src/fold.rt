@@ -1,7 +1,7 @@
 //! Samples without their carrier, added up by the half chips at which they lie.
 
 ghost use Rattle.std.specs.Prelude.{◌≡◌, ◌+◌, ◌*◌, ◌<◌, ◌≤◌, ◌%◌, ◌^◌, ℕ, length, get_or, pos};
-ghost use Rattle.std.specs.Prelude.{unsigned_abs, true};
+ghost use Rattle.std.specs.Prelude.{unsigned_abs, true, ◌↔◌};
 ghost use Rattle.definitions.specs.Oscillators.{code_cycle};
 ghost use Rattle.definitions.specs.Samples.{Sample, sample_at};
 ghost use Rattle.definitions.specs.Correlation.{wiped_in_phase, wiped_quadrature};
@@ -124,7 +124,7 @@ impl Fold {
 
     /// Whether the sums that it gives with any code fit in 16 bits.
     pub(crate) fn is_small(&self) -> bool
-        ensures { result ≡ true → IsSmall self.now }
+        ensures { (result ≡ true) ↔ IsSmall self.now }
     {
         self.in_phase.sizes() <= MOST_SMALL && self.quadrature.sizes() <= MOST_SMALL
     }

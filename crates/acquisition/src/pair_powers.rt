@@ -2,8 +2,7 @@
 
 ghost use Rattle.std.specs.Prelude.{◌≡◌, ◌+◌, ◌*◌, ◌/◌, ◌%◌, ◌^◌, ◌<◌, ◌≤◌, ◌+ℤ◌, ◌-ℤ◌, ℕ, pos};
 ghost use Rattle.std.specs.Prelude.{true, length, slice_index, unsigned_abs};
-ghost use Rattle.definitions.specs.Samples.{Sample};
-ghost use Rattle.acquisition.specs.PeriodStates.{AreSumsOf};
+ghost use Rattle.acquisition.specs.PeriodStates.{ArePowersOf};
 ghost use Rattle.acquisition.specs.Pairs.{ArePairsAtOnes, IsRaisedWhole, cell_pair, power_of_pair};
 ghost use Rattle.acquisition.specs.declared.chip_ring.TheConstants.{CELLS_AT_ONCE, LANES};
 ghost use Rattle.acquisition.specs.declared.fold.TheConstants.{MOST_SMALL};
@@ -21,19 +20,12 @@ use crate::sums::Sums;
 use std::simd::prelude::*;
 
 impl PeriodSums {
-    ghost use Rattle.definitions.specs.Correlation.{replica_of};
-    ghost use Rattle.definitions.specs.Acquisition.{power_over};
-    ghost use Rattle.acquisition.specs.Replicas.{phases};
-
     /// The powers of 64 cells from half chip `half` on, where each sum of a cell fits in 16 bits.
     pub(crate) fn powers_by_pairs(&self, ones: &Ones, half: usize) -> [u64; CELLS_AT_ONCE]
         requires small { self.now.is_small ≡ true }
         requires half { half < HALF_CHIPS }
         ensures long { length result ≡ CELLS_AT_ONCE }
-        ensures powers { (x : ℕ → Sample) (step carrier_step from n : ℕ)
-            → AreSumsOf x step carrier_step from n self.now → (l : ℕ) → l < CELLS_AT_ONCE
-            → slice_index result l ≡ power_over x
-            (replica_of ones.now.prn (phases (half + l) step carrier_step)) from (from + n) }
+        ensures powers { ArePowersOf self.now ones.now half CELLS_AT_ONCE result }
         ensures most { (l : ℕ) → l < CELLS_AT_ONCE → slice_index result l ≤ MOST_PERIOD_POWER }
     {
         let picked = self.pairs_at_ones(ones, half);

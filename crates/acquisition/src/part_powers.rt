@@ -3,7 +3,7 @@
 ghost use Rattle.std.specs.Prelude.{◌≡◌, ◌+◌, ◌*◌, ◌<◌, ◌≤◌, ◌-ℤ◌, ◌*ℤ◌, ℕ, pos, length};
 ghost use Rattle.std.specs.Prelude.{slice_index, unsigned_abs};
 ghost use Rattle.definitions.specs.Samples.{Sample};
-ghost use Rattle.acquisition.specs.PeriodStates.{AreSumsOf};
+ghost use Rattle.acquisition.specs.PeriodStates.{ArePowersOf, AreSumsOf};
 ghost use Rattle.acquisition.specs.Rings.{IsSumAtOnes};
 ghost use Rattle.acquisition.specs.declared.chip_ring.TheConstants.{CELLS_AT_ONCE, LANES, RAISED};
 ghost use Rattle.acquisition.specs.declared.half_chip_table.TheConstants.{HALF_CHIPS};
@@ -34,10 +34,7 @@ impl PeriodSums {
     pub(crate) fn powers_by_parts(&self, ones: &Ones, half: usize) -> [u64; CELLS_AT_ONCE]
         requires half { half < HALF_CHIPS }
         ensures long { length result ≡ CELLS_AT_ONCE }
-        ensures powers { (x : ℕ → Sample) (step carrier_step from n : ℕ)
-            → AreSumsOf x step carrier_step from n self.now → (l : ℕ) → l < CELLS_AT_ONCE
-            → slice_index result l ≡ power_over x
-            (replica_of ones.now.prn (phases (half + l) step carrier_step)) from (from + n) }
+        ensures powers { ArePowersOf self.now ones.now half CELLS_AT_ONCE result }
         ensures most { (l : ℕ) → l < CELLS_AT_ONCE → slice_index result l ≤ MOST_PERIOD_POWER }
     {
         let mut powers = [0; CELLS_AT_ONCE];

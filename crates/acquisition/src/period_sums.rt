@@ -39,10 +39,7 @@ pub(crate) struct PeriodSums {
 
 impl PeriodSums {
     ghost use Rattle.definitions.specs.Oscillators.{code_phase_after, carrier_phase_after};
-    ghost use Rattle.definitions.specs.Correlation.{replica_of};
-    ghost use Rattle.definitions.specs.Acquisition.{power_over};
-    ghost use Rattle.acquisition.specs.PeriodStates.{AreSumsOf};
-    ghost use Rattle.acquisition.specs.Replicas.{phases};
+    ghost use Rattle.acquisition.specs.PeriodStates.{ArePowersOf, AreSumsOf};
 
     /// The sums over no samples.
     #[inline(always)]
@@ -98,10 +95,7 @@ impl PeriodSums {
     pub(crate) fn powers(&self, ones: &Ones, half: usize) -> [u64; CELLS_AT_ONCE]
         requires half { half < HALF_CHIPS }
         ensures long { length result ≡ CELLS_AT_ONCE }
-        ensures powers { (x : ℕ → Sample) (step carrier_step from n : ℕ)
-            → AreSumsOf x step carrier_step from n self.now → (l : ℕ) → l < CELLS_AT_ONCE
-            → slice_index result l ≡ power_over x
-            (replica_of ones.now.prn (phases (half + l) step carrier_step)) from (from + n) }
+        ensures powers { ArePowersOf self.now ones.now half CELLS_AT_ONCE result }
         ensures most { (l : ℕ) → l < CELLS_AT_ONCE → slice_index result l ≤ MOST_PERIOD_POWER }
     {
         if self.is_small {

@@ -1,7 +1,8 @@
-use Rattle.std.proofs.Common.{inl, inr, ◌≡◌, ◌<◌, ◌∙◌, ℕ, List, arith, refl, length, slice_index}
-use Rattle.std.proofs.lemmas.List.{get_or-set_same, get_or-set_other, length-set}
+use Rattle.std.proofs.Common.{◌≡◌, ◌<◌, ◌≤◌, ◌∙◌, ℕ, List, arith, refl, length, slice_index}
+use Rattle.std.proofs.lemmas.List.{length-set}
 use Rattle.acquisition.specs.Pairs.{cell_pair, power_of_pair}
-use Rattle.acquisition.proofs.PowerLemmas.{last_or_before, apart_before}
+use Rattle.acquisition.specs.declared.sums.TheConstants.{MOST_PERIOD_POWER}
+use Rattle.acquisition.proofs.PowerLemmas.{each-one}
 use Rattle.acquisition.proofs.pair_powers.powers_of.Goals as goal
 
 pub loop-l-preserved : goal.loop-l-preserved
@@ -17,15 +18,8 @@ loop-l-preserved c =
     ∙ rw (c.sums_of.ensures.in_phase, c.sums_of.ensures.quadrature) refl in
     record {
       long = length-set powers l c.power.result ∙ here.long;
-      most = λ i h. elim (last_or_before i l h) [
-        | inl same ↦ rw (same, get_or-set_same powers l c.power.result 0 inside)
-            c.power.ensures.most
-        | inr before ↦ rw (get_or-set_other powers l i c.power.result 0 (apart_before i l before))
-            (here.most i before)
-      ];
-      powers = λ i h. elim (last_or_before i l h) [
-        | inl same ↦ rw same (get_or-set_same powers l c.power.result 0 inside ∙ power)
-        | inr before ↦ get_or-set_other powers l i c.power.result 0 (apart_before i l before)
-            ∙ here.powers i before
-      ];
+      most = each-one (λ i it. it ≤ MOST_PERIOD_POWER) l c.power.result powers inside
+          c.power.ensures.most here.most;
+      powers = each-one (λ i it. it ≡ power_of_pair (cell_pair c.args.whole
+          (slice_index c.args.picked.now i))) l c.power.result powers inside power here.powers;
     }

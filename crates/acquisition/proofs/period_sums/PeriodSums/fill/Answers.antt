@@ -19,7 +19,7 @@ invariant_of-self-clause-in_phase_small g c is =
     rw c.whole-self.ensures.in_phase (omega (
       arith,
       total_size 2046 c.fill.new.self.in_phase.sums,
-      (c.is_small-self.ensures is).in_phase,
+      (c.is_small-self.ensures.0 is).in_phase,
     ))
 
 pub invariant_of-self-clause-quadrature_small : goal.invariant_of-self-clause-quadrature_small
@@ -27,7 +27,7 @@ invariant_of-self-clause-quadrature_small g c is =
     rw c.whole-self.ensures.quadrature (omega (
       arith,
       total_size 2046 c.fill.new.self.quadrature.sums,
-      (c.is_small-self.ensures is).quadrature,
+      (c.is_small-self.ensures.0 is).quadrature,
     ))
 
 pub returns : goal.returns
@@ -37,5 +37,5 @@ returns g c x from code carrier same = record {
   in_phase = c.set.ensures;
   quadrature = c.set-2.ensures;
   whole = c.whole-self.ensures;
-  small = c.is_small-self.ensures;
+  small = c.is_small-self.ensures.0;
 }

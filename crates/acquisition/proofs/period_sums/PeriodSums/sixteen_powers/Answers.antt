@@ -1,14 +1,15 @@
-use Rattle.std.proofs.Common.{inl, inr, ◌≡◌, ◌<◌, ◌+◌, ◌∙◌, ℕ, List, arith, refl}
+use Rattle.std.proofs.Common.{◌≡◌, ◌≤◌, ◌<◌, ◌+◌, ◌∙◌, ℕ, List, arith, refl}
 use Rattle.std.proofs.Common.{length}
-use Rattle.std.proofs.lemmas.List.{get_or-set_same, get_or-set_other, length-set}
+use Rattle.std.proofs.lemmas.List.{length-set}
 use Rattle.definitions.specs.Acquisition.{power_over}
 use Rattle.definitions.specs.Correlation.{replica_of}
 use Rattle.definitions.specs.Samples.{Sample}
 use Rattle.acquisition.specs.PeriodStates.{AreSumsOf}
 use Rattle.acquisition.specs.Replicas.{phases}
+use Rattle.acquisition.specs.declared.sums.TheConstants.{MOST_PERIOD_POWER}
 use Rattle.acquisition.proofs.CellLemmas.{cell_sum, IsCellSum}
 use Rattle.acquisition.proofs.FoldLemmas.{fold_power, entry_in_32}
-use Rattle.acquisition.proofs.PowerLemmas.{last_or_before, apart_before}
+use Rattle.acquisition.proofs.PowerLemmas.{each-one}
 use Rattle.acquisition.proofs.period_sums.PeriodSums.sixteen_powers.Goals as goal
 
 pub less_twice-requires-clause-whole : goal.less_twice-requires-clause-whole
@@ -58,18 +59,13 @@ loop-l-preserved c =
     let inside : l < length powers = omega (arith, here.long, c.loop-l-test.true) in
     record {
       long = length-set powers l c.power.result ∙ here.long;
-      most = λ i h. elim (last_or_before i l h) [
-        | inl same ↦ rw (same, get_or-set_same powers l c.power.result 0 inside)
-            c.power.ensures.most
-        | inr before ↦ rw (get_or-set_other powers l i c.power.result 0 (apart_before i l before))
-            (here.most i before)
-      ];
-      done = λ x step carrier_step from n of i h. elim (last_or_before i l h) [
-        | inl same ↦ rw same (get_or-set_same powers l c.power.result 0 inside
-            ∙ next c x step carrier_step from n of)
-        | inr before ↦ get_or-set_other powers l i c.power.result 0 (apart_before i l before)
-            ∙ here.done x step carrier_step from n of i before
-      ];
+      most = each-one (λ i it. it ≤ MOST_PERIOD_POWER) l c.power.result powers inside
+          c.power.ensures.most here.most;
+      done = λ x step carrier_step from n of. each-one (λ i it. it ≡ power_over x
+          (replica_of c.args.ones.now.prn
+          (phases (c.args.half + (c.args.shift + i)) step carrier_step)) from (from + n)) l
+          c.power.result powers inside (next c x step carrier_step from n of)
+          (here.done x step carrier_step from n of);
     }
 
 pub returns-clause-powers : goal.returns-clause-powers
