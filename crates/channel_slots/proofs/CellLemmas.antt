@@ -19,10 +19,10 @@ use Rattle.channel_slots.specs.declared.slot.Slot.{Slot}
 use Rattle.channel_slots.specs.declared.place.Place.{Place}
 use Rattle.channel_slots.specs.Answers.{cells_shown}
 use Rattle.channel_slots.specs.Stages as stages
-use Rattle.channel_slots.specs.Stages.{Follows, IsSought}
+use Rattle.channel_slots.specs.Stages.{Follows, IsSearched}
 use Rattle.channel_slots.specs.Slots.{StandsFor, is_idle, cells_done_of}
 use Rattle.channel_slots.specs.Banks.{cells_done_at, keys_of, IsAt}
-use Rattle.channel_slots.proofs.SearchLemmas.{shows-sought}
+use Rattle.channel_slots.proofs.SearchLemmas.{shows-searched}
 use Rattle.channel_slots.proofs.StageLemmas.{shows-held, tracked-view}
 use Rattle.channel_slots.proofs.SlotLemmas.{has-life, life-now, answers, idle-shown}
 use Rattle.channel_slots.proofs.CommandLemmas.{Once, once-tail, not-first, found}
@@ -34,7 +34,7 @@ shown-of : (settings : Settings) (xs : List Sample) (life : Life) (stage : Stage
     → stages.cells_done_of stage ≡ cells_shown (answer_with settings xs (Some life) state)
 shown-of settings xs life Idle s e = cc
 shown-of settings xs life (Searching a) s e =
-    ap cells_shown (shows-sought settings xs life a s _ _ _ refl refl refl)
+    ap cells_shown (shows-searched settings xs life a s _ _ _ refl refl refl)
 shown-of settings xs life (Holding h) s e =
     ap cells_shown (shows-held settings xs life h _ _ s refl refl)
 shown-of settings xs life (Tracking t) s e =

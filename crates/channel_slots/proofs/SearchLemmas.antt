@@ -22,15 +22,15 @@ use Rattle.definitions.proofs.EndLemmas.{no_counts-not_lost}
 use Rattle.acquisition.specs.declared.cell.Cell.{Cell}
 use Rattle.acquisition.specs.Cells.{cell_in}
 use Rattle.sample_planes.specs.Sources.{AreSamplesOf}
-use Rattle.channels.specs.declared.sought.Sought.{Sought}
+use Rattle.channels.specs.declared.searched.Searched.{Searched}
 use Rattle.channels.specs.declared.tracked.Tracked.{Tracked}
-use Rattle.channels.specs.Searching as sought
+use Rattle.channels.specs.Searching as searched
 use Rattle.channels.specs.Searching.{Searches, Answers}
 use Rattle.channels.specs.TrackedChannels.{Tracks, counts_so_far}
 use Rattle.channel_slots.specs.declared.stage.Stage.{Stage}
 use Rattle.channel_slots.specs.declared.stage.Stage.TheVariants.{Idle, Searching, Holding, Tracking}
 use Rattle.channel_slots.specs.declared.slot_news.SlotNews.TheVariants as news
-use Rattle.channel_slots.specs.Stages.{IsSought, IsSettled, Follows}
+use Rattle.channel_slots.specs.Stages.{IsSearched, IsSettled, Follows}
 use Rattle.channel_slots.proofs.TakesLemmas.{Takes}
 
 -- samples from a later one on
@@ -51,11 +51,11 @@ none-yet settings xs channel early =
     by_lost (Some k) e = cc
 
 -- an acquisition that isn't due is on
-sought-on : (settings : Settings) (xs : List Sample) (life : Life) (plan : Plan)
+early-is-on : (settings : Settings) (xs : List Sample) (life : Life) (plan : Plan)
     → life.start ≡ acquire plan → length xs < due_time settings plan life.begun
     → is_over settings xs life ≡ false
 unfolding is_over
-sought-on settings xs life plan is early =
+early-is-on settings xs life plan is early =
     rw (
       not_found life.start is,
       acquire-no_dumps settings xs life plan is early,
@@ -72,22 +72,22 @@ sought-on settings xs life plan is early =
     no-end true = refl
     no-end false = refl
 
-module _ (settings : Settings) (xs : List Sample) (life : Life) (a : Sought)
-    (s : IsSought settings xs life a) where
+module _ (settings : Settings) (xs : List Sample) (life : Life) (a : Searched)
+    (s : IsSearched settings xs life a) where
   early : length xs < due_time settings s.plan life.begun
   early = omega (arith, s.searches.due, s.waits)
 
-  pub sought-dumps : dumps_of_life settings xs life ≡ []
-  sought-dumps = acquire-no_dumps settings xs life s.plan s.start early
+  pub searched-dumps : dumps_of_life settings xs life ≡ []
+  searched-dumps = acquire-no_dumps settings xs life s.plan s.start early
 
-  pub sought-is-on : is_over settings xs life ≡ false
-  sought-is-on = sought-on settings xs life s.plan s.start early
+  pub searched-is-on : is_over settings xs life ≡ false
+  searched-is-on = early-is-on settings xs life s.plan s.start early
 
-  pub shows-sought : (prn done cells : ℕ) → prn ≡ (sought.plan_of a).prn
-      → done ≡ sought.done_of a → cells ≡ cell_count (sought.plan_of a)
+  pub shows-searched : (prn done cells : ℕ) → prn ≡ (searched.plan_of a).prn
+      → done ≡ searched.done_of a → cells ≡ cell_count (searched.plan_of a)
       → shown (acquiring prn done cells) ≡ answer_with settings xs (Some life) state
   unfolding view_of
-  shows-sought prn done cells prn-is done-is cells-is =
+  shows-searched prn done cells prn-is done-is cells-is =
       let same = s.searches.search.plan_is in
       let own : prn ≡ s.plan.prn = prn-is ∙ ap (λ (p : Plan). p.prn) same in
       let all : cells ≡ cell_count s.plan = cells-is ∙ ap (λ (p : Plan). cell_count p) same in
@@ -117,18 +117,18 @@ module _ (settings : Settings) (xs : List Sample) (life : Life) (a : Sought)
     stays-on : length (xs ++ ys) ≤ due_time settings s.plan life.begun → (j : ℕ) → j < length ys
         → is_over settings (xs ++ take j ys) life ≡ false
     stays-on within j b =
-        sought-on settings (xs ++ take j ys) life s.plan s.start
+        early-is-on settings (xs ++ take j ys) life s.plan s.start
         (before (length (xs ++ ys)) refl within j b)
 
     -- where its answer isn't due yet
-    pub searches-on : (b : Sought) → Searches settings s.plan life.begun (xs ++ ys) b
+    pub searches-on : (b : Searched) → Searches settings s.plan life.begun (xs ++ ys) b
         → Answers settings s.plan life.begun (xs ++ ys) None
         → Takes settings xs ys life (Searching b) None
     searches-on b searches later = record {
       inside = λ j first below. quiet (omega (arith, later)) j below;
       on = stays-on (omega (arith, later));
       brings = (
-        acquire-no_dumps settings (xs ++ ys) life s.plan s.start later ∙ sym sought-dumps,
+        acquire-no_dumps settings (xs ++ ys) life s.plan s.start later ∙ sym searched-dumps,
         acquire-quiet settings (xs ++ ys) life s.plan s.start later,
       );
       follows = record {
@@ -174,7 +174,7 @@ module _ (settings : Settings) (xs : List Sample) (life : Life) (a : Sought)
         inside = λ j first below. quiet (omega (arith, answer.0)) j below;
         on = stays-on (omega (arith, answer.0));
         brings = (
-          due-no_dumps settings (xs ++ ys) life s.plan s.start answer.0 ∙ sym sought-dumps,
+          due-no_dumps settings (xs ++ ys) life s.plan s.start answer.0 ∙ sym searched-dumps,
           tells,
         );
         follows = follows;
@@ -200,8 +200,8 @@ module _ (settings : Settings) (xs : List Sample) (life : Life) (a : Sought)
           → Takes settings xs ys life Idle (Some (news.Acquired prn cell))
       not-found none = answers Idle (over none)
 
-      pub settled : (b : Sought) → Searches settings s.plan life.begun (xs ++ ys) b
-          → sought.to_due_of b ≡ 0 → (stage : Stage) → IsSettled cell b stage
+      pub settled : (b : Searched) → Searches settings s.plan life.begun (xs ++ ys) b
+          → searched.to_due_of b ≡ 0 → (stage : Stage) → IsSettled cell b stage
           → Takes settings xs ys life stage (Some (news.Acquired prn cell))
       settled b searches due Idle is = not-found is
       settled b searches due (Searching other) is = absurd is
@@ -210,11 +210,11 @@ module _ (settings : Settings) (xs : List Sample) (life : Life) (a : Sought)
           found t (is.1 settings s.plan life.begun (xs ++ ys) searches due) is.0
 
 -- a life that begins now
-pub starts-sought : (settings : Settings) (xs : List Sample) (life : Life) (a : Sought)
+pub starts-searched : (settings : Settings) (xs : List Sample) (life : Life) (a : Searched)
     (plan : Plan) → life.begun ≡ length xs → life.start ≡ acquire plan
-    → Searches settings plan (length xs) xs a → 0 < sought.to_due_of a
-    → IsSought settings xs life a
-starts-sought settings xs life a plan begun start searches waits = record {
+    → Searches settings plan (length xs) xs a → 0 < searched.to_due_of a
+    → IsSearched settings xs life a
+starts-searched settings xs life a plan begun start searches waits = record {
   plan = plan;
   start = start;
   searches = rw begun searches;

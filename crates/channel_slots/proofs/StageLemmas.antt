@@ -33,7 +33,7 @@ use Rattle.channel_slots.specs.declared.slot_news.SlotNews.{SlotNews}
 use Rattle.channel_slots.specs.declared.slot_news.SlotNews.TheVariants as slot_news
 use Rattle.channel_slots.specs.Stages.{IsHeld, IsTracked, Follows, is_idle, after_dump}
 use Rattle.channel_slots.proofs.TakesLemmas.{Takes, Brings}
-use Rattle.channel_slots.proofs.SearchLemmas.{none-yet, sought-dumps, sought-is-on}
+use Rattle.channel_slots.proofs.SearchLemmas.{none-yet, searched-dumps, searched-is-on}
 use Rattle.channel_slots.proofs.TrackLemmas.{own, more, tracked-dumps, tracked-by-now, tracked-on}
 use Rattle.channel_slots.proofs.TrackLemmas.{quiet-dumps, quiet-on, quiet-events, goes-on}
 use Rattle.channel_slots.proofs.TrackLemmas.{ends-here, tracked-brings}
@@ -60,7 +60,7 @@ pub dumps-by-now : (settings : Settings) (xs : List Sample) (life : Life) (stage
     → Follows settings xs life stage → is_idle stage ≡ false
     → AllByRecursion (λ (d : DefinedDump). d.time ≤ length xs) (dumps_of_life settings xs life)
 dumps-by-now settings xs life Idle s e = cc
-dumps-by-now settings xs life (Searching a) s e = rw (sought-dumps settings xs life a s) tt
+dumps-by-now settings xs life (Searching a) s e = rw (searched-dumps settings xs life a s) tt
 dumps-by-now settings xs life (Holding h) s e =
     rw (held-dumps settings xs xs life h s)
     (dumps-within settings (own_channel settings xs life h s) xs s.holds.follows.at.begun)
@@ -70,7 +70,7 @@ dumps-by-now settings xs life (Tracking t) s e = tracked-by-now settings xs life
 pub is-on : (settings : Settings) (xs : List Sample) (life : Life) (stage : Stage)
     → Follows settings xs life stage → is_idle stage ≡ false → is_over settings xs life ≡ false
 is-on settings xs life Idle s e = cc
-is-on settings xs life (Searching a) s e = sought-is-on settings xs life a s
+is-on settings xs life (Searching a) s e = searched-is-on settings xs life a s
 is-on settings xs life (Holding h) s e = held-on settings xs xs life h s
 is-on settings xs life (Tracking t) s e = tracked-on settings xs life t s
 

@@ -13,9 +13,9 @@ use Rattle.definitions.specs.Lives.{Life, held_channel, found_channel, channel_o
 use Rattle.definitions.specs.Lives.{is_over, lost_after}
 use Rattle.tracking_loops.specs.declared.news.News.{News}
 use Rattle.channels.specs.declared.held.Held.{Held}
-use Rattle.channels.specs.declared.sought.Sought.{Sought}
+use Rattle.channels.specs.declared.searched.Searched.{Searched}
 use Rattle.channels.specs.declared.tracked.Tracked.{Tracked}
-use Rattle.channels.specs.Searching as sought
+use Rattle.channels.specs.Searching as searched
 use Rattle.channels.specs.Searching.{Searches}
 use Rattle.channels.specs.Dumps.{is_loss}
 use Rattle.channels.specs.HeldChannels as held
@@ -35,7 +35,7 @@ is_idle (Tracking t) = false
 -- how many cells its search has done: none where it doesn't search
 abbrev pub cells_done_of : Stage → Option ℕ
 cells_done_of Idle = None
-cells_done_of (Searching s) = Some (sought.done_of s)
+cells_done_of (Searching s) = Some (searched.done_of s)
 cells_done_of (Holding h) = None
 cells_done_of (Tracking t) = None
 
@@ -53,8 +53,8 @@ chance (Tracking t) = DUMP_EVENTS * tracked.chance t
 abbrev pub IsSound : ℕ → ℕ → ℕ → Stage → Type 0
 IsSound first time reach Idle = Unit
 IsSound first time reach (Searching s) =
-    (first ≤ sought.start_of s) × (sought.due_of s ≡ time + sought.to_due_of s)
-    × (0 < sought.to_due_of s) × (sought.due_of s ≤ sought.start_of s + reach)
+    (first ≤ searched.start_of s) × (searched.due_of s ≡ time + searched.to_due_of s)
+    × (0 < searched.to_due_of s) × (searched.due_of s ≤ searched.start_of s + reach)
 IsSound first time reach (Holding h) = held.dumps_of h ≤ time
 IsSound first time reach (Tracking t) = tracked.dumps_of t ≤ time
 
@@ -62,8 +62,8 @@ IsSound first time reach (Tracking t) = tracked.dumps_of t ≤ time
 abbrev pub is_sound : ℕ → ℕ → Stage → Bool
 is_sound time reach Idle = true
 is_sound time reach (Searching s) =
-    (sought.due_of s == time + sought.to_due_of s)
-    && (nat_lt 0 (sought.to_due_of s) && nat_le (sought.due_of s) (sought.start_of s + reach))
+    (searched.due_of s == time + searched.to_due_of s)
+    && (nat_lt 0 (searched.to_due_of s) && nat_le (searched.due_of s) (searched.start_of s + reach))
 is_sound time reach (Holding h) = nat_le (held.dumps_of h) time
 is_sound time reach (Tracking t) = nat_le (tracked.dumps_of t) time
 
@@ -77,24 +77,24 @@ after_dump lock stage = if is_loss lock then Idle else stage
 
 -- what a search leaves with the cell that it named: the signal that was found, tracked, and nothing
 -- where none was
-abbrev pub IsSettled : Cell → Sought → Stage → Type 0
+abbrev pub IsSettled : Cell → Searched → Stage → Type 0
 IsSettled cell s Idle = cell.found ≡ false
 IsSettled cell s (Searching other) = ⊥
 IsSettled cell s (Holding h) = ⊥
 IsSettled cell s (Tracking t) =
     (cell.found ≡ true)
     × ((settings : Settings) (plan : Plan) (begun : ℕ) (xs : List Sample)
-    → Searches settings plan begun xs s → sought.to_due_of s ≡ 0
+    → Searches settings plan begun xs s → searched.to_due_of s ≡ 0
     → tracked.Tracks settings (found_channel settings plan begun (cell_in cell)) xs t)
     × (tracked.dumps_of t ≡ 0)
 
 -- a life that began with an acquisition has come as far with it, and it isn't due yet
-pub record IsSought (settings : Settings) (xs : List Sample) (life : Life) (s : Sought)
+pub record IsSearched (settings : Settings) (xs : List Sample) (life : Life) (s : Searched)
     : Type 0 where
   pub plan : Plan
   pub start : life.start ≡ acquire plan
   pub searches : Searches settings plan life.begun xs s
-  pub waits : 0 < sought.to_due_of s
+  pub waits : 0 < searched.to_due_of s
 
 -- a life that began with a hold follows its channel
 pub record IsHeld (settings : Settings) (xs : List Sample) (life : Life) (h : Held)
@@ -117,6 +117,6 @@ pub record IsTracked (settings : Settings) (xs : List Sample) (life : Life) (t :
 -- a stage follows a life, and is idle where the life is over
 abbrev pub Follows : Settings → List Sample → Life → Stage → Type 0
 Follows settings xs life Idle = is_over settings xs life ≡ true
-Follows settings xs life (Searching s) = IsSought settings xs life s
+Follows settings xs life (Searching s) = IsSearched settings xs life s
 Follows settings xs life (Holding h) = IsHeld settings xs life h
 Follows settings xs life (Tracking t) = IsTracked settings xs life t

@@ -8,7 +8,7 @@ use crate::command::Command;
 use crate::slot_news::SlotNews;
 use crate::stage::Stage;
 use ca_codes::CodeBook;
-use channels::{Dump, Held, Sought, Tracked};
+use channels::{Dump, Held, Searched, Tracked};
 use oscillators::Settings;
 use sample_planes::{Planes, SampleSource};
 use tracking_loops::News;
@@ -86,12 +86,12 @@ impl Slot {
     {
         match &mut self.stage {
             Stage::Idle => (run.len() - from, None),
-            Stage::Searching(sought) => {
-                let (count, cell) = sought.take(run.len() - from, source, book);
+            Stage::Searching(searched) => {
+                let (count, cell) = searched.take(run.len() - from, source, book);
                 let Some(cell) = cell else {
                     return (count, None);
                 };
-                let prn = sought.prn();
+                let prn = searched.prn();
                 self.stage.settle(&cell);
                 (count, Some(SlotNews::Acquired { prn, cell }))
             }
@@ -132,7 +132,7 @@ impl Slot {
         ensures { result ≡ cells_done_of self.now }
     {
         match &self.stage {
-            Stage::Searching(sought) => Some(sought.done()),
+            Stage::Searching(searched) => Some(searched.done()),
             Stage::Idle | Stage::Holding(_) | Stage::Tracking(_) => None,
         }
     }
@@ -152,10 +152,10 @@ impl Slot {
     {
         match &self.stage {
             Stage::Idle => SlotState::Idle,
-            Stage::Searching(sought) => SlotState::Acquire {
-                prn: sought.prn(),
-                done: sought.done(),
-                cells: sought.cells(),
+            Stage::Searching(searched) => SlotState::Acquire {
+                prn: searched.prn(),
+                done: searched.done(),
+                cells: searched.cells(),
             },
             Stage::Holding(held) => SlotState::Hold {
                 prn: held.prn(),
@@ -213,7 +213,7 @@ impl Slot {
     {
         match command {
             Command::Acquire { slot: _, plan } => {
-                self.start(Stage::Searching(Sought::start(settings, plan, time)))
+                self.start(Stage::Searching(Searched::start(settings, plan, time)))
             }
             Command::Hold {
                 slot: _,

@@ -3,7 +3,7 @@
 ghost use Rattle.std.specs.Prelude.{◌≡◌, ◌≤◌, unsigned_abs};
 
 use acquisition::Cell;
-use channels::{Held, Sought, Tracked};
+use channels::{Held, Searched, Tracked};
 
 /// What a slot follows: nothing, a satellite that is searched for, one at a fixed Doppler shift, or
 /// one that its loops steer.
@@ -11,7 +11,7 @@ use channels::{Held, Sought, Tracked};
 pub enum Stage {
     #[default]
     Idle,
-    Searching(Sought),
+    Searching(Searched),
     Holding(Held),
     Tracking(Tracked),
 }
@@ -26,15 +26,15 @@ impl Stage {
     #[cold]
     #[inline(never)]
     pub fn settle(&mut self, cell: &Cell)
-        requires { (sought : Sought) → self.old ≡ stages.Searching sought
-            → unsigned_abs cell.now.bin ≤ (plan_of sought).bins }
-        ensures { (sought : Sought) → self.old ≡ stages.Searching sought
-            → IsSettled cell.now sought self.new }
+        requires { (searched : Searched) → self.old ≡ stages.Searching searched
+            → unsigned_abs cell.now.bin ≤ (plan_of searched).bins }
+        ensures { (searched : Searched) → self.old ≡ stages.Searching searched
+            → IsSettled cell.now searched self.new }
     {
-        let Stage::Searching(sought) = &*self else {
+        let Stage::Searching(searched) = &*self else {
             return;
         };
-        *self = match sought.follow(cell) {
+        *self = match searched.follow(cell) {
             Some(tracked) => Stage::Tracking(tracked),
             None => Stage::Idle,
         };

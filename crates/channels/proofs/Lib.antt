@@ -4,7 +4,7 @@ pub mod HeldLemmas
 pub mod LockedLemmas
 pub mod MoveLemmas
 pub mod PartLemmas
+pub mod SearchedLemmas
 pub mod SizeLemmas
-pub mod SoughtLemmas
 pub mod TrackedLemmas
 pub mod WrapLemmas

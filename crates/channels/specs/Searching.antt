@@ -7,30 +7,30 @@ use Rattle.acquisition.specs.declared.cell.Cell.{Cell}
 use Rattle.acquisition.specs.declared.plan.TheConstants.{MOST_DWELL, MOST_CELLS}
 use Rattle.acquisition.specs.Cells.{cell_in}
 use Rattle.acquisition.specs.Searches as searches
-use Rattle.channels.specs.declared.sought.Sought.{Sought}
+use Rattle.channels.specs.declared.searched.Searched.{Searched}
 
 -- what it searches
-abbrev pub plan_of : Sought → Plan
+abbrev pub plan_of : Searched → Plan
 plan_of s = searches.plan_of s.search
 
 -- the number of the first sample of its dwell
-abbrev pub start_of : Sought → ℕ
+abbrev pub start_of : Searched → ℕ
 start_of s = searches.start_of s.search
 
 -- the time at which its answer is due
-abbrev pub due_of : Sought → ℕ
+abbrev pub due_of : Searched → ℕ
 due_of s = searches.end_of s.search + 4 * cell_count (plan_of s)
 
 -- how many samples there are until then
-abbrev pub to_due_of : Sought → ℕ
+abbrev pub to_due_of : Searched → ℕ
 to_due_of s = s.to_due
 
 -- how many cells it has done
-abbrev pub done_of : Sought → ℕ
+abbrev pub done_of : Searched → ℕ
 done_of s = searches.done_of s.search
 
 -- one that begins with sample `start`: what it searches, and when its answer is due
-pub record Begins (settings : Settings) (plan : Plan) (start : ℕ) (s : Sought) : Type 0 where
+pub record Begins (settings : Settings) (plan : Plan) (start : ℕ) (s : Searched) : Type 0 where
   pub searched : plan_of s ≡ plan
   pub begun : start_of s ≡ start
   pub due : due_of s ≡ due_time settings plan start
@@ -40,21 +40,21 @@ pub record Begins (settings : Settings) (plan : Plan) (start : ℕ) (s : Sought)
 
 -- its answer isn't due yet, and a source of the samples from one on up to another has all that it
 -- looks at with so many more
-pub record IsReady (first end more : ℕ) (s : Sought) : Type 0 where
+pub record IsReady (first end more : ℕ) (s : Searched) : Type 0 where
   pub waits : 0 < to_due_of s
   pub from : first ≤ start_of s
   pub to : due_of s + more ≤ end + to_due_of s
 
 -- so many samples later it searches the same, and its answer is due at the same time
-pub record IsLater (count : ℕ) (old new : Sought) : Type 0 where
+pub record IsLater (count : ℕ) (old new : Searched) : Type 0 where
   pub plan : plan_of new ≡ plan_of old
   pub start : start_of new ≡ start_of old
   pub due : due_of new ≡ due_of old
   pub left : to_due_of new + count ≡ to_due_of old
 
 -- an acquisition of this plan, from sample begun on, has come as far as the samples xs bring it
-pub record Searches (settings : Settings) (plan : Plan) (begun : ℕ) (xs : List Sample) (s : Sought)
-    : Type 0 where
+pub record Searches (settings : Settings) (plan : Plan) (begun : ℕ) (xs : List Sample)
+    (s : Searched) : Type 0 where
   pub recorded : s.settings ≡ settings
   pub search : searches.StandsFor settings plan begun xs s.search
   pub begins : begun ≤ length xs
@@ -71,6 +71,6 @@ Answers settings plan begun zs (Some cell) =
 
 -- it has come as far as the samples zs bring it, and this was answered
 pub record Takes (settings : Settings) (plan : Plan) (begun : ℕ) (zs : List Sample)
-    (cell : Option Cell) (s : Sought) : Type 0 where
+    (cell : Option Cell) (s : Searched) : Type 0 where
   pub stands : Searches settings plan begun zs s
   pub answers : Answers settings plan begun zs cell

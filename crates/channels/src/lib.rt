@@ -1,11 +1,12 @@
 //! One satellite followed over samples. A `Follower` has the open segment of a channel: its code
 //! and carrier at the next sample, and its sums so far. A `Held` is a channel at a fixed Doppler
 //! shift, with the number of its dumps. A `Tracked` one is steered by its loops, and its message is
-//! read while they are locked: that is a `LockedMessage`. Each lock begins a new one. A `Sought` is
-//! an acquisition, which does one cell with every four samples after its dwell. Where its cell is
-//! found, `follow` gives the `Tracked` satellite from the time on at which the answer was due. Each
-//! stands for the samples that it took. Its dumps and their news are proved to be those of the
-//! definition, however the samples are cut into runs. Nothing here knows a command or a client.
+//! read while they are locked: that is a `LockedMessage`. Each lock begins a new one. A `Searched`
+//! one is an acquisition, which does one cell with every four samples after its dwell. Where its
+//! cell is found, `follow` gives the `Tracked` satellite from the time on at which the answer was
+//! due. Each stands for the samples that it took. Its dumps and their news are proved to be those
+//! of the definition, however the samples are cut into runs. Nothing here knows a command or a
+//! client.
 //!
 //!     use ca_codes::{CodeBook, Prn};
 //!     use channels::Held;
@@ -30,13 +31,13 @@ mod dump;
 mod follower;
 mod held;
 mod locked_message;
+mod searched;
 mod shift;
-mod sought;
 mod tracked;
 
 pub use dump::Dump;
 pub use follower::Follower;
 pub use held::{Held, MOST_COUNTED_DUMPS};
 pub use locked_message::LockedMessage;
-pub use sought::Sought;
+pub use searched::Searched;
 pub use tracked::Tracked;

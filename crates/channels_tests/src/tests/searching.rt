@@ -4,7 +4,7 @@ ghost use Rattle.channels.specs.Searching.{start_of, due_of, to_due_of};
 
 use acquisition::{Cell, Plan};
 use ca_codes::{CodeBook, Prn};
-use channels::Sought;
+use channels::Searched;
 use made_signals::code_file;
 use oscillators::{HalfChip, Settings};
 use sample_planes::{Format, NumberedSamples, PackedSamples, unpack};
@@ -34,20 +34,20 @@ fn one_cell_with_four_samples(rt: HostRuntime) -> Result<(), Fail> {
         found: true,
     };
     for piece in [1, 3, 1_024] {
-        let mut sought = Sought::start(&settings, plan, 2);
+        let mut search = Searched::start(&settings, plan, 2);
         let mut book = CodeBook::new();
         let mut time = 2;
-        assert_eq!(rt; (sought.prn().get(), sought.cells()), (1, 2_046));
+        assert_eq!(rt; (search.prn().get(), search.cells()), (1, 2_046));
         for _ in 0..10_230 {
-            let (count, answer) = sought.take(piece, &source, &mut book);
+            let (count, answer) = search.take(piece, &source, &mut book);
             time += count as u64;
-            assert_eq!(rt; sought.done(), time.saturating_sub(2_048) / 4, "at {time}");
+            assert_eq!(rt; search.done(), time.saturating_sub(2_048) / 4, "at {time}");
             assert_eq!(rt; answer, if time == 10_232 { Some(named) } else { None });
             if answer.is_some() {
                 break;
             }
         }
-        let mut tracked = sought.follow(&named).ok_or("a signal that was found")?;
+        let mut tracked = search.follow(&named).ok_or("a signal that was found")?;
         assert_eq!(rt;
             (tracked.prn().get(), tracked.dumps(), tracked.v()),
             (1, 0, 0)
@@ -71,12 +71,12 @@ fn nothing_found_is_not_followed(rt: HostRuntime) -> Result<(), Fail> {
     let settings = Settings::new(2_046_000, 0, Format::Real1)?;
     let plan = Plan::new(Prn::new(1).ok_or("a satellite")?, 0, 0, 1, 11)?;
     let source = NumberedSamples::new(PackedSamples::new(Format::Real1, &bytes), 0);
-    let mut sought = Sought::start(&settings, plan, 0);
-    let (count, cell) = sought.take(10_240, &source, &mut CodeBook::new());
+    let mut search = Searched::start(&settings, plan, 0);
+    let (count, cell) = search.take(10_240, &source, &mut CodeBook::new());
     let cell = cell.ok_or("an answer")?;
     assert_eq!(rt; count, 10_230);
     assert!(rt; !cell.found);
     assert_eq!(rt; cell.power, 20);
-    assert!(rt; sought.follow(&cell).is_none());
+    assert!(rt; search.follow(&cell).is_none());
     Ok(())
 }

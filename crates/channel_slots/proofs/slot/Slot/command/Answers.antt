@@ -2,7 +2,7 @@ use Rattle.std.proofs.Common.{ℕ, ap, arith, refl, subst, sym, ◌∙◌}
 use Rattle.std.specs.Prelude.{Some, None}
 use Rattle.channels.specs.Searching.{Searches}
 use Rattle.channel_slots.specs.Commands.{request_in}
-use Rattle.channel_slots.proofs.SearchLemmas.{starts-sought}
+use Rattle.channel_slots.proofs.SearchLemmas.{starts-searched}
 use Rattle.channel_slots.proofs.SlotLemmas.{idle-now, life-now, has-life, answers, stays-idle}
 use Rattle.channel_slots.proofs.SlotLemmas.{becomes-idle, prints, shown-stays}
 use Rattle.channel_slots.proofs.StageLemmas.{starts-held, starts-tracked}
@@ -11,7 +11,7 @@ use Rattle.channel_slots.proofs.slot.Slot.command.Goals as goal
 pub returns-in-Acquire-clause-stands : goal.returns-in-Acquire-clause-stands
 returns-in-Acquire-clause-stands c xs commands now s =
     rw (ap request_in c.in-Acquire.is) (c.start-in-Acquire.ensures.stands _ xs commands _ s
-    (starts-sought _ xs _ c.start.result c.in-Acquire.plan refl refl
+    (starts-searched _ xs _ c.start.result c.in-Acquire.plan refl refl
     (subst (λ (n : ℕ). Searches c.args.settings.now c.in-Acquire.plan n xs c.start.result)
     (sym now) (c.start.ensures.stands xs now)) c.start.ensures.begins.waits))
 

@@ -3,7 +3,7 @@ use Rattle.std.specs.Prelude.{Some}
 use Rattle.std.proofs.lemmas.Int.{to_z-of_z, fits_signed_from_abs}
 use Rattle.definitions.specs.Commands.{state}
 use Rattle.channel_slots.specs.Stages.{is_idle, Follows}
-use Rattle.channel_slots.proofs.SearchLemmas.{shows-sought}
+use Rattle.channel_slots.proofs.SearchLemmas.{shows-searched}
 use Rattle.channel_slots.proofs.SlotLemmas.{has-life, life-now, answers, idle-shown}
 use Rattle.channel_slots.proofs.StageLemmas.{shows-held, shows-tracked}
 use Rattle.channel_slots.proofs.slot.Slot.state.Goals as goal
@@ -16,7 +16,7 @@ pub returns-in-Searching : goal.returns-in-Searching
 returns-in-Searching c settings xs commands s =
     let on = ap is_idle c.in-Searching.is in
     let i = has-life settings xs commands c.args.self.now s on in
-    shows-sought settings xs i.life c.in-Searching.sought
+    shows-searched settings xs i.life c.in-Searching.searched
     (subst (Follows settings xs i.life) c.in-Searching.is i.follows) _ _ _
     c.prn.ensures c.done.ensures c.cells.ensures
     ∙ answers settings xs commands c.args.self.now s state (Some i.life)

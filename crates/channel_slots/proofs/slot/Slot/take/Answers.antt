@@ -38,7 +38,7 @@ returns-in_default-clause-tells g c settings xs commands samples s =
     let held = from-later (xs ++ ys) _ life.begun _ _
     (omega (arith, first, a.searches.search.start_is)) samples in
     let takes = took.ensures.takes settings a.plan life.begun xs ys many held a.searches in
-    searches-on settings xs life c.in-Searching.sought a ys took.new.self takes.stands
+    searches-on settings xs life c.in-Searching.searched a ys took.new.self takes.stands
     (rw c.in_default.is at takes.answers))
     refl
 
@@ -62,7 +62,7 @@ returns-in-Some-clause-tells g c settings xs commands samples s =
     let stands = takes.stands in
     let answer = rw c.in-Some.is at takes.answers in
     let same = c.prn-prn.ensures ∙ ap (λ (p : Plan). p.prn) stands.search.plan_is in
-    settled settings xs life c.in-Searching.sought a ys _ c.in-Some.cell same answer took.new.self
+    settled settings xs life c.in-Searching.searched a ys _ c.in-Some.cell same answer took.new.self
     stands ((rw c.in-Some.is at took.ensures.due).0 refl) _
     (c.settle.ensures took.new.self refl))
     refl

@@ -4,5 +4,5 @@ use Rattle.channels_tests.proofs.tests.searching.one_cell_with_four_samples.Give
 
 abbrev pub invariant-loop : goal.invariant-loop
 invariant-loop g l =
-    (start_of l.sought ≡ 2) × (due_of l.sought ≡ 10232) × (l.time + to_due_of l.sought ≡ 10232)
-    × (0 < to_due_of l.sought)
+    (start_of l.search ≡ 2) × (due_of l.search ≡ 10232)
+    × (l.time + to_due_of l.search ≡ 10232) × (0 < to_due_of l.search)

@@ -3,8 +3,8 @@ use Rattle.definitions.specs.Acquisition.{Plan}
 use Rattle.definitions.specs.Loops.{shift_after}
 use Rattle.definitions.specs.Lives.{found_channel}
 use Rattle.acquisition.specs.Cells.{cell_in}
-use Rattle.channels.proofs.SoughtLemmas.{found-begins}
-use Rattle.channels.proofs.sought.Sought.follow.Goals as goal
+use Rattle.channels.proofs.SearchedLemmas.{found-begins}
+use Rattle.channels.proofs.searched.Searched.follow.Goals as goal
 
 pub returns-clause-tracks : goal.returns-clause-tracks
 returns-clause-tracks c settings plan begun xs s now =

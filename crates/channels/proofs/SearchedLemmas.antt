@@ -15,7 +15,7 @@ use Rattle.acquisition.specs.declared.search.Search.{Search}
 use Rattle.acquisition.specs.Cells.{cell_in}
 use Rattle.acquisition.specs.Searches.{StandsFor, plan_of, end_of, done_of}
 use Rattle.acquisition.proofs.StandingLemmas.{stands-begun, stands-longer}
-use Rattle.channels.specs.declared.sought.Sought.{Sought}
+use Rattle.channels.specs.declared.searched.Searched.{Searched}
 use Rattle.channels.specs.Cells.{done_before}
 use Rattle.channels.specs.Following.{BeginsAfter}
 use Rattle.channels.specs.Searching.{Searches, Answers}
@@ -46,7 +46,7 @@ module _ (settings : Settings) (plan : Plan) (start left : ℕ) (search : Search
       let zero-left : done_before plan left ≡ 0 = omega (arith, is) in
       none ∙ sym (ap (λ (p : Plan). done_before p left) same ∙ zero-left)
 
-  pub begins : (xs : List Sample) (s : Sought) → length xs ≡ start → s.settings ≡ settings
+  pub begins : (xs : List Sample) (s : Searched) → length xs ≡ start → s.settings ≡ settings
       → s.search ≡ search → s.to_due ≡ left → StandsFor settings plan start xs search
       → Searches settings plan start xs s
   begins xs s now recorded searched waits stands = record {
@@ -57,7 +57,7 @@ module _ (settings : Settings) (plan : Plan) (start left : ℕ) (search : Search
     done = rw searched (omega (arith, none, now));
   }
 
-module _ (settings : Settings) (plan : Plan) (begun : ℕ) (xs ys : List Sample) (old : Sought)
+module _ (settings : Settings) (plan : Plan) (begun : ℕ) (xs ys : List Sample) (old : Searched)
     (s : Searches settings plan begun xs old) where
   -- the cells that it has done are the same after more samples
   stands-on : (n : ℕ) → done_of old.search ≡ n
@@ -82,7 +82,7 @@ module _ (settings : Settings) (plan : Plan) (begun : ℕ) (xs ys : List Sample)
         → dwell_end settings plan begun ≤ length (xs ++ ys)
     whole cells same some = omega (arith, same, some, left-now)
 
-  pub searches-on : (new : Sought) → new.settings ≡ old.settings
+  pub searches-on : (new : Searched) → new.settings ≡ old.settings
       → new.to_due + length ys ≡ old.to_due
       → StandsFor settings plan begun (xs ++ ys) new.search
       → Searches settings plan begun (xs ++ ys) new
@@ -96,13 +96,13 @@ module _ (settings : Settings) (plan : Plan) (begun : ℕ) (xs ys : List Sample)
         (left-now new.to_due left);
   }
 
-same_cells : (settings : Settings) (plan : Plan) (begun : ℕ) (zs : List Sample) (s : Sought)
+same_cells : (settings : Settings) (plan : Plan) (begun : ℕ) (zs : List Sample) (s : Searched)
     → Searches settings plan begun zs s → cell_count (plan_of s.search) ≡ cell_count plan
 same_cells settings plan begun zs s stands =
     ap (λ (p : Plan). cell_count p) stands.search.plan_is
 
 -- what a search names is the answer where all cells are done
-pub answers-with : (settings : Settings) (plan : Plan) (begun : ℕ) (zs : List Sample) (s : Sought)
+pub answers-with : (settings : Settings) (plan : Plan) (begun : ℕ) (zs : List Sample) (s : Searched)
     (r : Option Cell) → Searches settings plan begun zs s
     → (IsSome r ↔ (done_of s.search ≡ cell_count (plan_of s.search)))
     → IfSome r (λ cell. (settings : Settings) (plan : Plan) (begun : ℕ) (zs : List Sample)

@@ -1,6 +1,6 @@
 use Rattle.std.proofs.Common.{refl, sym, ◌∙◌}
-use Rattle.channels.proofs.SoughtLemmas.{left-first, none-first, begins}
-use Rattle.channels.proofs.sought.Sought.start.Goals as goal
+use Rattle.channels.proofs.SearchedLemmas.{left-first, none-first, begins}
+use Rattle.channels.proofs.searched.Searched.start.Goals as goal
 
 pub invariant_of-result : goal.invariant_of-result
 invariant_of-result c = record {

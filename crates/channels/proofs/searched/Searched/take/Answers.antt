@@ -5,10 +5,10 @@ use Rattle.definitions.specs.Acquisition.{Plan, cell_count}
 use Rattle.sample_planes.specs.Sources.{AreSamplesOf}
 use Rattle.acquisition.specs.Searches.{StandsFor}
 use Rattle.channels.specs.Searching.{Searches}
-use Rattle.channels.proofs.SoughtLemmas.{stays, whole, searches-on, answers-with}
-use Rattle.channels.proofs.sought.Sought.take.Given.{Over}
-use Rattle.channels.proofs.sought.Sought.take.Goals as goal
-use Rattle.channels.proofs.sought.Sought.take.Goals.{then-more-gt0, else-more-gt0}
+use Rattle.channels.proofs.SearchedLemmas.{stays, whole, searches-on, answers-with}
+use Rattle.channels.proofs.searched.Searched.take.Given.{Over}
+use Rattle.channels.proofs.searched.Searched.take.Goals as goal
+use Rattle.channels.proofs.searched.Searched.take.Goals.{then-more-gt0, else-more-gt0}
 
 module _ (g : Over) (c : goal.After-result g) (settings : Settings) (plan : Plan) (begun : ℕ)
     (xs ys : List Sample) (count : length ys ≡ c.min-count.result)

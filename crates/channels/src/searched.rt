@@ -18,7 +18,7 @@ use sample_planes::SampleSource;
 /// four samples after the dwell, so that its answer is due at a sample that depends on the plan
 /// alone. It stands for its acquisition and the samples so far.
 #[derive(Debug, Drop)]
-pub struct Sought {
+pub struct Searched {
     settings: Settings,
     search: Search,
     /// How many samples there are to the time at which its answer is due.
@@ -26,7 +26,7 @@ pub struct Sought {
     ghost in_time: { searches.done_of search ≡ done_before (searches.plan_of search) to_due },
 }
 
-impl Sought {
+impl Searched {
     ghost use Rattle.std.specs.Prelude.{List, ◌++◌, length, IfSome, IsSome, ◌↔◌, true};
     ghost use Rattle.std.specs.Prelude.{unsigned_abs};
     ghost use Rattle.definitions.specs.Samples.{Sample};
@@ -42,7 +42,7 @@ impl Sought {
     ghost use Rattle.channels.specs.TrackedChannels as tracked;
 
     /// A search that begins with sample `start`, the next one; `start` is at most `MOST_START`.
-    pub fn start(settings: &Settings, plan: Plan, start: u64) -> Sought
+    pub fn start(settings: &Settings, plan: Plan, start: u64) -> Searched
         requires { start ≤ MOST_START }
         ensures stands { (xs : List Sample) → length xs ≡ start
             → Searches settings.now plan start xs result }
@@ -50,7 +50,7 @@ impl Sought {
     {
         let search = Search::new(plan, settings, start);
         let to_due = wait(settings, &plan);
-        Sought {
+        Searched {
             settings: *settings,
             search,
             to_due,
