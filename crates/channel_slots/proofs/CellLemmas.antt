@@ -16,7 +16,7 @@ use Rattle.definitions.proofs.BodyLemmas.{life_of-append}
 use Rattle.channel_slots.specs.declared.stage.Stage.{Stage}
 use Rattle.channel_slots.specs.declared.stage.Stage.TheVariants.{Idle, Searching, Holding, Tracking}
 use Rattle.channel_slots.specs.declared.slot.Slot.{Slot}
-use Rattle.channel_slots.specs.declared.place.Place.{Place}
+use Rattle.channel_slots.specs.declared.seat.Seat.{Seat}
 use Rattle.channel_slots.specs.Answers.{cells_shown}
 use Rattle.channel_slots.specs.Stages as stages
 use Rattle.channel_slots.specs.Stages.{Follows, IsSearched}
@@ -63,15 +63,15 @@ cells-shown settings xs commands slot s = by_test (is_idle slot) refl
 
 -- ---- the slot of a client among all
 
-is_key : Place → ℕ → ℕ → Bool
+is_key : Seat → ℕ → ℕ → Bool
 is_key p client number = nat_eq p.client client && nat_eq p.number number
 
-here : (p : Place) (ps : List Place) (client number : ℕ) → p.client ≡ client → p.number ≡ number
+here : (p : Seat) (ps : List Seat) (client number : ℕ) → p.client ≡ client → p.number ≡ number
     → cells_done_at (p ∷ ps) client number ≡ cells_done_of p.slot
 unfolding cells_done_at
 here p ps client number c n = rw (eq-eqb p.client client c, eq-eqb p.number number n) refl
 
-elsewhere : (p : Place) (ps : List Place) (client number : ℕ)
+elsewhere : (p : Seat) (ps : List Seat) (client number : ℕ)
     → ((p.client ≡ client) → (p.number ≡ number) → ⊥)
     → cells_done_at (p ∷ ps) client number ≡ cells_done_at ps client number
 unfolding cells_done_at is_key
@@ -85,22 +85,22 @@ elsewhere p ps client number other = by_test (is_key p client number) refl
         absurd (other (eqb-true p.client client both.0) (eqb-true p.number number both.1))
     by_test false e = rw e refl
 
--- that of its place
-pub cells-at : (ps : List Place) (at client number : ℕ) (p : Place) → Once (keys_of ps)
+-- that of its seat
+pub cells-at : (ps : List Seat) (at client number : ℕ) (p : Seat) → Once (keys_of ps)
     → IsAt (keys_of ps) at client number → p ≡ get_or ps at p
     → cells_done_at ps client number ≡ cells_done_of p.slot
 cells-at [] at client number p once there is = cc
 cells-at (q ∷ ps) zero client number p once there is =
     let f = found (q ∷ ps) zero client number q there refl in
     here q ps client number f.client_is f.number_is
-    ∙ sym (ap (λ (x : Place). cells_done_of x.slot) is)
+    ∙ sym (ap (λ (x : Seat). cells_done_of x.slot) is)
 cells-at (q ∷ ps) (suc at) client number p once there is =
     elsewhere q ps client number
     (not-first (q.client, q.number) (keys_of ps) at client number once there)
     ∙ cells-at ps at client number p (once-tail (q.client, q.number) (keys_of ps) once) there is
 
--- no place is that of another slot
-pub cells-nowhere : (ps : List Place) (client number : ℕ)
+-- no seat is that of another slot
+pub cells-nowhere : (ps : List Seat) (client number : ℕ)
     → ((j : ℕ) → IsAt (keys_of ps) j client number → ⊥) → cells_done_at ps client number ≡ None
 unfolding cells_done_at
 cells-nowhere [] client number out = refl
@@ -148,17 +148,17 @@ more-of settings xs ys commands old new before after s t b a =
     not-idle (Holding h) n e = cc
     not-idle (Tracking t) n e = cc
 
--- the same of all places
+-- the same of all seats
 module _ (settings : Settings) (xs ys : List Sample) (asked : ℕ → ℕ → List TimedRequest)
     (client number before after : ℕ) where
-  Each : List Sample → List Place → Type 0
+  Each : List Sample → List Seat → Type 0
   Each zs ps =
-      AllByRecursion (λ (p : Place). StandsFor settings zs (asked p.client p.number) p.slot) ps
+      AllByRecursion (λ (p : Seat). StandsFor settings zs (asked p.client p.number) p.slot) ps
 
-  pub more-at : (ps qs : List Place) → keys_of qs ≡ keys_of ps
-      → AllByRecursion (λ (p : Place). StandsFor settings xs (asked p.client p.number) p.slot) ps
+  pub more-at : (ps qs : List Seat) → keys_of qs ≡ keys_of ps
+      → AllByRecursion (λ (p : Seat). StandsFor settings xs (asked p.client p.number) p.slot) ps
       → AllByRecursion
-      (λ (p : Place). StandsFor settings (xs ++ ys) (asked p.client p.number) p.slot) qs
+      (λ (p : Seat). StandsFor settings (xs ++ ys) (asked p.client p.number) p.slot) qs
       → cells_done_at ps client number ≡ Some before
       → cells_done_at qs client number ≡ Some after
       → after ≤ before + (length ys / 4 + 1)

@@ -8,7 +8,7 @@ use Rattle.definitions.specs.Oscillators.{Settings}
 use Rattle.definitions.specs.Commands.{TimedRequest, Request}
 use Rattle.definitions.specs.Samples.{Sample}
 use Rattle.definitions.specs.Banks.{with_command}
-use Rattle.channel_slots.specs.declared.place.Place.{Place}
+use Rattle.channel_slots.specs.declared.seat.Seat.{Seat}
 use Rattle.channel_slots.specs.Slots.{StandsFor}
 use Rattle.channel_slots.specs.Banks.{keys_of, BankStands, IsAt}
 
@@ -18,7 +18,7 @@ each-at P [] i d h all = absurd (omega arith)
 each-at P (x ∷ xs) zero d h all = all.0
 each-at P (x ∷ xs) (suc i) d h all = each-at P xs i d (omega arith) all.1
 
--- ---- places by their keys, of which no two are the same
+-- ---- seats by their keys, of which no two are the same
 
 abbrev pub Once : List (ℕ × ℕ) → Type 0
 Once keys = (i j client number : ℕ) → IsAt keys i client number → IsAt keys j client number → i ≡ j
@@ -27,29 +27,29 @@ pub once-tail : (key : ℕ × ℕ) (keys : List (ℕ × ℕ)) → Once (key ∷ 
 once-tail key keys once i j client number a b =
     let same : suc i ≡ suc j = once (suc i) (suc j) client number a b in omega (arith, same)
 
--- the first key isn't that of a later place
+-- the first key isn't that of a later seat
 pub not-first : (key : ℕ × ℕ) (keys : List (ℕ × ℕ)) (i client number : ℕ) → Once (key ∷ keys)
     → IsAt keys i client number → key.0 ≡ client → key.1 ≡ number → ⊥
 not-first key keys i client number once is c n =
     let here : IsAt (key ∷ keys) 0 client number = rw (c, n) refl in
     let same : 0 ≡ suc i = once 0 (suc i) client number here is in omega (arith, same)
 
--- a place whose key is known
-pub record IsPlace (ps : List Place) (at client number : ℕ) (p : Place) : Type 0 where
+-- a seat whose key is known
+pub record IsSeat (ps : List Seat) (at client number : ℕ) (p : Seat) : Type 0 where
   pub within : at < length ps
   pub client_is : p.client ≡ client
   pub number_is : p.number ≡ number
 
-pub found : (ps : List Place) (at client number : ℕ) (p : Place)
-    → IsAt (keys_of ps) at client number → p ≡ get_or ps at p → IsPlace ps at client number p
+pub found : (ps : List Seat) (at client number : ℕ) (p : Seat)
+    → IsAt (keys_of ps) at client number → p ≡ get_or ps at p → IsSeat ps at client number p
 found [] at client number p is e = cc
 found (q ∷ ps) zero client number p is e = record {
   within = omega arith;
   client_is =
-      ap (λ (x : Place). x.client) e
+      ap (λ (x : Seat). x.client) e
       ∙ ap (λ (o : Option (ℕ × ℕ)). (unwrap_or o (q.client, q.number)).0) is;
   number_is =
-      ap (λ (x : Place). x.number) e
+      ap (λ (x : Seat). x.number) e
       ∙ ap (λ (o : Option (ℕ × ℕ)). (unwrap_or o (q.client, q.number)).1) is;
 }
 found (q ∷ ps) (suc at) client number p is e =
@@ -79,10 +79,10 @@ module _ (settings : Settings) (xs : List Sample) (asked : ℕ → ℕ → List 
       same : (n : ℕ) → nat_eq n n ≡ true
       same n = true_from_ne_false (nat_eq n n) (λ e. eqb-false n n e refl)
 
-  Each : (ℕ → ℕ → List TimedRequest) → List Place → Type 0
-  Each a ps = AllByRecursion (λ (p : Place). StandsFor settings xs (a p.client p.number) p.slot) ps
+  Each : (ℕ → ℕ → List TimedRequest) → List Seat → Type 0
+  Each a ps = AllByRecursion (λ (p : Seat). StandsFor settings xs (a p.client p.number) p.slot) ps
 
-  others : (ps : List Place) → ((j : ℕ) → IsAt (keys_of ps) j client number → ⊥) → Each asked ps
+  others : (ps : List Seat) → ((j : ℕ) → IsAt (keys_of ps) j client number → ⊥) → Each asked ps
       → Each longer ps
   unfolding Each
   others [] out each = tt
@@ -91,28 +91,28 @@ module _ (settings : Settings) (xs : List Sample) (asked : ℕ → ℕ → List 
     others ps (λ j. out (suc j)) each.1,
   )
 
-  at_place : (ps : List Place) (i : ℕ) (q : Place) → Once (keys_of ps)
+  at_seat : (ps : List Seat) (i : ℕ) (q : Seat) → Once (keys_of ps)
       → IsAt (keys_of ps) i client number → q.client ≡ client → q.number ≡ number
       → StandsFor settings xs
       (asked client number ++ record { time = time; request = request } ∷ []) q.slot
       → Each asked ps → Each longer (slice_set ps i q)
   unfolding Each
-  at_place [] i q once is c n stands each = tt
-  at_place (p ∷ ps) zero q once is c n stands each = (
+  at_seat [] i q once is c n stands each = tt
+  at_seat (p ∷ ps) zero q once is c n stands each = (
     rw (c, n) (rw own stands),
     others ps (λ j at. absurd_at j (once 0 (suc j) client number is at)) each.1,
   )
     where
       absurd_at : (j : ℕ) → 0 ≡ suc j → ⊥
       absurd_at j e = omega (arith, e)
-  at_place (p ∷ ps) (suc i) q once is c n stands each = (
+  at_seat (p ∷ ps) (suc i) q once is c n stands each = (
     rw (other p.client p.number
         (not-first (p.client, p.number) (keys_of ps) i client number once is)) each.0,
-    at_place ps i q (once-tail (p.client, p.number) (keys_of ps) once) is c n stands each.1,
+    at_seat ps i q (once-tail (p.client, p.number) (keys_of ps) once) is c n stands each.1,
   )
 
 module _ (settings : Settings) (xs : List Sample) (asked : ℕ → ℕ → List TimedRequest)
-    (ps : List Place) (at client number time : ℕ) (p q : Place) (once : Once (keys_of ps))
+    (ps : List Seat) (at client number time : ℕ) (p q : Seat) (once : Once (keys_of ps))
     (there : IsAt (keys_of ps) at client number) (is : p ≡ get_or ps at p) where
   pub stands-at : BankStands settings xs asked time ps
       → StandsFor settings xs (asked client number) p.slot
@@ -120,7 +120,7 @@ module _ (settings : Settings) (xs : List Sample) (asked : ℕ → ℕ → List 
       let f = found ps at client number p there is in
       let s =
       rw (sym is) at (each-at
-      (λ (p : Place). StandsFor settings xs (asked p.client p.number) p.slot) ps at p f.within
+      (λ (p : Seat). StandsFor settings xs (asked p.client p.number) p.slot) ps at p f.within
       stands.each) in
       rw (f.client_is, f.number_is) at s
 
@@ -137,40 +137,40 @@ module _ (settings : Settings) (xs : List Sample) (asked : ℕ → ℕ → List 
       record {
         now = stands.now;
         each =
-            at_place settings xs asked client number (length xs) request ps at q once there
+            at_seat settings xs asked client number (length xs) request ps at q once there
             (c ∙ f.client_is) (n ∙ f.number_is) (takes (asked client number) (stands-at stands))
             stands.each;
       }
 
-keys-set : (ps : List Place) (i : ℕ) (d q : Place) → q.client ≡ (get_or ps i d).client
+keys-set : (ps : List Seat) (i : ℕ) (d q : Seat) → q.client ≡ (get_or ps i d).client
     → q.number ≡ (get_or ps i d).number → keys_of (slice_set ps i q) ≡ keys_of ps
 keys-set [] i d q c n = refl
 keys-set (p ∷ ps) zero d q c n = rw (c, n)
 keys-set (p ∷ ps) (suc i) d q c n = rw (keys-set ps i d q c n)
 
-each-set : (P : Place → Type 0) (ps : List Place) (i : ℕ) (q : Place) → AllByRecursion P ps
+each-set : (P : Seat → Type 0) (ps : List Seat) (i : ℕ) (q : Seat) → AllByRecursion P ps
     → P q → AllByRecursion P (slice_set ps i q)
 each-set P [] i q all h = tt
 each-set P (p ∷ ps) zero q all h = (h, all.1)
 each-set P (p ∷ ps) (suc i) q all h = (all.0, each-set P ps i q all.1 h)
 
--- one of the places has taken a command that keeps what is known of it
-pub set-keeps : (P : Place → Type 0) (ps : List Place) (i : ℕ) (p q : Place) → i < length ps
+-- one of the seats has taken a command that keeps what is known of it
+pub set-keeps : (P : Seat → Type 0) (ps : List Seat) (i : ℕ) (p q : Seat) → i < length ps
     → p ≡ get_or ps i p → (P p → P q) → AllByRecursion P ps → AllByRecursion P (slice_set ps i q)
 set-keeps P ps i p q b is keeps all =
     each-set P ps i q all (keeps (rw (sym is) at (each-at P ps i p b all)))
 
 -- what the bank keeps of itself
-pub record Keeps (ps qs : List Place) : Type 0 where
+pub record Keeps (ps qs : List Seat) : Type 0 where
   pub size : length qs ≡ length ps
   pub keys : keys_of qs ≡ keys_of ps
 
-pub keeps : (ps : List Place) (i : ℕ) (p q : Place) → p ≡ get_or ps i p
+pub keeps : (ps : List Seat) (i : ℕ) (p q : Seat) → p ≡ get_or ps i p
     → q.client ≡ p.client → q.number ≡ p.number → Keeps ps (slice_set ps i q)
 keeps ps i p q is c m =
     record {
       size = length-set ps i q;
       keys =
-          keys-set ps i p q (c ∙ ap (λ (x : Place). x.client) is)
-          (m ∙ ap (λ (x : Place). x.number) is);
+          keys-set ps i p q (c ∙ ap (λ (x : Seat). x.client) is)
+          (m ∙ ap (λ (x : Seat). x.number) is);
     }

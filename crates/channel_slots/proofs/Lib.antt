@@ -3,11 +3,11 @@ pub mod CellLemmas
 pub mod CommandLemmas
 pub mod NewsLemmas
 pub mod OrderLemmas
-pub mod PlaceLemmas
 pub mod PutLemmas
 pub mod QuietLemmas
 pub mod ReadyLemmas
 pub mod SearchLemmas
+pub mod SeatLemmas
 pub mod ShareLemmas
 pub mod SlotLemmas
 pub mod StageLemmas

@@ -1,16 +1,16 @@
--- Events of a place that are inserted one after the other.
+-- Events of a seat that are inserted one after the other.
 use Rattle.std.proofs.Common.{◌≡◌, ℕ, List, [], ◌∷◌, ◌++◌, refl, sym, ap, ◌∙◌}
 use Rattle.std.specs.Prelude.{map, Option, Some, None, option_map, MatchOption, IsSomeAnd}
 use Rattle.std.proofs.lemmas.List.{map-append}
 use Rattle.channel_slots.specs.declared.event.Event.{Event}
 use Rattle.channel_slots.specs.declared.event.SlotEvent.{SlotEvent}
-use Rattle.channel_slots.specs.declared.place.Place.{Place}
+use Rattle.channel_slots.specs.declared.seat.Seat.{Seat}
 use Rattle.channel_slots.specs.Banks.{event_of, PutsIn}
 use Rattle.channel_slots.specs.Events.{time_in}
 use Rattle.channel_slots.specs.Orders.{put_in, put_all}
 use Rattle.channel_slots.proofs.OrderLemmas.{put_all-append}
 
-module _ (p : Place) (time : ℕ) where
+module _ (p : Seat) (time : ℕ) where
   pub puts-none : (before : List SlotEvent) → PutsIn p time [] before before
   unfolding put_all
   puts-none before = refl

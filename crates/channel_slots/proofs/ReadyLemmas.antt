@@ -8,7 +8,7 @@ use Rattle.channels.specs.TrackedChannels as tracked
 use Rattle.channel_slots.specs.declared.stage.Stage.{Stage}
 use Rattle.channel_slots.specs.declared.stage.Stage.TheVariants.{Idle, Searching, Holding, Tracking}
 use Rattle.channel_slots.specs.Stages as stages
-use Rattle.channel_slots.specs.declared.place.Place.{Place}
+use Rattle.channel_slots.specs.declared.seat.Seat.{Seat}
 use Rattle.channel_slots.specs.Slots.{is_sound}
 use Rattle.channel_slots.specs.Banks.{AllSound, are_sound}
 
@@ -21,12 +21,12 @@ sound-from reach time first (Searching a) sound late =
 sound-from reach time first (Holding h) sound late = sound
 sound-from reach time first (Tracking t) sound late = sound
 
-pub all-sound-from : (reach time first : ℕ) (places : List Place) → AllSound 0 time reach places
-    → first ≤ time - reach → AllSound first time reach places
+pub all-sound-from : (reach time first : ℕ) (seats : List Seat) → AllSound 0 time reach seats
+    → first ≤ time - reach → AllSound first time reach seats
 all-sound-from reach time first [] sound late = tt
-all-sound-from reach time first (p ∷ places) sound late = (
+all-sound-from reach time first (p ∷ seats) sound late = (
   sound-from reach time first p.slot.stage sound.0 late,
-  all-sound-from reach time first places sound.1 late,
+  all-sound-from reach time first seats sound.1 late,
 )
 
 -- by the test and by the facts
@@ -56,15 +56,15 @@ by-test time reach (Searching a) test =
 by-test time reach (Holding h) test = leb-true (held.dumps_of h) time test
 by-test time reach (Tracking t) test = leb-true (tracked.dumps_of t) time test
 
-pub all-tested : (time reach : ℕ) (places : List Place) → AllSound 0 time reach places
-    → are_sound time reach places ≡ true
+pub all-tested : (time reach : ℕ) (seats : List Seat) → AllSound 0 time reach seats
+    → are_sound time reach seats ≡ true
 all-tested time reach [] sound = refl
-all-tested time reach (p ∷ places) sound =
-    rw (tested time reach p.slot.stage sound.0) (all-tested time reach places sound.1)
+all-tested time reach (p ∷ seats) sound =
+    rw (tested time reach p.slot.stage sound.0) (all-tested time reach seats sound.1)
 
-pub all-sound : (time reach : ℕ) (places : List Place) → are_sound time reach places ≡ true
-    → AllSound 0 time reach places
+pub all-sound : (time reach : ℕ) (seats : List Seat) → are_sound time reach seats ≡ true
+    → AllSound 0 time reach seats
 all-sound time reach [] test = tt
-all-sound time reach (p ∷ places) test =
+all-sound time reach (p ∷ seats) test =
     let parts = and_parts (is_sound time reach p.slot) _ test in
-    (by-test time reach p.slot.stage parts.0, all-sound time reach places parts.1)
+    (by-test time reach p.slot.stage parts.0, all-sound time reach seats parts.1)

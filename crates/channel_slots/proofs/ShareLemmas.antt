@@ -13,7 +13,7 @@ use Rattle.std.proofs.Common.{length-append}
 use Rattle.std.proofs.lemmas.List.{append-nil, append_assoc}
 use Rattle.circular_buffer.proofs.Places.{slice_get-append_left, slice_get-append_right}
 use Rattle.definitions.specs.Banks.{layout}
-use Rattle.channel_slots.specs.declared.place.Place.{Place}
+use Rattle.channel_slots.specs.declared.seat.Seat.{Seat}
 use Rattle.channel_slots.specs.Banks.{total, keys_of, IsAt, row_of as row, AddsIdle, AllIdle}
 use Rattle.channel_slots.proofs.CommandLemmas.{Once}
 use Rattle.channel_slots.specs.Banks.{AllSound}
@@ -83,7 +83,7 @@ at-rows first (share ∷ shares) (suc k) s h =
 pub record IsThere (first : ℕ) (shares : List ℕ) (i client slot : ℕ) : Type 0 where
   pub client_from : first ≤ client
   pub slot_within : slot < get_or shares (client - first) 0
-  pub place : i ≡ total (take (client - first) shares) + slot
+  pub index : i ≡ total (take (client - first) shares) + slot
 
 same-client : (a b c d : ℕ) → ◌≡◌ {A = Option (ℕ × ℕ)} (Some (a, b)) (Some (c, d)) → a ≡ c
 same-client a b c d e = ap (λ (o : Option (ℕ × ℕ)). (unwrap_or o (a, b)).0) e
@@ -102,7 +102,7 @@ there-in-row first share shares i client slot h e =
     record {
       client_from = omega (arith, c);
       slot_within = rw zero_is (omega (arith, h, s));
-      place = rw zero_is (omega (arith, s));
+      index = rw zero_is (omega (arith, s));
     }
 
 there-past-row : (first share : ℕ) (shares : List ℕ) (i m client slot : ℕ) → i ≡ share + m
@@ -112,10 +112,10 @@ there-past-row first share shares i m client slot is r =
     record {
       client_from = omega (arith, r.client_from);
       slot_within = rw more r.slot_within;
-      place = rw more (omega (arith, is, r.place));
+      index = rw more (omega (arith, is, r.index));
     }
 
--- the only place at which a client's slot stands
+-- the only index at which a client's slot stands
 there : (first : ℕ) (shares : List ℕ) (i client slot : ℕ)
     → slice_get (rows first shares) i ≡ Some (client, slot) → IsThere first shares i client slot
 there first [] i client slot e = cc
@@ -143,16 +143,16 @@ not-there shares i client slot other e =
       | inr past ↦ omega (arith, past, t.slot_within)
     ]
 
--- so no two places have the same slot
+-- so each slot stands there once
 pub only-once : (shares : List ℕ) → Once (layout shares)
 only-once shares i j client slot at_i at_j =
-    (there 1 shares i client slot at_i).place ∙ sym (there 1 shares j client slot at_j).place
+    (there 1 shares i client slot at_i).index ∙ sym (there 1 shares j client slot at_j).index
 
 -- where a client's slot stands
-pub its-place : (shares : List ℕ) (client slot : ℕ) → 1 ≤ client
+pub its-index : (shares : List ℕ) (client slot : ℕ) → 1 ≤ client
     → slot < get_or shares (client - 1) 0
     → IsAt (layout shares) (total (take (client - 1) shares) + slot) client slot
-its-place shares client slot first h =
+its-index shares client slot first h =
     let e : 1 + (client - 1) ≡ client = omega (arith, first) in
     at-rows 1 shares (client - 1) slot h ∙ ap (λ n. Some (n, slot)) e
 
@@ -164,11 +164,11 @@ rows-length first (share ∷ shares) =
     length-append (row first share) (rows (first + 1) shares) in
     omega (arith, both, row-length first share, rows-length (first + 1) shares)
 
--- as many places as the clients have slots together
-pub as-many : (shares : List ℕ) (ps : List Place) → keys_of ps ≡ layout shares
+-- as many seats as the clients have slots together
+pub as-many : (shares : List ℕ) (ps : List Seat) → keys_of ps ≡ layout shares
     → length ps ≡ total shares
 as-many shares ps keys =
-    sym (length-map ps (λ (p : Place). (p.client, p.number))) ∙ ap length keys
+    sym (length-map ps (λ (p : Seat). (p.client, p.number))) ∙ ap length keys
     ∙ rows-length 1 shares
 
 -- clients with a share more
@@ -189,41 +189,41 @@ one-share-more shares share = more 1 shares
         ∙ ap (λ n. (row first s ++ rows (first + 1) ss) ++ row n share) e
 
 -- one slot of a client more
-pub keys-push : (ps : List Place) (p : Place) (client n : ℕ) → keys_of ps ≡ row client n
+pub keys-push : (ps : List Seat) (p : Seat) (client n : ℕ) → keys_of ps ≡ row client n
     → p.client ≡ client → p.number ≡ n → keys_of (ps ++ p ∷ []) ≡ row client (n + 1)
 keys-push ps p client n keys c m =
     let key : ℕ → ℕ × ℕ = λ slot. (client, slot) in
     let behind : 0 + n ≡ n = omega arith in
-    map-append (λ (q : Place). (q.client, q.number)) ps (p ∷ [])
+    map-append (λ (q : Seat). (q.client, q.number)) ps (p ∷ [])
     ∙ ap (λ (l : List (ℕ × ℕ)). l ++ (p.client, p.number) ∷ []) keys
     ∙ rw (c, m) (sym (map-range_with_len_more key 0 n n behind))
 
--- the places of the first clients, and those of one more
-pub keys-more : (shares : List ℕ) (share index : ℕ) (before after : List Place)
+-- the seats of the first clients, and those of one more
+pub keys-more : (shares : List ℕ) (share index : ℕ) (before after : List Seat)
     → length (take index shares) ≡ index
     → keys_of before ≡ layout (take index shares) → AddsIdle (index + 1) share before after
     → keys_of after ≡ layout (take index shares ++ share ∷ [])
 keys-more shares share index before after long keys adds =
     ap keys_of adds.behind
-    ∙ map-append (λ (p : Place). (p.client, p.number)) before adds.added
+    ∙ map-append (λ (p : Seat). (p.client, p.number)) before adds.added
     ∙ ap (λ (l : List (ℕ × ℕ)). l ++ keys_of adds.added) keys
     ∙ ap (λ (l : List (ℕ × ℕ)). layout (take index shares) ++ l) adds.keys
     ∙ sym (one-share-more (take index shares) share ∙ rw long refl)
 
-pub idle-more : (client share : ℕ) (before after : List Place) → AllIdle before
+pub idle-more : (client share : ℕ) (before after : List Seat) → AllIdle before
     → AddsIdle client share before after → AllIdle after
 idle-more client share before after idle adds =
     rw adds.behind
-    (all-append (λ (p : Place). is_idle p.slot ≡ true) before adds.added idle adds.idle)
+    (all-append (λ (p : Seat). is_idle p.slot ≡ true) before adds.added idle adds.idle)
   where
-    all-append : (P : Place → Type 0) (xs ys : List Place) → AllByRecursion P xs
+    all-append : (P : Seat → Type 0) (xs ys : List Seat) → AllByRecursion P xs
         → AllByRecursion P ys → AllByRecursion P (xs ++ ys)
     all-append P [] ys a b = b
     all-append P (x ∷ xs) ys a b = (a.0, all-append P xs ys a.1 b)
 
 -- ---- idle slots
 
-pub idle-sound : (reach : ℕ) (ps : List Place) → AllIdle ps → AllSound 0 0 reach ps
+pub idle-sound : (reach : ℕ) (ps : List Seat) → AllIdle ps → AllSound 0 0 reach ps
 idle-sound reach [] idle = tt
 idle-sound reach (p ∷ ps) idle = (of_stage p.slot.stage idle.0, idle-sound reach ps idle.1)
   where
@@ -233,8 +233,8 @@ idle-sound reach (p ∷ ps) idle = (of_stage p.slot.stage idle.0, idle-sound rea
     of_stage (Holding h) e = cc
     of_stage (Tracking t) e = cc
 
-pub idle-stand : (settings : Settings) (ps : List Place) → AllIdle ps
-    → AllByRecursion (λ (p : Place). StandsFor settings [] [] p.slot) ps
+pub idle-stand : (settings : Settings) (ps : List Seat) → AllIdle ps
+    → AllByRecursion (λ (p : Seat). StandsFor settings [] [] p.slot) ps
 idle-stand settings [] idle = tt
 idle-stand settings (p ∷ ps) idle =
     (stands-new settings p.slot idle.0, idle-stand settings ps idle.1)
@@ -263,13 +263,13 @@ few-take zero shares few = tt
 few-take (suc n) [] few = tt
 few-take (suc n) (share ∷ shares) few = (few.0, few-take n shares few.1)
 
--- the slots of places that are laid out so stand there once
-pub once-of : (shares : List ℕ) (ps : List Place) → keys_of ps ≡ layout shares
+-- the slots of seats that are laid out so stand there once
+pub once-of : (shares : List ℕ) (ps : List Seat) → keys_of ps ≡ layout shares
     → Once (keys_of ps)
 once-of shares ps keys = rw keys (only-once shares)
 
--- no place is that of another client, or of a slot past its share
-pub nowhere : (shares : List ℕ) (ps : List Place) (client slot : ℕ) → keys_of ps ≡ layout shares
+-- no seat is that of another client, or of a slot past its share
+pub nowhere : (shares : List ℕ) (ps : List Seat) (client slot : ℕ) → keys_of ps ≡ layout shares
     → (client ≡ 0) ⊎ (get_or shares (client - 1) 0 ≤ slot)
     → (j : ℕ) → IsAt (keys_of ps) j client slot → ⊥
 nowhere shares ps client slot keys other j at =

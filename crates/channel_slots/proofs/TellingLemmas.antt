@@ -1,4 +1,4 @@
--- Events that are inserted by time, and what a place emits over a run that it takes by its own
+-- Events that are inserted by time, and what a seat emits over a run that it takes by its own
 -- events.
 use Rattle.std.proofs.Common.{◌≡◌, ℕ, zero, suc, ◌+◌, ◌-◌, ◌<◌, ◌≤◌, List, [], ◌∷◌, ◌++◌, length}
 use Rattle.std.proofs.Common.{take, drop, refl, sym, ap, ◌∙◌, arith, length-append, append-nil}
@@ -19,11 +19,11 @@ use Rattle.definitions.specs.Events.{Event}
 use Rattle.definitions.specs.Banks.{SlotEvent as DefinedSlotEvent, slot_events}
 use Rattle.definitions.specs.Receiver.{at_each_sample}
 use Rattle.channel_slots.specs.declared.event.SlotEvent.{SlotEvent}
-use Rattle.channel_slots.specs.declared.place.Place.{Place}
+use Rattle.channel_slots.specs.declared.seat.Seat.{Seat}
 use Rattle.channel_slots.specs.Slots.{chances}
 use Rattle.channel_slots.specs.Orders.{put_in, put_all}
 use Rattle.channel_slots.specs.Events.{AreTold, told_in, time_in, time_at}
-use Rattle.channel_slots.specs.Banks.{PlaceAdds, PlaceGoes, slot_tells}
+use Rattle.channel_slots.specs.Banks.{SeatAdds, SeatGoes, slot_tells}
 use Rattle.channel_slots.proofs.OrderLemmas.{put_all-append}
 
 module _ {A : Type 0} (tells : List Sample → List A) where
@@ -107,9 +107,9 @@ earlier xs ys first held all n low high =
     all n low (simp length-append (omega (arith, high)))
     ∙ get_or-append xs ys (real (pos 0)) n high
 
--- ---- a place through a run
-pub goes-begin : (time : ℕ) (p : Place) (before : List SlotEvent) (first : ℕ) (held : ℕ → Sample)
-    → PlaceGoes [] time first held p p before before
+-- ---- a seat through a run
+pub goes-begin : (time : ℕ) (p : Seat) (before : List SlotEvent) (first : ℕ) (held : ℕ → Sample)
+    → SeatGoes [] time first held p p before before
 unfolding at_each_sample put_all
 goes-begin time p before first held = record {
   events = [];
@@ -124,10 +124,10 @@ goes-begin time p before first held = record {
   };
 }
 
-pub goes-more : (ys zs : List Sample) (time first : ℕ) (held : ℕ → Sample) (p q r : Place)
-    (before mid after : List SlotEvent) → PlaceGoes ys time first held p q before mid
-    → PlaceAdds zs (time + length ys + length zs) first held q r mid after → 0 < length zs
-    → length after ≤ length before + 7 → PlaceGoes (ys ++ zs) time first held p r before after
+pub goes-more : (ys zs : List Sample) (time first : ℕ) (held : ℕ → Sample) (p q r : Seat)
+    (before mid after : List SlotEvent) → SeatGoes ys time first held p q before mid
+    → SeatAdds zs (time + length ys + length zs) first held q r mid after → 0 < length zs
+    → length after ≤ length before + 7 → SeatGoes (ys ++ zs) time first held p r before after
 goes-more ys zs time first held p q r before mid after g a some few =
     let s = a.steps in
     let all : length (ys ++ zs) ≡ length ys + length zs = simp length-append (omega arith) in
@@ -174,12 +174,12 @@ goes-more ys zs time first held p q r before mid after g a some few =
     both_told es fs ts us a b = map-append told_in es fs ∙ (λ i. a i ++ b i)
 
 -- the same by the run and by how many of its samples were taken
-pub goes-on : (run : List Sample) (done count time first : ℕ) (held : ℕ → Sample) (p q r : Place)
+pub goes-on : (run : List Sample) (done count time first : ℕ) (held : ℕ → Sample) (p q r : Seat)
     (before mid after : List SlotEvent) → 0 < count → done + count ≤ length run
-    → PlaceGoes (take done run) time first held p q before mid
-    → PlaceAdds (part run done count) (time + (done + count)) first held q r mid after
+    → SeatGoes (take done run) time first held p q before mid
+    → SeatAdds (part run done count) (time + (done + count)) first held q r mid after
     → length after ≤ length before + 7
-    → PlaceGoes (take (done + count) run) time first held p r before after
+    → SeatGoes (take (done + count) run) time first held p r before after
 goes-on run done count time first held p q r before mid after some within g a few =
     let ys : List Sample = take done run in
     let zs : List Sample = part run done count in
@@ -187,7 +187,7 @@ goes-on run done count time first held p q r before mid after some within g a fe
     let is : length zs ≡ count = part-length run done count within in
     let there : time + (done + count) ≡ time + length ys + length zs = omega (arith, so_far, is) in
     rw (take_part run done count) (goes-more ys zs time first held p q r before mid after g
-    (subst (λ (t : ℕ). PlaceAdds zs t first held q r mid after) there a)
+    (subst (λ (t : ℕ). SeatAdds zs t first held q r mid after) there a)
     (omega (arith, is, some)) few)
 
 -- in a run of samples there is one dump of a slot at most, and the answer of an acquisition

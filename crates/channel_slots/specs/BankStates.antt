@@ -30,7 +30,7 @@ settings_of bank = bank.settings
 -- how many cells the search of a client's slot has done: none where it isn't acquiring, or no
 -- client has that number
 abbrev pub cells_done_in : Bank → ℕ → ℕ → Option ℕ
-cells_done_in bank client slot = cells_done_at bank.places.items client slot
+cells_done_in bank client slot = cells_done_at bank.seats.items client slot
 
 -- the settings, the samples so far, and for each client and slot its commands so far
 pub record StandsFor (settings : Settings) (xs : List Sample)
@@ -38,7 +38,7 @@ pub record StandsFor (settings : Settings) (xs : List Sample)
   pub recorded : bank.settings ≡ settings
   pub now : bank.time ≡ length xs
   pub history : histories.StandsFor xs bank.history
-  pub slots : BankStands settings xs asked bank.time bank.places.items
+  pub slots : BankStands settings xs asked bank.time bank.seats.items
 
 -- whatever a bank stood for: these events are what its slots emit over a run of samples
 abbrev pub Tells : Bank → List Sample → List SlotEvent → Type 0

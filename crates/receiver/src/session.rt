@@ -3,7 +3,7 @@
 ghost use Rattle.std.specs.Prelude.{◌≡◌, true, length};
 ghost use Rattle.channel_slots.specs.BankStates.{shares_of};
 ghost use Rattle.channel_slots.specs.declared.bank.TheConstants.{MOST_TIME};
-ghost use Rattle.channel_slots.specs.declared.place.TheConstants.{MOST_CLIENTS};
+ghost use Rattle.channel_slots.specs.declared.seat.TheConstants.{MOST_CLIENTS};
 ghost use Rattle.sample_planes.specs.Packings.{packing_of};
 ghost use Rattle.receiver.specs.Queues.{are_in_shares};
 ghost use Rattle.sample_planes.specs.declared.planes.TheConstants.{MAX_SAMPLES};

@@ -1,6 +1,6 @@
 use Rattle.std.proofs.Common.{◌≡◌, ◌≤◌, ◌∙◌, ◌-◌, ℕ, zero, suc, List, arith, sym, ◌⊎◌, inl, inr}
 use Rattle.std.proofs.Common.{get_or, refl}
-use Rattle.channel_slots.specs.declared.place.Place.{Place}
+use Rattle.channel_slots.specs.declared.seat.Seat.{Seat}
 use Rattle.channel_slots.specs.Banks.{HasDone}
 use Rattle.channel_slots.proofs.CommandLemmas.{stands-at}
 use Rattle.channel_slots.proofs.CellLemmas.{cells-at, cells-nowhere, cells-shown}
@@ -18,7 +18,7 @@ past shares (suc k) slot share is few =
 
 pub returns-then-share-get-clause-done : goal.returns-then-share-get-clause-done
 returns-then-share-get-clause-done c =
-    let ps : List Place = c.args.self.now.places.items in
+    let ps : List Seat = c.args.self.now.seats.items in
     let shares : List ℕ = c.args.self.now.shares.items in
     sym (cells-nowhere ps c.args.client c.args.slot
     (nowhere shares ps c.args.client c.args.slot c.args.self.now.keys
@@ -27,21 +27,21 @@ returns-then-share-get-clause-done c =
 
 pub returns-clause-done : goal.returns-clause-done
 returns-clause-done c =
-    let ps : List Place = c.args.self.now.places.items in
-    let d : HasDone ps c.place.result c.cells_done_at.result =
+    let ps : List Seat = c.args.self.now.seats.items in
+    let d : HasDone ps c.seat_index.result c.cells_done_at.result =
     rw c.deref.ensures.value at c.cells_done_at.ensures in
     rw (← c.get-2.ensures.same) (d.done_is
-    ∙ sym (cells-at ps c.place.result c.args.client c.get-2.result
-    d.place (once-of c.args.self.now.shares.items ps c.args.self.now.keys) c.place.ensures.there
+    ∙ sym (cells-at ps c.seat_index.result c.args.client c.get-2.result
+    d.seat (once-of c.args.self.now.shares.items ps c.args.self.now.keys) c.seat_index.ensures.there
     d.is))
 
 pub returns-clause-shown : goal.returns-clause-shown
 returns-clause-shown c settings xs asked s first last =
-    let ps : List Place = c.args.self.now.places.items in
-    let d : HasDone ps c.place.result c.cells_done_at.result =
+    let ps : List Seat = c.args.self.now.seats.items in
+    let d : HasDone ps c.seat_index.result c.cells_done_at.result =
     rw c.deref.ensures.value at c.cells_done_at.ensures in
-    rw (← c.get-2.ensures.same) (d.done_is ∙ cells-shown settings xs _ d.place.slot
-    (stands-at settings xs asked ps c.place.result c.args.client c.get-2.result
-    c.args.self.now.time d.place d.place
-    (once-of c.args.self.now.shares.items ps c.args.self.now.keys) c.place.ensures.there d.is
+    rw (← c.get-2.ensures.same) (d.done_is ∙ cells-shown settings xs _ d.seat.slot
+    (stands-at settings xs asked ps c.seat_index.result c.args.client c.get-2.result
+    c.args.self.now.time d.seat d.seat
+    (once-of c.args.self.now.shares.items ps c.args.self.now.keys) c.seat_index.ensures.there d.is
     s.slots))

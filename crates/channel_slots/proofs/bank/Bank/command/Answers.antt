@@ -1,7 +1,7 @@
 use Rattle.std.proofs.Common.{◌≡◌, ◌<◌, arith, ℕ, List, length, refl, sym, ap}
 use Rattle.std.proofs.Common.{subst, ◌∙◌, slice_set, length-set}
 use Rattle.definitions.specs.Oscillators.{Settings}
-use Rattle.channel_slots.specs.declared.place.Place.{Place}
+use Rattle.channel_slots.specs.declared.seat.Seat.{Seat}
 use Rattle.channel_slots.specs.declared.command.Command.{Command}
 use Rattle.channel_slots.specs.declared.answer.Answer.{Answer}
 use Rattle.channel_slots.specs.Slots.{StandsFor, IsSound}
@@ -14,41 +14,41 @@ use Rattle.channel_slots.proofs.ReadyLemmas.{all-sound, all-tested}
 use Rattle.channel_slots.specs.Stages.{most_wait}
 use Rattle.channel_slots.proofs.bank.Bank.command.Goals as goal
 
--- what the command does to the places
-done : (own settings : Settings) (time : ℕ) (command : Command) (taken ps qs : List Place)
+-- what the command does to the seats
+done : (own settings : Settings) (time : ℕ) (command : Command) (taken ps qs : List Seat)
     (at : ℕ) (answer : Answer) → own ≡ settings → taken ≡ ps
     → IsCommanded own time (request_in command) taken qs at answer
     → IsCommanded settings time (request_in command) ps qs at answer
 done own settings time command taken ps qs at answer known same e =
-    subst (λ (l : List Place). IsCommanded settings time (request_in command) l qs at answer) same
+    subst (λ (l : List Seat). IsCommanded settings time (request_in command) l qs at answer) same
     (subst (λ (r : Settings). IsCommanded r time (request_in command) taken qs at answer) known e)
 
-pub place-place-requires-clause-slot : goal.place-place-requires-clause-slot
-place-place-requires-clause-slot c = rw (c.get.ensures.same ∙ c.slot.ensures) c.requires.slot
+pub seat_index-at-requires-clause-slot : goal.seat_index-at-requires-clause-slot
+seat_index-at-requires-clause-slot c = rw (c.get.ensures.same ∙ c.slot.ensures) c.requires.slot
 
 pub command_at-requires-clause-at : goal.command_at-requires-clause-at
-command_at-requires-clause-at c = rw c.deref_mut.ensures.value c.place-place.ensures.within
+command_at-requires-clause-at c = rw c.deref_mut.ensures.value c.seat_index-at.ensures.within
 
 pub invariant_of-self : goal.invariant_of-self
 invariant_of-self c =
-    let ps : List Place = c.args.self.now.places.items in
-    let at : ℕ = c.place-place.result in
+    let ps : List Seat = c.args.self.now.seats.items in
+    let at : ℕ = c.seat_index-at.result in
     let e =
     done _ c.args.self.now.settings _ c.args.command _ ps
-    c.command_at.new.places at c.command_at.result refl c.deref_mut.ensures.value
+    c.command_at.new.seats at c.command_at.result refl c.deref_mut.ensures.value
     c.command_at.ensures in
-    let b : at < length ps = c.place-place.ensures.within in
+    let b : at < length ps = c.seat_index-at.ensures.within in
     let k =
     keeps ps at e.old e.new e.is e.client e.number in
     let whole =
-    refilled c.args.self.now.places.len ps (slice_set ps at e.new)
+    refilled c.args.self.now.seats.len ps (slice_set ps at e.new)
     (k.size ∙ sym (ap length c.deref_mut.ensures.value) ∙ c.deref_mut.ensures.len) in
     let reach : ℕ = most_wait c.args.self.now.settings in
     let time : ℕ = c.args.self.now.time in
     record {
       early = c.args.self.now.early;
       sound = rw (e.set, whole) (all-tested time reach (slice_set ps at e.new)
-          (set-keeps (λ (p : Place). IsSound 0 time reach p.slot) ps at e.old e.new b e.is
+          (set-keeps (λ (p : Seat). IsSound 0 time reach p.slot) ps at e.old e.new b e.is
           (e.sound 0 (omega arith)) (all-sound time reach ps c.args.self.now.sound)));
       packed = c.args.self.now.packed;
       room = c.args.self.now.room;
@@ -60,29 +60,28 @@ invariant_of-self c =
 
 pub returns-clause-answer : goal.returns-clause-answer
 returns-clause-answer c settings xs asked s =
-    let ps : List Place = c.args.self.now.places.items in
-    let at : ℕ = c.place-place.result in
+    let ps : List Seat = c.args.self.now.seats.items in
+    let at : ℕ = c.seat_index-at.result in
     let e =
-    done _ settings _ c.args.command _ ps c.command_at.new.places at c.command_at.result
+    done _ settings _ c.args.command _ ps c.command_at.new.seats at c.command_at.result
     s.recorded c.deref_mut.ensures.value c.command_at.ensures in
     let n : c.get.result ≡ slot_of c.args.command = c.get.ensures.same ∙ c.slot.ensures in
     e.answers xs _ (sym s.now) (subst
     (λ (m : ℕ). StandsFor settings xs (asked c.args.client m) e.old.slot) n
     (stands-at settings xs asked ps at c.args.client c.get.result c.args.self.now.time e.old
-    e.old (once-of c.args.self.now.shares.items ps c.args.self.now.keys) c.place-place.ensures.there
-    e.is
-    s.slots))
+    e.old (once-of c.args.self.now.shares.items ps c.args.self.now.keys)
+    c.seat_index-at.ensures.there e.is s.slots))
 
 pub returns-clause-stands : goal.returns-clause-stands
 returns-clause-stands c settings xs asked s =
-    let ps : List Place = c.args.self.now.places.items in
-    let at : ℕ = c.place-place.result in
+    let ps : List Seat = c.args.self.now.seats.items in
+    let at : ℕ = c.seat_index-at.result in
     let e =
-    done _ settings _ c.args.command _ ps c.command_at.new.places at c.command_at.result
+    done _ settings _ c.args.command _ ps c.command_at.new.seats at c.command_at.result
     s.recorded c.deref_mut.ensures.value c.command_at.ensures in
     let n : c.get.result ≡ slot_of c.args.command = c.get.ensures.same ∙ c.slot.ensures in
     let whole =
-    refilled c.args.self.now.places.len ps (slice_set ps at e.new)
+    refilled c.args.self.now.seats.len ps (slice_set ps at e.new)
     (length-set ps at e.new ∙ sym (ap length c.deref_mut.ensures.value)
     ∙ c.deref_mut.ensures.len) in
     record {
@@ -93,7 +92,7 @@ returns-clause-stands c settings xs asked s =
           rw (e.set, whole, ← n)
           (commanded settings xs asked ps at c.args.client c.get.result c.args.self.now.time
           e.old e.new (once-of c.args.self.now.shares.items ps c.args.self.now.keys)
-          c.place-place.ensures.there e.is
+          c.seat_index-at.ensures.there e.is
           (request_in c.args.command) s.slots e.client e.number
           (λ commands t. e.stands xs commands (sym s.now) t));
     }

@@ -8,13 +8,13 @@ use Rattle.channel_slots.proofs.ShareLemmas.{idle-sound, idle-stand}
 use Rattle.channel_slots.proofs.ShareLemmas.{few-each}
 use Rattle.channel_slots.proofs.bank.Bank.open.Goals as goal
 
-pub idle_places-requires-clause-few : goal.idle_places-requires-clause-few
-idle_places-requires-clause-few c =
+pub idle_seats-requires-clause-few : goal.idle_seats-requires-clause-few
+idle_seats-requires-clause-few c =
     few-each c.args.shares.now (sym c.are_shares.ensures ∙ c.if-not-are_shares.false)
 
 pub invariant_of-result : goal.invariant_of-result
 invariant_of-result c =
-    let idle = c.in-Ok-idle_places.ensures.idle in
+    let idle = c.in-Ok-idle_seats.ensures.idle in
     let shared : list_all is_share c.args.shares.now ≡ true =
     sym c.are_shares.ensures ∙ c.if-not-are_shares.false in
     record {
@@ -25,7 +25,7 @@ invariant_of-result c =
       taken = c.in-Ok-open.ensures.taken;
       clients = rw c.in-Ok.ensures.0 c.in-Ok.ensures.1;
       shared = ap (list_all is_share) c.in-Ok.ensures.0 ∙ shared;
-      keys = c.in-Ok-idle_places.ensures.keys ∙ ap layout (sym c.in-Ok.ensures.0);
+      keys = c.in-Ok-idle_seats.ensures.keys ∙ ap layout (sym c.in-Ok.ensures.0);
     }
 
 pub returns-clause-stands : goal.returns-clause-stands
@@ -37,6 +37,6 @@ returns-clause-stands c =
       slots =
           record {
             now = refl;
-            each = idle-stand c.args.settings _ c.in-Ok-idle_places.ensures.idle;
+            each = idle-stand c.args.settings _ c.in-Ok-idle_seats.ensures.idle;
           };
     }

@@ -1,0 +1,55 @@
+use Rattle.std.proofs.Common.{◌≡◌, ◌≤◌, ◌-◌, ◌+◌, ◌*◌, ℕ, List, take, length, arith, ap, ◌∙◌}
+use Rattle.std.proofs.lemmas.Option.{slice_get_within}
+use Rattle.std.proofs.lemmas.List.{length-map, length-take}
+use Rattle.channel_slots.specs.declared.seat.Seat.{Seat}
+use Rattle.channel_slots.specs.declared.command.TheConstants.{MOST_SLOTS}
+use Rattle.channel_slots.specs.Banks.{keys_of, IsAt, total}
+use Rattle.channel_slots.proofs.ShareLemmas.{its-index, few-each, few-take, total-few}
+use Rattle.channel_slots.proofs.bank.Bank.seat_index.Goals as goal
+
+pub slots_in-requires-clause-few : goal.slots_in-requires-clause-few
+slots_in-requires-clause-few c =
+    rw c.deref.ensures.0 (few-take (c.args.client - 1) c.args.self.now.shares.items
+    (few-each c.args.self.now.shares.items c.args.self.now.shared))
+
+before : (client : ℕ) (shares own : List ℕ) (slots : ℕ) → slots ≡ total (take (client - 1) own)
+    → own ≡ shares → slots ≡ total (take (client - 1) shares)
+before client shares own slots is same = is ∙ ap (λ l. total (take (client - 1) l)) same
+
+pub overflow_add-result : goal.overflow_add-result
+overflow_add-result c =
+    let shares : List ℕ = c.args.self.now.shares.items in
+    let few = few-take (c.args.client - 1) shares (few-each shares c.args.self.now.shared) in
+    let most : total (take (c.args.client - 1) shares)
+    ≤ MOST_SLOTS * length (take (c.args.client - 1) shares) =
+    total-few (take (c.args.client - 1) shares) few in
+    let long = length-take (c.args.client - 1) shares in
+    let is = before c.args.client shares c.deref.result.now c.slots_in.result c.slots_in.ensures
+    c.deref.ensures.0 in
+    omega (arith, is, most, long, c.ranges.client, c.ranges.slot)
+
+pub returns-clause-there : goal.returns-clause-there
+returns-clause-there c =
+    let shares : List ℕ = c.args.self.now.shares.items in
+    rw (
+      before c.args.client shares c.deref.result.now c.slots_in.result c.slots_in.ensures
+          c.deref.ensures.0,
+      c.args.self.now.keys,
+    )
+    (its-index shares c.args.client c.args.slot c.requires.first c.requires.slot)
+
+pub returns-clause-within : goal.returns-clause-within
+returns-clause-within c =
+    let shares : List ℕ = c.args.self.now.shares.items in
+    let ps : List Seat = c.args.self.now.seats.items in
+    let there : IsAt (keys_of ps) (total (take (c.args.client - 1) shares) + c.args.slot)
+    c.args.client c.args.slot =
+    rw c.args.self.now.keys (its-index shares c.args.client c.args.slot c.requires.first
+    c.requires.slot) in
+    let h = slice_get_within (keys_of ps) (total (take (c.args.client - 1) shares) + c.args.slot)
+    (c.args.client, c.args.slot) there in
+    let is = before c.args.client shares c.deref.result.now c.slots_in.result c.slots_in.ensures
+    c.deref.ensures.0 in
+    let key : Seat → ℕ × ℕ = λ p. (p.client, p.number) in
+    let many = length-map ps key in
+    omega (arith, h, is, many)

@@ -1,0 +1,262 @@
+//! The seats of a bank: the slots of all clients, each with whose it is.
+
+ghost use Rattle.std.specs.Prelude.{◌≡◌, ◌≤◌, ◌<◌, ◌+◌, ◌*◌, ◌^◌, ℕ, length, [], IfOk, OnOk};
+ghost use Rattle.std.specs.List.{AllByRecursion};
+ghost use Rattle.definitions.specs.Oscillators.{Settings as DefinedSettings};
+ghost use Rattle.definitions.specs.Banks.{layout};
+ghost use Rattle.channel_slots.specs.Slots.{StandsFor};
+ghost use Rattle.arrayvec.specs.ArrayVec.{array_vec_len};
+ghost use Rattle.channel_slots.specs.Banks.{keys_of, AllSound, RunsAll, IsCommanded};
+ghost use Rattle.channel_slots.specs.Banks.{HasDone, total, AddsIdle, AllIdle};
+ghost use Rattle.channel_slots.specs.Slots.{IsSound};
+ghost use Rattle.channel_slots.specs.Stages.{most_wait};
+ghost use Rattle.acquisition.specs.declared.dwell.TheConstants.{MOST_START};
+ghost use Rattle.channel_slots.specs.declared.slot_news.TheConstants.{DUMP_EVENTS};
+ghost use Rattle.channel_slots.specs.Commands.{request_in};
+ghost use Rattle.channel_slots.specs.declared.bank.TheConstants.{MOST_TIME};
+ghost use Rattle.channel_slots.specs.declared.command.TheConstants.{MOST_SLOTS};
+ghost use Rattle.channel_slots.specs.declared.seat.TheConstants.{MOST_CLIENTS, RUN_EVENTS};
+ghost use Rattle.channel_slots.specs.declared.seat.TheConstants.{FRAME_EVENTS};
+ghost use Rattle.channel_slots.specs.NewsEvents.{if_any, count_events, lock_events, frame_events};
+ghost use Rattle.channel_slots.specs.NewsEvents.{events_with};
+ghost use Rattle.channel_slots.specs.declared.slot.TheConstants.{SLOT_EVENTS};
+
+use crate::answer::Answer;
+use crate::command::{Command, MOST_SLOTS};
+use crate::event::{Event, SlotEvent};
+use crate::slot::{SLOT_EVENTS, Slot};
+use crate::slot_news::{DUMP_EVENTS, SlotNews};
+use crate::timeline::put_in_time;
+use arrayvec::ArrayVec;
+use ca_codes::CodeBook;
+use data_sets::Reports;
+use frame_sync::Found;
+use lane_correlator::Counts;
+use nav_message::MessageNews;
+use oscillators::Settings;
+use sample_planes::{Planes, SampleSource};
+use std::alloc::{AllocError, Global};
+use tracking_loops::News;
+
+/// The most clients.
+pub const MOST_CLIENTS: usize = 8;
+
+/// The most events of a run of samples: each slot has at most one dump in it, with all that comes
+/// with it.
+pub const RUN_EVENTS: usize = 512;
+
+/// The most events that come with a subframe: a gap, the subframe, a page and a set of almanacs.
+const FRAME_EVENTS: usize = 4;
+
+/// A seat of a bank: a slot, with the number of its client and its own. Clients are numbered from
+/// 1, and the slots of each from 0.
+#[derive(Debug, Default, Drop)]
+pub struct Seat {
+    pub client: u8,
+    pub number: u8,
+    pub slot: Slot,
+}
+
+impl Seat {
+    ghost use Rattle.std.specs.Prelude.{List, [], ◌∷◌, ◌++◌, length};
+    ghost use Rattle.channel_slots.specs.Banks.{SeatGoes, PutsIn};
+
+    /// Inserts an event of the seat's slot, if there is one.
+    fn put(&self, event: Option<Event>, time: u64, events: &mut ArrayVec<SlotEvent, RUN_EVENTS>)
+        requires { array_vec_len events.old < RUN_EVENTS }
+        ensures puts { PutsIn self.now time (if_any event) events.old.items events.new.items }
+        ensures one { array_vec_len events.new ≤ array_vec_len events.old + 1 }
+    {
+        let Some(event) = event else {
+            return;
+        };
+        let told = SlotEvent {
+            client: self.client,
+            slot: self.number,
+            time,
+            event,
+        };
+        put_in_time(events, told);
+    }
+
+    /// Inserts all that comes with a sample.
+    fn put_news(&self, news: &SlotNews, time: u64, events: &mut ArrayVec<SlotEvent, RUN_EVENTS>)
+        requires { array_vec_len events.old + DUMP_EVENTS ≤ RUN_EVENTS }
+        ensures { PutsIn self.now time (events_with news.now) events.old.items events.new.items }
+    {
+        match news {
+            SlotNews::Acquired { prn, cell } => {
+                let event = Event::Acquired {
+                    prn: *prn,
+                    cell: *cell,
+                };
+                self.put(Some(event), time, events);
+            }
+            SlotNews::Dump { dump, is_shown } => {
+                self.put(count_event(*is_shown, dump.counts), time, events);
+                self.put(lock_event(dump.lock), time, events);
+                match &dump.message {
+                    MessageNews::Nothing => {}
+                    MessageNews::Edge => self.put(Some(Event::Bits), time, events),
+                    MessageNews::Frame { found, reports } => {
+                        self.put_frame(found, reports, time, events);
+                    }
+                }
+            }
+        }
+    }
+
+    /// Inserts a subframe, with the gap before it and what its page makes reported.
+    fn put_frame(
+        &self,
+        found: &Found,
+        reports: &Reports,
+        time: u64,
+        events: &mut ArrayVec<SlotEvent, RUN_EVENTS>,
+    )
+        requires { array_vec_len events.old + FRAME_EVENTS ≤ RUN_EVENTS }
+        ensures { PutsIn self.now time (frame_events found.now reports.now) events.old.items
+            events.new.items }
+    {
+        self.put(found.gap.map(Event::Gap), time, events);
+        self.put(Some(Event::Sub(found.subframe)), time, events);
+        self.put(reports.page.map(Event::Page), time, events);
+        self.put(reports.set.map(Event::Almanacs), time, events);
+    }
+
+    /// Takes a run of samples, and inserts its events by time.
+    fn run<S: SampleSource>(
+        &mut self,
+        run: &Planes,
+        source: &S,
+        book: &mut CodeBook,
+        time: u64,
+        events: &mut ArrayVec<SlotEvent, RUN_EVENTS>,
+    )
+        requires room { time + length run.now ≤ MOST_TIME }
+        requires sound { (reach : ℕ) × IsSound (S.from source.now) time reach self.old.slot }
+        requires to { time + length run.now ≡ S.to source.now }
+        requires fits { array_vec_len events.old + 2 * SLOT_EVENTS ≤ RUN_EVENTS }
+        ensures { SeatGoes run.now time (S.from source.now) (S.held source.now) self.old self.new
+            events.old.items events.new.items }
+    {
+        let len = run.len();
+        let mut done = 0;
+        while done < len {
+            let (count, news) = self.slot.take(run, done, source, book);
+            done += count;
+            if let Some(news) = news {
+                self.put_news(&news, time + done as u64, events);
+            }
+        }
+    }
+}
+
+/// The sums of a dump, if they are to be printed.
+fn count_event(is_shown: bool, counts: Counts) -> Option<Event>
+    ensures { if_any result ≡ count_events is_shown counts }
+{
+    if is_shown {
+        Some(Event::Count(counts))
+    } else {
+        None
+    }
+}
+
+/// What a slot emits of the lock.
+fn lock_event(lock: News) -> Option<Event>
+    ensures { if_any result ≡ lock_events lock }
+{
+    match lock {
+        News::Nothing => None,
+        News::Lock => Some(Event::Lock),
+        News::Unlock => Some(Event::Unlock),
+        News::Lost => Some(Event::Lost),
+    }
+}
+
+/// Idle slots for clients that have these shares of them, by client and then by slot.
+pub fn idle_seats(alloc: Global, shares: &[u8]) -> Result<Vec<Seat>, AllocError>
+    requires clients { length shares.now ≤ MOST_CLIENTS }
+    requires few { AllByRecursion (λ share. share ≤ MOST_SLOTS) shares.now }
+    ensures keys { IfOk result (λ seats. keys_of seats.items ≡ layout shares.now) }
+    ensures idle { IfOk result (λ seats. AllIdle seats.items) }
+{
+    let mut seats = Vec::with_capacity(alloc, slots_in(shares))?;
+    for index in 0..shares.len() {
+        add_idle(&mut seats, index as u8 + 1, shares[index])?;
+    }
+    Ok(seats)
+}
+
+/// The number of slots that clients with some shares have together.
+pub fn slots_in(shares: &[u8]) -> usize
+    requires clients { length shares.now ≤ MOST_CLIENTS }
+    requires few { AllByRecursion (λ share. share ≤ MOST_SLOTS) shares.now }
+    ensures { result ≡ total shares.now }
+{
+    let mut slots = 0;
+    for share in shares {
+        slots += *share as usize;
+    }
+    slots
+}
+
+/// Adds the idle slots of a client.
+fn add_idle(seats: &mut Vec<Seat>, client: u8, share: u8) -> Result<(), AllocError>
+    ensures { OnOk result (AddsIdle client share seats.old.items seats.new.items) }
+{
+    for number in 0..share {
+        seats.push(Seat {
+            client,
+            number,
+            slot: Slot::new(),
+        })?;
+    }
+    Ok(())
+}
+
+/// Each slot in turn takes a run, and inserts its events by time.
+pub fn run_all<S: SampleSource>(
+    seats: &mut [Seat],
+    run: &Planes,
+    source: &S,
+    book: &mut CodeBook,
+    time: u64,
+    events: &mut ArrayVec<SlotEvent, RUN_EVENTS>,
+)
+    requires room { time + length run.now ≤ MOST_TIME }
+    requires sound { (reach : ℕ) × AllSound (S.from source.now) time reach seats.old }
+    requires to { time + length run.now ≡ S.to source.now }
+    requires fits { array_vec_len events.old + SLOT_EVENTS * (length seats.old + 1)
+        ≤ RUN_EVENTS }
+    ensures { RunsAll run.now time (S.from source.now) (S.held source.now) seats.old seats.new
+        events.old.items events.new.items }
+{
+    for seat in seats.iter_mut() {
+        seat.run(run, source, book, time, events);
+    }
+}
+
+/// One of the slots does what its client asks, and answers it.
+pub fn command_at(
+    seats: &mut [Seat],
+    at: usize,
+    settings: &Settings,
+    time: u64,
+    command: Command,
+) -> Answer
+    requires at { at < length seats.old }
+    requires time { time ≤ MOST_START }
+    ensures { IsCommanded settings.now time (request_in command) seats.old seats.new at result }
+{
+    seats[at].slot.command(settings, time, command)
+}
+
+/// How many cells the search of one of the slots has done, if it searches.
+pub fn cells_done_at(seats: &[Seat], at: usize) -> Option<u64>
+    requires { at < length seats.now }
+    ensures { HasDone seats.now at result }
+{
+    seats[at].slot.cells_done()
+}
