@@ -20,6 +20,9 @@ mod plane;
 mod tests;
 mod words;
 
-pub use lanes::{masked_bits, pick_bytes, second_bits, third_bits, top_bits};
-pub use plane::{GROUPS, PLACES, Plane, WORDS};
+pub use lanes::{
+    LANES, SECOND_BIT, THIRD_BIT, TOP_BIT, masked_bits, pick_bytes, second_bits, third_bits,
+    top_bits,
+};
+pub use plane::{GROUPS, PLACES, Plane, WORD_PLACES, WORDS};
 pub use words::with_sixteen;

@@ -2,10 +2,15 @@
 
 ghost use Rattle.std.specs.Prelude.{◌≡◌, ◌+◌, ◌-◌, ◌*◌, ◌<◌, ◌^◌, ℕ, length};
 ghost use Rattle.std.specs.Int.{bit_at};
+ghost use Rattle.bit_planes.specs.declared.lanes.TheConstants.{LANES};
 ghost use Rattle.bit_planes.specs.declared.plane.TheConstants.{PLACES, WORDS, GROUPS};
+ghost use Rattle.bit_planes.specs.declared.plane.TheConstants.{WORD_PLACES};
 
 /// The places of a plane.
 pub const PLACES: usize = 1024;
+
+/// The places of a word of a plane.
+pub const WORD_PLACES: usize = 64;
 
 /// The words of 64 places of a plane.
 pub const WORDS: usize = 16;
@@ -35,9 +40,9 @@ impl Plane {
     pub fn put(&mut self, group: usize, bits: u64)
         requires group { group < GROUPS }
         requires bits { bits < 2 ^ 16 }
-        ensures { (f : ℕ → ℕ) → IsDrawn f (16 * group) self.old
-            → ((r : ℕ) → r < 16 → bit_at bits (15 - r) ≡ f (16 * group + r))
-            → IsDrawn f (16 * group + 16) self.new }
+        ensures { (f : ℕ → ℕ) → IsDrawn f (LANES * group) self.old
+            → ((r : ℕ) → r < LANES → bit_at bits (LANES - 1 - r) ≡ f (LANES * group + r))
+            → IsDrawn f (LANES * group + LANES) self.new }
     {
         self.words[group / 4] |= bits << (48 - 16 * (group % 4));
     }
@@ -46,9 +51,10 @@ impl Plane {
     /// of them is the top bit.
     pub fn set_word(&mut self, w: usize, word: u64)
         requires { w < WORDS }
-        ensures { (f : ℕ → ℕ) → IsDrawn f (64 * w) self.old
-            → ((j : ℕ) → j < 64 → bit_at word (63 - j) ≡ f (64 * w + j))
-            → IsDrawn f (64 * w + 64) self.new }
+        ensures { (f : ℕ → ℕ) → IsDrawn f (WORD_PLACES * w) self.old
+            → ((j : ℕ) → j < WORD_PLACES
+            → bit_at word (WORD_PLACES - 1 - j) ≡ f (WORD_PLACES * w + j))
+            → IsDrawn f (WORD_PLACES * w + WORD_PLACES) self.new }
     {
         self.words[w] = word;
     }
@@ -65,7 +71,8 @@ impl Plane {
     /// The 64 places from `64 * w` on, the first of them in the top bit.
     pub fn word(&self, w: usize) -> u64
         requires { w < WORDS }
-        ensures { (j : ℕ) → j < 64 → bit_at result (63 - j) ≡ bit self.now (64 * w + j) }
+        ensures { (j : ℕ) → j < WORD_PLACES
+            → bit_at result (WORD_PLACES - 1 - j) ≡ bit self.now (WORD_PLACES * w + j) }
     {
         self.words[w]
     }

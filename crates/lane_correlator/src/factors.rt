@@ -7,12 +7,16 @@ ghost use Rattle.sample_planes.specs.Signs.{IsWord, IsQuadratureWord, AreReal, A
 ghost use Rattle.oscillators.specs.Signs.{signed};
 ghost use Rattle.lane_correlator.specs.Factors.{IsSumOf, wave_bits};
 ghost use Rattle.lane_correlator.specs.Words.{sizes_in};
-ghost use Rattle.bit_planes.specs.declared.plane.TheConstants.{WORDS};
+ghost use Rattle.bit_planes.specs.declared.plane.TheConstants.{WORDS, WORD_PLACES};
 ghost use Rattle.lane_correlator.specs.declared.word.TheConstants.{MOST_OF_WORD};
 
 use crate::word::sizes_below;
 use oscillators::CarrierWord;
 use sample_planes::Planes;
+
+/// The greatest size of the product of a sample and a carrier, in phase or in quadrature: each part
+/// of a sample is at most 3 in size, and of the two carriers one is 1 in size and the other 2.
+pub const MOST_PRODUCT: u32 = 9;
 
 /// Factors at 64 places, the first of them in the top bits: 1 in `negative` where a factor is below
 /// 0, and 1 in `large` where it is the greater of its two sizes, 3 or 1 for samples, 2 or 1 for
@@ -59,12 +63,15 @@ pub(crate) struct Wave {
 impl Wave {
     /// That of a word.
     pub(crate) fn of_word(word: CarrierWord) -> Wave
-        ensures cos { (j : ℕ) → j < 64 → wave_bits result.cos j
-            ≡ signed (bit_at word.cos_sign (63 - j)) (1 - bit_at word.sin_size (63 - j)) }
-        ensures sin { (j : ℕ) → j < 64 → wave_bits result.sin j
-            ≡ signed (bit_at word.sin_sign (63 - j)) (bit_at word.sin_size (63 - j)) }
-        ensures minus_sin { (j : ℕ) → j < 64 → wave_bits result.minus_sin j
-            ≡ pos 0 -ℤ signed (bit_at word.sin_sign (63 - j)) (bit_at word.sin_size (63 - j)) }
+        ensures cos { (j : ℕ) → j < WORD_PLACES → wave_bits result.cos j
+            ≡ signed (bit_at word.cos_sign (WORD_PLACES - 1 - j))
+            (1 - bit_at word.sin_size (WORD_PLACES - 1 - j)) }
+        ensures sin { (j : ℕ) → j < WORD_PLACES → wave_bits result.sin j
+            ≡ signed (bit_at word.sin_sign (WORD_PLACES - 1 - j))
+            (bit_at word.sin_size (WORD_PLACES - 1 - j)) }
+        ensures minus_sin { (j : ℕ) → j < WORD_PLACES → wave_bits result.minus_sin j
+            ≡ pos 0 -ℤ signed (bit_at word.sin_sign (WORD_PLACES - 1 - j))
+            (bit_at word.sin_size (WORD_PLACES - 1 - j)) }
     {
         Wave {
             cos: Factors {

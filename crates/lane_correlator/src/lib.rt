@@ -33,5 +33,6 @@ mod with_replica;
 mod word;
 
 pub use counts::Counts;
+pub use factors::MOST_PRODUCT;
 pub use sums::{pair_sum, six_sums};
 pub use with_replica::replica_sums;

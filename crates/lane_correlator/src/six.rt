@@ -8,7 +8,8 @@ ghost use Rattle.lane_correlator.specs.Counting.{AreWithin};
 ghost use Rattle.lane_correlator.specs.Tallies.{tally_in, AreFew};
 ghost use Rattle.lane_correlator.specs.ReplicaWords.{AreOf};
 ghost use Rattle.lane_correlator.specs.Factors.{ArePart, AreWave, AreThreeChips, IsMask, part_sums};
-ghost use Rattle.bit_planes.specs.declared.plane.TheConstants.{WORDS};
+ghost use Rattle.bit_planes.specs.declared.plane.TheConstants.{WORDS, WORD_PLACES};
+ghost use Rattle.lane_correlator.specs.declared.factors.TheConstants.{MOST_PRODUCT};
 ghost use Rattle.lane_correlator.specs.declared.word.TheConstants.{MOST_OF_WORD};
 
 use crate::factors::{Factors, Wave, below_of_part};
@@ -31,12 +32,13 @@ pub(crate) fn word_sums(
 ) -> Tally
     requires word { w < WORDS }
     requires ordered { first ≤ end }
-    requires within { end ≤ 64 }
-    requires reach { 64 * w + end ≤ length samples.now }
+    requires within { end ≤ WORD_PLACES }
+    requires reach { WORD_PLACES * w + end ≤ length samples.now }
     requires one_bit { has_sizes ≡ false → AreOneBit samples.now }
-    ensures sums { (r : Replica) → AreOf r (64 * w) end carrier chips
-        → tally_in result ≡ six_sums (sample_at samples.now) r (64 * w + first) (64 * w + end) }
-    ensures small { AreWithin (9 * (end - first)) (tally_in result) }
+    ensures sums { (r : Replica) → AreOf r (WORD_PLACES * w) end carrier chips
+        → tally_in result ≡ six_sums (sample_at samples.now) r (WORD_PLACES * w + first)
+        (WORD_PLACES * w + end) }
+    ensures small { AreWithin (MOST_PRODUCT * (end - first)) (tally_in result) }
     ensures few { AreFew (2 * MOST_OF_WORD) result }
 {
     let mask = places(first, end);

@@ -6,6 +6,7 @@ ghost use Rattle.definitions.specs.Correlation.{six_sums, replica_of};
 ghost use Rattle.sample_planes.specs.Signs.{AreOneBit};
 ghost use Rattle.lane_correlator.specs.Counting.{counts_in, AreWithin};
 ghost use Rattle.lane_correlator.specs.ReplicaWords.{phases_of};
+ghost use Rattle.lane_correlator.specs.declared.factors.TheConstants.{MOST_PRODUCT};
 ghost use Rattle.sample_planes.specs.declared.planes.TheConstants.{MAX_SAMPLES};
 
 use crate::counts::Counts;
@@ -17,8 +18,8 @@ use sample_planes::Planes;
 
 /// The six sums over `count` samples of a run, from sample `from` on, in units of sample times
 /// carrier. They are those with a satellite's replica whose oscillators stand at sample `from`. A
-/// sum is at most nine times the number of samples in size. The book stands for the codes as
-/// before.
+/// sum is at most `MOST_PRODUCT` times the number of samples in size. The book stands for the codes
+/// as before.
 pub fn replica_sums(
     samples: &Planes,
     from: usize,
@@ -31,7 +32,7 @@ pub fn replica_sums(
     requires { from + count ≤ length samples.now }
     ensures sums { counts_in result ≡ six_sums (λ j. sample_at samples.now (from + j))
         (replica_of prn (phases_of carrier.now code.now)) 0 count }
-    ensures small { AreWithin (9 * count) (counts_in result) }
+    ensures small { AreWithin (MOST_PRODUCT * count) (counts_in result) }
     ensures few { count ≤ MAX_SAMPLES }
 {
     // Two calls, so that the sums over samples of one bit are made without their sizes.
@@ -58,7 +59,7 @@ fn run_sums(
     requires one_bit { has_sizes ≡ false → AreOneBit samples.now }
     ensures sums { counts_in result ≡ six_sums (λ j. sample_at samples.now (from + j))
         (replica_of prn (phases_of carrier.now code.now)) 0 count }
-    ensures small { AreWithin (9 * count) (counts_in result) }
+    ensures small { AreWithin (MOST_PRODUCT * count) (counts_in result) }
     ensures few { count ≤ MAX_SAMPLES }
 {
     let len = samples.len();
