@@ -6,8 +6,8 @@ ghost use Rattle.definitions.specs.Samples.{sign_of};
 ghost use Rattle.recordings.specs.Readings.{signed, sized, float_order, two_bytes, four_bytes};
 ghost use Rattle.recordings.specs.Readings.{IsNumber};
 
-/// The highest bit of 32.
-const HALF: u32 = 1 << 31;
+/// The bit of the sign of a float, the highest of its 32: half of their range.
+const SIGN_BIT: u32 = 1 << 31;
 
 /// The bits of the greatest float that is a number.
 const INFINITY: u32 = 0x7f80_0000;
@@ -71,10 +71,10 @@ pub fn float_order(bits: u32) -> i64
     ensures value { result ≡ float_order bits }
     ensures small { unsigned_abs result < 2 ^ 31 }
 {
-    if bits < HALF {
+    if bits < SIGN_BIT {
         i64::from(bits)
     } else {
-        -i64::from(bits - HALF)
+        -i64::from(bits - SIGN_BIT)
     }
 }
 
@@ -86,7 +86,7 @@ pub fn are_numbers(bytes: &[u8]) -> bool
         × (¬ IsNumber (four_bytes bytes.now (4 * i))) }
 {
     for i in 0..bytes.len() / 4 {
-        if four_bytes(bytes, 4 * i) % HALF > INFINITY {
+        if four_bytes(bytes, 4 * i) % SIGN_BIT > INFINITY {
             return false;
         }
     }

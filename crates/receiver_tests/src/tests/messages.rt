@@ -12,8 +12,8 @@ use std::test::Fail;
 /// Tracks the satellite from the first sample on.
 const TRACK: &[u8] = b"0 track 0 7 1000 100\n";
 
-/// The most bits of a list.
-const MOST_BITS: usize = 2_000;
+/// The most bits that a signal sends after those that alternate.
+const MOST_SENT_BITS: usize = 2_000;
 
 /// The telemetry word, after two bits 0.
 const TELEMETRY: u32 = 0x22c0_0012;
@@ -23,14 +23,14 @@ const TELEMETRY: u32 = 0x22c0_0012;
 const HANDOVERS: [u32; 3] = [0x2104, 0x4294, 0x631c];
 
 /// Two bits 0, and then subframes with these handover words and eight words of zeros each.
-fn bits_of_subframes(handovers: &[u32]) -> Result<ArrayVec<bool, MOST_BITS>, Fail> {
+fn bits_of_subframes(handovers: &[u32]) -> Result<ArrayVec<bool, MOST_SENT_BITS>, Fail> {
     let mut bits = ArrayVec::new();
     add_subframes(&mut bits, handovers)?;
     Ok(bits)
 }
 
 /// Adds them to bits that are there.
-fn add_subframes(bits: &mut ArrayVec<bool, MOST_BITS>, handovers: &[u32]) -> Result<(), Fail> {
+fn add_subframes(bits: &mut ArrayVec<bool, MOST_SENT_BITS>, handovers: &[u32]) -> Result<(), Fail> {
     bits.try_extend_from_slice(&[false; 2])?;
     for handover in handovers {
         add_header(bits, *handover)?;
@@ -40,13 +40,13 @@ fn add_subframes(bits: &mut ArrayVec<bool, MOST_BITS>, handovers: &[u32]) -> Res
 }
 
 /// Adds the first two words of a subframe.
-fn add_header(bits: &mut ArrayVec<bool, MOST_BITS>, handover: u32) -> Result<(), Fail> {
+fn add_header(bits: &mut ArrayVec<bool, MOST_SENT_BITS>, handover: u32) -> Result<(), Fail> {
     add_word(bits, TELEMETRY)?;
     add_word(bits, handover)
 }
 
 /// Adds a word of 30 bits, the highest first.
-fn add_word(bits: &mut ArrayVec<bool, MOST_BITS>, word: u32) -> Result<(), Fail> {
+fn add_word(bits: &mut ArrayVec<bool, MOST_SENT_BITS>, word: u32) -> Result<(), Fail> {
     for place in (0..30u32).rev() {
         bits.try_push(word >> place & 1 == 1)?;
     }
@@ -100,7 +100,7 @@ fn set_of_a_made_signal(rt: HostRuntime) -> Result<(), Fail> {
 }
 
 /// A subframe whose last five words are inverted.
-fn inverted_tail() -> Result<ArrayVec<bool, MOST_BITS>, Fail> {
+fn inverted_tail() -> Result<ArrayVec<bool, MOST_SENT_BITS>, Fail> {
     let mut bits = ArrayVec::new();
     bits.try_extend_from_slice(&[false; 2])?;
     add_header(&mut bits, HANDOVERS[0])?;
@@ -124,7 +124,7 @@ fn inverted_tail_of_a_made_signal(rt: HostRuntime) -> Result<(), Fail> {
 }
 
 /// Three subframes and 70 bits of a fourth, 32 bits that alternate, and three subframes.
-fn bits_around_a_cut() -> Result<ArrayVec<bool, MOST_BITS>, Fail> {
+fn bits_around_a_cut() -> Result<ArrayVec<bool, MOST_SENT_BITS>, Fail> {
     let [first, second, third] = HANDOVERS;
     let mut bits = bits_of_subframes(&HANDOVERS)?;
     add_header(&mut bits, first)?;
