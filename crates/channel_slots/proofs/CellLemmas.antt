@@ -17,7 +17,7 @@ use Rattle.channel_slots.specs.declared.stage.Stage.{Stage}
 use Rattle.channel_slots.specs.declared.stage.Stage.TheVariants.{Idle, Searching, Holding, Tracking}
 use Rattle.channel_slots.specs.declared.slot.Slot.{Slot}
 use Rattle.channel_slots.specs.declared.seat.Seat.{Seat}
-use Rattle.channel_slots.specs.Answers.{cells_shown}
+use Rattle.slot_protocol.specs.Answers.{cells_shown}
 use Rattle.channel_slots.specs.Stages as stages
 use Rattle.channel_slots.specs.Stages.{Follows, IsSearched}
 use Rattle.channel_slots.specs.Slots.{StandsFor, is_idle, cells_done_of}

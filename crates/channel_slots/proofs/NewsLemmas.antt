@@ -17,13 +17,13 @@ use Rattle.data_sets.specs.declared.almanac_set.AlmanacSet.{AlmanacSet}
 use Rattle.nav_message.specs.News.{events_in}
 use Rattle.nav_message.specs.declared.news.MessageNews.{MessageNews}
 use Rattle.nav_message.specs.declared.news.MessageNews.TheVariants as messages
-use Rattle.channel_slots.specs.declared.event.Event.{Event}
-use Rattle.channel_slots.specs.declared.event.Event.TheVariants as events
+use Rattle.slot_protocol.specs.declared.event.Event.{Event}
+use Rattle.slot_protocol.specs.declared.event.Event.TheVariants as events
 use Rattle.channels.specs.declared.dump.Dump.{Dump}
 use Rattle.channels.specs.Dumps.{steered_events_in}
 use Rattle.channel_slots.specs.declared.slot_news.SlotNews.{SlotNews}
 use Rattle.channel_slots.specs.declared.slot_news.SlotNews.TheVariants as slot_news
-use Rattle.channel_slots.specs.Events.{event_in}
+use Rattle.slot_protocol.specs.Events.{event_in}
 use Rattle.channel_slots.specs.NewsEvents.{if_any, count_events, lock_events, message_events}
 use Rattle.channel_slots.specs.NewsEvents.{events_with}
 

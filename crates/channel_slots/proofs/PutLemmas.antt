@@ -2,11 +2,11 @@
 use Rattle.std.proofs.Common.{◌≡◌, ℕ, List, [], ◌∷◌, ◌++◌, refl, sym, ap, ◌∙◌}
 use Rattle.std.specs.Prelude.{map, Option, Some, None, option_map, MatchOption, IsSomeAnd}
 use Rattle.std.proofs.lemmas.List.{map-append}
-use Rattle.channel_slots.specs.declared.event.Event.{Event}
-use Rattle.channel_slots.specs.declared.event.SlotEvent.{SlotEvent}
+use Rattle.slot_protocol.specs.declared.event.Event.{Event}
+use Rattle.slot_protocol.specs.declared.event.SlotEvent.{SlotEvent}
 use Rattle.channel_slots.specs.declared.seat.Seat.{Seat}
 use Rattle.channel_slots.specs.Banks.{event_of, PutsIn}
-use Rattle.channel_slots.specs.Events.{time_in}
+use Rattle.slot_protocol.specs.Events.{time_in}
 use Rattle.channel_slots.specs.Orders.{put_in, put_all}
 use Rattle.channel_slots.proofs.OrderLemmas.{put_all-append}
 

@@ -9,10 +9,10 @@ use Rattle.std.proofs.lemmas.List.{take_more, take_more_set, drop-set-lt, get_or
 use Rattle.definitions.specs.Oscillators.{Settings}
 use Rattle.definitions.specs.Commands.{TimedRequest}
 use Rattle.definitions.specs.Events.{Event as DefinedEvent}
-use Rattle.channel_slots.specs.declared.event.Event.{Event}
-use Rattle.channel_slots.specs.declared.event.SlotEvent.{SlotEvent}
+use Rattle.slot_protocol.specs.declared.event.Event.{Event}
+use Rattle.slot_protocol.specs.declared.event.SlotEvent.{SlotEvent}
 use Rattle.channel_slots.specs.declared.seat.Seat.{Seat}
-use Rattle.channel_slots.specs.Events.{AreTold, event_in, told_in}
+use Rattle.slot_protocol.specs.Events.{AreTold, event_in, told_in}
 use Rattle.sample_planes.specs.Sources.{AreSamplesOf}
 use Rattle.channel_slots.specs.Slots.{StandsFor, Tells, IsSound}
 use Rattle.channel_slots.specs.Banks.{SeatSteps, SeatGoes, RunsAll, event_of}

@@ -21,7 +21,7 @@ use Rattle.channel_slots.specs.Slots.{StandsFor, is_idle}
 use Rattle.channel_slots.specs.Stages as stages
 use Rattle.channel_slots.specs.declared.stage.Stage.{Stage}
 use Rattle.channel_slots.specs.declared.stage.Stage.TheVariants.{Idle, Searching, Holding, Tracking}
-use Rattle.channel_slots.specs.declared.command.TheConstants.{MOST_SLOTS}
+use Rattle.slot_protocol.specs.declared.command.TheConstants.{MOST_SLOTS}
 use Rattle.channel_slots.proofs.SlotLemmas.{stands-new}
 use Rattle.definitions.specs.Oscillators.{Settings}
 use Rattle.definitions.specs.Runs.{is_share}

@@ -23,7 +23,7 @@ use Rattle.channels.specs.Dumps.{steered_events_in}
 use Rattle.channel_slots.specs.declared.slot_news.SlotNews.{SlotNews}
 use Rattle.channel_slots.specs.declared.slot.Slot.{Slot}
 use Rattle.channel_slots.specs.declared.slot_news.SlotNews.TheVariants.{Acquired, Dump}
-use Rattle.channel_slots.specs.Events.{event_in}
+use Rattle.slot_protocol.specs.Events.{event_in}
 use Rattle.channel_slots.specs.NewsEvents.{events_of}
 use Rattle.channel_slots.specs.Stages.{Follows}
 use Rattle.channel_slots.specs.Slots.{StandsFor, Tells, IsOn, HasLife, is_idle}

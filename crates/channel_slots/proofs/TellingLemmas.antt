@@ -18,11 +18,11 @@ use Rattle.sample_planes.specs.Sources.{AreSamplesOf}
 use Rattle.definitions.specs.Events.{Event}
 use Rattle.definitions.specs.Banks.{SlotEvent as DefinedSlotEvent, slot_events}
 use Rattle.definitions.specs.Receiver.{at_each_sample}
-use Rattle.channel_slots.specs.declared.event.SlotEvent.{SlotEvent}
+use Rattle.slot_protocol.specs.declared.event.SlotEvent.{SlotEvent}
 use Rattle.channel_slots.specs.declared.seat.Seat.{Seat}
 use Rattle.channel_slots.specs.Slots.{chances}
 use Rattle.channel_slots.specs.Orders.{put_in, put_all}
-use Rattle.channel_slots.specs.Events.{AreTold, told_in, time_in, time_at}
+use Rattle.slot_protocol.specs.Events.{AreTold, told_in, time_in, time_at}
 use Rattle.channel_slots.specs.Banks.{SeatAdds, SeatGoes, slot_tells}
 use Rattle.channel_slots.proofs.OrderLemmas.{put_all-append}
 

@@ -6,10 +6,10 @@ use Rattle.definitions.specs.Banks.{bank_events_at_end, layout}
 use Rattle.definitions.specs.Oscillators.{Settings}
 use Rattle.definitions.specs.Commands.{TimedRequest}
 use Rattle.channel_slots.specs.declared.bank.Bank.{Bank}
-use Rattle.channel_slots.specs.declared.event.SlotEvent.{SlotEvent}
+use Rattle.slot_protocol.specs.declared.event.SlotEvent.{SlotEvent}
 use Rattle.sample_history.specs.Histories as histories
 use Rattle.channel_slots.specs.Banks.{BankStands, cells_done_at}
-use Rattle.channel_slots.specs.Events.{AreTold}
+use Rattle.slot_protocol.specs.Events.{AreTold}
 
 -- how many samples there were
 abbrev pub time_of : Bank → ℕ

@@ -1,8 +1,5 @@
-pub mod Answers
 pub mod BankStates
 pub mod Banks
-pub mod Commands
-pub mod Events
 pub mod NewsEvents
 pub mod Orders
 pub mod Slots

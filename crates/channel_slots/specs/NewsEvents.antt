@@ -8,8 +8,8 @@ use Rattle.frame_sync.specs.declared.sync.Found.{Found}
 use Rattle.data_sets.specs.declared.reports.Reports.{Reports}
 use Rattle.nav_message.specs.declared.news.MessageNews.{MessageNews}
 use Rattle.nav_message.specs.declared.news.MessageNews.TheVariants as messages
-use Rattle.channel_slots.specs.declared.event.Event.{Event}
-use Rattle.channel_slots.specs.declared.event.Event.TheVariants as events
+use Rattle.slot_protocol.specs.declared.event.Event.{Event}
+use Rattle.slot_protocol.specs.declared.event.Event.TheVariants as events
 use Rattle.channel_slots.specs.declared.slot_news.SlotNews.{SlotNews}
 use Rattle.channel_slots.specs.declared.slot_news.SlotNews.TheVariants as slot_news
 

@@ -8,8 +8,8 @@ use Rattle.definitions.specs.Commands.{TimedRequest, Start}
 use Rattle.definitions.specs.Lives.{Life, life_of, life_now, dumps_of_life}
 use Rattle.definitions.specs.Events.{events_at_end, unprinted_count}
 use Rattle.channel_slots.specs.declared.slot.Slot.{Slot}
-use Rattle.channel_slots.specs.declared.event.Event.{Event}
-use Rattle.channel_slots.specs.Events.{event_in}
+use Rattle.slot_protocol.specs.declared.event.Event.{Event}
+use Rattle.slot_protocol.specs.Events.{event_in}
 use Rattle.channel_slots.specs.Stages as stages
 
 -- whether it follows nothing

@@ -12,18 +12,15 @@ ghost use Rattle.channel_slots.specs.Slots.{IsSound};
 ghost use Rattle.channel_slots.specs.Stages.{most_wait};
 ghost use Rattle.acquisition.specs.declared.dwell.TheConstants.{MOST_START};
 ghost use Rattle.channel_slots.specs.declared.slot_news.TheConstants.{DUMP_EVENTS};
-ghost use Rattle.channel_slots.specs.Commands.{request_in};
+ghost use Rattle.slot_protocol.specs.Commands.{request_in};
 ghost use Rattle.channel_slots.specs.declared.bank.TheConstants.{MOST_TIME};
-ghost use Rattle.channel_slots.specs.declared.command.TheConstants.{MOST_SLOTS};
+ghost use Rattle.slot_protocol.specs.declared.command.TheConstants.{MOST_SLOTS};
 ghost use Rattle.channel_slots.specs.declared.seat.TheConstants.{MOST_CLIENTS, RUN_EVENTS};
 ghost use Rattle.channel_slots.specs.declared.seat.TheConstants.{FRAME_EVENTS};
 ghost use Rattle.channel_slots.specs.NewsEvents.{if_any, count_events, lock_events, frame_events};
 ghost use Rattle.channel_slots.specs.NewsEvents.{events_with};
 ghost use Rattle.channel_slots.specs.declared.slot.TheConstants.{SLOT_EVENTS};
 
-use crate::answer::Answer;
-use crate::command::{Command, MOST_SLOTS};
-use crate::event::{Event, SlotEvent};
 use crate::slot::{SLOT_EVENTS, Slot};
 use crate::slot_news::{DUMP_EVENTS, SlotNews};
 use crate::timeline::put_in_time;
@@ -35,6 +32,7 @@ use lane_correlator::Counts;
 use nav_message::MessageNews;
 use oscillators::Settings;
 use sample_planes::{Planes, SampleSource};
+use slot_protocol::{Answer, Command, Event, MOST_SLOTS, SlotEvent};
 use std::alloc::{AllocError, Global};
 use tracking_loops::News;
 

@@ -3,14 +3,13 @@
 ghost use Rattle.std.specs.Prelude.{◌≡◌, ◌≤◌, ◌<◌, ◌+◌, ◌-◌};
 ghost use Rattle.channel_slots.specs.declared.bank.TheConstants.{MOST_TIME};
 
-use crate::answer::{Answer, Phase, Refusal, SlotState};
-use crate::command::Command;
 use crate::slot_news::SlotNews;
 use crate::stage::Stage;
 use ca_codes::CodeBook;
 use channels::{Dump, Held, Searched, Tracked};
 use oscillators::Settings;
 use sample_planes::{Planes, SampleSource};
+use slot_protocol::{Answer, Command, Phase, Refusal, SlotState};
 use tracking_loops::News;
 
 /// The most events that a slot emits over a run of samples: the answer of an acquisition, and those
@@ -34,8 +33,8 @@ impl Slot {
     ghost use Rattle.sample_planes.specs.Sources.{AreSamplesOf};
     ghost use Rattle.acquisition.specs.declared.dwell.TheConstants.{MOST_START};
     ghost use Rattle.channels.specs.Parts.{part, IsAsFar};
-    ghost use Rattle.channel_slots.specs.Commands.{request_in};
-    ghost use Rattle.channel_slots.specs.Answers.{answer_in, view_in, IsRefusal};
+    ghost use Rattle.slot_protocol.specs.Commands.{request_in};
+    ghost use Rattle.slot_protocol.specs.Answers.{answer_in, view_in, IsRefusal};
     ghost use Rattle.channel_slots.specs.NewsEvents.{events_of, events_with};
     ghost use Rattle.channel_slots.specs.declared.slot_news.SlotNews.TheVariants as news;
     ghost use Rattle.channel_slots.specs.Stages as stages;

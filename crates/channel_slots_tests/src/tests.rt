@@ -4,7 +4,7 @@
 ghost use Rattle.std.specs.Prelude.{◌≡◌, ◌+◌, ◌<◌, ◌≤◌, ℕ, IfOk};
 ghost use Rattle.definitions.specs.Samples.{real1};
 ghost use Rattle.channel_slots.specs.Slots.{IsSound};
-ghost use Rattle.channel_slots.specs.Commands.{slot_of};
+ghost use Rattle.slot_protocol.specs.Commands.{slot_of};
 
 use acquisition::Plan;
 use ca_codes::{CodeBook, Prn};

@@ -2,8 +2,8 @@
 use Rattle.std.specs.Prelude.{ℕ, List, [], ◌∷◌, Option, Some, None, Result, Ok, Err}
 use Rattle.definitions.specs.Commands.{Command as DefinedCommand}
 use Rattle.definitions.specs.Scripts.{Entry}
-use Rattle.channel_slots.specs.declared.command.Command.{Command}
-use Rattle.channel_slots.specs.Commands.{command_in}
+use Rattle.slot_protocol.specs.declared.command.Command.{Command}
+use Rattle.slot_protocol.specs.Commands.{command_in}
 use Rattle.client_commands.specs.declared.refusal.Refusal.{Refusal}
 use Rattle.client_commands.specs.declared.refusal.Refusal.TheVariants.{LineTooLong, NotPrintable}
 use Rattle.client_commands.specs.declared.refusal.Refusal.TheVariants.{NoTime, TimeGoesBack, NoVerb}

@@ -7,14 +7,14 @@ ghost use Rattle.definitions.specs.Scripts.{is_printable as defined_is_printable
 ghost use Rattle.definitions.specs.Scripts.{time_in as defined_time_in};
 ghost use Rattle.definitions.specs.Lines.{words_of};
 ghost use Rattle.client_commands.specs.Entries.{entries_in, result_in};
-ghost use Rattle.channel_slots.specs.declared.command.TheConstants.{MOST_SLOTS};
+ghost use Rattle.slot_protocol.specs.declared.command.TheConstants.{MOST_SLOTS};
 
 use crate::number::number_in;
 use crate::refusal::Refusal;
 use crate::script::Timed;
 use crate::verb::Verb;
 use crate::words::next_word;
-use channel_slots::Command;
+use slot_protocol::Command;
 
 /// The most bytes of a line of a script.
 const SCRIPT_LINE_BYTES: usize = 80;

@@ -1,13 +1,13 @@
 //! A script, read entry by entry.
 
 ghost use Rattle.std.specs.Prelude.{◌≡◌, ◌≤◌, ◌∷◌, [], List, IfSome, IsNone};
-ghost use Rattle.channel_slots.specs.declared.command.TheConstants.{MOST_SLOTS};
+ghost use Rattle.slot_protocol.specs.declared.command.TheConstants.{MOST_SLOTS};
 ghost use Rattle.client_commands.specs.Entries.{entry_in};
 
 use crate::line::entry;
 use crate::refusal::Refusal;
 use crate::words::next_line;
-use channel_slots::Command;
+use slot_protocol::Command;
 use std::marker::Model;
 
 /// What a line asks, and when.
@@ -34,7 +34,7 @@ impl<'a> Model for Script<'a> {
     ghost use Rattle.std.specs.Prelude.{◌≤◌, List};
     ghost use Rattle.definitions.specs.Scripts.{Entry, entries_after, verbs};
     ghost use Rattle.definitions.specs.Lines.{lines_of};
-    ghost use Rattle.channel_slots.specs.declared.command.TheConstants.{MOST_SLOTS};
+    ghost use Rattle.slot_protocol.specs.declared.command.TheConstants.{MOST_SLOTS};
 
     ghost Value = { List Entry };
 

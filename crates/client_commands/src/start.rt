@@ -7,8 +7,8 @@ ghost use Rattle.client_commands.specs.Reading.{values_of_start};
 use crate::refusal::Refusal;
 use crate::words::Words;
 use ca_codes::Prn;
-use channel_slots::{Command, SlotNo};
 use oscillators::{Doppler, HalfChip};
+use slot_protocol::{Command, SlotNo};
 
 /// The values of the words after the slot of a `hold` or a `track`.
 pub(crate) struct Start {

@@ -6,13 +6,13 @@ ghost use Rattle.definitions.specs.Lines.{words_of};
 ghost use Rattle.client_commands.specs.Entries.{result_in};
 ghost use Rattle.client_commands.specs.Reading.{verb_in};
 ghost use Rattle.client_commands.specs.declared.words.TheConstants.{MOST_WORDS};
-ghost use Rattle.channel_slots.specs.declared.command.TheConstants.{MOST_SLOTS};
+ghost use Rattle.slot_protocol.specs.declared.command.TheConstants.{MOST_SLOTS};
 
 use crate::plan::read_plan;
 use crate::refusal::Refusal;
 use crate::start::Start;
 use crate::words::Words;
-use channel_slots::Command;
+use slot_protocol::Command;
 
 /// The verbs.
 #[derive(Clone, Copy)]

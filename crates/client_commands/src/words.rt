@@ -8,8 +8,8 @@ use crate::refusal::Refusal;
 use acquisition::MOST_CENTRE;
 use arrayvec::ArrayVec;
 use ca_codes::Prn;
-use channel_slots::SlotNo;
 use oscillators::{Doppler, HalfChip};
+use slot_protocol::SlotNo;
 use std::marker::Model;
 
 /// The most words after a verb: those of `acquire`.
@@ -90,7 +90,7 @@ impl<'a> Words<'a> {
     ghost use Rattle.client_commands.specs.declared.words.TheConstants.{MOST_WORDS};
     ghost use Rattle.client_commands.specs.declared.words.TheConstants.{MOST_SHOWN_DUMPS};
     ghost use Rattle.acquisition.specs.declared.plan.TheConstants.{MOST_CENTRE};
-    ghost use Rattle.channel_slots.specs.declared.command.TheConstants.{MOST_SLOTS};
+    ghost use Rattle.slot_protocol.specs.declared.command.TheConstants.{MOST_SLOTS};
     ghost use Rattle.std.specs.Prelude.{◌-◌};
 
     /// The words of a line, of which there are to be `count`. They are split before the first of

@@ -1,15 +1,15 @@
 //! Scripts and what the rules say of their lines.
 
 ghost use Rattle.std.specs.Prelude.{◌≤◌};
-ghost use Rattle.channel_slots.specs.declared.command.TheConstants.{MOST_SLOTS};
+ghost use Rattle.slot_protocol.specs.declared.command.TheConstants.{MOST_SLOTS};
 
 mod any_bytes;
 
 use acquisition::Plan;
 use ca_codes::Prn;
-use channel_slots::{Command, SlotNo};
 use client_commands::*;
 use oscillators::{Doppler, HalfChip};
+use slot_protocol::{Command, SlotNo};
 
 /// An entry: its time, and a command or the number of a refusal.
 type Answer = (u64, Result<Command, u8>);

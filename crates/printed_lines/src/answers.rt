@@ -5,14 +5,14 @@ ghost use Rattle.std.specs.Prelude.{if◌then◌else◌};
 ghost use Rattle.std.specs.Fmt.{decimal};
 ghost use Rattle.definitions.specs.Texts.{answer_text, refusal_text};
 ghost use Rattle.definitions.specs.Answers.{shown};
-ghost use Rattle.channel_slots.specs.Answers.{answer_in, view_in};
-ghost use Rattle.channel_slots.specs.Answers.{is_locked_in, has_edge_in};
+ghost use Rattle.slot_protocol.specs.Answers.{answer_in, view_in};
+ghost use Rattle.slot_protocol.specs.Answers.{is_locked_in, has_edge_in};
 ghost use Rattle.printed_lines.specs.Room.{HasRoom, TakesUp};
 ghost use Rattle.printed_lines.specs.declared.answers.TheConstants.{STATE_BYTES};
 ghost use Rattle.printed_lines.specs.declared.words.TheConstants.{NUMBER_BYTES, WORD_BYTES};
 
 use crate::words::{KIND_BYTES, Line, WORD_BYTES};
-use channel_slots::{Answer, Phase, SlotState};
+use slot_protocol::{Answer, Phase, SlotState};
 
 /// The most bytes that the words of a state take up.
 pub const STATE_BYTES: usize = KIND_BYTES + 6 * WORD_BYTES;

@@ -8,7 +8,7 @@ ghost use Rattle.std.specs.Prelude.{◌≤◌, length, codes, if◌then◌else�
 ghost use Rattle.printed_lines.specs.declared.events.TheConstants.{ACQUIRED_BYTES};
 ghost use Rattle.printed_lines.specs.declared.words.TheConstants.{NUMBER_BYTES};
 ghost use Rattle.lane_correlator.specs.Counting.{counts_in};
-ghost use Rattle.channel_slots.specs.Events.{event_in};
+ghost use Rattle.slot_protocol.specs.Events.{event_in};
 ghost use Rattle.printed_lines.specs.Room.{HasRoom, TakesUp};
 ghost use Rattle.printed_lines.specs.declared.events.TheConstants.{COUNTS_BYTES, EVENT_BYTES};
 ghost use Rattle.printed_lines.specs.declared.words.TheConstants.{WORD_BYTES, KIND_BYTES};
@@ -18,8 +18,8 @@ use crate::pages::{PAGE_BYTES, put_report};
 use crate::subframe_words::put_subframe;
 use crate::words::{KIND_BYTES, Line, WORD_BYTES};
 use acquisition::Cell;
-use channel_slots::Event;
 use lane_correlator::Counts;
+use slot_protocol::Event;
 
 /// The most bytes that the words of an event take up: those of a page.
 pub const EVENT_BYTES: usize = PAGE_BYTES;

@@ -2,7 +2,7 @@
 //! last line, each with its end, are proved to be the texts of their definitions. None has more
 //! than LINE_BYTES bytes.
 //!
-//!     use channel_slots::SlotEvent;
+//!     use slot_protocol::SlotEvent;
 //!     use printed_lines::{end_line, event_line};
 //!
 //!     // How long the lines of a client are that end at a time.

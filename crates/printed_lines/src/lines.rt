@@ -3,13 +3,13 @@
 ghost use Rattle.std.specs.Prelude.{◌≡◌, codes};
 ghost use Rattle.definitions.specs.Lines.{ended_line};
 ghost use Rattle.definitions.specs.Texts.{for_client, at_time, answer_text, refusal_text};
-ghost use Rattle.channel_slots.specs.Answers.{answer_in};
-ghost use Rattle.channel_slots.specs.Events.{line_of};
+ghost use Rattle.slot_protocol.specs.Answers.{answer_in};
+ghost use Rattle.slot_protocol.specs.Events.{line_of};
 
 use crate::answers::{put_answer, put_refusal};
 use crate::events::put_event;
 use crate::words::Line;
-use channel_slots::{Answer, SlotEvent};
+use slot_protocol::{Answer, SlotEvent};
 
 /// The line of an event, with its end.
 pub fn event_line(event: &SlotEvent) -> Line

@@ -5,10 +5,10 @@ mod subframe_rows;
 
 use acquisition::Cell;
 use ca_codes::Prn;
-use channel_slots::{Answer, Event, Phase, Refusal, SlotEvent, SlotState};
 use lane_correlator::Counts;
 use oscillators::HalfChip;
 use printed_lines::*;
+use slot_protocol::{Answer, Event, Phase, Refusal, SlotEvent, SlotState};
 use std::test::Fail;
 
 /// The sums of the tests.

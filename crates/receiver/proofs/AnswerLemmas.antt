@@ -13,11 +13,11 @@ use Rattle.definitions.specs.Lines.{ended_line, as_bytes}
 use Rattle.definitions.specs.Receiver.{body, body_lines, full, full_lines, end_lines}
 use Rattle.definitions.specs.Receiver.{answer_lines}
 use Rattle.definitions.proofs.BodyLemmas.{as_bytes-append}
-use Rattle.channel_slots.specs.declared.event.SlotEvent.{SlotEvent}
+use Rattle.slot_protocol.specs.declared.event.SlotEvent.{SlotEvent}
 use Rattle.receiver.specs.declared.session.Session.{Session}
 use Rattle.receiver.specs.Texts.{AppendsPart}
 use Rattle.receiver.specs.Sessions.{StandsFor, Gives}
-use Rattle.channel_slots.specs.Events.{line_of}
+use Rattle.slot_protocol.specs.Events.{line_of}
 use Rattle.receiver.specs.Outputs.{Adds}
 use Rattle.receiver.specs.Runs.{HasAnswered, IsWrittenTo}
 use Rattle.receiver.proofs.TextLemmas.{wrote-none, wrote-text, wrote-part, wrote-all, wrote-front}

@@ -16,9 +16,9 @@ use Rattle.definitions.specs.Scripts.{is_printable, time_in}
 use Rattle.definitions.specs.Lines.{words_of, lines_of}
 use Rattle.definitions.specs.Receiver.{Client, entries_of}
 use Rattle.definitions.specs.Runs.{is_share}
-use Rattle.channel_slots.specs.declared.command.Command.{Command as AskedCommand}
+use Rattle.slot_protocol.specs.declared.command.Command.{Command as AskedCommand}
 use Rattle.client_commands.specs.declared.refusal.Refusal.{Refusal}
-use Rattle.channel_slots.specs.Commands.{slot_of}
+use Rattle.slot_protocol.specs.Commands.{slot_of}
 use Rattle.client_commands.specs.Entries.{result_in}
 use Rattle.receiver.specs.declared.queue.Queue.{Queue}
 use Rattle.receiver.specs.declared.due.Due.{Due}

@@ -13,8 +13,8 @@ use Rattle.definitions.specs.Receiver.{Client, body_lines, lines_at, event_lines
 use Rattle.definitions.specs.Receiver.{at_each_sample}
 use Rattle.definitions.proofs.BodyLemmas.{body_lines-more}
 use Rattle.definitions.proofs.TellLemmas.{shares_of, at_each_sample-lines}
-use Rattle.channel_slots.specs.declared.event.SlotEvent.{SlotEvent}
-use Rattle.channel_slots.specs.Events.{AreTold, line_of, told_in}
+use Rattle.slot_protocol.specs.declared.event.SlotEvent.{SlotEvent}
+use Rattle.slot_protocol.specs.Events.{AreTold, line_of, told_in}
 use Rattle.receiver.specs.declared.queue.Queue.{Queue}
 use Rattle.receiver.specs.Queues.{least_gap_of}
 use Rattle.receiver.specs.Sessions.{AreQueues, asked_of}

@@ -2,7 +2,7 @@
 
 ghost use Rattle.std.specs.Prelude.{◌≤◌, ◌<◌, IfOk};
 ghost use Rattle.channel_slots.specs.BankStates.{share_of};
-ghost use Rattle.channel_slots.specs.Commands.{slot_of};
+ghost use Rattle.slot_protocol.specs.Commands.{slot_of};
 ghost use Rattle.receiver.specs.Sessions.{Answers};
 
 use channel_slots::{Bank, Command};

@@ -15,7 +15,7 @@ pub struct Queue<'a> {
 impl<'a> Queue<'a> {
     ghost use Rattle.std.specs.Prelude.{◌≤◌, ◌∷◌, IfSome};
     ghost use Rattle.client_commands.specs.Entries.{entry_in};
-    ghost use Rattle.channel_slots.specs.declared.command.TheConstants.{MOST_SLOTS};
+    ghost use Rattle.slot_protocol.specs.declared.command.TheConstants.{MOST_SLOTS};
     ghost use Rattle.definitions.specs.Receiver.{entries_of};
     ghost use Rattle.receiver.specs.Clients.{client_with};
     ghost use Rattle.receiver.specs.Queues.{left_of, NoneDue, gap};

@@ -37,7 +37,7 @@ impl<'a> Session<'a> {
     ghost use Rattle.definitions.specs.Oscillators.{Settings as DefinedSettings};
     ghost use Rattle.definitions.specs.Samples.{Sample};
     ghost use Rattle.definitions.specs.Receiver.{Client, body_lines, answer_lines};
-    ghost use Rattle.channel_slots.specs.Events.{line_of};
+    ghost use Rattle.slot_protocol.specs.Events.{line_of};
     ghost use Rattle.std.specs.Prelude.{false};
     ghost use Rattle.std.specs.List.{list_all};
     ghost use Rattle.definitions.specs.Runs.{is_share};

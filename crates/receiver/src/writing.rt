@@ -2,7 +2,7 @@
 
 ghost use Rattle.std.specs.Prelude.{◌≡◌, ◌<◌, [], map, OnOk};
 ghost use Rattle.definitions.specs.Lines.{as_bytes};
-ghost use Rattle.channel_slots.specs.Events.{line_of};
+ghost use Rattle.slot_protocol.specs.Events.{line_of};
 ghost use Rattle.receiver.specs.LastLines.{all_ends, last_text};
 ghost use Rattle.receiver.specs.Outputs.{held, promised, Adds, Writes};
 ghost use Rattle.receiver.specs.Runs.{AddsAnswers};
@@ -12,8 +12,8 @@ use crate::devices::{DeviceFault, Sink};
 use crate::faults::Stop;
 use crate::output::Output;
 use crate::session::Session;
-use channel_slots::SlotEvent;
 use printed_lines::{end_line, event_line};
+use slot_protocol::SlotEvent;
 
 /// Puts the lines of the slots' events.
 pub fn put_events<W: Sink>(events: &[SlotEvent], out: &mut Output<W>) -> Result<(), DeviceFault>

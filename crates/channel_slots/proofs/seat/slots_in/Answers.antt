@@ -1,6 +1,6 @@
 use Rattle.std.proofs.Common.{◌≡◌, ◌≤◌, ◌+◌, ℕ, drop, arith, ap, slice_index_or}
 use Rattle.std.proofs.lemmas.List.{drop_all, at_drop_more}
-use Rattle.channel_slots.specs.declared.command.TheConstants.{MOST_SLOTS}
+use Rattle.slot_protocol.specs.declared.command.TheConstants.{MOST_SLOTS}
 use Rattle.channel_slots.specs.Banks.{total}
 use Rattle.channel_slots.proofs.CommandLemmas.{each-at}
 use Rattle.channel_slots.proofs.seat.slots_in.Goals as goal

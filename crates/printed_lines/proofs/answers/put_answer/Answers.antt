@@ -1,8 +1,8 @@
 use Rattle.std.proofs.Common.{◌≡◌, ◌++◌, ◌∷◌, ap, sym, ◌∙◌}
 use Rattle.std.specs.Prelude.{ℕ, List}
 use Rattle.definitions.specs.Texts.{answer_text, refusal_text}
-use Rattle.channel_slots.specs.Answers.{answer_in}
-use Rattle.channel_slots.specs.declared.answer.Answer.{Answer}
+use Rattle.slot_protocol.specs.Answers.{answer_in}
+use Rattle.slot_protocol.specs.declared.answer.Answer.{Answer}
 use Rattle.printed_lines.proofs.LineLemmas.{accepted-text, refused-text}
 use Rattle.printed_lines.proofs.answers.put_answer.Goals as goal
 

@@ -3,8 +3,8 @@ use Rattle.std.proofs.lemmas.Int.{to_z-of_z}
 use Rattle.std.specs.Prelude.{ℕ, List}
 use Rattle.definitions.specs.Answers.{shown}
 use Rattle.definitions.specs.Texts.{answer_text}
-use Rattle.channel_slots.specs.Answers.{view_in, is_locked_in, has_edge_in}
-use Rattle.channel_slots.specs.declared.answer.SlotState.{SlotState}
+use Rattle.slot_protocol.specs.Answers.{view_in, is_locked_in, has_edge_in}
+use Rattle.slot_protocol.specs.declared.answer.SlotState.{SlotState}
 use Rattle.printed_lines.proofs.LineLemmas.{acquire-text, idle-text, hold-text, track-text}
 use Rattle.printed_lines.proofs.answers.put_state.Goals as goal
 

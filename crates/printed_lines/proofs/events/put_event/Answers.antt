@@ -1,8 +1,8 @@
 use Rattle.std.proofs.Common.{◌≡◌, ◌++◌, ◌∷◌, ap, sym, ◌∙◌}
 use Rattle.std.specs.Prelude.{ℕ, List}
 use Rattle.definitions.specs.Texts.{event_text}
-use Rattle.channel_slots.specs.Events.{event_in}
-use Rattle.channel_slots.specs.declared.event.Event.{Event}
+use Rattle.slot_protocol.specs.Events.{event_in}
+use Rattle.slot_protocol.specs.declared.event.Event.{Event}
 use Rattle.printed_lines.proofs.LineLemmas.{lock-text, unlock-text, lost-text, bits-text}
 use Rattle.printed_lines.proofs.events.put_event.Goals as goal
 

@@ -2,7 +2,7 @@ use Rattle.std.proofs.Common.{◌++◌, ◌∙◌, ap, sym}
 use Rattle.std.specs.Prelude.{map}
 use Rattle.std.proofs.lemmas.Result.{MatchResult-from_err}
 use Rattle.definitions.specs.Receiver.{body_lines, body, answer_lines}
-use Rattle.channel_slots.specs.Events.{line_of}
+use Rattle.slot_protocol.specs.Events.{line_of}
 use Rattle.receiver.specs.Outputs.{promised}
 use Rattle.receiver.proofs.AnswerLemmas.{stretch-taken, stretch-part-told}
 use Rattle.receiver.proofs.OutputLemmas.{writes-then}

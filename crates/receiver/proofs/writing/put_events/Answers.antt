@@ -1,8 +1,8 @@
 use Rattle.std.proofs.Common.{◌≡◌, ap, sym, ◌∙◌, ◌+◌, ◌++◌, ℕ, List, drop}
 use Rattle.std.specs.Prelude.{map}
 use Rattle.definitions.specs.Lines.{as_bytes, ended_line}
-use Rattle.channel_slots.specs.declared.event.SlotEvent.{SlotEvent}
-use Rattle.channel_slots.specs.Events.{line_of}
+use Rattle.slot_protocol.specs.declared.event.SlotEvent.{SlotEvent}
+use Rattle.slot_protocol.specs.Events.{line_of}
 use Rattle.receiver.specs.Outputs.{promised}
 use Rattle.receiver.proofs.TextLemmas.{wrote-all}
 use Rattle.receiver.proofs.AnswerLemmas.{events-next, events-done}

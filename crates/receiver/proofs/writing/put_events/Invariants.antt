@@ -1,7 +1,7 @@
 use Rattle.std.proofs.Common.{drop}
 use Rattle.std.specs.Prelude.{map}
 use Rattle.definitions.specs.Lines.{as_bytes}
-use Rattle.channel_slots.specs.Events.{line_of}
+use Rattle.slot_protocol.specs.Events.{line_of}
 use Rattle.receiver.proofs.OutputLemmas.{HasPut}
 use Rattle.receiver.proofs.writing.put_events.Given as goal
 

@@ -2,11 +2,11 @@ use Rattle.std.proofs.Common.{◌≡◌, ◌<◌, arith, ℕ, List, length, refl
 use Rattle.std.proofs.Common.{subst, ◌∙◌, slice_set, length-set}
 use Rattle.definitions.specs.Oscillators.{Settings}
 use Rattle.channel_slots.specs.declared.seat.Seat.{Seat}
-use Rattle.channel_slots.specs.declared.command.Command.{Command}
-use Rattle.channel_slots.specs.declared.answer.Answer.{Answer}
+use Rattle.slot_protocol.specs.declared.command.Command.{Command}
+use Rattle.slot_protocol.specs.declared.answer.Answer.{Answer}
 use Rattle.channel_slots.specs.Slots.{StandsFor, IsSound}
 use Rattle.channel_slots.specs.Banks.{IsCommanded}
-use Rattle.channel_slots.specs.Commands.{slot_of, request_in}
+use Rattle.slot_protocol.specs.Commands.{slot_of, request_in}
 use Rattle.channel_slots.proofs.BankLemmas.{refilled}
 use Rattle.channel_slots.proofs.CommandLemmas.{stands-at, commanded, keeps, set-keeps}
 use Rattle.channel_slots.proofs.ShareLemmas.{once-of}

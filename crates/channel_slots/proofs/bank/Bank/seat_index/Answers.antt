@@ -2,7 +2,7 @@ use Rattle.std.proofs.Common.{◌≡◌, ◌≤◌, ◌-◌, ◌+◌, ◌*◌, �
 use Rattle.std.proofs.lemmas.Option.{slice_get_within}
 use Rattle.std.proofs.lemmas.List.{length-map, length-take}
 use Rattle.channel_slots.specs.declared.seat.Seat.{Seat}
-use Rattle.channel_slots.specs.declared.command.TheConstants.{MOST_SLOTS}
+use Rattle.slot_protocol.specs.declared.command.TheConstants.{MOST_SLOTS}
 use Rattle.channel_slots.specs.Banks.{keys_of, IsAt, total}
 use Rattle.channel_slots.proofs.ShareLemmas.{its-index, few-each, few-take, total-few}
 use Rattle.channel_slots.proofs.bank.Bank.seat_index.Goals as goal

@@ -1,5 +1,5 @@
 use Rattle.std.proofs.Common.{arith, length, ap, ◌∙◌}
-use Rattle.channel_slots.specs.Events.{time_in}
+use Rattle.slot_protocol.specs.Events.{time_in}
 use Rattle.channel_slots.proofs.OrderLemmas.{put_in-length}
 use Rattle.channel_slots.proofs.PutLemmas.{puts-none, puts-one}
 use Rattle.channel_slots.proofs.seat.Seat.put.Goals as goal

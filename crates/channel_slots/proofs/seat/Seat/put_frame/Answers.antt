@@ -1,5 +1,5 @@
 use Rattle.std.proofs.Common.{[], ◌∷◌}
-use Rattle.channel_slots.specs.declared.event.Event.TheVariants as events
+use Rattle.slot_protocol.specs.declared.event.Event.TheVariants as events
 use Rattle.channel_slots.proofs.PutLemmas.{puts-more, mapped}
 use Rattle.channel_slots.proofs.seat.Seat.put_frame.Goals as goal
 

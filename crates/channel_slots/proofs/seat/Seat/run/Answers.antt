@@ -4,7 +4,7 @@ use Rattle.std.proofs.lemmas.List.{length-take-le, length-map}
 use Rattle.definitions.specs.Samples.{Sample}
 use Rattle.channels.specs.Parts.{part}
 use Rattle.channel_slots.specs.Banks.{event_of}
-use Rattle.channel_slots.specs.Events.{time_in}
+use Rattle.slot_protocol.specs.Events.{time_in}
 use Rattle.channel_slots.specs.NewsEvents.{events_with}
 use Rattle.channel_slots.specs.Slots.{chances}
 use Rattle.channel_slots.specs.declared.slot.TheConstants.{SLOT_EVENTS}

@@ -1,7 +1,7 @@
 use Rattle.std.proofs.Common.{ℕ, ap, arith, refl, subst, sym, ◌∙◌}
 use Rattle.std.specs.Prelude.{Some, None}
 use Rattle.channels.specs.Searching.{Searches}
-use Rattle.channel_slots.specs.Commands.{request_in}
+use Rattle.slot_protocol.specs.Commands.{request_in}
 use Rattle.channel_slots.proofs.SearchLemmas.{starts-searched}
 use Rattle.channel_slots.proofs.SlotLemmas.{idle-now, life-now, has-life, answers, stays-idle}
 use Rattle.channel_slots.proofs.SlotLemmas.{becomes-idle, prints, shown-stays}

@@ -1,7 +1,7 @@
 use Rattle.std.proofs.Common.{◌≡◌, ◌≤◌, length}
 use Rattle.definitions.specs.Scripts.{entries_after, verbs}
 use Rattle.definitions.specs.Lines.{lines_of}
-use Rattle.channel_slots.specs.declared.command.TheConstants.{MOST_SLOTS}
+use Rattle.slot_protocol.specs.declared.command.TheConstants.{MOST_SLOTS}
 use Rattle.client_commands.proofs.script.Script.next.Given as goal
 
 abbrev pub invariant-loop-line : goal.invariant-loop-line

@@ -5,7 +5,7 @@ use Rattle.definitions.specs.Lines.{ended_line}
 use Rattle.definitions.specs.Texts.{for_client, at_time, answer_text, refusal_text}
 use Rattle.definitions.specs.Answers.{answer_at_end}
 use Rattle.definitions.specs.Receiver.{reply_text}
-use Rattle.channel_slots.specs.Commands.{command_in}
+use Rattle.slot_protocol.specs.Commands.{command_in}
 use Rattle.channel_slots.specs.BankStates.{StandsFor}
 use Rattle.client_commands.specs.Entries.{result_in, number_of}
 use Rattle.receiver.specs.Sessions.{asked_of, with_entry}

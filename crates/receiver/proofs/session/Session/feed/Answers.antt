@@ -2,7 +2,7 @@ use Rattle.std.proofs.Common.{◌≡◌, ◌≤◌, ℕ, List, length, subst, sy
 use Rattle.definitions.specs.Samples.{Sample}
 use Rattle.definitions.specs.Banks.{bank_events_at_end, layout}
 use Rattle.definitions.specs.Receiver.{at_each_sample}
-use Rattle.channel_slots.specs.Events.{AreTold}
+use Rattle.slot_protocol.specs.Events.{AreTold}
 use Rattle.receiver.specs.declared.queue.Queue.{Queue}
 use Rattle.receiver.specs.Queues.{least_gap_of}
 use Rattle.receiver.specs.Sessions.{until_next, asked_of}

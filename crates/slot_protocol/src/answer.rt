@@ -1,7 +1,7 @@
 //! What commands are answered.
 
 ghost use Rattle.std.specs.Prelude.{◌≡◌, true};
-ghost use Rattle.channel_slots.specs.Answers.{number_of, is_locked_in, has_edge_in};
+ghost use Rattle.slot_protocol.specs.Answers.{number_of, is_locked_in, has_edge_in};
 
 use ca_codes::Prn;
 

@@ -3,14 +3,14 @@ use Rattle.std.specs.Prelude.{ℕ, Bool, true, false, Option, Some, None}
 use Rattle.definitions.specs.Answers.{View, idle, acquiring, holding, tracking}
 use Rattle.definitions.specs.Answers.{Answer as DefinedAnswer}
 use Rattle.definitions.specs.Answers.{accepted, refused, shown}
-use Rattle.channel_slots.specs.declared.answer.Phase.{Phase}
-use Rattle.channel_slots.specs.declared.answer.Phase.TheVariants.{Unlocked, Locked, Edged}
-use Rattle.channel_slots.specs.declared.answer.SlotState.{SlotState}
-use Rattle.channel_slots.specs.declared.answer.SlotState.TheVariants as states
-use Rattle.channel_slots.specs.declared.answer.Refusal.{Refusal}
-use Rattle.channel_slots.specs.declared.answer.Refusal.TheVariants as refusals
-use Rattle.channel_slots.specs.declared.answer.Answer.{Answer}
-use Rattle.channel_slots.specs.declared.answer.Answer.TheVariants.{Accepted, Refused, State}
+use Rattle.slot_protocol.specs.declared.answer.Phase.{Phase}
+use Rattle.slot_protocol.specs.declared.answer.Phase.TheVariants.{Unlocked, Locked, Edged}
+use Rattle.slot_protocol.specs.declared.answer.SlotState.{SlotState}
+use Rattle.slot_protocol.specs.declared.answer.SlotState.TheVariants as states
+use Rattle.slot_protocol.specs.declared.answer.Refusal.{Refusal}
+use Rattle.slot_protocol.specs.declared.answer.Refusal.TheVariants as refusals
+use Rattle.slot_protocol.specs.declared.answer.Answer.{Answer}
+use Rattle.slot_protocol.specs.declared.answer.Answer.TheVariants.{Accepted, Refused, State}
 
 abbrev pub is_locked_in : Phase → Bool
 is_locked_in Unlocked = false

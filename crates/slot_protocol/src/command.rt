@@ -1,7 +1,7 @@
 //! What a client asks of one of its slots.
 
 ghost use Rattle.std.specs.Prelude.{◌≡◌, ◌<◌, ◌↔◌, ℕ, IsSome, IfSome};
-ghost use Rattle.channel_slots.specs.declared.command.TheConstants.{MOST_SLOTS};
+ghost use Rattle.slot_protocol.specs.declared.command.TheConstants.{MOST_SLOTS};
 
 use acquisition::Plan;
 use ca_codes::Prn;
@@ -86,7 +86,7 @@ pub enum Command {
 }
 
 impl Command {
-    ghost use Rattle.channel_slots.specs.Commands.{slot_of};
+    ghost use Rattle.slot_protocol.specs.Commands.{slot_of};
 
     /// The slot that is asked.
     pub fn slot(&self) -> SlotNo

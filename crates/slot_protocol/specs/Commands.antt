@@ -2,9 +2,9 @@
 use Rattle.std.specs.Prelude.{ℕ}
 use Rattle.definitions.specs.Commands.{Request, Command as DefinedCommand, begin, hold, track}
 use Rattle.definitions.specs.Commands.{acquire, counts, state, stop}
-use Rattle.channel_slots.specs.declared.command.Command.{Command}
-use Rattle.channel_slots.specs.declared.command.Command.TheVariants.{Hold, Track, Acquire, Counts}
-use Rattle.channel_slots.specs.declared.command.Command.TheVariants.{State, Stop}
+use Rattle.slot_protocol.specs.declared.command.Command.{Command}
+use Rattle.slot_protocol.specs.declared.command.Command.TheVariants.{Hold, Track, Acquire, Counts}
+use Rattle.slot_protocol.specs.declared.command.Command.TheVariants.{State, Stop}
 
 abbrev pub slot_of : Command → ℕ
 slot_of (Hold slot prn doppler half) = slot

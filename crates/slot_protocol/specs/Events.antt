@@ -7,11 +7,11 @@ use Rattle.definitions.specs.Banks.{SlotEvent as DefinedSlotEvent, line_of as de
 use Rattle.acquisition.specs.Cells.{cell_in}
 use Rattle.lane_correlator.specs.Counting.{counts_in}
 use Rattle.data_sets.specs.Reports.{report_in, almanacs_in}
-use Rattle.channel_slots.specs.declared.event.Event.{Event}
-use Rattle.channel_slots.specs.declared.event.Event.TheVariants.{Acquired, Count, Lock, Unlock}
-use Rattle.channel_slots.specs.declared.event.Event.TheVariants.{Lost}
-use Rattle.channel_slots.specs.declared.event.Event.TheVariants.{Bits, Gap, Sub, Page, Almanacs}
-use Rattle.channel_slots.specs.declared.event.SlotEvent.{SlotEvent}
+use Rattle.slot_protocol.specs.declared.event.Event.{Event}
+use Rattle.slot_protocol.specs.declared.event.Event.TheVariants.{Acquired, Count, Lock, Unlock}
+use Rattle.slot_protocol.specs.declared.event.Event.TheVariants.{Lost}
+use Rattle.slot_protocol.specs.declared.event.Event.TheVariants.{Bits, Gap, Sub, Page, Almanacs}
+use Rattle.slot_protocol.specs.declared.event.SlotEvent.{SlotEvent}
 
 abbrev pub event_in : Event → DefinedEvent
 event_in (Acquired prn cell) = acquired prn (cell_in cell)
