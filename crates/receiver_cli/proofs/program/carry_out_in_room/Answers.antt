@@ -1,9 +1,9 @@
 use Rattle.std.proofs.Common.{refl, map}
 use Rattle.std.specs.Prelude.{string_bytes}
 use Rattle.clap.specs.Values.{kind_of}
-use Rattle.command_line.specs.Endings.{received, without_options}
-use Rattle.command_line.proofs.CommandLineLemmas.{without-memory}
-use Rattle.command_line.proofs.program.carry_out_in_room.Goals as goal
+use Rattle.receiver_cli.specs.Endings.{received, without_options}
+use Rattle.receiver_cli.proofs.CommandLineLemmas.{without-memory}
+use Rattle.receiver_cli.proofs.program.carry_out_in_room.Goals as goal
 
 pub returns-in-Err : goal.returns-in-Err
 returns-in-Err g c = record {

@@ -1,6 +1,6 @@
 use Rattle.std.proofs.Common.{◌∙◌, ap, map}
-use Rattle.command_line.proofs.ReceivingLemmas.{ran-handed}
-use Rattle.command_line.proofs.receiving.run_texts.Goals as goal
+use Rattle.receiver_cli.proofs.ReceivingLemmas.{ran-handed}
+use Rattle.receiver_cli.proofs.receiving.run_texts.Goals as goal
 
 pub returns-in-Ok-clause-runs : goal.returns-in-Ok-clause-runs
 returns-in-Ok-clause-runs g c =

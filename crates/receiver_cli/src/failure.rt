@@ -1,8 +1,8 @@
 //! Why the program ends early, and with which status.
 
 ghost use Rattle.std.specs.Prelude.{◌≡◌};
-ghost use Rattle.command_line.specs.declared.failure.Failure.TheVariants.{NoMemory};
-ghost use Rattle.command_line.specs.Programs.{status_of, failure_of};
+ghost use Rattle.receiver_cli.specs.declared.failure.Failure.TheVariants.{NoMemory};
+ghost use Rattle.receiver_cli.specs.Programs.{status_of, failure_of};
 
 use oscillators::SettingsFault;
 use receiver::RunFault;

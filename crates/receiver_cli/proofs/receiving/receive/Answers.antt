@@ -4,10 +4,10 @@ use Rattle.std.proofs.lemmas.Simd.{map-map}
 use Rattle.receiver_options.specs.CommandLines.{options_in}
 use Rattle.receiver_options.specs.Requests.{paths_in}
 use Rattle.receiver_options.specs.ScriptTexts.{AreTextsOf}
-use Rattle.command_line.specs.Programs.{clients_of, failure_of}
-use Rattle.command_line.proofs.ReceivingLemmas.{failed-before, failed-at-shares, received, err-is}
-use Rattle.command_line.proofs.ReceivingLemmas.{is-some, as-many-clients}
-use Rattle.command_line.proofs.receiving.receive.Goals as goal
+use Rattle.receiver_cli.specs.Programs.{clients_of, failure_of}
+use Rattle.receiver_cli.proofs.ReceivingLemmas.{failed-before, failed-at-shares, received, err-is}
+use Rattle.receiver_cli.proofs.ReceivingLemmas.{is-some, as-many-clients}
+use Rattle.receiver_cli.proofs.receiving.receive.Goals as goal
 
 pub returns-in_err-shares-clause-receives : goal.returns-in_err-shares-clause-receives
 returns-in_err-shares-clause-receives g c =

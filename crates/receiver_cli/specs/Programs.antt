@@ -12,9 +12,9 @@ use Rattle.receiver_options.specs.Requests.{Asked, IsAllowed, recording_of, shar
 use Rattle.receiver_options.specs.ScriptTexts.{AreTextsOf, SomeMayBeRefused}
 use Rattle.receiver_options.specs.declared.fault.OptionFault.{OptionFault}
 use Rattle.receiver_options.specs.declared.fault.OptionFault.TheVariants as options
-use Rattle.command_line.specs.declared.failure.Failure.{Failure}
-use Rattle.command_line.specs.declared.failure.Failure.TheVariants.{NoMemory, Shares, Script}
-use Rattle.command_line.specs.declared.failure.Failure.TheVariants.{Settings, Run}
+use Rattle.receiver_cli.specs.declared.failure.Failure.{Failure}
+use Rattle.receiver_cli.specs.declared.failure.Failure.TheVariants.{NoMemory, Shares, Script}
+use Rattle.receiver_cli.specs.declared.failure.Failure.TheVariants.{Settings, Run}
 
 -- the scripts of a run: one a file, or an empty one
 abbrev pub one_or_more : List (List ℕ) → List (List ℕ)

@@ -4,8 +4,8 @@ ghost use Rattle.std.specs.Prelude.{◌≡◌};
 ghost use Rattle.std.specs.Process.{exit_status};
 ghost use Rattle.clap.specs.Values.{kind_of};
 ghost use Rattle.receiver.specs.Runs.{devices_at};
-ghost use Rattle.command_line.specs.Programs.{status_of};
-ghost use Rattle.command_line.specs.Endings.{HasEnded, parser_status};
+ghost use Rattle.receiver_cli.specs.Programs.{status_of};
+ghost use Rattle.receiver_cli.specs.Endings.{HasEnded, parser_status};
 
 use crate::failure::{Failure, status};
 use crate::receiving::receive;

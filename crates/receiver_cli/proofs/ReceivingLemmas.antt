@@ -6,16 +6,16 @@ use Rattle.std.specs.Prelude.{Option, Some, None, IsSome, Result, Ok, Err, IsErr
 use Rattle.definitions.specs.Oscillators.{Settings as DefinedSettings}
 use Rattle.receiver.specs.declared.faults.RunFault.{RunFault}
 use Rattle.receiver.specs.Runs.{Devices, IsRun, task_of}
-use Rattle.command_line.specs.declared.failure.Failure.{Failure}
-use Rattle.command_line.specs.declared.failure.Failure.TheVariants.{NoMemory, Shares, Script}
-use Rattle.command_line.specs.declared.failure.Failure.TheVariants.{Settings, Run}
+use Rattle.receiver_cli.specs.declared.failure.Failure.{Failure}
+use Rattle.receiver_cli.specs.declared.failure.Failure.TheVariants.{NoMemory, Shares, Script}
+use Rattle.receiver_cli.specs.declared.failure.Failure.TheVariants.{Settings, Run}
 use Rattle.receiver_options.specs.Requests.{Asked, IsAllowed, recording_of}
 use Rattle.receiver_options.specs.declared.fault.OptionFault.{OptionFault}
 use Rattle.receiver_options.specs.declared.fault.OptionFault.TheVariants as options
 use Rattle.receiver_options.specs.ScriptTexts.{AreTextsOf, SomeMayBeRefused}
-use Rattle.command_line.specs.Programs.{one_or_more, RunsTexts, RunsFiles}
+use Rattle.receiver_cli.specs.Programs.{one_or_more, RunsTexts, RunsFiles}
 use Rattle.receiver_options.specs.Requests.{shares_by}
-use Rattle.command_line.specs.Programs.{Receives, clients_of, failure_of}
+use Rattle.receiver_cli.specs.Programs.{Receives, clients_of, failure_of}
 
 -- the scripts of a run are those that were handed to it
 pub ran-handed : {A : Type 0} (text : A → List ℕ) (settings : DefinedSettings) (shares : List ℕ)

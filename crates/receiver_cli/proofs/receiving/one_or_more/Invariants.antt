@@ -1,5 +1,5 @@
 use Rattle.std.proofs.Common.{◌≡◌, map, take}
-use Rattle.command_line.proofs.receiving.one_or_more.Given as goal
+use Rattle.receiver_cli.proofs.receiving.one_or_more.Given as goal
 
 abbrev pub invariant-loop-text : goal.invariant-loop-text
 invariant-loop-text l =

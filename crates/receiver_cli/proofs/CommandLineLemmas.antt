@@ -4,7 +4,7 @@ use Rattle.std.specs.Prelude.{Option, Some, None, IfSome, unwrap_or}
 use Rattle.clap.specs.Walk.{Text}
 use Rattle.receiver.specs.Runs.{Devices}
 use Rattle.receiver_options.proofs.CommandLineLemmas.{some-names, names-formats}
-use Rattle.command_line.specs.Endings.{HasEnded, without_words}
+use Rattle.receiver_cli.specs.Endings.{HasEnded, without_words}
 
 -- the words that are given, where they are known
 given-words : (given : Option (List Text)) → IfSome given (λ all. unwrap_or given [] ≡ all)

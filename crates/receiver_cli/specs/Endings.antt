@@ -11,8 +11,8 @@ use Rattle.clap.specs.declared.error.kind.ErrorKind.TheVariants.{DisplayVersion}
 use Rattle.receiver.specs.Runs.{Devices}
 use Rattle.receiver_options.specs.CommandLines.{receiver, NamesFormats}
 use Rattle.receiver_options.specs.Requests.{asked_in, paths_in}
-use Rattle.command_line.specs.Programs.{Receives, status_of}
-use Rattle.command_line.specs.declared.failure.Failure.{Failure}
+use Rattle.receiver_cli.specs.Programs.{Receives, status_of}
+use Rattle.receiver_cli.specs.declared.failure.Failure.{Failure}
 
 -- the status where the option parser gives no options: it shows the help, has no memory, or refuses
 abbrev pub parser_status : ErrorKind → ℕ

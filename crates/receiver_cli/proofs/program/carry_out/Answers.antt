@@ -1,5 +1,5 @@
-use Rattle.command_line.proofs.CommandLineLemmas.{without-memory}
-use Rattle.command_line.proofs.program.carry_out.Goals as goal
+use Rattle.receiver_cli.proofs.CommandLineLemmas.{without-memory}
+use Rattle.receiver_cli.proofs.program.carry_out.Goals as goal
 
 pub returns-in-Err : goal.returns-in-Err
 returns-in-Err g c = record {
