@@ -2,7 +2,7 @@
 
 use crate::formats::{FORMATS, KINDS};
 use clap::{Arg, ArgAction, ArgMatches, Command, Error, value_parser};
-use std::alloc::Global;
+use std::alloc::{AllocError, Global};
 use version::VERSION;
 
 const ABOUT: &str = "\
@@ -48,70 +48,58 @@ Examples:
 
 /// Reads the words of a command line, the program's name first.
 pub fn matches<'a>(alloc: Global, words: &'a [String]) -> Result<ArgMatches<'a>, Error> {
-    Command::new(alloc, "pack")
+    let command = Command::new(alloc, "pack")
         .version(VERSION)
         .about(ABOUT)
         .override_usage("pack --from <KIND> <--to <FORMAT>|--measure> [OPTIONS]")
-        .after_help(MORE)
+        .after_help(MORE);
+    let command = with_kinds(alloc, command)?;
+    with_stretch(alloc, with_parts(alloc, command)?)?.try_get_matches_from(words)
+}
+
+/// Adds what is read and written, and by which threshold and centres.
+fn with_kinds<'a>(alloc: Global, command: Command<'a>) -> Result<Command<'a>, AllocError> {
+    let kind = named(alloc, "from", "KIND", "The kind of the recording's values")
+        .value_parser(KINDS.as_slice())
+        .required(true);
+    let format = named(alloc, "to", "FORMAT", "The packing to write").value_parser(
+        FORMATS.as_slice(),
+    );
+    let threshold = "Size 3 begins farther than N from the centre";
+    let centre = "The centre, 0 or N; 127.5 for unsigned bytes";
+    let centre_q = "That of the part in quadrature, where it is another";
+    command
+        .arg(kind)?
+        .arg(format)?
+        .arg(number(alloc, "threshold", threshold))?
+        .arg(number(alloc, "centre", centre))?
+        .arg(number(alloc, "centre-q", centre_q))
+}
+
+/// Adds what is done with the parts of pairs.
+fn with_parts<'a>(alloc: Global, command: Command<'a>) -> Result<Command<'a>, AllocError> {
+    let swap = "The part in quadrature stands first in each pair";
+    let conjugate = "Turns the sign of the part in quadrature";
+    let part = "The part that real samples are made of";
+    command
+        .arg(flag(alloc, "swap", swap))?
+        .arg(flag(alloc, "conjugate", conjugate))?
         .arg(
-            named(alloc, "from", "KIND", "The kind of the recording's values")
-                .value_parser(KINDS.as_slice())
-                .required(true),
-        )?
-        .arg(named(alloc, "to", "FORMAT", "The packing to write").value_parser(FORMATS.as_slice()))?
-        .arg(number(
-            alloc,
-            "threshold",
-            "Size 3 begins farther than N from the centre",
-        ))?
-        .arg(number(
-            alloc,
-            "centre",
-            "The centre, 0 or N; 127.5 for unsigned bytes",
-        ))?
-        .arg(number(
-            alloc,
-            "centre-q",
-            "That of the part in quadrature, where it is another",
-        ))?
-        .arg(flag(
-            alloc,
-            "swap",
-            "The part in quadrature stands first in each pair",
-        ))?
-        .arg(flag(
-            alloc,
-            "conjugate",
-            "Turns the sign of the part in quadrature",
-        ))?
-        .arg(
-            named(
-                alloc,
-                "part",
-                "PART",
-                "The part that real samples are made of",
-            )
-            .value_parser(PARTS.as_slice())
-            .default_value("i"),
-        )?
-        .arg(flag(
-            alloc,
-            "measure",
-            "Tells what the values are like, and suggests a centre and a threshold",
-        ))?
-        .arg(samples(
-            alloc,
-            "skip",
-            "0",
-            "Leaves out so many samples at the beginning",
-        ))?
-        .arg(samples(
-            alloc,
-            "count",
-            "1099511627776",
-            "Takes so many samples at most",
-        ))?
-        .try_get_matches_from(words)
+            named(alloc, "part", "PART", part)
+                .value_parser(PARTS.as_slice())
+                .default_value("i"),
+        )
+}
+
+/// Adds whether it is measured, and which stretch of it is taken.
+fn with_stretch<'a>(alloc: Global, command: Command<'a>) -> Result<Command<'a>, AllocError> {
+    let measure = "Tells what the values are like, and suggests a centre and a threshold";
+    let skip = "Leaves out so many samples at the beginning";
+    let count = "Takes so many samples at most";
+    command
+        .arg(flag(alloc, "measure", measure))?
+        .arg(samples(alloc, "skip", "0", skip))?
+        .arg(samples(alloc, "count", "1099511627776", count))
 }
 
 /// An option that takes a word.

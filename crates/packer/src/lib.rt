@@ -18,14 +18,14 @@
 #![tactic(auto)]
 
 mod command;
-pub mod decimals;
+mod decimals;
 mod devices;
 mod failure;
 mod floats;
 mod formats;
-pub mod halves;
+mod halves;
 mod measuring;
-pub mod options;
+mod options;
 mod program;
 mod running;
 

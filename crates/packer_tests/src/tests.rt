@@ -1,9 +1,5 @@
-//! Numbers of options, and runs over memory and over devices that fail.
+//! Runs over devices that fail.
 
-mod command_lines;
-
-use packer::decimals::{Halves, Hundredths};
-use packer::halves::halves;
 use packer::{Device, Failure, run, status};
 use recordings::{Choice, Kind, Packer, Window};
 use sample_planes::Format;
@@ -80,13 +76,8 @@ impl Write for Narrow {
 
 /// Signs of bytes.
 fn packer(alloc: Global) -> Result<Packer, Fail> {
-    packer_of(alloc, Kind::I8)
-}
-
-/// Signs of values.
-fn packer_of(alloc: Global, kind: Kind) -> Result<Packer, Fail> {
     let choice = Choice {
-        kind,
+        kind: Kind::I8,
         is_paired: false,
         format: Format::Real1,
         threshold: 0,
@@ -100,55 +91,6 @@ fn packer_of(alloc: Global, kind: Kind) -> Result<Packer, Fail> {
         Ok(recipe) => Ok(Packer::new(alloc, recipe)?),
         Err(_) => Err(Fail::new("a choice of signs was refused")),
     }
-}
-
-#[test]
-fn numbers_with_halves(rt: HostRuntime) {
-    let table = [
-        ("0", Some(0)),
-        ("127.5", Some(255)),
-        ("-3", Some(-6)),
-        ("-0.5", Some(-1)),
-        ("1000000.5", Some(2_000_001)),
-        ("1000001", None),
-        ("1.7", None),
-        (".5", None),
-        ("--3", None),
-        ("", None),
-    ];
-    for (text, number) in &table {
-        assert_eq!(rt; halves(text), *number, "at {text}");
-    }
-}
-
-#[test]
-fn decimals(rt: HostRuntime) -> Result<(), Fail> {
-    assert_eq!(rt;
-        format!(in rt.alloc(); "{} {}", Halves(255), Halves(-1))?.as_str(),
-        "127.5 -0.5"
-    );
-    let text = format!(in rt.alloc(); "{} {}", Hundredths(-5), Hundredths(12_345))?;
-    assert_eq!(rt; text.as_str(), "-0.05 123.45");
-    Ok(())
-}
-
-// Of twelve bytes two are skipped and nine wanted; eight of these fill a byte.
-#[test]
-fn a_stretch_of_memory(rt: HostRuntime) -> Result<(), Fail> {
-    let bytes: [u8; 12] = [9, 9, 1, 0x80, 0x80, 1, 1, 1, 1, 0x80, 0x80, 1];
-    let (mut packer, mut window) = (packer(rt.alloc())?, Window::new(2, 9));
-    let mut writer = Device::new(Vec::new(rt.alloc()));
-    let ended = run(
-        rt.alloc(),
-        &mut packer,
-        &mut window,
-        &mut Device::new(&bytes[..]),
-        &mut writer,
-    );
-    assert_eq!(rt; ended, Ok(()));
-    assert_eq!(rt; writer.inner.as_slice(), [0x61].as_slice());
-    assert_eq!(rt; packer.samples_held(), 1);
-    Ok(())
 }
 
 #[test]
@@ -195,23 +137,5 @@ fn writers_that_fail(rt: HostRuntime) -> Result<(), Fail> {
         (status(output), status(Err(Failure::Centre)), status(Ok(()))),
         (1, 2, 0)
     );
-    Ok(())
-}
-
-// 0x7fc00000 is a float that is no number, the low byte first.
-#[test]
-fn a_float_that_is_no_number(rt: HostRuntime) -> Result<(), Fail> {
-    let (mut packer, mut window) = (packer_of(rt.alloc(), Kind::F32)?, Window::new(0, 100));
-    let mut writer = Device::new(Vec::new(rt.alloc()));
-    let ended = run(
-        rt.alloc(),
-        &mut packer,
-        &mut window,
-        &mut Device::new(&[0, 0, 0xc0, 0x7f][..]),
-        &mut writer,
-    );
-    assert_eq!(rt; ended, Err(Failure::NotANumber));
-    assert_eq!(rt; status(ended), 1);
-    assert!(rt; writer.inner.is_empty());
     Ok(())
 }
