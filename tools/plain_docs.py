@@ -24,7 +24,8 @@ def example_of(text):
 
 
 def tested_text(text):
-    """A source whose example is a whole program, with the right to touch the world if it says so."""
+    """A source whose example is a whole program, with the right to touch the world if it says
+    so."""
     def program(found):
         runtime = '//!     # let rt = HostRuntime;\n' * bool(re.search(r'\brt\b', found[0]))
         runtime *= 'rt: HostRuntime' not in found[0]

@@ -9,7 +9,7 @@ use Rattle.std.proofs.lemmas.List.{length-drop}
 use Rattle.std.proofs.lemmas.Int.{ints}
 use Rattle.std.proofs.lemmas.List.Sums.{fold_push}
 use Rattle.std.proofs.lemmas.List.FromFn.{map-range_with_len_more}
-use Rattle.definitions.specs.BitEdge.{is_edge, edge_of, bit_of, bits_of, bits_behind}
+use Rattle.definitions.specs.BitEdge.{is_edge, edge_of, bit_of, bits_of, bits_after}
 use Rattle.definitions.proofs.SumsLemmas.{least_below-some}
 use Rattle.definitions.proofs.BitLemmas.{edge_of-append}
 use Rattle.bit_sync.specs.Standing.{IsSumming}
@@ -17,12 +17,12 @@ use Rattle.bit_sync.specs.declared.bit_sum.BitSum.{BitSum}
 
 pub bits_of-none : (pushes : List ℤ) → edge_of pushes ≡ None → bits_of pushes ≡ []
 unfolding bits_of
-bits_of-none pushes none = ap (bits_behind pushes) none
+bits_of-none pushes none = ap (bits_after pushes) none
 
 bits_of-some : (pushes : List ℤ) (edge : ℕ) → edge_of pushes ≡ Some edge
     → bits_of pushes ≡ map (bit_of pushes edge) (range_with_len 0 ((length pushes - edge) / 20))
 unfolding bits_of
-bits_of-some pushes edge is = ap (bits_behind pushes) is
+bits_of-some pushes edge is = ap (bits_after pushes) is
 
 edge-within : (pushes : List ℤ) (edge : ℕ) → edge_of pushes ≡ Some edge → edge < length pushes
 unfolding edge_of

@@ -7,10 +7,10 @@ use Rattle.bit_sync.specs.declared.bit_sync.BitNews.TheVariants.{Nothing, Edge, 
 -- The pushes before, and those with one more. An edge is found once, with the push that is the
 -- edge, and before all bits; a bit is reported with the push that makes it whole; and else nothing
 -- of that has changed.
-abbrev pub Tells : List ℤ → List ℤ → BitNews → Type 0
-Tells before after Nothing = (edge_of after ≡ edge_of before) × (bits_of after ≡ bits_of before)
-Tells before after Edge =
+abbrev pub Emits : List ℤ → List ℤ → BitNews → Type 0
+Emits before after Nothing = (edge_of after ≡ edge_of before) × (bits_of after ≡ bits_of before)
+Emits before after Edge =
     (edge_of before ≡ None) × (edge_of after ≡ Some (length before))
     × (bits_of after ≡ bits_of before)
-Tells before after (Bit bit) =
+Emits before after (Bit bit) =
     (edge_of after ≡ edge_of before) × (bits_of after ≡ bits_of before ++ bit ∷ [])

@@ -38,7 +38,7 @@ pub struct BitSync {
 impl BitSync {
     ghost use Rattle.definitions.specs.BitEdge.{has_edge};
     ghost use Rattle.bit_sync.specs.Standing.{StandsFor};
-    ghost use Rattle.bit_sync.specs.News.{Tells};
+    ghost use Rattle.bit_sync.specs.News.{Emits};
 
     /// The state before the first push.
     pub fn new() -> Self
@@ -49,13 +49,14 @@ impl BitSync {
         }
     }
 
-    /// Takes the next prompt sum in phase, at most `MOST_PUSH` in size. There may be any number of pushes.
+    /// Takes the next prompt sum in phase, at most `MOST_PUSH` in size. There may be any number of
+    /// pushes.
     pub fn push(&mut self, ip: i32) -> BitNews
         requires { unsigned_abs ip ≤ MOST_PUSH }
         ensures stands { (pushes : List ℤ) → StandsFor pushes self.old
             → StandsFor (pushes ++ ip ∷ []) self.new }
         ensures tells { (pushes : List ℤ) → StandsFor pushes self.old
-            → Tells pushes (pushes ++ ip ∷ []) result }
+            → Emits pushes (pushes ++ ip ∷ []) result }
     {
         match &mut self.stage {
             Stage::Searching(search) => {

@@ -12,9 +12,9 @@ use Rattle.definitions.specs.Events.{Event as DefinedEvent}
 use Rattle.slot_protocol.specs.declared.event.Event.{Event}
 use Rattle.slot_protocol.specs.declared.event.SlotEvent.{SlotEvent}
 use Rattle.channel_slots.specs.declared.seat.Seat.{Seat}
-use Rattle.slot_protocol.specs.Events.{AreTold, event_in, told_in}
+use Rattle.slot_protocol.specs.Events.{AreEvents, event_in, slot_event_in}
 use Rattle.sample_planes.specs.Sources.{AreSamplesOf}
-use Rattle.channel_slots.specs.Slots.{StandsFor, Tells, IsSound}
+use Rattle.channel_slots.specs.Slots.{StandsFor, Emits, IsSound}
 use Rattle.channel_slots.specs.Banks.{SeatSteps, SeatGoes, RunsAll, event_of}
 
 pub all_push : {A : Type 0} (P : A → Type 0) (xs : List A) (x : A) → AllByRecursion P xs → P x
@@ -26,14 +26,14 @@ all_push P (y ∷ ys) x all h = (all.0, all_push P ys x all.1 h)
 -- its events come where its slot emits them
 are_told : (p : Seat) (time : ℕ) (events : List Event) (told : List DefinedEvent)
     → map event_in events ≡ told
-    → AreTold (map (event_of p time) events) (slot_events p.client p.number time told)
+    → AreEvents (map (event_of p time) events) (slot_events p.client p.number time told)
 are_told p time events told same = from_map events ∙ ap (slot_events p.client p.number time) same
   where
-    from_map : (es : List Event) → map told_in (map (event_of p time) es)
+    from_map : (es : List Event) → map slot_event_in (map (event_of p time) es)
         ≡ slot_events p.client p.number time (map event_in es)
     from_map [] = refl
     from_map (e ∷ es) =
-        ap (λ (l : List DefinedSlotEvent). told_in (event_of p time e) ∷ l) (from_map es)
+        ap (λ (l : List DefinedSlotEvent). slot_event_in (event_of p time e) ∷ l) (from_map es)
 
 pub seated : (ys : List Sample) (time first : ℕ) (held : ℕ → Sample) (p q : Seat)
     (events : List Event)
@@ -43,7 +43,7 @@ pub seated : (ys : List Sample) (time first : ℕ) (held : ℕ → Sample) (p q 
     → IsSound from (t + length ys) reach q.slot)
     → ((settings : Settings) (xs : List Sample) (commands : List TimedRequest)
     → AreSamplesOf (xs ++ ys) first (length (xs ++ ys)) held
-    → StandsFor settings xs commands p.slot → Tells settings xs ys commands q.slot events)
+    → StandsFor settings xs commands p.slot → Emits settings xs ys commands q.slot events)
     → SeatSteps ys time first held p q (map (event_of p time) events)
 seated ys time first held p q events client number later sound tells =
     record {

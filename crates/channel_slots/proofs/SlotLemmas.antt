@@ -26,7 +26,7 @@ use Rattle.channel_slots.specs.declared.slot_news.SlotNews.TheVariants.{Acquired
 use Rattle.slot_protocol.specs.Events.{event_in}
 use Rattle.channel_slots.specs.NewsEvents.{events_of}
 use Rattle.channel_slots.specs.Stages.{Follows}
-use Rattle.channel_slots.specs.Slots.{StandsFor, Tells, IsOn, HasLife, is_idle}
+use Rattle.channel_slots.specs.Slots.{StandsFor, Emits, IsOn, HasLife, is_idle}
 use Rattle.channel_slots.proofs.NewsLemmas.{all-are}
 use Rattle.channel_slots.proofs.QuietLemmas.{on-now, over-now}
 use Rattle.channel_slots.proofs.StageLemmas.{dumps-by-now, follows-wanting, is-on, is-past}
@@ -235,7 +235,7 @@ module _ (settings : Settings) (xs : List Sample) (commands : List TimedRequest)
         events-behind settings xs zs commands more
         ∙ ap (life_events settings (xs ++ zs)) (idle-on e (front_of zs))
 
-    pub idle-tells : is_idle slot ≡ true → Tells settings xs ys commands slot []
+    pub idle-tells : is_idle slot ≡ true → Emits settings xs ys commands slot []
     unfolding HaveCome
     idle-tells e = record {
       inside = λ j first b. tells-none (take j ys) (omega (arith, length-take j ys)) e;
@@ -299,7 +299,7 @@ module _ (settings : Settings) (xs : List Sample) (commands : List TimedRequest)
           (omega (arith, own.asked, both, some)))
           ∙ ap (unprinted_count own.life) (sym brings.0)
 
-      pub tells : Tells settings xs ys commands new (events_of news)
+      pub tells : Emits settings xs ys commands new (events_of news)
       unfolding front_of
       tells = record {
         inside = quiet;

@@ -22,8 +22,8 @@ use Rattle.slot_protocol.specs.declared.event.SlotEvent.{SlotEvent}
 use Rattle.channel_slots.specs.declared.seat.Seat.{Seat}
 use Rattle.channel_slots.specs.Slots.{chances}
 use Rattle.channel_slots.specs.Orders.{put_in, put_all}
-use Rattle.slot_protocol.specs.Events.{AreTold, told_in, time_in, time_at}
-use Rattle.channel_slots.specs.Banks.{SeatAdds, SeatGoes, slot_tells}
+use Rattle.slot_protocol.specs.Events.{AreEvents, slot_event_in, time_in, time_at}
+use Rattle.channel_slots.specs.Banks.{SeatAdds, SeatGoes, slot_emits}
 use Rattle.channel_slots.proofs.OrderLemmas.{put_all-append}
 
 module _ {A : Type 0} (tells : List Sample → List A) where
@@ -59,32 +59,35 @@ module _ {A : Type 0} (tells : List Sample → List A) where
 -- ---- events that are inserted by time
 -- the code's events and the definitions' are inserted at the same places
 one-put : (e : SlotEvent) (es : List SlotEvent)
-    → map told_in (put_in time_in e es) ≡ put_in time_at (told_in e) (map told_in es)
+    → map slot_event_in (put_in time_in e es)
+    ≡ put_in time_at (slot_event_in e) (map slot_event_in es)
 unfolding put_in
 one-put e [] = refl
 one-put e (x ∷ es) = by_test (nat_lt e.time x.time) refl (one-put e es)
   where
     by_test : (b : Bool) → nat_lt e.time x.time ≡ b
-        → map told_in (put_in time_in e es) ≡ put_in time_at (told_in e) (map told_in es)
-        → map told_in (if nat_lt e.time x.time then e ∷ x ∷ es else x ∷ put_in time_in e es)
-        ≡ (if nat_lt e.time x.time then told_in e ∷ told_in x ∷ map told_in es
-        else told_in x ∷ put_in time_at (told_in e) (map told_in es))
+        → map slot_event_in (put_in time_in e es)
+        ≡ put_in time_at (slot_event_in e) (map slot_event_in es)
+        → map slot_event_in (if nat_lt e.time x.time then e ∷ x ∷ es else x ∷ put_in time_in e es)
+        ≡ (if nat_lt e.time x.time then slot_event_in e ∷ slot_event_in x ∷ map slot_event_in es
+        else slot_event_in x ∷ put_in time_at (slot_event_in e) (map slot_event_in es))
     by_test true is rest = rw is refl
-    by_test false is rest = rw is (ap (λ (l : List DefinedSlotEvent). told_in x ∷ l) rest)
+    by_test false is rest = rw is (ap (λ (l : List DefinedSlotEvent). slot_event_in x ∷ l) rest)
 
 all-put : (es fs : List SlotEvent)
-    → map told_in (put_all time_in es fs) ≡ put_all time_at (map told_in es) (map told_in fs)
+    → map slot_event_in (put_all time_in es fs)
+    ≡ put_all time_at (map slot_event_in es) (map slot_event_in fs)
 unfolding put_all
 all-put es [] = refl
 all-put es (f ∷ fs) =
     all-put (put_in time_in f es) fs
-    ∙ ap (λ (l : List DefinedSlotEvent). put_all time_at l (map told_in fs)) (one-put f es)
+    ∙ ap (λ (l : List DefinedSlotEvent). put_all time_at l (map slot_event_in fs)) (one-put f es)
 
-pub all_put : (es fs : List SlotEvent) (ts us : List DefinedSlotEvent) → AreTold es ts
-    → AreTold fs us
-    → AreTold (put_all time_in es fs) (put_all time_at ts us)
+pub all_put : (es fs : List SlotEvent) (ts us : List DefinedSlotEvent) → AreEvents es ts
+    → AreEvents fs us
+    → AreEvents (put_all time_in es fs) (put_all time_at ts us)
 all_put es fs ts us a b =
-    all-put es fs ∙ ap (λ (l : List DefinedSlotEvent). put_all time_at l (map told_in fs)) a
+    all-put es fs ∙ ap (λ (l : List DefinedSlotEvent). put_all time_at l (map slot_event_in fs)) a
     ∙ ap (put_all time_at ts) b
 
 -- ---- runs in parts
@@ -152,13 +155,13 @@ goes-more ys zs time first held p q r before mid after g a some few =
           simp length-append (omega (arith, now)) in
           let step = s.tells settings (xs ++ ys) commands one whole before_it.stands in
           let f : List Sample → List DefinedSlotEvent =
-          slot_tells settings p.client p.number commands in
+          slot_emits settings p.client p.number commands in
           let quiet : (j : ℕ) → 0 < j → j < length zs → f ((xs ++ ys) ++ take j zs) ≡ [] =
           λ j first b. ap (λ (l : List Event). slot_events p.client p.number
           (length ((xs ++ ys) ++ take j zs)) l) (step.inside j first b) in
           let last : at_each_sample f (xs ++ ys) zs ≡ f ((xs ++ ys) ++ zs) =
           at_each_sample-last f (xs ++ ys) zs some quiet in
-          let own : AreTold a.events (f ((xs ++ ys) ++ zs)) =
+          let own : AreEvents a.events (f ((xs ++ ys) ++ zs)) =
           rw (g.client, g.number) at step.told in
           record {
             told =
@@ -168,10 +171,10 @@ goes-more ys zs time first held p q r before mid after g a some few =
           };
     }
   where
-    both_told : (es fs : List SlotEvent) (ts us : List DefinedSlotEvent) → AreTold es ts
-        → AreTold fs us
-        → AreTold (es ++ fs) (ts ++ us)
-    both_told es fs ts us a b = map-append told_in es fs ∙ (λ i. a i ++ b i)
+    both_told : (es fs : List SlotEvent) (ts us : List DefinedSlotEvent) → AreEvents es ts
+        → AreEvents fs us
+        → AreEvents (es ++ fs) (ts ++ us)
+    both_told es fs ts us a b = map-append slot_event_in es fs ∙ (λ i. a i ++ b i)
 
 -- the same by the run and by how many of its samples were taken
 pub goes-on : (run : List Sample) (done count time first : ℕ) (held : ℕ → Sample) (p q r : Seat)

@@ -9,7 +9,7 @@ use Rattle.channel_slots.specs.declared.bank.Bank.{Bank}
 use Rattle.slot_protocol.specs.declared.event.SlotEvent.{SlotEvent}
 use Rattle.sample_history.specs.Histories as histories
 use Rattle.channel_slots.specs.Banks.{BankStands, cells_done_at}
-use Rattle.slot_protocol.specs.Events.{AreTold}
+use Rattle.slot_protocol.specs.Events.{AreEvents}
 
 -- how many samples there were
 abbrev pub time_of : Bank → ℕ
@@ -41,11 +41,11 @@ pub record StandsFor (settings : Settings) (xs : List Sample)
   pub slots : BankStands settings xs asked bank.time bank.seats.items
 
 -- whatever a bank stood for: these events are what its slots emit over a run of samples
-abbrev pub Tells : Bank → List Sample → List SlotEvent → Type 0
-Tells old run events =
+abbrev pub Emits : Bank → List Sample → List SlotEvent → Type 0
+Emits old run events =
     (settings : Settings) (xs : List Sample) (asked : ℕ → ℕ → List TimedRequest)
     → StandsFor settings xs asked old
-    → AreTold events (at_each_sample
+    → AreEvents events (at_each_sample
     (bank_events_at_end settings (layout (shares_of old)) asked) xs run)
 
 -- and after the run it stands for the same with these samples

@@ -60,7 +60,7 @@ pub record StandsFor (settings : Settings) (xs : List Sample) (commands : List T
 
 -- with ys after xs nothing is emitted before the last of them, and then the events that were
 -- answered
-pub record Tells (settings : Settings) (xs ys : List Sample) (commands : List TimedRequest)
+pub record Emits (settings : Settings) (xs ys : List Sample) (commands : List TimedRequest)
     (slot : Slot) (answer : List Event) : Type 0 where
   pub inside : (j : ℕ) → 0 < j → j < length ys
       → events_at_end settings (xs ++ take j ys) commands ≡ []

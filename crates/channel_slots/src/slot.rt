@@ -39,7 +39,7 @@ impl Slot {
     ghost use Rattle.channel_slots.specs.declared.slot_news.SlotNews.TheVariants as news;
     ghost use Rattle.channel_slots.specs.Stages as stages;
     ghost use Rattle.channel_slots.specs.Stages.{most_wait, after_dump};
-    ghost use Rattle.channel_slots.specs.Slots.{StandsFor, Tells, IsSound, chances, is_idle};
+    ghost use Rattle.channel_slots.specs.Slots.{StandsFor, Emits, IsSound, chances, is_idle};
     ghost use Rattle.channel_slots.specs.Slots.{cells_done_of, first_life};
 
     /// A slot that was never asked for anything.
@@ -76,7 +76,7 @@ impl Slot {
             → AreSamplesOf (xs ++ part run.now from result.0) (S.from source.now)
             (length (xs ++ part run.now from result.0)) (S.held source.now)
             → StandsFor settings xs commands self.old
-            → Tells settings xs (part run.now from result.0) commands self.new
+            → Emits settings xs (part run.now from result.0) commands self.new
             (events_of result.1) }
         ensures chances { IfSome result.1 (λ news.
             chances self.new + length (events_with news) ≤ chances self.old) }

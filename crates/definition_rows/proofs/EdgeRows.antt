@@ -6,7 +6,7 @@ use Rattle.std.specs.List.{range_with_len}
 use Rattle.definitions.specs.Correlation.{Counts}
 use Rattle.definitions.specs.Events.{pushes_of, pushes_by}
 use Rattle.definitions.specs.Lock.{is_locked}
-use Rattle.definitions.specs.BitEdge.{bits_behind}
+use Rattle.definitions.specs.BitEdge.{bits_after}
 use Rattle.std.proofs.Common.{inl, inr, ℕ, zero, suc, ◌<◌, ◌≤◌, sym, arith}
 use Rattle.std.specs.Prelude.{Bool, ◌||◌, not, ◌+◌}
 use mathlib.Core.Bool.{xor}
@@ -30,7 +30,7 @@ abbrev square_wave : List ℤ
 square_wave = map (λ i. if i / 20 % 2 == 0 then pos 1 else negsuc 0) (range_with_len 0 361)
 
 -- the bits after an edge at push 320
-bits_behind_edge : bits_behind square_wave (Some 320) ≡ false ∷ true ∷ []
+bits_behind_edge : bits_after square_wave (Some 320) ≡ false ∷ true ∷ []
 bits_behind_edge = refl
 
 -- the wave changes at place 0 modulo 20 alone: for the fifteenth time at push 300, for the
@@ -73,7 +73,7 @@ unfolding xor
 sixteenth_is_edge = sixteenth square_wave 0 320 (λ i h e. one_place i (omega arith) e)
 
 -- a bit whose sums add up to 0 is 0, to -1 is 1, each of its 20 pushes counts
-zero_sums : bits_behind (replicate 10 (pos 1) ++ replicate 10 (negsuc 0) ++ replicate 19 (pos 0)
+zero_sums : bits_after (replicate 10 (pos 1) ++ replicate 10 (negsuc 0) ++ replicate 19 (pos 0)
     ++ negsuc 0 ∷ []) (Some 0) ≡ false ∷ true ∷ []
 zero_sums = refl
 

@@ -8,7 +8,7 @@ use Rattle.definitions.specs.Samples.{samples_from}
 use Rattle.definitions.specs.Oscillators.{Settings, carrier_step, code_step}
 use Rattle.definitions.specs.Codes.{register_after, chip, chip_after}
 use Rattle.definitions.specs.Correlation.{counts_over, six_sums, in_phase_sum, quadrature_sum}
-use Rattle.definitions.specs.Segments.{progress, behind_segments, closed_if_ended, next_end, end_by}
+use Rattle.definitions.specs.Segments.{progress, after_segments, closed_if_ended, next_end, end_by}
 use Rattle.definitions.specs.Segments.{is_through, closed_at}
 use Rattle.definitions.specs.Loops.{loops_after}
 use Rattle.definitions.specs.Lock.{news_of, is_locked}
@@ -69,7 +69,7 @@ unfolding full full_lines body_lines end_lines at_each_time lines_at event_lines
     for_each_client event_texts answer_texts entries_of commands_to script entry_of entries_after
     pieces_ended_by values_in as_bytes digits events_at_end life_now life_of life_events is_over
     answer_at_end view_of event_text answer_text sample samples_from dumps_of_life last_of front_of
-    unprinted_count progress behind_segments closed_if_ended next_end end_by is_through closed_at
+    unprinted_count progress after_segments closed_if_ended next_end end_by is_through closed_at
     counts_over six_sums in_phase_sum quadrature_sum least_below code_step carrier_step
 every_refusal = refl
 
@@ -82,7 +82,7 @@ unfolding full full_lines body_lines end_lines at_each_time lines_at event_lines
     for_each_client event_texts answer_texts entries_of commands_to script entry_of entries_after
     pieces_ended_by values_in as_bytes digits events_at_end life_now life_of life_events is_over
     answer_at_end view_of event_text answer_text sample samples_from dumps_of_life last_of front_of
-    unprinted_count progress behind_segments closed_if_ended next_end end_by is_through closed_at
+    unprinted_count progress after_segments closed_if_ended next_end end_by is_through closed_at
     counts_over six_sums in_phase_sum quadrature_sum least_below code_step carrier_step total chip
     chip_after register_after
 two_bit_byte = refl
@@ -96,7 +96,7 @@ unfolding full full_lines body_lines end_lines at_each_time lines_at event_lines
     for_each_client event_texts answer_texts entries_of commands_to script entry_of entries_after
     pieces_ended_by values_in as_bytes digits events_at_end life_now life_of life_events is_over
     answer_at_end view_of event_text answer_text sample samples_from dumps_of_life last_of front_of
-    unprinted_count progress behind_segments closed_if_ended next_end end_by is_through closed_at
+    unprinted_count progress after_segments closed_if_ended next_end end_by is_through closed_at
     counts_over six_sums in_phase_sum quadrature_sum least_below code_step carrier_step total chip
     chip_after register_after
 complex_byte = refl
@@ -110,7 +110,7 @@ unfolding full full_lines body_lines end_lines at_each_time lines_at event_lines
     for_each_client event_texts answer_texts entries_of commands_to script entry_of entries_after
     pieces_ended_by values_in as_bytes digits events_at_end life_now life_of life_events is_over
     answer_at_end view_of event_text answer_text sample samples_from dumps_of_life last_of front_of
-    unprinted_count progress behind_segments closed_if_ended next_end end_by is_through closed_at
+    unprinted_count progress after_segments closed_if_ended next_end end_by is_through closed_at
     counts_over six_sums in_phase_sum quadrature_sum least_below code_step carrier_step total chip
     chip_after register_after
 complex_bytes = refl
@@ -125,7 +125,7 @@ unfolding full full_lines body_lines end_lines at_each_time lines_at event_lines
     for_each_client event_texts answer_texts entries_of commands_to script entry_of entries_after
     pieces_ended_by values_in as_bytes digits events_at_end life_now life_of life_events is_over
     answer_at_end view_of event_text answer_text sample samples_from dumps_of_life last_of front_of
-    unprinted_count progress behind_segments closed_if_ended next_end end_by is_through closed_at
+    unprinted_count progress after_segments closed_if_ended next_end end_by is_through closed_at
     counts_over six_sums in_phase_sum quadrature_sum least_below code_step carrier_step total chip
     chip_after register_after
 early_wraps = refl
@@ -176,7 +176,7 @@ unfolding full full_lines body_lines end_lines at_each_time lines_at event_lines
     for_each_client event_texts answer_texts entries_of commands_to script entry_of entries_after
     pieces_ended_by values_in as_bytes digits events_at_end life_now life_of life_events is_over
     answer_at_end view_of event_text answer_text sample samples_from dumps_of_life last_of front_of
-    unprinted_count progress behind_segments closed_if_ended next_end end_by is_through closed_at
+    unprinted_count progress after_segments closed_if_ended next_end end_by is_through closed_at
     counts_over six_sums in_phase_sum quadrature_sum least_below code_step carrier_step total chip
     chip_after register_after
 two_clients = refl
@@ -192,7 +192,7 @@ unfolding full full_lines body_lines end_lines at_each_time lines_at event_lines
     for_each_client event_texts answer_texts entries_of commands_to script entry_of entries_after
     pieces_ended_by values_in as_bytes digits events_at_end life_now life_of life_events is_over
     answer_at_end view_of event_text answer_text sample samples_from dumps_of_life last_of front_of
-    unprinted_count progress behind_segments closed_if_ended next_end end_by is_through closed_at
+    unprinted_count progress after_segments closed_if_ended next_end end_by is_through closed_at
     counts_over six_sums in_phase_sum quadrature_sum least_below code_step carrier_step loops_after
     is_locked pushes_of pushes_by news_of edge_of
 refused_restart = refl
@@ -214,7 +214,7 @@ unfolding full full_lines body_lines end_lines at_each_time lines_at event_lines
     for_each_client event_texts answer_texts entries_of commands_to script entry_of entries_after
     pieces_ended_by values_in as_bytes digits events_at_end life_now life_of life_events is_over
     answer_at_end view_of event_text answer_text sample samples_from dumps_of_life last_of front_of
-    unprinted_count progress behind_segments closed_if_ended next_end end_by is_through closed_at
+    unprinted_count progress after_segments closed_if_ended next_end end_by is_through closed_at
     counts_over six_sums in_phase_sum quadrature_sum least_below code_step carrier_step total chip
     chip_after register_after loops_after is_locked pushes_of pushes_by news_of edge_of
     steered_events push_events bits_of
@@ -329,7 +329,7 @@ unfolding full full_lines body_lines end_lines at_each_time lines_at event_lines
     for_each_client event_texts answer_texts entries_of commands_to script entry_of entries_after
     pieces_ended_by values_in as_bytes digits events_at_end life_now life_of life_events is_over
     answer_at_end view_of event_text answer_text sample samples_from dumps_of_life last_of front_of
-    unprinted_count progress behind_segments closed_if_ended next_end end_by is_through closed_at
+    unprinted_count progress after_segments closed_if_ended next_end end_by is_through closed_at
     counts_over six_sums in_phase_sum quadrature_sum least_below code_step carrier_step total chip
     chip_after register_after
 two_slots = refl

@@ -11,8 +11,8 @@ use Rattle.definitions.specs.Correlation.{Counts}
 use Rattle.definitions.specs.Lock.{nothing, lock, unlock, lost, news_of, window_count, is_locked}
 use Rattle.definitions.specs.Lock.{is_locked_after, is_lost_after}
 use Rattle.definitions.specs.Events.{pushes_of, pushes_by}
-use Rattle.definitions.specs.SlotLaws.{is_lock, last_lock, prompt_sums, sums_behind}
-use Rattle.definitions.specs.SlotLaws.{PushesAreBehindLock}
+use Rattle.definitions.specs.SlotLaws.{is_lock, last_lock, prompt_sums, sums_after}
+use Rattle.definitions.specs.SlotLaws.{PushesAreAfterLock}
 use Rattle.definitions.proofs.PushLemmas.{pushes-more}
 use Rattle.definitions.proofs.LockEndLemmas.{any_good-append, lost-unlocked}
 
@@ -167,7 +167,7 @@ all-dropped (c ∷ ds) d = all-dropped ds d
 -- ---- all dumps
 record Behind (ds : List Counts) : Type 0 where
   locked : is_locked ds ≡ true → (k : ℕ) × (last_lock ds (length ds) ≡ Some k) × (k ≤ length ds)
-  pushed : pushes_of ds ≡ (if is_locked ds then sums_behind ds (last_lock ds (length ds)) else [])
+  pushed : pushes_of ds ≡ (if is_locked ds then sums_after ds (last_lock ds (length ds)) else [])
 
 step : (ds : List Counts) (d : Counts) → Behind ds → Behind (ds ++ d ∷ [])
 unfolding longer
@@ -227,5 +227,5 @@ each-behind first (d ∷ rest) behind =
     rw (sym (append_assoc first (d ∷ []) rest))
     (each-behind (first ++ d ∷ []) rest (step first d behind))
 
-pub pushes-behind : PushesAreBehindLock
+pub pushes-behind : PushesAreAfterLock
 pushes-behind dumps = (each-behind [] dumps begin-behind).pushed

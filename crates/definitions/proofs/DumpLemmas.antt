@@ -9,10 +9,10 @@ use Rattle.definitions.specs.Samples.{Sample}
 use Rattle.definitions.specs.Oscillators.{Settings, code_cycle}
 use Rattle.definitions.specs.Correlation.{Phases, phases_after, counts_over}
 use Rattle.definitions.specs.Segments.{Channel, Dump, Segment, Progress, open_phases, is_through}
-use Rattle.definitions.specs.Segments.{end_by, next_end, closed_at, progress, behind_segments}
+use Rattle.definitions.specs.Segments.{end_by, next_end, closed_at, progress, after_segments}
 use Rattle.definitions.specs.Segments.{closed_if_ended, first_progress, next_segment}
-use Rattle.definitions.specs.SlotLaws.{time_behind, segment_behind, phases_behind, IsDump}
-use Rattle.definitions.specs.SlotLaws.{DumpsArePlainSums}
+use Rattle.definitions.specs.SlotLaws.{time_after_dumps, segment_after_dumps, phases_after_dumps}
+use Rattle.definitions.specs.SlotLaws.{IsDump, DumpsArePlainSums}
 use Rattle.definitions.proofs.SumsLemmas.{IsLeast, least_below-some, least_below-none}
 use Rattle.definitions.proofs.SegmentsLemmas.{segments-preserve, closed-none, closed-some}
 use Rattle.definitions.proofs.SegmentsLemmas.{end_by-at_start, end_by-above, is_through-is}
@@ -46,8 +46,9 @@ clash t f = cc
 
 module _ (settings : Settings) (channel : Channel) where
   segment-append : (ds more : List Dump) (k : ℕ) → k ≤ length ds
-      → segment_behind settings channel (ds ++ more) k ≡ segment_behind settings channel ds k
-  unfolding segment_behind
+      → segment_after_dumps settings channel (ds ++ more) k
+      ≡ segment_after_dumps settings channel ds k
+  unfolding segment_after_dumps
   segment-append ds more zero h = refl
   segment-append ds more (suc k) h =
       rw (
@@ -57,26 +58,27 @@ module _ (settings : Settings) (channel : Channel) where
       ) refl
 
   pub phases-append : (ds more : List Dump) (k : ℕ) → k ≤ length ds
-      → phases_behind settings channel (ds ++ more) k ≡ phases_behind settings channel ds k
+      → phases_after_dumps settings channel (ds ++ more) k
+      ≡ phases_after_dumps settings channel ds k
   phases-append ds more k h = rw (segment-append ds more k h, take-append-le k ds more h) refl
 
   pub time-append : (ds more : List Dump) (k : ℕ) → k ≤ length ds
-      → time_behind channel (ds ++ more) k ≡ time_behind channel ds k
+      → time_after_dumps channel (ds ++ more) k ≡ time_after_dumps channel ds k
   time-append ds more zero h = refl
   time-append ds more (suc k) h = rw (slice_get-append ds more k (omega arith)) refl
 
   start-is : (ds : List Dump) (k : ℕ)
-      → (segment_behind settings channel ds k).start ≡ time_behind channel ds k
-  unfolding segment_behind
+      → (segment_after_dumps settings channel ds k).start ≡ time_after_dumps channel ds k
+  unfolding segment_after_dumps
   start-is ds zero = refl
   start-is ds (suc k) = refl
 
   -- the segment after all of the dumps, when one more is pushed
   segment-push : (ds : List Dump) (d : Dump)
-      → segment_behind settings channel (ds ++ d ∷ []) (suc (length ds))
-      ≡ next_segment (segment_behind settings channel ds (length ds))
-      (phases_behind settings channel ds (length ds)) d.time
-  unfolding segment_behind
+      → segment_after_dumps settings channel (ds ++ d ∷ []) (suc (length ds))
+      ≡ next_segment (segment_after_dumps settings channel ds (length ds))
+      (phases_after_dumps settings channel ds (length ds)) d.time
+  unfolding segment_after_dumps
   segment-push ds d =
       rw (
         segment-append ds (d ∷ []) (length ds) (omega arith),
@@ -86,11 +88,12 @@ module _ (settings : Settings) (channel : Channel) where
 
 module _ (settings : Settings) (channel : Channel) (xs : List Sample) where
   Is : List Dump → ℕ → Dump → Type 0
-  Is ds k d = IsDump channel xs (time_behind channel ds k) (phases_behind settings channel ds k) d
+  Is ds k d =
+      IsDump channel xs (time_after_dumps channel ds k) (phases_after_dumps settings channel ds k) d
 
   record Stands (p : Progress) : Type 0 where
     each : (k : ℕ) (d : Dump) → slice_get p.dumps k ≡ Some d → Is p.dumps k d
-    behind : p.open_segment ≡ segment_behind settings channel p.dumps (length p.dumps)
+    behind : p.open_segment ≡ segment_after_dumps settings channel p.dumps (length p.dumps)
 
   -- a dump is what it was when others come after it
   still : (ds more : List Dump) (k : ℕ) (d : Dump) → k ≤ length ds → Is ds k d → Is (ds ++ more) k d
@@ -123,7 +126,7 @@ module _ (settings : Settings) (channel : Channel) (xs : List Sample) where
       }
 
   stands-begun : Stands (first_progress channel)
-  unfolding segment_behind
+  unfolding segment_after_dumps
   stands-begun = record { each = λ k d e. none k d e; behind = refl }
     where
       none : (k : ℕ) (d : Dump) → None ≡ Some d → Is [] k d
@@ -141,9 +144,9 @@ module _ (settings : Settings) (channel : Channel) (xs : List Sample) where
   new-dump p e stands ends =
       let whole : take (length p.dumps) p.dumps ≡ p.dumps = take-length p.dumps in
       let phases : open_phases settings channel p
-      ≡ phases_behind settings channel p.dumps (length p.dumps) =
+      ≡ phases_after_dumps settings channel p.dumps (length p.dumps) =
       rw (stands.behind, whole) refl in
-      let start : p.open_segment.start ≡ time_behind channel p.dumps (length p.dumps) =
+      let start : p.open_segment.start ≡ time_after_dumps channel p.dumps (length p.dumps) =
       ap (λ (s : Segment). s.start) stands.behind
       ∙ start-is settings channel p.dumps (length p.dumps) in
       let least =
@@ -184,7 +187,8 @@ module _ (settings : Settings) (channel : Channel) (xs : List Sample) where
           (new-dump p e stands ends))
 
       behind_it : next_segment p.open_segment (open_phases settings channel p) e
-          ≡ segment_behind settings channel (p.dumps ++ new ∷ []) (length (p.dumps ++ new ∷ []))
+          ≡ segment_after_dumps settings channel (p.dumps ++ new ∷ [])
+          (length (p.dumps ++ new ∷ []))
       behind_it =
           let long : length (p.dumps ++ new ∷ []) ≡ suc (length p.dumps) =
           simp length-append (omega arith) in
@@ -205,13 +209,13 @@ module _ (settings : Settings) (channel : Channel) (xs : List Sample) where
 
   -- after k segments either no other ends, or k samples at least have passed since the start
   passed : (k : ℕ)
-      → (next_end settings channel xs (behind_segments settings channel xs k) ≡ None)
-      ⊎ (k + channel.start ≤ (behind_segments settings channel xs k).open_segment.start)
-  unfolding behind_segments
+      → (next_end settings channel xs (after_segments settings channel xs k) ≡ None)
+      ⊎ (k + channel.start ≤ (after_segments settings channel xs k).open_segment.start)
+  unfolding after_segments
   passed zero = inr (omega arith)
   passed (suc k) =
-      by_end (behind_segments settings channel xs k)
-      (next_end settings channel xs (behind_segments settings channel xs k)) refl (passed k)
+      by_end (after_segments settings channel xs k)
+      (next_end settings channel xs (after_segments settings channel xs k)) refl (passed k)
     where
       by_end : (p : Progress) (o : Option ℕ) → next_end settings channel xs p ≡ o
           → (next_end settings channel xs p ≡ None) ⊎ (k + channel.start ≤ p.open_segment.start)
@@ -247,13 +251,13 @@ module _ (settings : Settings) (channel : Channel) (xs : List Sample) where
       ]
 
   no-more : (p : Progress) → Stands p → next_end settings channel xs p ≡ None → (e : ℕ)
-      → time_behind channel p.dumps (length p.dumps) < e → e ≤ length xs
-      → (phases_after (phases_behind settings channel p.dumps (length p.dumps))
-      (e - time_behind channel p.dumps (length p.dumps))).code < code_cycle
+      → time_after_dumps channel p.dumps (length p.dumps) < e → e ≤ length xs
+      → (phases_after (phases_after_dumps settings channel p.dumps (length p.dumps))
+      (e - time_after_dumps channel p.dumps (length p.dumps))).code < code_cycle
   unfolding next_end
   no-more p stands none e after within =
       let whole : take (length p.dumps) p.dumps ≡ p.dumps = take-length p.dumps in
-      let start : time_behind channel p.dumps (length p.dumps) ≡ p.open_segment.start =
+      let start : time_after_dumps channel p.dumps (length p.dumps) ≡ p.open_segment.start =
       sym (start-is settings channel p.dumps (length p.dumps))
       ∙ ap (λ (s : Segment). s.start) (sym stands.behind) in
       rw (whole, sym stands.behind, start)

@@ -4,7 +4,7 @@ use Rattle.std.proofs.Common.{sym, ap, ◌∙◌, arith, length-append, append-n
 use Rattle.std.specs.Prelude.{Bool, true, false, ℤ, not, ◌&&◌, Option, Some, None, is_some, ◌⊎◌}
 use Rattle.std.proofs.lemmas.Bool.{and_parts}
 use Rattle.definitions.specs.Sums.{least_below}
-use Rattle.definitions.specs.BitEdge.{has_edge, edge_of, is_edge, bits_of, bits_behind}
+use Rattle.definitions.specs.BitEdge.{has_edge, edge_of, is_edge, bits_of, bits_after}
 use Rattle.definitions.specs.Events.{front_of}
 use Rattle.definitions.proofs.SumsLemmas.{least_below-some, least_below-none}
 use Rattle.definitions.proofs.BitLemmas.{is_edge-append}
@@ -20,7 +20,7 @@ front-push ps p = front_of-append ps (p ∷ []) (omega arith) ∙ one ps p
     one ps p = append-nil ps
 
 length-bits : (pushes : List ℤ) (k : ℕ) → length pushes ≡ suc k
-    → length (bits_behind pushes (Some k)) ≡ 0
+    → length (bits_after pushes (Some k)) ≡ 0
 length-bits pushes k e = let one : length pushes - k ≡ 1 = omega (arith, e) in rw one refl
 
 clash : {b : Bool} → b ≡ true → b ≡ false → ⊥
@@ -54,13 +54,13 @@ edge-alone pushes now = by_last (snoc pushes)
     no_edge (Some k) e = cc
 
     by_edge : (ps : List ℤ) (p : ℤ) → pushes ≡ ps ++ p ∷ [] → (o : Option ℕ) → edge_of pushes ≡ o
-        → is_some o ≡ true → edge_of ps ≡ None → length (bits_behind pushes o) ≡ 0
+        → is_some o ≡ true → edge_of ps ≡ None → length (bits_after pushes o) ≡ 0
     by_edge ps p e None some is none = cc
     by_edge ps p e (Some k) some is none =
         length-bits pushes k (ap length e ∙ edge-last ps p k (ap edge_of (sym e) ∙ some) none)
 
     by_last : ((pushes ≡ []) ⊎ ((ps : List ℤ) × (p : ℤ) × (pushes ≡ ps ++ p ∷ [])))
-        → length (bits_behind pushes (edge_of pushes)) ≡ 0
+        → length (bits_after pushes (edge_of pushes)) ≡ 0
     by_last (inl none) = absurd (clash (and_parts _ _ now).0 (ap has_edge none ∙ nothing_there))
       where
         nothing_there : has_edge [] ≡ false

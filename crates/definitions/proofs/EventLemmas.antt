@@ -24,7 +24,8 @@ use Rattle.definitions.specs.Events.{steered_events, dump_events, last_dump_even
 use Rattle.definitions.specs.Events.{life_events, events_at_end}
 use Rattle.definitions.specs.EventLaws.{counts_by, pushes_so_far, bits_so_far, IsCount, IsNamed}
 use Rattle.definitions.specs.EventLaws.{IsSubframe, IsOfLife, IsRight, EventsAreRight}
-use Rattle.definitions.specs.EventLaws.{CountsAreDumps, AcquisitionsNameTheGreatest, WordsToldPass}
+use Rattle.definitions.specs.EventLaws.{CountsAreDumps, AcquisitionsNameTheGreatest}
+use Rattle.definitions.specs.EventLaws.{EmittedWordsPass}
 use Rattle.definitions.proofs.DumpLemmas.{are-dumps}
 use Rattle.definitions.proofs.LifeDumpLemmas.{life-dump}
 use Rattle.definitions.proofs.GreatestLemmas.{greatest_of-first}
@@ -243,5 +244,5 @@ pub acquisitions-right : AcquisitionsNameTheGreatest
 acquisitions-right settings xs commands i prn cell there =
     events-right settings xs commands i (acquired prn cell) there
 
-pub words-pass : WordsToldPass
+pub words-pass : EmittedWordsPass
 words-pass settings xs commands i s there = events-right settings xs commands i (subframe s) there

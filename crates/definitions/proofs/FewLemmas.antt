@@ -25,7 +25,7 @@ use Rattle.definitions.specs.Events.{last_of, front_of, news_events, pushes_of, 
 use Rattle.definitions.specs.Events.{page_events, bit_events, push_events, steered_events}
 use Rattle.definitions.specs.Events.{dump_events, last_dump_events, due_events, life_events}
 use Rattle.definitions.specs.Events.{events_at_end}
-use Rattle.definitions.specs.SlotLaws.{is_set, SlotTellsFew}
+use Rattle.definitions.specs.SlotLaws.{is_set, SlotEmitsFew}
 use Rattle.definitions.proofs.DueLemmas.{acquire-tells}
 use Rattle.definitions.proofs.LockEndLemmas.{IsNews, news-is, news-pushes}
 use Rattle.definitions.proofs.EdgeLemmas.{edge-alone}
@@ -203,7 +203,7 @@ few-life settings xs life = by_start life.start refl
     by_start (acquire plan) e =
         by_due plan e (nat_eq (due_time settings plan life.begun) (length xs)) refl
 
-pub tells-few : SlotTellsFew
+pub tells-few : SlotEmitsFew
 unfolding events_at_end life_events
 tells-few settings xs commands = by_life (life_now settings (front_of xs) commands)
   where

@@ -9,7 +9,7 @@ use Rattle.definitions.specs.Texts.{for_client}
 use Rattle.definitions.specs.Receiver.{Client, timed_texts, event_texts, answer_texts}
 use Rattle.definitions.specs.Receiver.{event_lines, answer_lines, lines_at, for_each_client}
 use Rattle.definitions.specs.Receiver.{body_lines}
-use Rattle.definitions.specs.TextLaws.{IsLaterThan, MoreSamplesTellLater}
+use Rattle.definitions.specs.TextLaws.{IsLaterThan, MoreSamplesEmitLater}
 use Rattle.definitions.proofs.BodyLemmas.{body_lines-more}
 
 all-append : (P : List ℕ → Type 0) (xs ys : List (List ℕ)) → AllByRecursion P xs
@@ -70,6 +70,6 @@ added-later settings clients t xs (y ∷ ys) h =
           (lines_at-later settings clients t (xs ++ y ∷ []) (omega arith)) later.2,
     )
 
-pub more-later : MoreSamplesTellLater
+pub more-later : MoreSamplesEmitLater
 more-later settings clients xs ys =
     added-later settings clients (length xs) xs ys (omega arith)

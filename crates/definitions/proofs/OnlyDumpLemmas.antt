@@ -8,7 +8,8 @@ use Rattle.definitions.specs.Samples.{Sample}
 use Rattle.definitions.specs.Oscillators.{Settings, code_cycle}
 use Rattle.definitions.specs.Correlation.{Phases, phases_after, counts_over}
 use Rattle.definitions.specs.Segments.{Channel, Dump, dumps_of}
-use Rattle.definitions.specs.SlotLaws.{time_behind, phases_behind, IsDump, AreDumps, NoOtherDumps}
+use Rattle.definitions.specs.SlotLaws.{time_after_dumps, phases_after_dumps, IsDump, AreDumps}
+use Rattle.definitions.specs.SlotLaws.{NoOtherDumps}
 use Rattle.definitions.proofs.DumpLemmas.{are-dumps, time-append, phases-append}
 use Rattle.definitions.proofs.AlmanacLemmas.{within}
 
@@ -32,16 +33,16 @@ take-none xs k e =
 -- ---- what comes after the first dumps rests on them alone
 module _ (settings : Settings) (channel : Channel) where
   time-take : (ds : List Dump) (k : ℕ) → k ≤ length ds
-      → time_behind channel ds k ≡ time_behind channel (take k ds) k
+      → time_after_dumps channel ds k ≡ time_after_dumps channel (take k ds) k
   time-take ds k h =
-      ap (λ l. time_behind channel l k) (sym (take-append-drop k ds))
+      ap (λ l. time_after_dumps channel l k) (sym (take-append-drop k ds))
       ∙ time-append settings channel (take k ds) (drop k ds) k
       (omega (arith, length-take-le k ds h))
 
   phases-take : (ds : List Dump) (k : ℕ) → k ≤ length ds
-      → phases_behind settings channel ds k ≡ phases_behind settings channel (take k ds) k
+      → phases_after_dumps settings channel ds k ≡ phases_after_dumps settings channel (take k ds) k
   phases-take ds k h =
-      ap (λ l. phases_behind settings channel l k) (sym (take-append-drop k ds))
+      ap (λ l. phases_after_dumps settings channel l k) (sym (take-append-drop k ds))
       ∙ phases-append settings channel (take k ds) (drop k ds) k
       (omega (arith, length-take-le k ds h))
 
@@ -83,18 +84,18 @@ module _ (settings : Settings) (channel : Channel) (xs : List Sample) where
       let short : length those ≤ k = none-there those k none in
       let whole : take k those ≡ those = take_all k those short in
       let count : length those ≡ k = ap length (sym whole) ∙ ap length (sym same) ∙ long in
-      let start : time_behind channel these k ≡ time_behind channel those (length those) =
+      let start : time_after_dumps channel these k ≡ time_after_dumps channel those (length those) =
       time-take settings channel these k (omega (arith, inside))
-      ∙ ap (λ l. time_behind channel l k) (same ∙ whole)
-      ∙ ap (time_behind channel those) (sym count) in
-      let phases : phases_behind settings channel these k
-      ≡ phases_behind settings channel those (length those) =
+      ∙ ap (λ l. time_after_dumps channel l k) (same ∙ whole)
+      ∙ ap (time_after_dumps channel those) (sym count) in
+      let phases : phases_after_dumps settings channel these k
+      ≡ phases_after_dumps settings channel those (length those) =
       phases-take settings channel these k (omega (arith, inside))
-      ∙ ap (λ l. phases_behind settings channel l k) (same ∙ whole)
-      ∙ ap (phases_behind settings channel those) (sym count) in
-      ended (time_behind channel these k) (time_behind channel those (length those))
-      (phases_behind settings channel these k)
-      (phases_behind settings channel those (length those)) start phases (ha.each k d there)
+      ∙ ap (λ l. phases_after_dumps settings channel l k) (same ∙ whole)
+      ∙ ap (phases_after_dumps settings channel those) (sym count) in
+      ended (time_after_dumps channel these k) (time_after_dumps channel those (length those))
+      (phases_after_dumps settings channel these k)
+      (phases_after_dumps settings channel those (length those)) start phases (ha.each k d there)
       hb.no_more
     where
       ended : (a b : ℕ) (p q : Phases) → a ≡ b → p ≡ q → IsDump channel xs a p d
@@ -125,18 +126,18 @@ module _ (settings : Settings) (channel : Channel) (xs : List Sample) where
       by_place same (Some d) (Some c) e f =
           let here : k < length these = within these k d e in
           let there : k < length those = within those k c f in
-          let start : time_behind channel those k ≡ time_behind channel these k =
+          let start : time_after_dumps channel those k ≡ time_after_dumps channel these k =
           time-take settings channel those k (omega (arith, there))
-          ∙ ap (λ l. time_behind channel l k) (sym same)
+          ∙ ap (λ l. time_after_dumps channel l k) (sym same)
           ∙ sym (time-take settings channel these k (omega (arith, here))) in
-          let phases : phases_behind settings channel those k
-          ≡ phases_behind settings channel these k =
+          let phases : phases_after_dumps settings channel those k
+          ≡ phases_after_dumps settings channel these k =
           phases-take settings channel those k (omega (arith, there))
-          ∙ ap (λ l. phases_behind settings channel l k) (sym same)
+          ∙ ap (λ l. phases_after_dumps settings channel l k) (sym same)
           ∙ sym (phases-take settings channel these k (omega (arith, here))) in
           let one : d ≡ c =
-          one-dump channel xs (time_behind channel these k)
-          (phases_behind settings channel these k) d c (ha.each k d e)
+          one-dump channel xs (time_after_dumps channel these k)
+          (phases_after_dumps settings channel these k) d c (ha.each k d e)
           (moved start phases (hb.each k c f)) in
           take-some these k d e ∙ ap (λ l. l ++ d ∷ []) same ∙ ap (λ x. take k those ++ x ∷ []) one
           ∙ sym (take-some those k c f)

@@ -14,7 +14,7 @@ use Rattle.definitions.specs.Receiver.{Client, entries_of, event_texts, slot_eve
 use Rattle.definitions.specs.Receiver.{answer_texts, entry_answer_texts, reply_text, at_each_time}
 use Rattle.definitions.specs.Receiver.{timed_texts, for_each_client, lines_at, event_lines}
 use Rattle.definitions.specs.Receiver.{answer_lines, body_lines, end_lines, end_line, full_lines}
-use Rattle.definitions.specs.PrintedLaws.{commands_before, Tells, IsOneOf, LinesComeFromEvents}
+use Rattle.definitions.specs.PrintedLaws.{commands_before, Emits, IsOneOf, LinesComeFromEvents}
 use Rattle.definitions.proofs.EventLemmas.{all-at, events-right}
 use Rattle.definitions.proofs.TextLemmas.{lines_of-full}
 
@@ -74,10 +74,10 @@ module _ (settings : Settings) (clients : List Client) (xs : List Sample) where
       → One (for_client (1 + k) (at_time (length zs) (event_text slot event)))
   unfolding One Now
   event-line zs k slot i client event now is_client is_slot there =
-      let tells : Tells settings clients zs k slot client event = record {
+      let tells : Emits settings clients zs k slot client event = record {
         is_client = is_client;
         is_slot = is_slot;
-        is_told = (i, there);
+        is_emitted = (i, there);
         is_right = events-right settings zs (commands_before client slot zs) i event there;
       } in
       inl (

@@ -24,7 +24,8 @@ use Rattle.definitions.specs.Events.{Event, acquired, count, locked, unlocked, s
 use Rattle.definitions.specs.Events.{gap, subframe, reported, almanacs, events_at_end, front_of}
 use Rattle.definitions.specs.Events.{pages_among, pushes_of, unprinted_count}
 use Rattle.definitions.specs.Laws.{IsFirstGreatest, IsChecked}
-use Rattle.definitions.specs.SlotLaws.{IsPage, IsLastPage, IsDump, time_behind, phases_behind}
+use Rattle.definitions.specs.SlotLaws.{IsPage, IsLastPage, IsDump, time_after_dumps}
+use Rattle.definitions.specs.SlotLaws.{phases_after_dumps}
 
 -- ---- what an event says of a life
 
@@ -49,8 +50,8 @@ pub record IsCount (settings : Settings) (xs : List Sample) (life : Life) (chann
   pub is_wanted : 0 < unprinted_count life (front_of (dumps_of_life settings xs life))
   pub is_followed : channel_of settings xs life.begun life.start ≡ Some channel
   pub is_dump : slice_get (dumps_of settings channel xs) k ≡ Some (dump_now xs c)
-  pub is_sum : IsDump channel xs (time_behind channel (dumps_of settings channel xs) k)
-      (phases_behind settings channel (dumps_of settings channel xs) k) (dump_now xs c)
+  pub is_sum : IsDump channel xs (time_after_dumps channel (dumps_of settings channel xs) k)
+      (phases_after_dumps settings channel (dumps_of settings channel xs) k) (dump_now xs c)
 
 -- the powers of all cells, added up
 abbrev pub total_power : Settings → List Sample → Plan → ℕ → ℕ
@@ -179,8 +180,8 @@ AcquisitionsNameTheGreatest =
     × IsAcquisition settings xs life prn cell
 
 -- Each word that is shown of an emitted subframe passes.
-abbrev pub WordsToldPass : Type 0
-WordsToldPass = (settings : Settings) (xs : List Sample) (commands : List TimedRequest) (i : ℕ)
+abbrev pub EmittedWordsPass : Type 0
+EmittedWordsPass = (settings : Settings) (xs : List Sample) (commands : List TimedRequest) (i : ℕ)
     (s : Subframe)
     → slice_get (events_at_end settings xs commands) i ≡ Some (subframe s)
     → (life : Life) × (life_now settings (front_of xs) commands ≡ Some life)

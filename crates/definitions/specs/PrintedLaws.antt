@@ -30,18 +30,18 @@ abbrev pub IsAmong : {A : Type 0} → List A → A → Type 0
 IsAmong xs x = (i : ℕ) × (slice_get xs i ≡ Some x)
 
 -- The last of the samples makes a slot of client number 1 + k emit the event, and it is right.
-pub record Tells (settings : Settings) (clients : List Client)
+pub record Emits (settings : Settings) (clients : List Client)
     (xs : List Sample) (k slot : ℕ) (client : Client) (event : Event) : Type 0 where
   pub is_client : slice_get clients k ≡ Some client
   pub is_slot : slot < client.slots
-  pub is_told : IsAmong (events_at_end settings xs (commands_before client slot xs)) event
+  pub is_emitted : IsAmong (events_at_end settings xs (commands_before client slot xs)) event
   pub is_right : IsRight settings xs (commands_before client slot xs) event
 
 -- The line is that of an event, emitted at a time from 0 to the number of samples.
 abbrev pub IsLineOf : Settings → List Client → List Sample → List ℕ → Event → Type 0
 IsLineOf settings clients xs line event =
     (t : ℕ) × (k : ℕ) × (slot : ℕ) × (client : Client) × (t ≤ length xs)
-    × Tells settings clients (take t xs) k slot client event
+    × Emits settings clients (take t xs) k slot client event
     × (line ≡ for_client (1 + k) (at_time t (event_text slot event)))
 
 -- the text of the answer to an entry of a client's script, after the i entries before it

@@ -26,24 +26,24 @@ use Rattle.definitions.specs.Lock.{News, nothing, lock, unlock, lost, news_of, i
 
 -- when the first k dumps are over: the first segment begins with the channel, each other one where
 -- the one before it ends
-abbrev pub time_behind : Channel → List Dump → ℕ → ℕ
-time_behind channel dumps zero = channel.start
-time_behind channel dumps (suc k) = option_map_or (λ (d : Dump). d.time) (slice_get dumps k) 0
+abbrev pub time_after_dumps : Channel → List Dump → ℕ → ℕ
+time_after_dumps channel dumps zero = channel.start
+time_after_dumps channel dumps (suc k) = option_map_or (λ (d : Dump). d.time) (slice_get dumps k) 0
 
 -- the segment that begins there, with the phases that the one before it left
-unfoldable pub segment_behind : Settings → Channel → List Dump → ℕ → Segment
-segment_behind settings channel dumps zero =
+unfoldable pub segment_after_dumps : Settings → Channel → List Dump → ℕ → Segment
+segment_after_dumps settings channel dumps zero =
     record { start = channel.start; code = channel.code; carrier = 0 }
-segment_behind settings channel dumps (suc k) =
-    let s = segment_behind settings channel dumps k in
+segment_after_dumps settings channel dumps (suc k) =
+    let s = segment_after_dumps settings channel dumps k in
     next_segment s (phases_of settings (channel.steering (counts_of (take k dumps))) s)
-    (time_behind channel dumps (suc k))
+    (time_after_dumps channel dumps (suc k))
 
 -- its phases, at the shift that the first k dumps ask for
-abbrev pub phases_behind : Settings → Channel → List Dump → ℕ → Phases
-phases_behind settings channel dumps k =
+abbrev pub phases_after_dumps : Settings → Channel → List Dump → ℕ → Phases
+phases_after_dumps settings channel dumps k =
     phases_of settings (channel.steering (counts_of (take k dumps)))
-    (segment_behind settings channel dumps k)
+    (segment_after_dumps settings channel dumps k)
 
 -- the code's phase n samples on, not taken back by a cycle
 abbrev pub code_by : Phases → ℕ → ℕ
@@ -81,10 +81,11 @@ SegmentsGoOn = (s : Segment) (p : Phases) (e : ℕ) → p.code ≡ s.code → p.
 pub record AreDumps (settings : Settings) (channel : Channel) (xs : List Sample) (dumps : List Dump)
     : Type 0 where
   pub each : (k : ℕ) (d : Dump) → slice_get dumps k ≡ Some d
-      → IsDump channel xs (time_behind channel dumps k) (phases_behind settings channel dumps k) d
-  pub no_more : (e : ℕ) → time_behind channel dumps (length dumps) < e → e ≤ length xs
-      → code_by (phases_behind settings channel dumps (length dumps))
-      (e - time_behind channel dumps (length dumps)) < code_cycle
+      → IsDump channel xs (time_after_dumps channel dumps k)
+      (phases_after_dumps settings channel dumps k) d
+  pub no_more : (e : ℕ) → time_after_dumps channel dumps (length dumps) < e → e ≤ length xs
+      → code_by (phases_after_dumps settings channel dumps (length dumps))
+      (e - time_after_dumps channel dumps (length dumps)) < code_cycle
 
 -- The dumps of a channel are the plain sums over one run of the code after another.
 abbrev pub DumpsArePlainSums : Type 0
@@ -143,16 +144,16 @@ last_lock dumps (suc k) =
 abbrev pub prompt_sums : List Counts → List ℤ
 prompt_sums dumps = map (λ (d : Counts). d.ip) dumps
 
-abbrev pub sums_behind : List Counts → Option ℕ → List ℤ
-sums_behind dumps None = []
-sums_behind dumps (Some k) = prompt_sums (drop k dumps)
+abbrev pub sums_after : List Counts → Option ℕ → List ℤ
+sums_after dumps None = []
+sums_after dumps (Some k) = prompt_sums (drop k dumps)
 
 -- While the loops are locked, the prompt sums of the dumps after the one with which they last
 -- answered with a lock are pushed, and otherwise none.
-abbrev pub PushesAreBehindLock : Type 0
-PushesAreBehindLock = (dumps : List Counts)
+abbrev pub PushesAreAfterLock : Type 0
+PushesAreAfterLock = (dumps : List Counts)
     → pushes_of dumps
-    ≡ (if is_locked dumps then sums_behind dumps (last_lock dumps (length dumps)) else [])
+    ≡ (if is_locked dumps then sums_after dumps (last_lock dumps (length dumps)) else [])
 
 -- ---- lives
 
@@ -191,7 +192,7 @@ is_set event = elim event [
   | reported r ↦ false
 ]
 
-abbrev pub SlotTellsFew : Type 0
-SlotTellsFew = (settings : Settings) (xs : List Sample) (commands : List TimedRequest)
+abbrev pub SlotEmitsFew : Type 0
+SlotEmitsFew = (settings : Settings) (xs : List Sample) (commands : List TimedRequest)
     → (length (filter (λ e. not (is_set e)) (events_at_end settings xs commands)) ≤ 4)
     × (length (filter is_set (events_at_end settings xs commands)) ≤ 1)

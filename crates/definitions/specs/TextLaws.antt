@@ -59,8 +59,8 @@ IsLaterThan t line = (client : ℕ) × (time : ℕ) × (text : List ℕ) × (t <
     × (line ≡ for_client client (at_time time text))
 
 -- More samples add lines of later times alone: a line rests on the samples before its time.
-abbrev pub MoreSamplesTellLater : Type 0
-MoreSamplesTellLater =
+abbrev pub MoreSamplesEmitLater : Type 0
+MoreSamplesEmitLater =
     (settings : Settings) (clients : List Client) (xs ys : List Sample)
     → (rest : List (List ℕ))
     × (body_lines settings (xs ++ ys) clients

@@ -1,11 +1,11 @@
 //! Laws of what one slot emits.
 
-ghost use Rattle.definitions.specs.SlotLaws.{PushesAreBehindLock};
+ghost use Rattle.definitions.specs.SlotLaws.{PushesAreAfterLock};
 ghost use Rattle.definitions.specs.SlotLaws.{DumpsArePlainSums, NoOtherDumps, CellsComeWithSamples};
 ghost use Rattle.definitions.specs.SlotLaws.{PagesPass, SegmentsGoOn};
-ghost use Rattle.definitions.specs.SlotLaws.{EdgeIsSixteenthChange, LifeIsOn, SlotTellsFew};
+ghost use Rattle.definitions.specs.SlotLaws.{EdgeIsSixteenthChange, LifeIsOn, SlotEmitsFew};
 ghost use Rattle.definitions.specs.EventLaws.{EventsAreRight, CountsAreDumps};
-ghost use Rattle.definitions.specs.EventLaws.{AcquisitionsNameTheGreatest, WordsToldPass};
+ghost use Rattle.definitions.specs.EventLaws.{AcquisitionsNameTheGreatest, EmittedWordsPass};
 ghost use Rattle.definitions.specs.EventLaws.{AlmanacSetsAgree, FoundCodeGoesOn};
 
 /// The dumps of a channel are the six plain sums over one run of the code after another.
@@ -34,8 +34,8 @@ pub fn pages_pass()
 {}
 
 /// While the loops are locked, the prompt sums after the last dump that brought a lock are pushed.
-pub fn pushes_are_behind_lock()
-    ensures { PushesAreBehindLock }
+pub fn pushes_are_after_lock()
+    ensures { PushesAreAfterLock }
 {}
 
 /// Where the sign of the pushes changes at one place modulo 20 alone, the edge is at the sixteenth
@@ -67,8 +67,8 @@ pub fn acquisitions_name_the_greatest()
 {}
 
 /// Each word that is shown of an emitted subframe passes with the two bits before it.
-pub fn words_told_pass()
-    ensures { WordsToldPass }
+pub fn emitted_words_pass()
+    ensures { EmittedWordsPass }
 {}
 
 /// A set of almanacs that is reported has the last almanac of each satellite, all of one time of
@@ -84,6 +84,6 @@ pub fn found_code_goes_on()
 {}
 
 /// A slot emits at most four events with one sample, and beside them at most one set of almanacs.
-pub fn slot_tells_few()
-    ensures { SlotTellsFew }
+pub fn slot_emits_few()
+    ensures { SlotEmitsFew }
 {}

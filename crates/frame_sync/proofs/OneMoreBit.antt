@@ -10,7 +10,7 @@ use Rattle.definitions.specs.Frames as frames
 use Rattle.definitions.specs.Frames.{is_candidate, starts_of, found_by, found_among, gap_from}
 use Rattle.definitions.specs.Frames.{subframe_at, checked_at, number_at, prior_at, is_header}
 use Rattle.frame_sync.specs.Bits.{number_of, has_header_in, bits_in, word_in}
-use Rattle.frame_sync.specs.Search.{IsSearched, IsIncoming, awaited_behind}
+use Rattle.frame_sync.specs.Search.{IsSearched, IsIncoming, awaited_after}
 use Rattle.frame_sync.specs.Incoming.{StartsHere, header_in, with_word_in}
 use Rattle.frame_sync.specs.declared.incoming.Incoming.{Incoming}
 use Rattle.frame_sync.proofs.Windows.{number_at-window, checked_at-window}
@@ -20,7 +20,7 @@ use Rattle.frame_sync.proofs.IncomingWords.{words_at, header_words-at, words-wit
 use Rattle.frame_sync.proofs.IncomingWords.{start-with_word_in}
 use Rattle.frame_sync.proofs.WholeSubframes.{AreBefore, are_before-more, are_before-push}
 use Rattle.frame_sync.proofs.WholeSubframes.{found_among-behind, found_among-open, found_among-last}
-use Rattle.frame_sync.proofs.WholeSubframes.{subframe_at-shown, awaited_behind-push}
+use Rattle.frame_sync.proofs.WholeSubframes.{subframe_at-shown, awaited_after-push}
 use Rattle.frame_sync.proofs.WholeSubframes.{next_behind-push, awaited-cases}
 
 module _ (bits : List Bool) (bit : Bool) where
@@ -179,7 +179,7 @@ module _ (bits : List Bool) (bit : Bool) where
                 ∙ found_among-behind (longer bits bit) (length bits)
                 (omega (arith, length-longer bits bit)) None search_before.whole
                 (place bits bit ∷ []) search_before.are_whole
-                ∙ found_among-open (longer bits bit) (awaited_behind None search_before.whole)
+                ∙ found_among-open (longer bits bit) (awaited_after None search_before.whole)
                 (place bits bit) (λ e. omega (arith, length-longer bits bit)));
           }
 
@@ -272,7 +272,7 @@ module _ (bits : List Bool) (bit : Bool) where
                   search_before.are_whole) (omega (arith, length-longer bits bit));
               awaits =
                   ap (λ (n : ℕ). Some n) ends
-                  ∙ sym (awaited_behind-push None search_before.whole before.start);
+                  ∙ sym (awaited_after-push None search_before.whole before.start);
               comes = λ x e. cc;
             };
             is_found =

@@ -7,7 +7,7 @@ use Rattle.std.proofs.lemmas.Bool.{eq-eqb, ne_eqb, cond-true, cond-false}
 use Rattle.std.proofs.lemmas.List.FromFn.{fill_by_all, get_or-map-range_with_len}
 use Rattle.std.proofs.lemmas.List.FromFn.{length-map-range_with_len}
 use Rattle.definitions.specs.Frames.{found_among, subframe_at, gap_from, checked_at}
-use Rattle.frame_sync.specs.Search.{awaited_behind, shown_at}
+use Rattle.frame_sync.specs.Search.{awaited_after, shown_at}
 use Rattle.frame_sync.proofs.MoreStarts.{next_behind}
 use Rattle.frame_sync.proofs.IncomingWords.{words_at, shown_at-within}
 
@@ -30,7 +30,7 @@ are_before-push end (s ∷ starts) start before h =
 -- none of them is found
 pub found_among-behind : (bits : List Bool) (end : ℕ) → end < length bits
     → (place : Option ℕ) (whole rest : List ℕ) → AreBefore end whole
-    → found_among bits place (whole ++ rest) ≡ found_among bits (awaited_behind place whole) rest
+    → found_among bits place (whole ++ rest) ≡ found_among bits (awaited_after place whole) rest
 found_among-behind bits end within place [] rest before = refl
 found_among-behind bits end within place (start ∷ whole) rest before =
     let ended : start + 300 ≤ end = before.0 in
@@ -68,14 +68,14 @@ subframe_at-shown bits start within =
 
 -- the place that is awaited, as the definition's search and the state have it
 pub next_behind-awaited : (place : ℕ) (starts : List ℕ)
-    → awaited_behind (Some place) starts ≡ Some (next_behind place starts)
+    → awaited_after (Some place) starts ≡ Some (next_behind place starts)
 next_behind-awaited place [] = refl
 next_behind-awaited place (start ∷ starts) = next_behind-awaited (start + 300) starts
 
-pub awaited_behind-push : (place : Option ℕ) (starts : List ℕ) (start : ℕ)
-    → awaited_behind place (starts ++ start ∷ []) ≡ Some (start + 300)
-awaited_behind-push place [] start = refl
-awaited_behind-push place (s ∷ starts) start = awaited_behind-push (Some (s + 300)) starts start
+pub awaited_after-push : (place : Option ℕ) (starts : List ℕ) (start : ℕ)
+    → awaited_after place (starts ++ start ∷ []) ≡ Some (start + 300)
+awaited_after-push place [] start = refl
+awaited_after-push place (s ∷ starts) start = awaited_after-push (Some (s + 300)) starts start
 
 pub next_behind-push : (place : ℕ) (starts : List ℕ) (start : ℕ)
     → next_behind place (starts ++ start ∷ []) ≡ start + 300
@@ -84,8 +84,8 @@ next_behind-push place (s ∷ starts) start = next_behind-push (s + 300) starts 
 
 -- it is 0 where there was no start, and then none is awaited, or after a whole subframe
 pub awaited-cases : (starts : List ℕ)
-    → ((awaited_behind None starts ≡ None) × (next_behind 0 starts ≡ 0))
-    ⊎ ((awaited_behind None starts ≡ Some (next_behind 0 starts))
+    → ((awaited_after None starts ≡ None) × (next_behind 0 starts ≡ 0))
+    ⊎ ((awaited_after None starts ≡ Some (next_behind 0 starts))
     × (300 ≤ next_behind 0 starts))
 awaited-cases [] = inl (refl, refl)
 awaited-cases (start ∷ starts) =

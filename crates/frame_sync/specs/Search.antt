@@ -38,9 +38,9 @@ open_start None = []
 open_start (Some incoming) = incoming.start ∷ []
 
 -- the place after the last of these subframes, from where the next one is awaited
-abbrev pub awaited_behind : Option ℕ → List ℕ → Option ℕ
-awaited_behind place [] = place
-awaited_behind place (start ∷ starts) = awaited_behind (Some (start + 300)) starts
+abbrev pub awaited_after : Option ℕ → List ℕ → Option ℕ
+awaited_after place [] = place
+awaited_after place (start ∷ starts) = awaited_after (Some (start + 300)) starts
 
 -- the starts among the bits are those of subframes that are whole, and then of one that may be
 -- incoming
@@ -49,7 +49,7 @@ pub record IsSearched (bits : List Bool) (awaited : Option ℕ) (incoming : Opti
   pub whole : List ℕ
   pub starts : starts_of bits ≡ whole ++ open_start incoming
   pub are_whole : AllByRecursion (λ start. start + 300 ≤ length bits) whole
-  pub awaits : awaited ≡ awaited_behind None whole
+  pub awaits : awaited ≡ awaited_after None whole
   pub comes : ForSome incoming (IsIncoming bits)
 
 -- a search that these bits, and no others, were pushed to

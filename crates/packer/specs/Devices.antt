@@ -7,8 +7,8 @@ use Rattle.packer.specs.declared.failure.Failure.TheVariants.{NoMemory, Input, O
 use Rattle.packer.specs.declared.failure.Failure.TheVariants.{NotANumber}
 
 -- after an error the device has failed, and any other answer leaves it as it was
-abbrev pub TellsFailure : {A E : Type 0} → Bool → Bool → Result A E → Type 0
-TellsFailure old new result = MatchResult result (λ _. new ≡ old) (λ _. new ≡ true)
+abbrev pub ReportsFailure : {A E : Type 0} → Bool → Bool → Result A E → Type 0
+ReportsFailure old new result = MatchResult result (λ _. new ≡ old) (λ _. new ≡ true)
 
 -- known bytes grew by a front of a text
 pub record AppendsFront (old new : Option (List ℕ)) (text : List ℕ) : Type 0 where

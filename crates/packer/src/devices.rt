@@ -33,14 +33,14 @@ impl<T> Device<T> {
 impl<R: Read> Device<R> {
     ghost use Rattle.std.specs.Io.{ReadsAtMost};
     ghost use Rattle.std.specs.Io.KnownBytes.{ReadConsumes};
-    ghost use Rattle.packer.specs.Devices.{TellsFailure};
+    ghost use Rattle.packer.specs.Devices.{ReportsFailure};
 
     /// Reads some bytes into the front of the buffer, and answers how many: 0 only at the end.
     pub fn read(&mut self, buffer: &mut [u8]) -> Result<usize, DeviceFault>
         ensures bound { ReadsAtMost result buffer.new }
         ensures bytes { ReadConsumes (R.remaining self.old.inner) (R.remaining self.new.inner)
             result buffer.new }
-        ensures failure { TellsFailure self.old.has_failed self.new.has_failed result }
+        ensures failure { ReportsFailure self.old.has_failed self.new.has_failed result }
     {
         match self.inner.read(buffer) {
             Ok(count) => Ok(count),
@@ -56,7 +56,7 @@ impl<W: Write> Device<W> {
     ghost use Rattle.std.specs.Prelude.{◌<◌, ◌≤◌, length, IfOk, OnOk, OnErr};
     ghost use Rattle.std.specs.Io.{WritesAtMost};
     ghost use Rattle.std.specs.Io.KnownBytes.{Appends, Keeps, WriteAppends};
-    ghost use Rattle.packer.specs.Devices.{TellsFailure, AppendsFront};
+    ghost use Rattle.packer.specs.Devices.{ReportsFailure, AppendsFront};
 
     /// Writes all of the bytes, by as many writes as it takes. After an error some of them may be
     /// written, from the first on.
@@ -65,7 +65,7 @@ impl<W: Write> Device<W> {
             (Appends (W.contents self.old.inner) (W.contents self.new.inner) bytes.now) }
         ensures err { OnErr result
             (AppendsFront (W.contents self.old.inner) (W.contents self.new.inner) bytes.now) }
-        ensures failure { TellsFailure self.old.has_failed self.new.has_failed result }
+        ensures failure { ReportsFailure self.old.has_failed self.new.has_failed result }
     {
         let mut sent = 0;
         while sent < bytes.len() {
@@ -81,7 +81,7 @@ impl<W: Write> Device<W> {
         ensures bound { WritesAtMost result bytes.now }
         ensures bytes { WriteAppends (W.contents self.old.inner) (W.contents self.new.inner) result
             bytes.now }
-        ensures failure { TellsFailure self.old.has_failed self.new.has_failed result }
+        ensures failure { ReportsFailure self.old.has_failed self.new.has_failed result }
     {
         match self.inner.write(bytes) {
             Ok(count) if count > 0 => Ok(count),
@@ -95,7 +95,7 @@ impl<W: Write> Device<W> {
     /// Passes on what the writer may hold back.
     pub fn flush(&mut self) -> Result<(), DeviceFault>
         ensures bytes { Keeps (W.contents self.old.inner) (W.contents self.new.inner) }
-        ensures failure { TellsFailure self.old.has_failed self.new.has_failed result }
+        ensures failure { ReportsFailure self.old.has_failed self.new.has_failed result }
     {
         match self.inner.flush() {
             Ok(()) => Ok(()),

@@ -8,7 +8,7 @@ ghost use Rattle.recordings.specs.Packers.{StandsFor, recipe_in};
 ghost use Rattle.recordings.specs.Windows.{Shows};
 ghost use Rattle.recordings.specs.declared.packer.TheConstants.{MOST_PIECE};
 ghost use Rattle.recordings.specs.declared.recipe.Recipe.{Recipe};
-ghost use Rattle.packer.specs.Devices.{TellsFailure, SaysWhich, devices_at};
+ghost use Rattle.packer.specs.Devices.{ReportsFailure, SaysWhich, devices_at};
 ghost use Rattle.packer.specs.Runs.{HasPacked, HasBrokenOff, Packs, IsCourse, bytes_ahead};
 
 use crate::devices::Device;
@@ -46,7 +46,7 @@ pub fn run<R: Read, W: Write>(
 /// Passes on what the writer may hold back.
 fn flush<W: Write>(writer: &mut Device<W>) -> Result<(), Failure>
     ensures bytes { Keeps (W.contents writer.old.inner) (W.contents writer.new.inner) }
-    ensures failure { TellsFailure writer.old.has_failed writer.new.has_failed result }
+    ensures failure { ReportsFailure writer.old.has_failed writer.new.has_failed result }
     ensures fault { IfErr result (λ failure. failure ≡ Failure.Output) }
 {
     match writer.flush() {
@@ -106,7 +106,7 @@ pub fn read<R: Read>(reader: &mut Device<R>, buffer: &mut [u8]) -> Result<usize,
     ensures bound { ReadsAtMost result buffer.new }
     ensures bytes { ReadConsumes (R.remaining reader.old.inner) (R.remaining reader.new.inner)
         result buffer.new }
-    ensures failure { TellsFailure reader.old.has_failed reader.new.has_failed result }
+    ensures failure { ReportsFailure reader.old.has_failed reader.new.has_failed result }
     ensures fault { IfErr result (λ failure. failure ≡ Failure.Input) }
 {
     match reader.read(buffer) {

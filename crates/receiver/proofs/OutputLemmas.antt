@@ -3,7 +3,7 @@ use Rattle.std.proofs.Common.{◌≡◌, ℕ, List, ◌++◌, refl, ◌∙◌, s
 use Rattle.std.specs.Borrow.{GName}
 use Rattle.std.specs.Prelude.{Bool, true, Option, Result, Ok, Err, IsErr}
 use Rattle.std.specs.Io.KnownBytes.{Appends, Keeps}
-use Rattle.receiver.specs.Devices.{TellsFailure}
+use Rattle.receiver.specs.Devices.{ReportsFailure}
 use Rattle.receiver.specs.Texts.{WroteUpTo, AppendsPart, Grows}
 use Rattle.receiver.specs.Outputs.{promised, Adds, Writes}
 use Rattle.receiver.specs.declared.devices.Sink.{Ghosts as Sink}
@@ -21,8 +21,8 @@ pub nothing-written : {W : Type 0} (sink : Sink W) (out : Output W) → Wrote si
 nothing-written sink out =
     record { same = refl; grows = grows-none (sink.contents out.writer.now); failure = refl }
 
-tells-after : {A E : Type 0} (r : Result A E) (x y z : Bool) → y ≡ x → TellsFailure y z r
-    → TellsFailure x z r
+tells-after : {A E : Type 0} (r : Result A E) (x y z : Bool) → y ≡ x → ReportsFailure y z r
+    → ReportsFailure x z r
 tells-after (Ok n) x y z e f = f ∙ e
 tells-after (Err n) x y z e f = f
 
@@ -38,7 +38,7 @@ writes-then sink a b c x r p q = record {
 }
 
 pub tells-err : {A E : Type 0} (r : Result A E) (x y : Bool) → IsErr r → y ≡ true
-    → TellsFailure x y r
+    → ReportsFailure x y r
 tells-err r x y is e = MatchResult-from_err r _ _ is (λ _. e)
 
 -- a call that failed after others
@@ -118,8 +118,8 @@ at-end sink Q name x first last r same w e q = subst Q (sym (e (sym (w.same ∙ 
 pub writes-from : {W A E : Type 0} (sink : Sink W) (w : W) (first last : Output W)
     (r : Result A E) → first.writer.now ≡ w → Writes sink first last r
     → Grows (sink.contents w) (sink.contents last.writer.now)
-    × TellsFailure (sink.has_failed w) (sink.has_failed last.writer.now) r
+    × ReportsFailure (sink.has_failed w) (sink.has_failed last.writer.now) r
 writes-from sink w first last r same p =
     subst (λ v. Grows (sink.contents v) (sink.contents last.writer.now)
-    × TellsFailure (sink.has_failed v) (sink.has_failed last.writer.now) r) same
+    × ReportsFailure (sink.has_failed v) (sink.has_failed last.writer.now) r) same
     (p.grows, p.failure)

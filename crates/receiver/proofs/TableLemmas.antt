@@ -35,7 +35,7 @@ use Rattle.receiver.proofs.PrintedLemmas.{lines-are-right}
 use Rattle.receiver.proofs.ShareLemmas.{clients-number}
 use Rattle.receiver.specs.Printed.{LinesAreRight}
 use Rattle.receiver.specs.Runs.{Devices, IsOpen, IsRun, Ran, BrokeOff, StopsFor, EndedAs}
-use Rattle.receiver.specs.Runs.{WriterTells, answer_of, task_of, samples_read, text_for}
+use Rattle.receiver.specs.Runs.{WriterReports, answer_of, task_of, samples_read, text_for}
 
 -- ---- scripts and shares
 
@@ -184,7 +184,7 @@ module _ (settings : Settings) (shares : List ℕ) (scripts : List (List ℕ)) (
       (result : Result ℕ RunFault)
       → (r : Ran settings (clients_of (task_of settings shares scripts limit)) limit session old
       new stop)
-      → EndedAs end old new → WriterTells result old new
+      → EndedAs end old new → WriterReports result old new
       → IsAnswer (task_of settings shares scripts limit) (record { bytes = r.read; end = end })
       (text_for stop settings (samples_read settings limit r.read)
       (clients_of (task_of settings shares scripts limit))) (answer_of result)
@@ -255,7 +255,7 @@ module _ (settings : Settings) (shares : List ℕ) (scripts : List (List ℕ)) (
 
 -- a run that was refused before it read or wrote
 refused : (asked : Task) (old : Devices) (fault : RunFault)
-    → WriterTells (Err fault) old old
+    → WriterReports (Err fault) old old
     → IsAnswer asked (record { bytes = []; end = runs.unfinished }) [] (answer_of (Err fault))
     → IsRun asked old old (Err fault)
 refused asked old fault writer answer = record {

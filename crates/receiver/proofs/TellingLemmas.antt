@@ -14,17 +14,17 @@ use Rattle.definitions.specs.Receiver.{at_each_sample}
 use Rattle.definitions.proofs.BodyLemmas.{body_lines-more}
 use Rattle.definitions.proofs.TellLemmas.{shares_of, at_each_sample-lines}
 use Rattle.slot_protocol.specs.declared.event.SlotEvent.{SlotEvent}
-use Rattle.slot_protocol.specs.Events.{AreTold, line_of, told_in}
+use Rattle.slot_protocol.specs.Events.{AreEvents, line_of, slot_event_in}
 use Rattle.receiver.specs.declared.queue.Queue.{Queue}
 use Rattle.receiver.specs.Queues.{least_gap_of}
 use Rattle.receiver.specs.Sessions.{AreQueues, asked_of}
 use Rattle.receiver.proofs.SessionLemmas.{quiet, asked-each}
 
-pub lines-told : (events : List SlotEvent) (told : List DefinedSlotEvent) → AreTold events told
+pub lines-told : (events : List SlotEvent) (told : List DefinedSlotEvent) → AreEvents events told
     → map line_of events ≡ map defined_line_of told
 lines-told events told e = from_map events ∙ ap (map defined_line_of) e
   where
-    from_map : (es : List SlotEvent) → map line_of es ≡ map defined_line_of (map told_in es)
+    from_map : (es : List SlotEvent) → map line_of es ≡ map defined_line_of (map slot_event_in es)
     from_map [] = refl
     from_map (e ∷ es) = ap (λ (l : List (List ℕ)). line_of e ∷ l) (from_map es)
 
@@ -72,7 +72,7 @@ stretch settings cs xs (y ∷ z ∷ ys) some quiet =
 pub told-stretch : (settings : Settings) (cs : List Client) (qs : List Queue)
     (done : ℕ → List Entry) (xs ys : List Sample) (events_told : List SlotEvent) → 0 < length ys
     → AreQueues xs done 1 cs qs → length ys ≤ least_gap_of (length xs) qs
-    → AreTold events_told
+    → AreEvents events_told
     (at_each_sample (bank_events_at_end settings (layout (shares_of cs)) (asked_of done)) xs ys)
     → body_lines settings (xs ++ ys) cs
     ≡ body_lines settings xs cs ++ map line_of events_told

@@ -1,7 +1,7 @@
 -- A writer with the text that is held back for it.
 use Rattle.std.specs.Prelude.{◌≡◌, ℕ, List, drop, Option, Result, MatchResult}
 use Rattle.std.specs.Io.KnownBytes.{Appends, Keeps, append_known}
-use Rattle.receiver.specs.Devices.{TellsFailure}
+use Rattle.receiver.specs.Devices.{ReportsFailure}
 use Rattle.receiver.specs.Texts.{AppendsPart, Grows}
 use Rattle.receiver.specs.declared.devices.Sink.{Ghosts as Sink}
 use Rattle.receiver.specs.declared.output.Output.{Output}
@@ -34,5 +34,5 @@ pub record Writes {W A E : Type 0} (sink : Sink W) (old new : Output W) (result 
     : Type 0 where
   pub same : new.writer.ghost_name ≡ old.writer.ghost_name
   pub grows : Grows (contents_of sink old) (contents_of sink new)
-  pub failure : TellsFailure (sink.has_failed old.writer.now) (sink.has_failed new.writer.now)
+  pub failure : ReportsFailure (sink.has_failed old.writer.now) (sink.has_failed new.writer.now)
       result

@@ -100,14 +100,14 @@ answer_of (Err Write) = runs.write_failed
 answer_of (Err TooLong) = runs.too_long
 
 -- the writer failed where the result says so, and nowhere else
-abbrev pub WriterTells : Result ℕ RunFault → Devices → Devices → Type 0
-WriterTells (Ok n) old new = new.write_failed ≡ old.write_failed
-WriterTells (Err NoMemory) old new = new.write_failed ≡ old.write_failed
-WriterTells (Err Clients) old new = new.write_failed ≡ old.write_failed
-WriterTells (Err Share) old new = new.write_failed ≡ old.write_failed
-WriterTells (Err Read) old new = new.write_failed ≡ old.write_failed
-WriterTells (Err Write) old new = new.write_failed ≡ true
-WriterTells (Err TooLong) old new = new.write_failed ≡ old.write_failed
+abbrev pub WriterReports : Result ℕ RunFault → Devices → Devices → Type 0
+WriterReports (Ok n) old new = new.write_failed ≡ old.write_failed
+WriterReports (Err NoMemory) old new = new.write_failed ≡ old.write_failed
+WriterReports (Err Clients) old new = new.write_failed ≡ old.write_failed
+WriterReports (Err Share) old new = new.write_failed ≡ old.write_failed
+WriterReports (Err Read) old new = new.write_failed ≡ old.write_failed
+WriterReports (Err Write) old new = new.write_failed ≡ true
+WriterReports (Err TooLong) old new = new.write_failed ≡ old.write_failed
 
 -- a run: the bytes that its reads gave and how they ended, and the text that it wrote. Its result
 -- is the answer that the definitions' table has for them. Where it came to its end, the lines of
@@ -118,7 +118,7 @@ pub record IsRun (task : Task) (old new : Devices) (result : Result ℕ RunFault
   pub consumed : Consumes old.remaining new.remaining input.bytes
   pub ended : EndedAs input.end old new
   pub written : Appends old.contents new.contents text
-  pub writer : WriterTells result old new
+  pub writer : WriterReports result old new
   pub answer : IsAnswer task input text (answer_of result)
   pub lines : IfOk result (λ _. LinesAreRight task.settings (clients_of task)
       (samples task.settings.packing input.bytes) text)

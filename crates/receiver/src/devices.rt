@@ -3,7 +3,7 @@
 ghost use Rattle.std.specs.Prelude.{◌≡◌, ◌<◌, ◌||◌, ℕ, Bool, false, Option, List, length};
 ghost use Rattle.std.specs.Io.{ReadsAtMost, WritesAtMost};
 ghost use Rattle.std.specs.Io.KnownBytes.{Keeps, ReadConsumes, WriteAppends};
-ghost use Rattle.receiver.specs.Devices.{TellsFailure, TellsEnd, TakesSome};
+ghost use Rattle.receiver.specs.Devices.{ReportsFailure, ReportsEnd, TakesSome};
 
 use std::io::{Read, Write};
 
@@ -33,8 +33,8 @@ pub trait Source {
         ensures again { was_asked_again self.new ≡ was_asked_again self.old || has_failed self.old }
         ensures bound { ReadsAtMost result buffer.new }
         ensures bytes { ReadConsumes (remaining self.old) (remaining self.new) result buffer.new }
-        ensures failure { TellsFailure (has_failed self.old) (has_failed self.new) result }
-        ensures end { TellsEnd (gave_none self.old) (gave_none self.new) result };
+        ensures failure { ReportsFailure (has_failed self.old) (has_failed self.new) result }
+        ensures end { ReportsEnd (gave_none self.old) (gave_none self.new) result };
 }
 
 /// What takes bytes.
@@ -50,12 +50,12 @@ pub trait Sink {
         ensures bound { WritesAtMost result bytes.now }
         ensures some { TakesSome result bytes.now }
         ensures bytes { WriteAppends (contents self.old) (contents self.new) result bytes.now }
-        ensures failure { TellsFailure (has_failed self.old) (has_failed self.new) result };
+        ensures failure { ReportsFailure (has_failed self.old) (has_failed self.new) result };
 
     /// Passes on what the sink holds back.
     fn flush(&mut self) -> Result<(), DeviceFault>
         ensures bytes { Keeps (contents self.old) (contents self.new) }
-        ensures failure { TellsFailure (has_failed self.old) (has_failed self.new) result };
+        ensures failure { ReportsFailure (has_failed self.old) (has_failed self.new) result };
 }
 
 /// A reader or a writer of std, each call of which is one call of it. No error is tried again.

@@ -158,8 +158,8 @@ impl<'a> Session<'a> {
     }
 }
 
-/// A list of no events, on the heap. It stands apart, so that the list is on the stack for no longer
-/// than it takes to move it.
+/// A list of no events, on the heap. It stands apart, so that the list is on the stack for no
+/// longer than it takes to move it.
 #[cold]
 #[inline(never)]
 fn boxed_events(alloc: Global) -> Result<Box<ArrayVec<SlotEvent, RUN_EVENTS>>, AllocError> {

@@ -25,17 +25,17 @@ event_in (Sub s) = subframe s
 event_in (Page report) = reported (report_in report)
 event_in (Almanacs set) = almanacs (almanacs_in set)
 
-abbrev pub told_in : SlotEvent → DefinedSlotEvent
-told_in e =
+abbrev pub slot_event_in : SlotEvent → DefinedSlotEvent
+slot_event_in e =
     record { client = e.client; slot = e.slot; time = e.time; event = event_in e.event }
 
 -- they are these events
-abbrev pub AreTold : List SlotEvent → List DefinedSlotEvent → Type 0
-AreTold events told = map told_in events ≡ told
+abbrev pub AreEvents : List SlotEvent → List DefinedSlotEvent → Type 0
+AreEvents events told = map slot_event_in events ≡ told
 
 -- the line of an event, without its end
 abbrev pub line_of : SlotEvent → List ℕ
-line_of e = defined_line_of (told_in e)
+line_of e = defined_line_of (slot_event_in e)
 
 -- when
 abbrev pub time_in : SlotEvent → ℕ

@@ -2,7 +2,7 @@ use Rattle.std.proofs.Common.{◌≡◌, ◌≤◌, ℕ, List, length, subst, sy
 use Rattle.definitions.specs.Samples.{Sample}
 use Rattle.definitions.specs.Banks.{bank_events_at_end, layout}
 use Rattle.definitions.specs.Receiver.{at_each_sample}
-use Rattle.slot_protocol.specs.Events.{AreTold}
+use Rattle.slot_protocol.specs.Events.{AreEvents}
 use Rattle.receiver.specs.declared.queue.Queue.{Queue}
 use Rattle.receiver.specs.Queues.{least_gap_of}
 use Rattle.receiver.specs.Sessions.{until_next, asked_of}
@@ -39,7 +39,7 @@ returns-clause-told c settings clients xs s =
     s.bank.now in
     told-stretch settings clients queues s.done xs ys c.feed_into.new.events.items c.requires.some
     s.queues free
-    (subst (λ (l : List ℕ). AreTold c.feed_into.new.events.items
+    (subst (λ (l : List ℕ). AreEvents c.feed_into.new.events.items
     (at_each_sample (bank_events_at_end settings (layout l) (asked_of s.done)) xs ys))
     (sym s.shares)
     (c.feed_into.ensures.told settings xs (asked_of s.done) s.bank))

@@ -1,5 +1,5 @@
 use Rattle.definitions.proofs.FewLemmas.{tells-few}
-use Rattle.definitions.proofs.slots.slot_tells_few.Goals as goal
+use Rattle.definitions.proofs.slots.slot_emits_few.Goals as goal
 
 pub returns : goal.returns
 returns c = tells-few
