@@ -1,6 +1,6 @@
 //! The oscillator at the frequency of the carrier.
 
-ghost use Rattle.std.specs.Prelude.{◌≡◌, ◌*◌, ◌+◌, ◌<◌, ◌≤◌, ◌^◌, ◌/◌, ℤ, List, pos, map, take};
+ghost use Rattle.std.specs.Prelude.{◌≡◌, ◌*◌, ◌+◌, ◌<◌, ◌≤◌, ◌/◌, ℤ, List, pos, map, take};
 ghost use Rattle.std.specs.Prelude.{length, get_or, unsigned_abs, All};
 ghost use Rattle.std.specs.List.{range_with_len};
 ghost use Rattle.definitions.specs.Oscillators.{carrier_phase_after, cosine, sine};
@@ -8,9 +8,9 @@ ghost use Rattle.bit_planes.specs.Bits.{bit};
 ghost use Rattle.oscillators.specs.Views.{Oscillation, CarrierViews};
 ghost use Rattle.oscillators.specs.Signs.{signed, cos_in, sin_in, IsCosWord, IsSinWord};
 ghost use Rattle.oscillators.specs.CarrierWords.{AreEighths, IsCarrier};
-ghost use Rattle.bit_planes.specs.declared.plane.TheConstants.{PLACES, WORDS};
+ghost use Rattle.bit_planes.specs.declared.plane.TheConstants.{PLACES, WORDS, WORD_PLACES};
 
-use crate::strides::Strides;
+use crate::strides::{EIGHTH, Strides};
 use bit_planes::{Plane, pick_bytes, second_bits, third_bits, top_bits, with_sixteen};
 use std::marker::Model;
 
@@ -21,9 +21,6 @@ const EIGHTHS: [u8; 32] = [
     0x00, 0x20, 0xa0, 0x80, 0xc0, 0xe0, 0x60, 0x40, 0x00, 0x20, 0xa0, 0x80, 0xc0, 0xe0, 0x60, 0x40,
     0x00, 0x20, 0xa0, 0x80, 0xc0, 0xe0, 0x60, 0x40, 0x00, 0x20, 0xa0, 0x80, 0xc0, 0xe0, 0x60, 0x40,
 ];
-
-/// An eighth of a cycle, in 2^-32 cycle.
-const EIGHTH: u32 = 1 << 29;
 
 /// An oscillator at the carrier's frequency. Its phase is in 2^-32 cycle, from 0 to below 2^32, and
 /// its step is what a sample adds to it. The fixed-point form and the values of `planes` are this
@@ -36,15 +33,15 @@ pub struct CarrierOsc {
 }
 
 impl Model for CarrierOsc {
-    ghost use Rattle.std.specs.Prelude.{◌^◌};
     ghost use Rattle.oscillators.specs.Views.{Oscillation};
     ghost use Rattle.oscillators.specs.Strides.{IsStrides};
+    ghost use Rattle.oscillators.specs.declared.strides.TheConstants.{EIGHTH};
 
     ghost Value = { Oscillation };
 
     ghost view = { λ o. record { phase = o.phase; step = o.step } };
 
-    ghost invariant = { λ o. IsStrides o.step (2 ^ 29) o.strides };
+    ghost invariant = { λ o. IsStrides o.step EIGHTH o.strides };
 }
 
 impl CarrierOsc {
@@ -92,8 +89,9 @@ impl CarrierOsc {
     /// Cosine and sine at this sample and the 63 that follow. The oscillator goes on by 64 samples.
     pub fn next_word(&mut self) -> CarrierWord
         ensures word { IsCarrier self.old.phase self.old.step result }
-        ensures moved { self.new
-            ≡ record self.old { phase = carrier_phase_after self.old.phase self.old.step 64 } }
+        ensures moved { self.new ≡ record self.old {
+          phase = carrier_phase_after self.old.phase self.old.step WORD_PLACES;
+        } }
     {
         self.next_eighths()
     }
@@ -102,8 +100,9 @@ impl CarrierOsc {
     /// oscillator goes on by 64 samples.
     fn next_eighths(&mut self) -> CarrierWord
         ensures word { AreEighths self.old.phase self.old.step result }
-        ensures moved { self.new
-            ≡ record self.old { phase = carrier_phase_after self.old.phase self.old.step 64 } }
+        ensures moved { self.new ≡ record self.old {
+          phase = carrier_phase_after self.old.phase self.old.step WORD_PLACES;
+        } }
     {
         let turn = self.step.wrapping_mul(16);
         let mut word = CarrierWord {

@@ -1,6 +1,6 @@
 //! The oscillator at the rate of the code.
 
-ghost use Rattle.std.specs.Prelude.{◌≡◌, ◌+◌, ◌-◌, ◌*◌, ◌/◌, ◌%◌, ◌^◌, ◌<◌, ◌≤◌, ℕ, ℤ, List, pos};
+ghost use Rattle.std.specs.Prelude.{◌≡◌, ◌+◌, ◌-◌, ◌*◌, ◌/◌, ◌%◌, ◌<◌, ◌≤◌, ℕ, ℤ, List, pos};
 ghost use Rattle.std.specs.Prelude.{map, take, length, get_or, unsigned_abs, All};
 ghost use Rattle.std.specs.List.{range_with_len};
 ghost use Rattle.definitions.specs.Oscillators.{code_cycle, code_phase_after, early_sign};
@@ -10,22 +10,21 @@ ghost use Rattle.bit_planes.specs.Bits.{bit};
 ghost use Rattle.oscillators.specs.Views.{Oscillation, CodeViews};
 ghost use Rattle.oscillators.specs.Signs.{sign_in, IsChipWord};
 ghost use Rattle.oscillators.specs.ChipWords.{AreChips, AreChipBits};
-ghost use Rattle.bit_planes.specs.declared.plane.TheConstants.{PLACES, WORDS};
+ghost use Rattle.bit_planes.specs.declared.plane.TheConstants.{PLACES, WORDS, WORD_PLACES};
+ghost use Rattle.ca_codes.specs.declared.book.TheConstants.{CODE_CHIPS};
+ghost use Rattle.oscillators.specs.declared.strides.TheConstants.{HALF_CHIP};
 
 use crate::half_chip::HalfChip;
-use crate::strides::{Strides, second_halves, whole_chips};
+use crate::strides::{HALF_CHIP, Strides, second_halves, whole_chips};
 use bit_planes::{Plane, second_bits, top_bits, with_sixteen};
-use ca_codes::{CodeBook, Prn, look_up};
+use ca_codes::{CODE_CHIPS, CodeBook, Prn, look_up};
 use std::marker::Model;
 
 /// The code's cycle of 1,023 chips, in 2^-32 chip.
-const CODE_CYCLE: u64 = 1023 << 32;
+const CODE_CYCLE: u64 = (CODE_CHIPS as u64) << 32;
 
 /// A chip, in 2^-32 chip.
 const CHIP: u64 = 1 << 32;
-
-/// Half a chip, in 2^-32 chip.
-const HALF_CHIP: u64 = 1 << 31;
 
 /// An oscillator at the code's rate. Its phase is in 2^-32 chip, from 0 to below the cycle of
 /// 1,023 * 2^32 (IS-GPS-200, section 3.3.2.3: the code has 1,023 chips); its step is what a sample
@@ -38,27 +37,28 @@ pub struct CodeOsc {
 }
 
 impl Model for CodeOsc {
-    ghost use Rattle.std.specs.Prelude.{◌<◌, ◌^◌};
+    ghost use Rattle.std.specs.Prelude.{◌<◌};
     ghost use Rattle.definitions.specs.Oscillators.{code_cycle};
     ghost use Rattle.oscillators.specs.Views.{Oscillation};
     ghost use Rattle.oscillators.specs.Strides.{IsStrides};
+    ghost use Rattle.oscillators.specs.declared.strides.TheConstants.{HALF_CHIP};
 
     ghost Value = { Oscillation };
 
     ghost view = { λ o. record { phase = o.phase; step = o.step } };
 
-    ghost invariant = { λ o. (o.phase < code_cycle) × IsStrides o.step (2 ^ 31) o.strides };
+    ghost invariant = { λ o. (o.phase < code_cycle) × IsStrides o.step HALF_CHIP o.strides };
 }
 
 impl CodeOsc {
     /// An oscillator at the beginning of a half chip.
     pub fn new(start: HalfChip, step: u32) -> CodeOsc
-        ensures { result ≡ record { phase = start * 2 ^ 31; step = step } }
+        ensures { result ≡ record { phase = start * HALF_CHIP; step = step } }
     {
         CodeOsc {
-            phase: start.get() as u64 * HALF_CHIP,
+            phase: start.get() as u64 * HALF_CHIP as u64,
             step,
-            strides: Strides::new(step, HALF_CHIP as u32),
+            strides: Strides::new(step, HALF_CHIP),
         }
     }
 
@@ -75,7 +75,7 @@ impl CodeOsc {
         ensures { self.new ≡ record self.old { step = step } }
     {
         self.step = step;
-        self.strides = Strides::new(step, HALF_CHIP as u32);
+        self.strides = Strides::new(step, HALF_CHIP);
     }
 
     /// The least number of samples, at least 1, that brings the phase to the end of the cycle or
@@ -113,7 +113,7 @@ impl CodeOsc {
 
     /// The oscillator `n` samples ago, at most 1,023, if it has had this step since.
     pub fn earlier(&self, n: u32) -> CodeOsc
-        requires { n ≤ 1023 }
+        requires { n ≤ CODE_CHIPS }
         ensures now { code_phase_after result.phase result.step n ≡ self.now.phase }
         ensures step { result.step ≡ self.now.step }
     {
@@ -129,8 +129,9 @@ impl CodeOsc {
     /// samples, and the book stands for the codes as before.
     pub fn next_word(&mut self, book: &mut CodeBook, prn: Prn) -> ChipWord
         ensures word { AreChips prn self.old.phase self.old.step result }
-        ensures moved { self.new
-            ≡ record self.old { phase = code_phase_after self.old.phase self.old.step 64 } }
+        ensures moved { self.new ≡ record self.old {
+          phase = code_phase_after self.old.phase self.old.step WORD_PLACES;
+        } }
     {
         self.next_chips(book, prn)
     }
@@ -138,15 +139,16 @@ impl CodeOsc {
     /// Does what `next_word` does. Contracts see the bits of the chips here, and their signs there.
     fn next_chips(&mut self, book: &mut CodeBook, prn: Prn) -> ChipWord
         ensures word { AreChipBits prn self.old.phase self.old.step result }
-        ensures moved { self.new
-            ≡ record self.old { phase = code_phase_after self.old.phase self.old.step 64 } }
+        ensures moved { self.new ≡ record self.old {
+          phase = code_phase_after self.old.phase self.old.step WORD_PLACES;
+        } }
     {
         let turn = 16 * self.step as u64;
         let table = book.table(prn);
         let mut early = 0;
         let mut late = 0;
         let mut second_half = 0;
-        let mut ahead = in_cycle(self.phase + HALF_CHIP);
+        let mut ahead = in_cycle(self.phase + HALF_CHIP as u64);
         for group in 0..4u32 {
             let halves = self.strides.half_chips((ahead % CHIP) as u32);
             let chips = look_up(table, (ahead >> 32) as usize, whole_chips(halves));

@@ -30,3 +30,4 @@ pub use settings::{
     LEAST_CODE_STEP, LEAST_PER_MS, LEAST_RATE, MOST_CODE_STEP, MOST_CORRECTION, MOST_PER_MS,
     MOST_RATE, MOST_SHIFT, Settings, SettingsFault,
 };
+pub use strides::HALF_CHIP;

@@ -3,12 +3,17 @@
 ghost use Rattle.std.specs.Int.{bit_at};
 ghost use Rattle.std.specs.Prelude.{◌≡◌, ◌+◌, ◌-◌, ◌*◌, ◌/◌, ◌%◌, ◌^◌, ◌<◌, ◌≤◌, ℕ, length};
 ghost use Rattle.std.specs.Prelude.{slice_index, cond, ltb, ◌⊎◌};
+ghost use Rattle.bit_planes.specs.declared.lanes.TheConstants.{LANES};
+ghost use Rattle.oscillators.specs.declared.strides.TheConstants.{EIGHTH, HALF_CHIP};
 
 use bit_planes::masked_bits;
 use std::simd::prelude::*;
 
+/// An eighth of a cycle, in 2^-32 cycle.
+pub(crate) const EIGHTH: u32 = 1 << 29;
+
 /// Half a chip, in 2^-32 chip.
-const HALF_CHIP: u32 = 1 << 31;
+pub const HALF_CHIP: u32 = 1 << 31;
 
 /// How far sixteen samples lie from the first of them, in cells of a phase: lane k stands for
 /// sample 15 - k.
@@ -18,8 +23,8 @@ pub(crate) struct Strides {
     low: u32x16,
     /// The whole cells.
     whole: u8x16,
-    ghost lanes: { (length low ≡ 16) × (length whole ≡ 16) },
-    ghost small: { (k : ℕ) → k < 16 → slice_index low k < 2 ^ 31 },
+    ghost lanes: { (length low ≡ LANES) × (length whole ≡ LANES) },
+    ghost small: { (k : ℕ) → k < LANES → slice_index low k < 2 ^ 31 },
 }
 
 impl Strides {
@@ -27,7 +32,7 @@ impl Strides {
 
     /// The strides of a step, with cells of `cell` units of phase.
     pub(crate) fn new(step: u32, cell: u32) -> Strides
-        requires { (cell ≡ 2 ^ 29) ⊎ (cell ≡ 2 ^ 31) }
+        requires { (cell ≡ EIGHTH) ⊎ (cell ≡ HALF_CHIP) }
         ensures { IsStrides step cell result }
     {
         let mut low = [0; 16];
@@ -47,10 +52,11 @@ impl Strides {
     /// cell 0.
     fn cells(&self, part: u32, cell: u32) -> u8x16
         requires part { part < cell }
-        requires cell { (cell ≡ 2 ^ 29) ⊎ (cell ≡ 2 ^ 31) }
-        ensures long { length result ≡ 16 }
+        requires cell { (cell ≡ EIGHTH) ⊎ (cell ≡ HALF_CHIP) }
+        ensures long { length result ≡ LANES }
         ensures cells { (step : ℕ) → step < 2 ^ 32 → IsStrides step cell self.now
-            → (k : ℕ) → k < 16 → slice_index result k ≡ (part + (15 - k) * step) / cell }
+            → (k : ℕ) → k < LANES → slice_index result k
+            ≡ (part + (LANES - 1 - k) * step) / cell }
     {
         self.whole + carries(cell - 1 - part, self.low)
     }
@@ -59,11 +65,12 @@ impl Strides {
     /// `part` of cell 0.
     pub(crate) fn cells_mod_16(&self, part: u32, cell: u32) -> u8x16
         requires part { part < cell }
-        requires cell { (cell ≡ 2 ^ 29) ⊎ (cell ≡ 2 ^ 31) }
-        ensures long { length result ≡ 16 }
+        requires cell { (cell ≡ EIGHTH) ⊎ (cell ≡ HALF_CHIP) }
+        ensures long { length result ≡ LANES }
         ensures cells { (step : ℕ) → step < 2 ^ 32 → IsStrides step cell self.now
-            → (k : ℕ) → k < 16 → slice_index result k ≡ (part + (15 - k) * step) / cell % 16 }
-        ensures below { (k : ℕ) → k < 16 → slice_index result k < 16 }
+            → (k : ℕ) → k < LANES → slice_index result k
+            ≡ (part + (LANES - 1 - k) * step) / cell % LANES }
+        ensures below { (k : ℕ) → k < LANES → slice_index result k < LANES }
     {
         self.cells(part, cell) & u8x16::splat(15)
     }
@@ -71,9 +78,10 @@ impl Strides {
     /// The numbers of the half chips in which sixteen samples lie, where the first lies at `part`
     /// of a chip.
     pub(crate) fn half_chips(&self, part: u32) -> u8x16
-        ensures long { length result ≡ 16 }
-        ensures halves { (step : ℕ) → step < 2 ^ 32 → IsStrides step (2 ^ 31) self.now
-            → (k : ℕ) → k < 16 → slice_index result k ≡ (part + (15 - k) * step) / 2 ^ 31 }
+        ensures long { length result ≡ LANES }
+        ensures halves { (step : ℕ) → step < 2 ^ 32 → IsStrides step HALF_CHIP self.now
+            → (k : ℕ) → k < LANES → slice_index result k
+            ≡ (part + (LANES - 1 - k) * step) / HALF_CHIP }
     {
         self.cells(part % HALF_CHIP, HALF_CHIP) + u8x16::splat((part / HALF_CHIP) as u8)
     }
@@ -81,18 +89,18 @@ impl Strides {
 
 /// The chips in which half chips lie.
 pub(crate) fn whole_chips(halves: u8x16) -> u8x16
-    requires { length halves ≡ 16 }
-    ensures long { length result ≡ 16 }
-    ensures chips { (k : ℕ) → k < 16 → slice_index result k ≡ slice_index halves k / 2 }
+    requires { length halves ≡ LANES }
+    ensures long { length result ≡ LANES }
+    ensures chips { (k : ℕ) → k < LANES → slice_index result k ≡ slice_index halves k / 2 }
 {
     halves >> u8x16::splat(1)
 }
 
 /// Which of sixteen half chips are the second half of a chip: that of lane k is bit k.
 pub(crate) fn second_halves(halves: u8x16) -> u64
-    requires { length halves ≡ 16 }
-    ensures halves { (k : ℕ) → k < 16 → bit_at result k ≡ slice_index halves k % 2 }
-    ensures few { result < 2 ^ 16 }
+    requires { length halves ≡ LANES }
+    ensures halves { (k : ℕ) → k < LANES → bit_at result k ≡ slice_index halves k % 2 }
+    ensures few { result < 2 ^ LANES }
 {
     masked_bits(halves, u8x16::splat(1))
 }
@@ -101,10 +109,10 @@ pub(crate) fn second_halves(halves: u8x16) -> u64
 /// compare.
 fn carries(limit: u32, low: u32x16) -> u8x16
     requires limit { limit < 2 ^ 31 }
-    requires long { length low ≡ 16 }
-    requires small { (k : ℕ) → k < 16 → slice_index low k < 2 ^ 31 }
-    ensures long { length result ≡ 16 }
-    ensures carried { (k : ℕ) → k < 16
+    requires long { length low ≡ LANES }
+    requires small { (k : ℕ) → k < LANES → slice_index low k < 2 ^ 31 }
+    ensures long { length result ≡ LANES }
+    ensures carried { (k : ℕ) → k < LANES
         → slice_index result k ≡ cond (ltb limit (slice_index low k)) 1 0 }
 {
     low.cast::<i32>()
