@@ -6,13 +6,17 @@ ghost use Rattle.std.specs.Int.{bit_at};
 ghost use Rattle.bit_planes.specs.Bits.{bit};
 ghost use Rattle.definitions.specs.Samples.{samples_per_byte};
 ghost use Rattle.sample_planes.specs.Packings.{packing_of, width_of, has_sizes};
-ghost use Rattle.bit_planes.specs.declared.plane.TheConstants.{WORDS};
+ghost use Rattle.bit_planes.specs.declared.plane.TheConstants.{WORDS, WORD_PLACES};
 ghost use Rattle.sample_planes.specs.declared.layout.TheConstants.{NEAR_BYTES};
+ghost use Rattle.sample_planes.specs.declared.part.TheConstants.{MOST_SIZE};
 ghost use Rattle.sample_planes.specs.declared.planes.TheConstants.{MAX_SAMPLES};
 
 use crate::format::Format;
 use crate::layout::Layout;
 use bit_planes::Plane;
+
+/// The greatest size of a part of a sample, that of a part with a magnitude of 1.
+pub const MOST_SIZE: u8 = 3;
 
 /// The parts in phase, or those in quadrature, of a run of samples.
 #[derive(Clone, Copy, Debug)]
@@ -52,7 +56,7 @@ impl Part {
     pub(crate) fn value(&self, i: usize) -> i8
         requires { i < MAX_SAMPLES }
         ensures value { result ≡ part_at self.now i }
-        ensures small { unsigned_abs result ≤ 3 }
+        ensures small { unsigned_abs result ≤ MOST_SIZE }
     {
         let value = if self.size.bit(i) == 0 { 1 } else { 3 };
         if self.sign.bit(i) == 0 { value } else { -value }
@@ -61,8 +65,10 @@ impl Part {
     /// The signs and the sizes of the samples from `64 * w` on, the first of them in the top bits.
     pub(crate) fn word(&self, w: usize) -> (u64, u64)
         requires { w < WORDS }
-        ensures { (j : ℕ) → j < 64 → part_of (bit_at result.0 (63 - j)) (bit_at result.1 (63 - j))
-            ≡ part_at self.now (64 * w + j) }
+        ensures { (j : ℕ) → j < WORD_PLACES
+            → part_of (bit_at result.0 (WORD_PLACES - 1 - j))
+            (bit_at result.1 (WORD_PLACES - 1 - j))
+            ≡ part_at self.now (WORD_PLACES * w + j) }
     {
         (self.sign.word(w), self.size.word(w))
     }
