@@ -92,8 +92,8 @@ impl PeriodSums {
     }
 }
 
-/// What raises a sum that is smaller, so that it isn't below 0.
-const HALF: i32 = 1 << 15;
+/// Half of the range of 16 bits: what raises a sum that is smaller, so that it isn't below 0.
+const HALF_OF_16_BITS: i32 = 1 << 15;
 
 /// A sum that fits in 16 bits, raised by 2^15.
 #[inline(always)]
@@ -102,7 +102,7 @@ fn raised(sum: i32) -> u32
     ensures value { pos result ≡ sum +ℤ pos (2 ^ 15) }
     ensures most { result < 2 ^ 16 }
 {
-    (sum + HALF) as u32
+    (sum + HALF_OF_16_BITS) as u32
 }
 
 /// The powers of sixteen cells, from their pairs at the chips of 1.
@@ -130,7 +130,7 @@ fn sums_of(pair: u32) -> Sums
     ensures small_quadrature { unsigned_abs result.quadrature ≤ 2 ^ 15 }
 {
     Sums {
-        in_phase: (pair % (1 << 16)) as i32 - HALF,
-        quadrature: (pair >> 16) as i32 - HALF,
+        in_phase: (pair % (1 << 16)) as i32 - HALF_OF_16_BITS,
+        quadrature: (pair >> 16) as i32 - HALF_OF_16_BITS,
     }
 }
