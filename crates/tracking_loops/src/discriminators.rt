@@ -8,11 +8,22 @@ ghost use Rattle.definitions.specs.Loops.{code_error as defined_code_error};
 ghost use Rattle.lane_correlator.specs.Counting.{counts_in, AreWithin};
 ghost use Rattle.tracking_loops.specs.declared.limits.TheConstants.{MOST_SUM};
 ghost use Rattle.tracking_loops.specs.declared.limits.TheConstants.{MOST_ERROR};
+ghost use Rattle.tracking_loops.specs.declared.discriminators.TheConstants.{MOST_PRODUCT};
+ghost use Rattle.tracking_loops.specs.declared.discriminators.TheConstants.{MOST_POWER, MOST_SIZE};
 
 use lane_correlator::Counts;
 
 /// The units of an error: it is a quotient from -1 to 1, times this number.
 const UNITS: i64 = 4096;
+
+/// The greatest size of a product of two sums: `MOST_SUM` times itself.
+const MOST_PRODUCT: u64 = 1 << 36;
+
+/// The greatest size of a sum of two products.
+const MOST_POWER: u64 = 2 * MOST_PRODUCT;
+
+/// The most that the sizes of two such sums add up to.
+const MOST_SIZE: u64 = 2 * MOST_POWER;
 
 /// The turn of the carrier from one dump to the next.
 pub fn frequency_error(before: &Counts, counts: &Counts) -> i64
@@ -54,7 +65,7 @@ pub fn code_error(counts: &Counts) -> i64
 /// What part of `size` `a` is, in units, rounded toward minus infinity. Of a size of 0 it is 0.
 fn ratio(a: i64, size: u64) -> i64
     requires within { unsigned_abs a ≤ size }
-    requires fits { size ≤ 2 ^ 38 }
+    requires fits { size ≤ MOST_SIZE }
     ensures is { result ≡ defined_ratio a size }
     ensures small { unsigned_abs result ≤ MOST_ERROR }
 {
@@ -63,7 +74,7 @@ fn ratio(a: i64, size: u64) -> i64
 
 /// `a`, or `-a` where `by` is below zero.
 fn signed(a: i64, by: i64) -> i64
-    requires { unsigned_abs a ≤ 2 ^ 38 }
+    requires { unsigned_abs a ≤ MOST_SIZE }
     ensures is { result ≡ a *ℤ sgn by }
     ensures size { unsigned_abs result ≡ unsigned_abs a }
 {
@@ -75,7 +86,7 @@ fn cross(before: &Counts, counts: &Counts) -> i64
     requires before_small { AreWithin MOST_SUM (counts_in before.now) }
     requires counts_small { AreWithin MOST_SUM (counts_in counts.now) }
     ensures is { result ≡ before.now.ip *ℤ counts.now.qp -ℤ counts.now.ip *ℤ before.now.qp }
-    ensures small { unsigned_abs result ≤ 2 ^ 37 }
+    ensures small { unsigned_abs result ≤ MOST_POWER }
 {
     product(before.ip, counts.qp) - product(counts.ip, before.qp)
 }
@@ -85,7 +96,7 @@ fn dot(before: &Counts, counts: &Counts) -> i64
     requires before_small { AreWithin MOST_SUM (counts_in before.now) }
     requires counts_small { AreWithin MOST_SUM (counts_in counts.now) }
     ensures is { result ≡ before.now.ip *ℤ counts.now.ip +ℤ before.now.qp *ℤ counts.now.qp }
-    ensures small { unsigned_abs result ≤ 2 ^ 37 }
+    ensures small { unsigned_abs result ≤ MOST_POWER }
 {
     product(before.ip, counts.ip) + product(before.qp, counts.qp)
 }
@@ -95,7 +106,7 @@ fn power(in_phase: i32, quadrature: i32) -> i64
     requires in_phase_in { unsigned_abs in_phase ≤ MOST_SUM }
     requires quadrature_in { unsigned_abs quadrature ≤ MOST_SUM }
     ensures is { result ≡ in_phase *ℤ in_phase +ℤ quadrature *ℤ quadrature }
-    ensures small { unsigned_abs result ≤ 2 ^ 37 }
+    ensures small { unsigned_abs result ≤ MOST_POWER }
 {
     product(in_phase, in_phase) + product(quadrature, quadrature)
 }
@@ -104,7 +115,7 @@ fn product(a: i32, b: i32) -> i64
     requires a_in { unsigned_abs a ≤ MOST_SUM }
     requires b_in { unsigned_abs b ≤ MOST_SUM }
     ensures is { result ≡ a *ℤ b }
-    ensures small { unsigned_abs result ≤ 2 ^ 36 }
+    ensures small { unsigned_abs result ≤ MOST_PRODUCT }
 {
     i64::from(a) * i64::from(b)
 }

@@ -7,7 +7,8 @@ ghost use Rattle.definitions.specs.Lock.{news_of};
 ghost use Rattle.lane_correlator.specs.Counting.{counts_in};
 ghost use Rattle.tracking_loops.specs.NewsIn.{news_in, news_by};
 ghost use Rattle.tracking_loops.specs.declared.limits.TheConstants.{MOST_SUM};
-ghost use Rattle.tracking_loops.specs.declared.lock.TheConstants.{LOST_WINDOWS};
+ghost use Rattle.tracking_loops.specs.declared.lock.TheConstants.{LOST_WINDOWS, UNLOCK_WINDOWS};
+ghost use Rattle.tracking_loops.specs.declared.steering.TheConstants.{FIRST_HOLDING};
 
 use crate::news::News;
 use crate::window::Window;
@@ -43,14 +44,15 @@ impl Lock {
         }
     }
 
-    /// Takes the next dump, which isn't one of the first 199.
+    /// Takes the next dump, which is dump `FIRST_HOLDING` or a later one.
     pub fn take(&mut self, counts: &Counts) -> News
         requires ip { unsigned_abs counts.now.ip ≤ MOST_SUM }
         requires qp { unsigned_abs counts.now.qp ≤ MOST_SUM }
-        ensures goes_on { (dumps : List DefinedCounts) → 199 ≤ length dumps
+        ensures goes_on { (dumps : List DefinedCounts) → FIRST_HOLDING ≤ length dumps + 1
             → IsWatching dumps self.old
             → IsWatching (dumps ++ counts_in counts.now ∷ []) self.new }
-        ensures news { (dumps : List DefinedCounts) → 199 ≤ length dumps → IsWatching dumps self.old
+        ensures news { (dumps : List DefinedCounts) → FIRST_HOLDING ≤ length dumps + 1
+            → IsWatching dumps self.old
             → news_in result ≡ news_of (dumps ++ counts_in counts.now ∷ []) }
     {
         match self.window.take(counts) {
@@ -61,13 +63,13 @@ impl Lock {
 
     /// Takes a whole window.
     fn take_window(&mut self, is_good: bool) -> News
-        ensures run { self.new.bad_windows ≡ (if is_good then 0 else min 50
+        ensures run { self.new.bad_windows ≡ (if is_good then 0 else min LOST_WINDOWS
             (self.old.bad_windows + 1)) }
         ensures locked { self.new.is_locked ≡ (is_good ||
-            (self.old.is_locked && nat_lt self.new.bad_windows 10)) }
+            (self.old.is_locked && nat_lt self.new.bad_windows UNLOCK_WINDOWS)) }
         ensures window { self.new.window ≡ self.old.window }
-        ensures news { news_in result ≡ news_by (self.new.bad_windows == 50) self.old.is_locked
-            self.new.is_locked }
+        ensures news { news_in result ≡ news_by (self.new.bad_windows == LOST_WINDOWS)
+            self.old.is_locked self.new.is_locked }
     {
         let was_locked = self.is_locked;
         if is_good {

@@ -6,6 +6,7 @@ ghost use Rattle.definitions.specs.Correlation.{Counts as DefinedCounts};
 ghost use Rattle.lane_correlator.specs.Counting.{counts_in};
 ghost use Rattle.tracking_loops.specs.declared.limits.TheConstants.{MOST_SUM};
 ghost use Rattle.tracking_loops.specs.declared.window.TheConstants.{DUMPS_OF_WINDOW};
+ghost use Rattle.tracking_loops.specs.declared.steering.TheConstants.{FIRST_HOLDING};
 
 use lane_correlator::Counts;
 
@@ -46,10 +47,11 @@ impl Window {
     pub fn take(&mut self, counts: &Counts) -> Option<bool>
         requires ip { unsigned_abs counts.now.ip ≤ MOST_SUM }
         requires qp { unsigned_abs counts.now.qp ≤ MOST_SUM }
-        ensures goes_on { (dumps : List DefinedCounts) → 199 ≤ length dumps
+        ensures goes_on { (dumps : List DefinedCounts) → FIRST_HOLDING ≤ length dumps + 1
             → IsFilling dumps self.old
             → IsFilling (dumps ++ counts_in counts.now ∷ []) self.new }
-        ensures whole { (dumps : List DefinedCounts) → 199 ≤ length dumps → IsFilling dumps self.old
+        ensures whole { (dumps : List DefinedCounts) → FIRST_HOLDING ≤ length dumps + 1
+            → IsFilling dumps self.old
             → result ≡ good_window (dumps ++ counts_in counts.now ∷ []) }
     {
         self.in_phase += counts.ip.unsigned_abs();

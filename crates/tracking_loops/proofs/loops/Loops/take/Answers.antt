@@ -1,8 +1,9 @@
-use Rattle.std.proofs.Common.{◌≤◌, ◌<◌, length, arith}
+use Rattle.std.proofs.Common.{◌≤◌, ◌<◌, ◌+◌, length, arith}
 use Rattle.lane_correlator.specs.Counting.{counts_in}
 use Rattle.tracking_loops.specs.Standing.{StandsFor, dump_count}
 use Rattle.tracking_loops.proofs.NewsLemmas.{early-watching, early-news}
 use Rattle.tracking_loops.proofs.TrackingLemmas.{counted, tracked}
+use Rattle.tracking_loops.specs.declared.steering.TheConstants.{FIRST_HOLDING}
 use Rattle.tracking_loops.proofs.loops.Loops.take.Goals as goal
 
 pub take-requires-clause-room : goal.take-requires-clause-room
@@ -46,8 +47,12 @@ unfolding StandsFor
 returns-clause-stands c start dumps h =
     let more = counted (counts_in c.args.counts) c.args.self.now.steering c.take.new.self
     c.take.ensures in
-    let late : 199 ≤ length dumps = omega (arith, more, h.taken, c.if-self-lt-FIRST_HOLDING.false)
-    in
+    let late : FIRST_HOLDING ≤ length dumps + 1 = omega (
+      arith,
+      more,
+      h.taken,
+      c.if-self-lt-FIRST_HOLDING.false,
+    ) in
     tracked start dumps (counts_in c.args.counts) c.args.self.now _ h c.take.ensures
     (c.take-2.ensures.goes_on dumps late h.lock)
 
@@ -56,6 +61,10 @@ unfolding StandsFor
 returns-clause-news c start dumps h =
     let more = counted (counts_in c.args.counts) c.args.self.now.steering c.take.new.self
     c.take.ensures in
-    let late : 199 ≤ length dumps = omega (arith, more, h.taken, c.if-self-lt-FIRST_HOLDING.false)
-    in
+    let late : FIRST_HOLDING ≤ length dumps + 1 = omega (
+      arith,
+      more,
+      h.taken,
+      c.if-self-lt-FIRST_HOLDING.false,
+    ) in
     c.take-2.ensures.news dumps late h.lock
