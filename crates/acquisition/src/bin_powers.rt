@@ -2,9 +2,8 @@
 
 ghost use Rattle.std.specs.Prelude.{◌≡◌, ◌+◌, ◌*◌, ◌%◌, ◌<◌, ◌≤◌, ℕ, get_or, length};
 ghost use Rattle.acquisition.specs.Periods.{periods_of};
-ghost use Rattle.acquisition.specs.declared.bin_powers.TheConstants.{BIN_CELLS};
 ghost use Rattle.acquisition.specs.declared.chip_ring.TheConstants.{CELLS_AT_ONCE};
-ghost use Rattle.acquisition.specs.declared.plan.TheConstants.{MOST_DWELL};
+ghost use Rattle.acquisition.specs.declared.plan.TheConstants.{BIN_CELLS, MOST_DWELL};
 ghost use Rattle.acquisition.specs.declared.sums.TheConstants.{MOST_PERIOD_POWER};
 ghost use Rattle.acquisition.specs.declared.tally.TheConstants.{MOST_POWER};
 
@@ -13,11 +12,8 @@ use crate::chip_ring::CELLS_AT_ONCE;
 use crate::dwell::Dwell;
 use crate::ones::Ones;
 use crate::period_sums::PeriodSums;
+use crate::plan::BIN_CELLS;
 use sample_planes::SampleSource;
-
-/// The cells of a bin: one for each half chip of the code, which has 1,023 chips (IS-GPS-200,
-/// section 3.3.2.3).
-pub(crate) const BIN_CELLS: usize = 2046;
 
 /// The powers of a bin's cells so far. A period's powers are added one cell after another, and then
 /// those of the next period; the sums of the period that is worked on are kept.

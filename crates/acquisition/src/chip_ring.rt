@@ -4,7 +4,7 @@ ghost use Rattle.std.specs.Prelude.{◌≡◌, ◌+◌, ◌-◌, ◌*◌, ◌<�
 ghost use Rattle.std.specs.Prelude.{ℤ, pos, ◌+ℤ◌, List, get_or, unsigned_abs};
 ghost use Rattle.acquisition.specs.declared.chip_ring.TheConstants.{RING, RAISED, LANES};
 ghost use Rattle.acquisition.specs.declared.half_chip_table.TheConstants.{HALF_CHIPS, LAST};
-ghost use Rattle.acquisition.specs.declared.ones.TheConstants.{CHIPS};
+ghost use Rattle.ca_codes.specs.declared.book.TheConstants.{CODE_CHIPS};
 ghost use Rattle.acquisition.specs.Rings.{place_of};
 
 use crate::half_chip_table::{HALF_CHIPS, HalfChipTable, LAST};
@@ -108,7 +108,7 @@ impl ChipRing {
 #[inline(always)]
 pub(crate) fn place_of(half: usize, chip: usize) -> usize
     requires half { half < HALF_CHIPS }
-    requires chip { chip < CHIPS }
+    requires chip { chip < CODE_CHIPS }
     ensures place { result ≡ place_of half chip }
     ensures inside { result < HALF_CHIPS }
 {

@@ -6,7 +6,7 @@ ghost use Rattle.definitions.specs.Oscillators.{code_cycle};
 ghost use Rattle.definitions.specs.Samples.{Sample, sample_at};
 ghost use Rattle.definitions.specs.Correlation.{wiped_in_phase, wiped_quadrature};
 ghost use Rattle.acquisition.specs.declared.dwell.TheConstants.{MOST_START};
-ghost use Rattle.acquisition.specs.declared.half_chip_table.TheConstants.{HALF_CHIPS};
+ghost use Rattle.acquisition.specs.declared.half_chip_table.TheConstants.{HALF_CHIPS, MOST_WIPED};
 ghost use Rattle.oscillators.specs.declared.settings.TheConstants.{MOST_PER_MS};
 
 use crate::half_chip_table::{HALF_CHIPS, HalfChipTable};
@@ -107,8 +107,8 @@ impl Fold {
     #[inline(always)]
     fn add(&mut self, place: usize, sample: Sums)
         requires place { place < HALF_CHIPS }
-        requires in_phase { unsigned_abs sample.in_phase ≤ 9 }
-        requires quadrature { unsigned_abs sample.quadrature ≤ 9 }
+        requires in_phase { unsigned_abs sample.in_phase ≤ MOST_WIPED }
+        requires quadrature { unsigned_abs sample.quadrature ≤ MOST_WIPED }
         requires few { taken_of self.old < MOST_PER_MS }
         ensures fold { (x : ℕ → Sample) (step carrier_step from n : ℕ)
             → IsFold x step carrier_step from n self.old
@@ -158,8 +158,8 @@ fn without_carrier(samples: &Planes, carrier: &CarrierPlanes, i: usize) -> Sums
         (get_or carrier.now.cos i (pos 0)) (get_or carrier.now.sin i (pos 0)) }
     ensures quadrature { result.quadrature ≡ wiped_quadrature (sample_at samples.now i)
         (get_or carrier.now.cos i (pos 0)) (get_or carrier.now.sin i (pos 0)) }
-    ensures small_in_phase { unsigned_abs result.in_phase ≤ 9 }
-    ensures small_quadrature { unsigned_abs result.quadrature ≤ 9 }
+    ensures small_in_phase { unsigned_abs result.in_phase ≤ MOST_WIPED }
+    ensures small_quadrature { unsigned_abs result.quadrature ≤ MOST_WIPED }
 {
     let (value, value_q) = (i32::from(samples.value(i)), i32::from(samples.value_q(i)));
     let (cos, sin) = (i32::from(carrier.cos(i)), i32::from(carrier.sin(i)));

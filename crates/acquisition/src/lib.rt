@@ -49,7 +49,8 @@ mod tally;
 pub use cell::Cell;
 pub use dwell::MOST_START;
 pub use plan::{
-    MOST_BINS, MOST_CELLS, MOST_CENTRE, MOST_DWELL, MOST_SIDE_BINS, MOST_THRESHOLD, Plan, PlanFault,
+    BIN_CELLS, MOST_BINS, MOST_CELLS, MOST_CENTRE, MOST_DWELL, MOST_SIDE_BINS, MOST_THRESHOLD,
+    Plan, PlanFault,
 };
 pub use search::Search;
 pub use tally::MOST_POWER;

@@ -2,21 +2,18 @@
 
 ghost use Rattle.std.specs.Prelude.{◌≡◌, ◌<◌, ◌≤◌, length, slice_index};
 ghost use Rattle.acquisition.specs.Ones.{AreOnes};
-ghost use Rattle.acquisition.specs.declared.ones.TheConstants.{CHIPS};
+ghost use Rattle.ca_codes.specs.declared.book.TheConstants.{CODE_CHIPS};
 
-use ca_codes::{CodeBook, Prn};
-
-/// The chips of a code (IS-GPS-200, section 3.3.2.3).
-pub(crate) const CHIPS: usize = 1023;
+use ca_codes::{CODE_CHIPS, CodeBook, Prn};
 
 /// The chips of a satellite's code that are 1, in order.
 #[derive(Drop)]
 pub(crate) struct Ones {
     prn: Prn,
-    chips: [u16; CHIPS],
+    chips: [u16; CODE_CHIPS as usize],
     count: usize,
-    ghost long: { length chips ≡ CHIPS },
-    ghost are: { AreOnes prn CHIPS chips count },
+    ghost long: { length chips ≡ CODE_CHIPS },
+    ghost are: { AreOnes prn CODE_CHIPS chips count },
 }
 
 impl Ones {
@@ -25,9 +22,9 @@ impl Ones {
         ensures { result.prn ≡ prn }
     {
         let table = book.table(prn);
-        let mut chips = [0; CHIPS];
+        let mut chips = [0; CODE_CHIPS as usize];
         let mut count = 0;
-        for chip in 0..CHIPS {
+        for chip in 0..CODE_CHIPS as usize {
             chips[count] = chip as u16;
             if table[chip] >= 1 << 7 {
                 count += 1;
@@ -40,7 +37,7 @@ impl Ones {
     #[inline(always)]
     pub(crate) fn count(&self) -> usize
         ensures value { result ≡ self.now.count }
-        ensures most { result ≤ CHIPS }
+        ensures most { result ≤ CODE_CHIPS }
     {
         self.count
     }
@@ -50,7 +47,7 @@ impl Ones {
     pub(crate) fn chip(&self, k: usize) -> usize
         requires { k < self.now.count }
         ensures value { result ≡ slice_index self.now.chips k }
-        ensures below { result < CHIPS }
+        ensures below { result < CODE_CHIPS }
     {
         usize::from(self.chips[k])
     }

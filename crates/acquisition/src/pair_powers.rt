@@ -7,7 +7,7 @@ ghost use Rattle.acquisition.specs.Pairs.{ArePairsAtOnes, IsRaisedWhole, cell_pa
 ghost use Rattle.acquisition.specs.declared.chip_ring.TheConstants.{CELLS_AT_ONCE, LANES};
 ghost use Rattle.acquisition.specs.declared.fold.TheConstants.{MOST_SMALL};
 ghost use Rattle.acquisition.specs.declared.half_chip_table.TheConstants.{HALF_CHIPS};
-ghost use Rattle.acquisition.specs.declared.ones.TheConstants.{CHIPS};
+ghost use Rattle.ca_codes.specs.declared.book.TheConstants.{CODE_CHIPS};
 ghost use Rattle.acquisition.specs.declared.sums.TheConstants.{MOST_PERIOD_POWER};
 
 use crate::chip_ring::{CELLS_AT_ONCE, LANES, RAISED, place_of};
@@ -83,7 +83,7 @@ impl PeriodSums {
     #[inline(always)]
     fn raised_whole(&self, ones: usize) -> u32
         requires small { self.now.is_small ≡ true }
-        requires ones { ones ≤ CHIPS }
+        requires ones { ones ≤ CODE_CHIPS }
         ensures { IsRaisedWhole self.now ones result }
     {
         let first = raised(self.whole.in_phase) + 2 * RAISED * ones as u32;

@@ -7,7 +7,7 @@ ghost use Rattle.acquisition.specs.PeriodStates.{ArePowersOf, AreSumsOf};
 ghost use Rattle.acquisition.specs.Rings.{IsSumAtOnes};
 ghost use Rattle.acquisition.specs.declared.chip_ring.TheConstants.{CELLS_AT_ONCE, LANES, RAISED};
 ghost use Rattle.acquisition.specs.declared.half_chip_table.TheConstants.{HALF_CHIPS};
-ghost use Rattle.acquisition.specs.declared.ones.TheConstants.{CHIPS};
+ghost use Rattle.ca_codes.specs.declared.book.TheConstants.{CODE_CHIPS};
 ghost use Rattle.acquisition.specs.declared.sums.TheConstants.{MOST_PERIOD_SUM, MOST_PERIOD_POWER};
 
 use crate::chip_ring::{CELLS_AT_ONCE, LANES, RAISED, place_of};
@@ -86,9 +86,9 @@ impl PeriodSums {
         ensures quadrature { (l : ℕ) → l < LANES → IsSumAtOnes ones.now
             self.now.quadrature.chips half (shift + l) (slice_index result.quadrature l) }
         ensures small_in_phase { (l : ℕ) → l < LANES
-            → slice_index result.in_phase l ≤ 2 * RAISED * CHIPS }
+            → slice_index result.in_phase l ≤ 2 * RAISED * CODE_CHIPS }
         ensures small_quadrature { (l : ℕ) → l < LANES
-            → slice_index result.quadrature l ≤ 2 * RAISED * CHIPS }
+            → slice_index result.quadrature l ≤ 2 * RAISED * CODE_CHIPS }
     {
         let mut in_phase = u32x16::splat(0);
         let mut quadrature = u32x16::splat(0);
@@ -108,8 +108,8 @@ impl PeriodSums {
 #[inline(always)]
 fn less_twice(whole: i32, picked: u32, raised: u32) -> i32
     requires whole { unsigned_abs whole ≤ MOST_PERIOD_SUM }
-    requires picked { picked ≤ 2 * RAISED * CHIPS }
-    requires raised { raised ≤ RAISED * CHIPS }
+    requires picked { picked ≤ 2 * RAISED * CODE_CHIPS }
+    requires raised { raised ≤ RAISED * CODE_CHIPS }
     ensures { result ≡ whole -ℤ pos 2 *ℤ (pos picked -ℤ pos raised) }
 {
     whole - 2 * (picked as i32 - raised as i32)
