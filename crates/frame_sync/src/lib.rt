@@ -23,5 +23,5 @@ mod sync;
 mod tests;
 mod window;
 
-pub use subframe::{COUNT_LIMIT, DATA_LIMIT, HEADER_WORDS, LAST_ID, SUBFRAME_WORDS, Subframe};
+pub use subframe::{COUNT_LIMIT, HEADER_WORDS, LAST_ID, SUBFRAME_WORDS, Subframe};
 pub use sync::{Found, FrameSync, MOST_BITS};

@@ -5,8 +5,10 @@ ghost use Rattle.std.specs.Prelude.{slice_set, length};
 ghost use Rattle.definitions.specs.Frames.{word_of, id_of, tow_of, id_in, is_complete};
 ghost use Rattle.frame_sync.specs.Words.{IsWord, IsSubframe, has_header};
 ghost use Rattle.frame_sync.specs.declared.subframe.TheConstants.{SUBFRAME_WORDS, HEADER_WORDS};
-ghost use Rattle.frame_sync.specs.declared.subframe.TheConstants.{DATA_LIMIT, LAST_ID, COUNT_LIMIT};
+ghost use Rattle.frame_sync.specs.declared.subframe.TheConstants.{LAST_ID, COUNT_LIMIT};
+ghost use Rattle.nav_parity.specs.declared.parity.TheConstants.{DATA_LIMIT};
 
+use nav_parity::DATA_LIMIT;
 use std::marker::Model;
 
 /// d1 to d8 of each telemetry word (IS-GPS-200, section 20.3.3.1).
@@ -18,10 +20,6 @@ pub const SUBFRAME_WORDS: usize = 10;
 /// The words by which a subframe is recognised: telemetry and handover (IS-GPS-200, sections
 /// 20.3.3.1 and 20.3.3.2).
 pub const HEADER_WORDS: usize = 2;
-
-/// The data of a word, d1 to d24 as a number with d24 lowest, are below this (IS-GPS-200, section
-/// 20.3.5).
-pub const DATA_LIMIT: u32 = 1 << 24;
 
 /// The greatest ID of a subframe; the least is 1 (IS-GPS-200, section 20.3.3.2).
 pub const LAST_ID: u8 = 5;

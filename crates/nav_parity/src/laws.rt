@@ -23,7 +23,7 @@ pub fn check_of_encode()
 {}
 
 /// `encode` of `check` gives the word back: a word that passes is the one word for its data, and
-/// these are below 2 ^ 24.
+/// these are below `DATA_LIMIT`.
 pub fn encode_of_check()
     ensures { EachWordIsEncoded }
 {}

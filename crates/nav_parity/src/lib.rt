@@ -21,4 +21,4 @@ mod tests;
 pub use laws::{
     check_of_encode, encode_of_check, inversion_is_harmless, three_errors_are_detected,
 };
-pub use parity::{check, encode};
+pub use parity::{DATA_LIMIT, PRIOR_LIMIT, WORD_LIMIT, check, encode};

@@ -5,6 +5,22 @@
 ghost use Rattle.std.specs.Prelude.{◌≡◌, ◌*◌, ◌%◌, ◌^◌, ◌<◌, IfSome};
 ghost use Rattle.definitions.specs.Parity.{checked_data};
 ghost use Rattle.nav_parity.specs.Words.{HasParity, IsEncoded};
+ghost use Rattle.nav_parity.specs.declared.parity.TheConstants.{WORD_LIMIT, DATA_LIMIT};
+ghost use Rattle.nav_parity.specs.declared.parity.TheConstants.{PRIOR_LIMIT, PARITY_LIMIT};
+
+/// A word, D1 to D30 as a number with D30 lowest, is below this (IS-GPS-200, section 20.3.5).
+pub const WORD_LIMIT: u32 = 1 << 30;
+
+/// The data of a word, d1 to d24 as a number with d24 lowest, are below this (IS-GPS-200, section
+/// 20.3.5).
+pub const DATA_LIMIT: u32 = 1 << 24;
+
+/// The last two bits of a word as the number 2 * D29 + D30, by which the next word is checked, are
+/// below this (IS-GPS-200, section 20.3.5).
+pub const PRIOR_LIMIT: u8 = 4;
+
+/// D25 to D30 of a word as a number with D30 lowest are below this.
+const PARITY_LIMIT: u32 = 1 << PARITY_WIDTH;
 
 const PARITY_WIDTH: u32 = 6;
 
@@ -37,10 +53,10 @@ const SUMMED: [u32; 6] = [
 /// the last two bits of the word before, 2 * D29* + D30*.
 #[tactic(auto, using(crate::proofs::Checked::checking))]
 pub fn check(word: u32, prior: u8) -> Option<u32>
-    requires is_word { word < 2 ^ 30 }
-    requires is_prior { prior < 4 }
+    requires is_word { word < WORD_LIMIT }
+    requires is_prior { prior < PRIOR_LIMIT }
     ensures checked_data { result ≡ checked_data word prior }
-    ensures in_range { IfSome result (λ found. found < 2 ^ 24) }
+    ensures in_range { IfSome result (λ found. found < DATA_LIMIT) }
 {
     let data = (word >> PARITY_WIDTH) ^ inversion(prior);
     if word & PARITY_MASK == parity_bits(data, prior) {
@@ -53,8 +69,8 @@ pub fn check(word: u32, prior: u8) -> Option<u32>
 /// The one word that passes with `prior` (2 * D29* + D30*) and has these data, d1 to d24 with d24
 /// lowest. Bit 29 of the word is D1 and bit 0 is D30 (IS-GPS-200, section 20.3.5).
 pub fn encode(data: u32, prior: u8) -> u32
-    requires is_data { «data» < 2 ^ 24 }
-    requires is_prior { prior < 4 }
+    requires is_data { «data» < DATA_LIMIT }
+    requires is_prior { prior < PRIOR_LIMIT }
     ensures { IsEncoded result «data» prior }
 {
     ((data ^ inversion(prior)) << PARITY_WIDTH) | parity_bits(data, prior)
@@ -62,7 +78,7 @@ pub fn encode(data: u32, prior: u8) -> u32
 
 /// What turns the data into the bits that are sent: all ones where the word before ended in a 1.
 fn inversion(prior: u8) -> u32
-    requires { prior < 4 }
+    requires { prior < PRIOR_LIMIT }
     ensures { result ≡ prior % 2 * 0xff_ffff }
 {
     if prior & 1 == 1 { DATA_MASK } else { 0 }
@@ -71,9 +87,9 @@ fn inversion(prior: u8) -> u32
 /// D25 to D30 for these data, D30 lowest.
 #[tactic(auto, using(crate::proofs::Masks::six_bits))]
 fn parity_bits(data: u32, prior: u8) -> u32
-    requires is_data { «data» < 2 ^ 24 }
-    requires is_prior { prior < 4 }
-    ensures in_range { result < 2 ^ 6 }
+    requires is_data { «data» < DATA_LIMIT }
+    requires is_prior { prior < PRIOR_LIMIT }
+    ensures in_range { result < PARITY_LIMIT }
     ensures parity { HasParity result «data» prior }
 {
     let summed = (u32::from(prior) << DATA_WIDTH) | data;

@@ -1,8 +1,10 @@
 //! Words whose data are known from outside, and the words near one of them.
 
-ghost use Rattle.std.specs.Prelude.{◌≡◌, ◌^◌, ◌<◌, Some, IfSome};
+ghost use Rattle.std.specs.Prelude.{◌≡◌, ◌<◌, Some, IfSome};
+ghost use Rattle.nav_parity.specs.declared.parity.TheConstants.{WORD_LIMIT, DATA_LIMIT};
+ghost use Rattle.nav_parity.specs.declared.parity.TheConstants.{PRIOR_LIMIT};
 
-use super::{check, encode};
+use super::{DATA_LIMIT, PRIOR_LIMIT, WORD_LIMIT, check, encode};
 
 // A telemetry word after 00, and a hand-over word after 10.
 const TELEMETRY: u32 = 0x22c0_0012;
@@ -57,15 +59,15 @@ fn refused(bits: u32) -> u32 {
 
 /// The telemetry word with these bits changed.
 fn changed(bits: u32) -> u32
-    ensures { result < 2 ^ 30 }
+    ensures { result < WORD_LIMIT }
 {
     (TELEMETRY ^ bits) & 0x3fff_ffff
 }
 
 /// What `check` answers to `encode`, as the contracts of the two say.
 fn checked_code(data: u32, prior: u8) -> Option<u32>
-    requires is_data { «data» < 2 ^ 24 }
-    requires is_prior { prior < 4 }
+    requires is_data { «data» < DATA_LIMIT }
+    requires is_prior { prior < PRIOR_LIMIT }
     ensures { result ≡ Some «data» }
 {
     check(encode(data, prior), prior)
@@ -73,8 +75,8 @@ fn checked_code(data: u32, prior: u8) -> Option<u32>
 
 /// What `encode` makes of the data that `check` finds, as the contracts of the two say.
 fn recoded_word(word: u32, prior: u8) -> Option<u32>
-    requires is_word { word < 2 ^ 30 }
-    requires is_prior { prior < 4 }
+    requires is_word { word < WORD_LIMIT }
+    requires is_prior { prior < PRIOR_LIMIT }
     ensures { IfSome result (λ again. again ≡ word) }
 {
     let found = check(word, prior)?;
