@@ -49,9 +49,10 @@ class Room:
                     shutil.copytree(kept, os.path.join(folder, 'crates', name, 'out', part),
                                     copy_function=link)
 
-    def run(self, command, jobs):
+    def run(self, command, jobs, nice=0):
         """Runs a command of `rt`. Gives whether the crate is proved, and what the prover said."""
-        ran = subprocess.run(['rt', command, '--jobs', str(jobs)], cwd=self.folder,
+        words = ['nice', '-n', str(nice), 'rt', command, '--jobs', str(jobs)]
+        ran = subprocess.run(words, cwd=self.folder,
                              stdin=subprocess.DEVNULL, stdout=subprocess.PIPE,
                              stderr=subprocess.STDOUT, errors='replace')
         return ran.returncode == 0, ran.stdout
@@ -73,13 +74,13 @@ class Room:
             os.close(lock)
 
 
-def prove(crate, crates, jobs):
+def prove(crate, crates, jobs, nice=0):
     """Proves a crate over the libraries below it that are built, and builds it where it is a
     library. Gives whether it is proved, and what the prover said."""
     with new_folder('crate') as folder:
         room = Room(crate, crates, folder)
         is_program = os.path.exists(os.path.join(room.folder, 'src', 'main.rt'))
         try:
-            return room.run('check' if is_program else 'lib', jobs)
+            return room.run('check' if is_program else 'lib', jobs, nice)
         finally:
             room.bring_out()
