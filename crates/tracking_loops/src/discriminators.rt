@@ -8,8 +8,9 @@ ghost use Rattle.definitions.specs.Loops.{code_error as defined_code_error};
 ghost use Rattle.lane_correlator.specs.Counting.{counts_in, AreWithin};
 ghost use Rattle.tracking_loops.specs.declared.limits.TheConstants.{MOST_SUM};
 ghost use Rattle.tracking_loops.specs.declared.limits.TheConstants.{MOST_ERROR};
-ghost use Rattle.tracking_loops.specs.declared.discriminators.TheConstants.{MOST_PRODUCT};
-ghost use Rattle.tracking_loops.specs.declared.discriminators.TheConstants.{MOST_POWER, MOST_SIZE};
+ghost use Rattle.tracking_loops.specs.declared.discriminators.TheConstants.{MOST_PRODUCT_OF_SUMS};
+ghost use Rattle.tracking_loops.specs.declared.discriminators.TheConstants.{MOST_POWER_OF_SUMS};
+ghost use Rattle.tracking_loops.specs.declared.discriminators.TheConstants.{MOST_TWICE_POWER};
 
 use lane_correlator::Counts;
 
@@ -17,13 +18,13 @@ use lane_correlator::Counts;
 const UNITS: i64 = 4096;
 
 /// The greatest size of a product of two sums: `MOST_SUM` times itself.
-const MOST_PRODUCT: u64 = 1 << 36;
+const MOST_PRODUCT_OF_SUMS: u64 = 1 << 36;
 
 /// The greatest size of a sum of two products.
-const MOST_POWER: u64 = 2 * MOST_PRODUCT;
+const MOST_POWER_OF_SUMS: u64 = 2 * MOST_PRODUCT_OF_SUMS;
 
 /// The most that the sizes of two such sums add up to.
-const MOST_SIZE: u64 = 2 * MOST_POWER;
+const MOST_TWICE_POWER: u64 = 2 * MOST_POWER_OF_SUMS;
 
 /// The turn of the carrier from one dump to the next.
 pub fn frequency_error(before: &Counts, counts: &Counts) -> i64
@@ -65,7 +66,7 @@ pub fn code_error(counts: &Counts) -> i64
 /// What part of `size` `a` is, in units, rounded toward minus infinity. Of a size of 0 it is 0.
 fn ratio(a: i64, size: u64) -> i64
     requires within { unsigned_abs a ≤ size }
-    requires fits { size ≤ MOST_SIZE }
+    requires fits { size ≤ MOST_TWICE_POWER }
     ensures is { result ≡ defined_ratio a size }
     ensures small { unsigned_abs result ≤ MOST_ERROR }
 {
@@ -74,7 +75,7 @@ fn ratio(a: i64, size: u64) -> i64
 
 /// `a`, or `-a` where `by` is below zero.
 fn signed(a: i64, by: i64) -> i64
-    requires { unsigned_abs a ≤ MOST_SIZE }
+    requires { unsigned_abs a ≤ MOST_TWICE_POWER }
     ensures is { result ≡ a *ℤ sgn by }
     ensures size { unsigned_abs result ≡ unsigned_abs a }
 {
@@ -86,7 +87,7 @@ fn cross(before: &Counts, counts: &Counts) -> i64
     requires before_small { AreWithin MOST_SUM (counts_in before.now) }
     requires counts_small { AreWithin MOST_SUM (counts_in counts.now) }
     ensures is { result ≡ before.now.ip *ℤ counts.now.qp -ℤ counts.now.ip *ℤ before.now.qp }
-    ensures small { unsigned_abs result ≤ MOST_POWER }
+    ensures small { unsigned_abs result ≤ MOST_POWER_OF_SUMS }
 {
     product(before.ip, counts.qp) - product(counts.ip, before.qp)
 }
@@ -96,7 +97,7 @@ fn dot(before: &Counts, counts: &Counts) -> i64
     requires before_small { AreWithin MOST_SUM (counts_in before.now) }
     requires counts_small { AreWithin MOST_SUM (counts_in counts.now) }
     ensures is { result ≡ before.now.ip *ℤ counts.now.ip +ℤ before.now.qp *ℤ counts.now.qp }
-    ensures small { unsigned_abs result ≤ MOST_POWER }
+    ensures small { unsigned_abs result ≤ MOST_POWER_OF_SUMS }
 {
     product(before.ip, counts.ip) + product(before.qp, counts.qp)
 }
@@ -106,7 +107,7 @@ fn power(in_phase: i32, quadrature: i32) -> i64
     requires in_phase_in { unsigned_abs in_phase ≤ MOST_SUM }
     requires quadrature_in { unsigned_abs quadrature ≤ MOST_SUM }
     ensures is { result ≡ in_phase *ℤ in_phase +ℤ quadrature *ℤ quadrature }
-    ensures small { unsigned_abs result ≤ MOST_POWER }
+    ensures small { unsigned_abs result ≤ MOST_POWER_OF_SUMS }
 {
     product(in_phase, in_phase) + product(quadrature, quadrature)
 }
@@ -115,7 +116,7 @@ fn product(a: i32, b: i32) -> i64
     requires a_in { unsigned_abs a ≤ MOST_SUM }
     requires b_in { unsigned_abs b ≤ MOST_SUM }
     ensures is { result ≡ a *ℤ b }
-    ensures small { unsigned_abs result ≤ MOST_PRODUCT }
+    ensures small { unsigned_abs result ≤ MOST_PRODUCT_OF_SUMS }
 {
     i64::from(a) * i64::from(b)
 }
