@@ -3,8 +3,12 @@
 ghost use Rattle.std.specs.Prelude.{true, false, ◌≡◌, ◌+◌, ◌*◌};
 ghost use Rattle.std.specs.Prelude.{◌<◌, ◌≤◌, ◌^◌, length, unsigned_abs};
 ghost use Rattle.recordings.specs.Readings.{bits_of, reading, AreNumbers};
+ghost use Rattle.recordings.specs.declared.numbers.TheConstants.{READING_LIMIT};
 
-use crate::numbers::{are_numbers, float_order, four_bytes, sign_of, signed, sized, two_bytes};
+use crate::numbers::{
+    FLOAT_BYTES, HALF_OF_16_BITS, are_numbers, float_order, four_bytes, sign_of, signed, sized,
+    two_bytes,
+};
 
 /// The kind of the values of a recording.
 #[derive(Clone, Copy, Debug, PartialEq, Eq)]
@@ -79,14 +83,14 @@ impl Kind {
     pub fn reading(self, bytes: &[u8], i: usize) -> i64
         requires { bits_of self * (i + 1) ≤ 8 * length bytes.now }
         ensures value { result ≡ reading self bytes.now i }
-        ensures small { unsigned_abs result < 2 ^ 31 }
+        ensures small { unsigned_abs result < READING_LIMIT }
     {
         match self {
             Kind::U8 => 2 * i64::from(bytes[i]),
             Kind::I8 => 2 * signed(128, u32::from(bytes[i])),
-            Kind::I16 => 2 * signed(32768, two_bytes(bytes[2 * i], bytes[2 * i + 1])),
-            Kind::I16Be => 2 * signed(32768, two_bytes(bytes[2 * i + 1], bytes[2 * i])),
-            Kind::F32 => float_order(four_bytes(bytes, 4 * i)),
+            Kind::I16 => 2 * signed(HALF_OF_16_BITS, two_bytes(bytes[2 * i], bytes[2 * i + 1])),
+            Kind::I16Be => 2 * signed(HALF_OF_16_BITS, two_bytes(bytes[2 * i + 1], bytes[2 * i])),
+            Kind::F32 => float_order(four_bytes(bytes, FLOAT_BYTES * i)),
             Kind::Bits2Low => {
                 2 * (2 * signed(2, u32::from((bytes[i / 4] >> (2 * (i % 4))) % 4)) + 1)
             }

@@ -5,6 +5,24 @@ ghost use Rattle.std.specs.Prelude.{◌*◌, ◌<◌, ◌≤◌, ◌^◌, length
 ghost use Rattle.definitions.specs.Samples.{sign_of};
 ghost use Rattle.recordings.specs.Readings.{signed, sized, float_order, two_bytes, four_bytes};
 ghost use Rattle.recordings.specs.Readings.{IsNumber};
+ghost use Rattle.recordings.specs.declared.numbers.TheConstants.{READING_LIMIT, HALF_OF_16_BITS};
+ghost use Rattle.recordings.specs.declared.numbers.TheConstants.{SIGN_AND_SIZE_LIMIT};
+ghost use Rattle.recordings.specs.declared.numbers.TheConstants.{MOST_SIZE, FLOAT_BYTES};
+
+/// A value is read as an integer whose size is below this.
+pub const READING_LIMIT: u64 = 1 << 31;
+
+/// The bit of a sign above the bit of a size, as a number, is below this.
+pub const SIGN_AND_SIZE_LIMIT: u8 = 4;
+
+/// The greater of the two sizes that a bit of a size stands for.
+const MOST_SIZE: u64 = 3;
+
+/// Half of the range of 16 bits.
+pub const HALF_OF_16_BITS: u32 = 1 << 15;
+
+/// The bytes of a float.
+pub const FLOAT_BYTES: usize = 4;
 
 /// The bit of the sign of a float, the highest of its 32: half of their range.
 const SIGN_BIT: u32 = 1 << 31;
@@ -23,9 +41,9 @@ pub fn sign_of(bit: u8) -> i64
 
 /// The value of a sign above a size: 1, 3, -1 or -3.
 pub fn sized(bits: u8) -> i64
-    requires { bits < 4 }
+    requires { bits < SIGN_AND_SIZE_LIMIT }
     ensures value { result ≡ sized bits }
-    ensures small { unsigned_abs result ≤ 3 }
+    ensures small { unsigned_abs result ≤ MOST_SIZE }
 {
     match bits {
         0 => 1,
@@ -38,7 +56,7 @@ pub fn sized(bits: u8) -> i64
 /// A number of two's complement, of which `half` is the half of the range.
 pub fn signed(half: u32, n: u32) -> i64
     requires range { n < 2 * half }
-    requires half { half ≤ 32768 }
+    requires half { half ≤ HALF_OF_16_BITS }
     ensures value { result ≡ signed half n }
     ensures small { unsigned_abs result ≤ half }
 {
@@ -53,14 +71,14 @@ pub fn signed(half: u32, n: u32) -> i64
 /// The number of two bytes.
 pub fn two_bytes(low: u8, high: u8) -> u32
     ensures value { result ≡ two_bytes low high }
-    ensures small { result < 65536 }
+    ensures small { result < 2 * HALF_OF_16_BITS }
 {
     u32::from(low) + 256 * u32::from(high)
 }
 
 /// The number of four bytes from a place on, the lowest of them first.
 pub fn four_bytes(bytes: &[u8], at: usize) -> u32
-    requires { at + 4 ≤ length bytes.now }
+    requires { at + FLOAT_BYTES ≤ length bytes.now }
     ensures value { result ≡ four_bytes bytes.now at }
 {
     two_bytes(bytes[at], bytes[at + 1]) + 65536 * two_bytes(bytes[at + 2], bytes[at + 3])
@@ -69,7 +87,7 @@ pub fn four_bytes(bytes: &[u8], at: usize) -> u32
 /// The bits of a float as an integer that grows with it.
 pub fn float_order(bits: u32) -> i64
     ensures value { result ≡ float_order bits }
-    ensures small { unsigned_abs result < 2 ^ 31 }
+    ensures small { unsigned_abs result < READING_LIMIT }
 {
     if bits < SIGN_BIT {
         i64::from(bits)
@@ -80,13 +98,13 @@ pub fn float_order(bits: u32) -> i64
 
 /// Whether each whole float of bytes is a number.
 pub fn are_numbers(bytes: &[u8]) -> bool
-    ensures all { result ≡ true → (i : ℕ) → 4 * (i + 1) ≤ length bytes.now
-        → IsNumber (four_bytes bytes.now (4 * i)) }
-    ensures some { result ≡ false → (i : ℕ) × (4 * (i + 1) ≤ length bytes.now)
-        × (¬ IsNumber (four_bytes bytes.now (4 * i))) }
+    ensures all { result ≡ true → (i : ℕ) → FLOAT_BYTES * (i + 1) ≤ length bytes.now
+        → IsNumber (four_bytes bytes.now (FLOAT_BYTES * i)) }
+    ensures some { result ≡ false → (i : ℕ) × (FLOAT_BYTES * (i + 1) ≤ length bytes.now)
+        × (¬ IsNumber (four_bytes bytes.now (FLOAT_BYTES * i))) }
 {
-    for i in 0..bytes.len() / 4 {
-        if four_bytes(bytes, 4 * i) % SIGN_BIT > INFINITY {
+    for i in 0..bytes.len() / FLOAT_BYTES {
+        if four_bytes(bytes, FLOAT_BYTES * i) % SIGN_BIT > INFINITY {
             return false;
         }
     }

@@ -1,9 +1,10 @@
 //! Packing piece by piece.
 
 ghost use Rattle.std.specs.Prelude.{◌≡◌, ◌<◌, ◌≤◌, ◌*◌, ◌/◌, ◌%◌, ◌↔◌, true, length, drop};
+ghost use Rattle.recordings.specs.declared.recipe.TheConstants.{MOST_GROUP};
 
 use crate::fault::PackFault;
-use crate::recipe::Recipe;
+use crate::recipe::{MOST_GROUP, Recipe};
 use std::alloc::{AllocError, Global};
 
 /// The most bytes of a piece.
@@ -14,7 +15,7 @@ pub const MOST_PIECE: usize = 1 << 16;
 pub struct Packer {
     recipe: Recipe,
     held: Vec<u8>,
-    ghost few: { length held.items < 64 },
+    ghost few: { length held.items < MOST_GROUP },
 }
 
 impl Packer {
@@ -30,7 +31,7 @@ impl Packer {
         ensures recipe { IfOk result (λ packer. recipe_in packer ≡ recipe) }
         ensures stands { IfOk result (λ packer. StandsFor [] [] packer) }
     {
-        let held = Vec::with_capacity(alloc, MOST_PIECE + 64)?;
+        let held = Vec::with_capacity(alloc, MOST_PIECE + MOST_GROUP)?;
         Ok(Packer { recipe, held })
     }
 

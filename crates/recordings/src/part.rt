@@ -1,6 +1,9 @@
 //! How one part of a sample is made of a recording's values.
 
 ghost use Rattle.std.specs.Prelude.{◌≡◌, ◌<◌, ◌≤◌, ◌^◌, unsigned_abs};
+ghost use Rattle.recordings.specs.declared.numbers.TheConstants.{READING_LIMIT};
+
+use crate::numbers::READING_LIMIT;
 
 /// How a part of a sample is made: of which value, and about which centre.
 #[derive(Clone, Copy, Debug, PartialEq, Eq)]
@@ -31,7 +34,7 @@ impl Part {
 
     /// The bit of the size.
     pub(crate) fn size(&self, threshold: u64, value: i64) -> u8
-        requires { unsigned_abs value < 2 ^ 31 }
+        requires { unsigned_abs value < READING_LIMIT }
         ensures value { result ≡ size_bit self.now threshold value }
         ensures bit { result < 2 }
     {

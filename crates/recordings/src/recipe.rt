@@ -4,6 +4,8 @@ ghost use Rattle.std.specs.Prelude.{◌≡◌, ◌+◌, ◌*◌, ◌%◌, ◌<�
 ghost use Rattle.definitions.specs.Samples.{samples_per_byte};
 ghost use Rattle.sample_planes.specs.Packings.{packing_of};
 ghost use Rattle.recordings.specs.Readings.{bits_of};
+ghost use Rattle.recordings.specs.declared.numbers.TheConstants.{READING_LIMIT};
+ghost use Rattle.recordings.specs.declared.numbers.TheConstants.{SIGN_AND_SIZE_LIMIT};
 
 use crate::fault::PackFault;
 use crate::kind::Kind;
@@ -13,6 +15,12 @@ use std::alloc::AllocError;
 
 /// The most bytes that samples are read from at once.
 pub const MOST_BYTES: usize = 1 << 20;
+
+/// The most bits of a recording that a sample has: two floats.
+pub const MOST_SAMPLE_BITS: usize = 64;
+
+/// The most bytes of a recording that a written byte is made of: eight samples of two floats.
+pub const MOST_GROUP: usize = 64;
 
 /// How many values a byte has.
 pub const BYTE_VALUES: usize = 256;
@@ -48,6 +56,7 @@ impl Recipe {
     ghost use Rattle.sample_planes.specs.Packings.{width_of};
     ghost use Rattle.recordings.specs.Recordings.{parts_of, sample_bits, packing_in, value_of};
     ghost use Rattle.recordings.specs.declared.recipe.TheConstants.{MOST_BYTES, BYTE_VALUES};
+    ghost use Rattle.recordings.specs.declared.recipe.TheConstants.{MOST_SAMPLE_BITS, MOST_GROUP};
     ghost use Rattle.recordings.specs.Recordings.{sign_in, sign_and_size, code_of, sample_of};
     ghost use Rattle.recordings.specs.Recordings.{group_of, IsPacked, IsTable};
 
@@ -57,20 +66,20 @@ impl Recipe {
     {
         if self.is_paired { 2 } else { 1 }
     }
-    /// How many bits of a recording a sample has, 1 to 64.
+    /// How many bits of a recording a sample has, 1 to `MOST_SAMPLE_BITS`.
     pub fn sample_bits(&self) -> usize
         ensures value { result ≡ sample_bits self.now }
         ensures some { 0 < result }
-        ensures few { result ≤ 64 }
+        ensures few { result ≤ MOST_SAMPLE_BITS }
     {
         self.parts() * self.kind.bits()
     }
 
-    /// How many bytes of a recording each written byte is made of, 1 to 64.
+    /// How many bytes of a recording each written byte is made of, 1 to `MOST_GROUP`.
     pub fn group(&self) -> usize
         ensures value { result ≡ group_of self.now }
         ensures some { 0 < result }
-        ensures few { result ≤ 64 }
+        ensures few { result ≤ MOST_GROUP }
     {
         self.format.per_byte() * self.sample_bits() / 8
     }
@@ -179,7 +188,7 @@ impl Recipe {
         requires few { length bytes.now ≤ MOST_BYTES }
         requires within { sample_bits self.now * (n + 1) ≤ 8 * length bytes.now }
         ensures value { result ≡ sign_and_size self.now part.now bytes.now n }
-        ensures bits { result < 4 }
+        ensures bits { result < SIGN_AND_SIZE_LIMIT }
     {
         let value = self.value(part, bytes, n);
         2 * part.sign(value) + part.size(self.threshold, value)
@@ -191,7 +200,7 @@ impl Recipe {
         requires few { length bytes.now ≤ MOST_BYTES }
         requires within { sample_bits self.now * (n + 1) ≤ 8 * length bytes.now }
         ensures value { result ≡ value_of self.now part.now bytes.now n }
-        ensures small { unsigned_abs result < 2 ^ 31 }
+        ensures small { unsigned_abs result < READING_LIMIT }
     {
         self.kind.reading(bytes, self.parts() * n + part.place)
     }
