@@ -31,7 +31,7 @@ slot_event_in e =
 
 -- they are these events
 abbrev pub AreEvents : List SlotEvent → List DefinedSlotEvent → Type 0
-AreEvents events told = map slot_event_in events ≡ told
+AreEvents events defined = map slot_event_in events ≡ defined
 
 -- the line of an event, without its end
 abbrev pub line_of : SlotEvent → List ℕ
