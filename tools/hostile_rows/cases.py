@@ -1,5 +1,6 @@
 """Recordings and scripts whose lines are known beforehand, and the programs that are tried."""
 import os
+import subprocess
 from dataclasses import dataclass
 
 TOP = os.path.dirname(os.path.dirname(os.path.dirname(os.path.realpath(__file__))))
@@ -21,6 +22,17 @@ class Programs:
         path = os.path.join(self.folder, name)
         with open(path, 'wb') as out:
             out.write(data)
+        return path
+
+    def library(self, name, source):
+        """Makes a library of a text of C, and gives its path; nothing where no compiler does."""
+        path = os.path.join(self.folder, f'{name}.so')
+        text = self.file(f'{name}.c', source.encode())
+        try:
+            subprocess.run(['cc', '-shared', '-fPIC', '-O1', '-o', path, text], check=True,
+                           stderr=subprocess.DEVNULL)
+        except (OSError, subprocess.CalledProcessError):
+            return None
         return path
 
     def either(self, proved, plain):

@@ -2,7 +2,6 @@
 import os
 import re
 import signal
-import subprocess
 
 from .cases import Case, packed, searches
 from .runs import Wanted, run
@@ -112,18 +111,6 @@ def address_space(programs, rows):
         rows.say(f'address space, {name}', faults if is_whole else [*faults, 'no run was whole'])
 
 
-def refuser(programs):
-    """The library that refuses memory; nothing where no compiler makes it."""
-    library = os.path.join(programs.folder, 'refuser.so')
-    source = programs.file('refuser.c', REFUSER.encode())
-    try:
-        subprocess.run(['cc', '-shared', '-fPIC', '-O1', '-o', library, source], check=True,
-                       stderr=subprocess.DEVNULL)
-    except (OSError, subprocess.CalledProcessError):
-        return None
-    return library
-
-
 def refused_in_turn(case, library, mark):
     """The outcomes with one request for memory refused, the first, the second and so on."""
     number = 0
@@ -140,7 +127,7 @@ def refused_in_turn(case, library, mark):
 
 def refusals(programs, rows):
     """Each request for memory refused in turn."""
-    library = refuser(programs)
+    library = programs.library('refuser', REFUSER)
     if library is None:
         print('hostile: no cc makes a library here, so no memory is refused in turn')
         return

@@ -7,6 +7,19 @@ from .runs import PARSER, Outcome, Wanted, run
 TWO_BIT_SAMPLES = b'\x72'
 # Holds satellite 1 in its last chip, and asks for one dump.
 LAST_CHIP = b'0 hold 0 1 0 2044\n0 counts 0 1\n'
+# A library by which the first read of a file gives one byte, and the next one fails.
+BREAKS_OFF = r'''
+#include <errno.h>
+#include <sys/syscall.h>
+#include <unistd.h>
+ssize_t read(int file, void *to, size_t size) {
+    static int count;
+    if (file <= 2) return syscall(SYS_read, file, to, size);
+    if (!count++) return syscall(SYS_read, file, to, size ? 1 : 0);
+    errno = EIO;
+    return -1;
+}
+'''
 # What the help has to say, among all else.
 OF_THE_HELP = (b'receiver [OPTIONS] [SCRIPT]...', b'count S IE QE IP QP IL QL',
                b'T track S PRN DOPPLER HALF', b'T acquire S PRN CENTRE BINS MS THRESHOLD',
@@ -39,14 +52,13 @@ class Table:
                       Wanted(0, b'', lines))
 
     def ends(self, words, wanted):
-        """The receiver ends so, and has read no sample. Gives what it printed."""
+        """The receiver ends so, and has read no sample."""
         name = b' '.join(map(os.fsencode, words))
         with open(self.samples, 'rb', buffering=0) as samples:
             outcome = self.run(words, stdin=samples)
             if samples.tell():
                 outcome = Outcome(outcome.status, outcome.lines, b'it has read samples')
         self.rows.see(f'receiver {name!r}', outcome, wanted)
-        return outcome
 
     def refuses(self, words, text, status=2):
         """The receiver ends with this line on standard error alone, and has read no sample."""
@@ -111,6 +123,20 @@ def scripts(programs, rows):
     table.refuses([slots[3]] * 9, b'clients', 1)
 
 
+def file_that_breaks_off(programs, rows):
+    """A script of which a byte is read, and no more."""
+    library = programs.library('breaks_off', BREAKS_OFF)
+    if library is None:
+        print('hostile: no cc makes a library here, so no script breaks off')
+        return
+    script = programs.file('breaks_off', b'0 state 0\n')
+    for name, line, wanted in (
+            ('whole', 'exec "$@"', Wanted(0, b'', b'1 0 state 0 idle\n1 0 end\n')),
+            ('that breaks off', f'export LD_PRELOAD={library}; exec "$@"',
+             Wanted(2, b'receiver: script\n'))):
+        rows.see(f'a script {name}', run(line, [programs.receiver, script]), wanted)
+
+
 def shares(programs, rows):
     """A digit from 1 to 8 for each script, and one where there is none."""
     table = Table(programs, rows)
@@ -134,4 +160,4 @@ def names(programs, rows):
     table.refuses([b'\xff'], b'script')
 
 
-ROWS = recordings, refusals, the_help, scripts, shares, names
+ROWS = recordings, refusals, the_help, scripts, file_that_breaks_off, shares, names
