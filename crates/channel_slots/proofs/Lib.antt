@@ -6,6 +6,7 @@ pub mod OrderLemmas
 pub mod PutLemmas
 pub mod QuietLemmas
 pub mod ReadyLemmas
+pub mod RestLemmas
 pub mod SearchLemmas
 pub mod SeatLemmas
 pub mod ShareLemmas

@@ -201,13 +201,14 @@ module _ (settings : Settings) (xs : List Sample) (life : Life) (a : Searched)
       not-found none = answers Idle (over none)
 
       pub settled : (b : Searched) → Searches settings s.plan life.begun (xs ++ ys) b
-          → searched.to_due_of b ≡ 0 → (stage : Stage) → IsSettled cell b stage
+          → searched.to_due_of b ≡ 0 → (stage : Stage)
+          → IsSettled cell b (length (xs ++ ys)) stage
           → Takes settings xs ys life stage (Some (news.Acquired prn cell))
       settled b searches due Idle is = not-found is
       settled b searches due (Searching other) is = absurd is
       settled b searches due (Holding h) is = absurd is
       settled b searches due (Tracking t) is =
-          found t (is.1 settings s.plan life.begun (xs ++ ys) searches due) is.0
+          found t (is.1 settings s.plan life.begun (xs ++ ys) refl searches due) is.0
 
 -- a life that begins now
 pub starts-searched : (settings : Settings) (xs : List Sample) (life : Life) (a : Searched)

@@ -1,5 +1,5 @@
 -- All seats of a bank take a block.
-use Rattle.std.proofs.Common.{◌≡◌, ℕ, zero, suc, ◌+◌, ◌-◌, ◌<◌, ◌≤◌, List, [], ◌∷◌, ◌++◌, length}
+use Rattle.std.proofs.Common.{◌≡◌, ℕ, zero, suc, ◌+◌, ◌-◌, ◌<◌, List, [], ◌∷◌, ◌++◌, length}
 use Rattle.std.proofs.Common.{take, drop, refl, sym, ap, ◌∙◌, arith, get_or, slice_set}
 use Rattle.std.specs.Prelude.{map}
 use Rattle.definitions.specs.Samples.{Sample}
@@ -38,22 +38,19 @@ are_told p time events told same = from_map events ∙ ap (slot_events p.client 
 pub seated : (ys : List Sample) (time first : ℕ) (held : ℕ → Sample) (p q : Seat)
     (events : List Event)
     → q.client ≡ p.client → q.number ≡ p.number
-    → length ys ≤ time
-    → ((from t reach : ℕ) → IsSound from t reach p.slot
-    → IsSound from (t + length ys) reach q.slot)
+    → ((from reach : ℕ) → IsSound from (time - length ys) reach p.slot
+    → IsSound from time reach q.slot)
     → ((settings : Settings) (xs : List Sample) (commands : List TimedRequest)
-    → AreSamplesOf (xs ++ ys) first (length (xs ++ ys)) held
+    → length (xs ++ ys) ≡ time → AreSamplesOf (xs ++ ys) first (length (xs ++ ys)) held
     → StandsFor settings xs commands p.slot → Emits settings xs ys commands q.slot events)
     → SeatSteps ys time first held p q (map (event_of p time) events)
-seated ys time first held p q events client number later sound tells =
+seated ys time first held p q events client number sound tells =
     record {
       client = client;
       number = number;
-      sound = λ from reach start.
-          let behind : (time - length ys) + length ys ≡ time = omega (arith, later) in
-          rw behind at (sound from (time - length ys) reach start);
+      sound = sound;
       tells = λ settings xs commands now samples s.
-          let t = tells settings xs commands samples s in record {
+          let t = tells settings xs commands now samples s in record {
             inside = t.inside;
             told = rw now (are_told p time events _ t.told);
             stands = t.stands;

@@ -26,6 +26,7 @@ use Rattle.channels.specs.Following.{QuietInside}
 use Rattle.channels.specs.HeldChannels as held
 use Rattle.channels.specs.TrackedChannels as tracked
 use Rattle.channels.specs.TrackedChannels.{counts_so_far}
+use Rattle.channels.proofs.LateLemmas.{begun as channel-begun}
 use Rattle.channels.proofs.LockedLemmas.{edge-locked}
 use Rattle.channel_slots.specs.declared.stage.Stage.{Stage}
 use Rattle.channel_slots.specs.declared.stage.Stage.TheVariants.{Idle, Searching, Holding, Tracking}
@@ -63,7 +64,8 @@ dumps-by-now settings xs life Idle s e = cc
 dumps-by-now settings xs life (Searching a) s e = rw (searched-dumps settings xs life a s) tt
 dumps-by-now settings xs life (Holding h) s e =
     rw (held-dumps settings xs xs life h s)
-    (dumps-within settings (own_channel settings xs life h s) xs s.holds.follows.at.begun)
+    (dumps-within settings (own_channel settings xs life h s) xs
+    (channel-begun settings _ xs h.follower s.holds.follows))
 dumps-by-now settings xs life (Tracking t) s e = tracked-by-now settings xs life t s
 
 -- a life that is followed is on
@@ -114,7 +116,7 @@ pub shows-held : (settings : Settings) (xs : List Sample) (life : Life) (h : Hel
     → shown (holding n dumps) ≡ answer_with settings xs (Some life) state
 unfolding dumps_of_life view_of
 shows-held settings xs life h n dumps s prn is =
-    rw (s.start, prn, s.holds.follows.at.prn, is, s.holds.dumps)
+    rw (s.start, prn, s.holds.follows.follows.at.prn, is, s.holds.dumps)
 
 -- a life that begins now
 pub starts-held : (settings : Settings) (xs : List Sample) (life : Life) (h : Held) (prn : ℕ)
@@ -168,7 +170,8 @@ module _ (settings : Settings) (xs ys : List Sample) (life : Life) (h : Held)
       → life_events settings (xs ++ take j ys) (Some life) ≡ []
   quiet-inside inside j first b =
       hold-quiet settings xs (take j ys) life s.prn s.doppler s.half_chip s.start
-      s.holds.follows.at.begun (omega (arith, length-take j ys)) (inside j b)
+      (channel-begun settings _ xs h.follower s.holds.follows)
+      (omega (arith, length-take j ys)) (inside j b)
 
   held-brings : (is_shown : Bool) (r : Option Counts) (g : Held)
       → held.Takes settings channel xs ys g r → Brings settings xs ys life (held_news is_shown r)
@@ -176,7 +179,7 @@ module _ (settings : Settings) (xs ys : List Sample) (life : Life) (h : Held)
     held-dumps settings xs (xs ++ ys) life h s
         ∙ ap (λ p. p.dumps) t.brings ∙ sym (held-dumps settings xs xs life h s),
     hold-quiet settings xs ys life s.prn s.doppler s.half_chip s.start
-        s.holds.follows.at.begun some t.brings,
+        (channel-begun settings _ xs h.follower s.holds.follows) some t.brings,
   )
   held-brings is_shown (Some c) g t =
       let d : DefinedDump = record { time = length (xs ++ ys); counts = counts_in c } in (

@@ -2,12 +2,16 @@
 -- events.
 use Rattle.std.proofs.Common.{◌≡◌, ℕ, zero, suc, ◌+◌, ◌-◌, ◌<◌, ◌≤◌, List, [], ◌∷◌, ◌++◌, length}
 use Rattle.std.proofs.Common.{take, drop, refl, sym, ap, ◌∙◌, arith, length-append, append-nil}
-use Rattle.std.proofs.Common.{append_assoc, subst}
+use Rattle.std.proofs.Common.{append_assoc, subst, ◌*◌}
 use Rattle.std.specs.Prelude.{Bool, true, false, map, nat_lt, if◌then◌else◌, pos}
-use Rattle.channels.proofs.ChanceLemmas.{one-chance as one-segment}
+use Rattle.channels.proofs.ChanceLemmas.{one-late-chance}
 use Rattle.channel_slots.specs.declared.stage.Stage.{Stage}
 use Rattle.channel_slots.specs.declared.stage.Stage.TheVariants.{Idle, Searching, Holding, Tracking}
-use Rattle.channel_slots.specs.Stages.{chance}
+use Rattle.tracking_loops.specs.declared.news.News.{News}
+use Rattle.channels.specs.Dumps.{is_loss}
+use Rattle.channels.specs.declared.tracked.Tracked.{Tracked}
+use Rattle.channels.specs.TrackedChannels as tracked
+use Rattle.channel_slots.specs.Stages.{chance, after_dump}
 use Rattle.channel_slots.specs.declared.slot.Slot.{Slot}
 use Rattle.std.proofs.lemmas.List.{map-append, length-take-le}
 use Rattle.channels.specs.Parts.{part}
@@ -194,11 +198,21 @@ goes-on run done count time first held p q r before mid after some within g a fe
     (omega (arith, is, some)) few)
 
 -- in a run of samples there is one dump of a slot at most, and the answer of an acquisition
-one-stage : (stage : Stage) → chance stage ≤ 7
-one-stage Idle = omega arith
-one-stage (Searching a) = omega arith
-one-stage (Holding h) = omega (arith, one-segment h.follower)
-one-stage (Tracking t) = omega (arith, one-segment t.follower)
+one-stage : (time : ℕ) (stage : Stage) → chance time stage ≤ 7
+one-stage time Idle = omega arith
+one-stage time (Searching a) = omega arith
+one-stage time (Holding h) = omega (arith, one-late-chance time h.follower)
+one-stage time (Tracking t) = omega (arith, one-late-chance time t.follower)
 
-pub one-chance : (slot : Slot) → chances slot ≤ 7
-one-chance slot = one-stage slot.stage
+pub one-chance : (time : ℕ) (slot : Slot) → chances time slot ≤ 7
+one-chance time slot = one-stage time slot.stage
+
+-- as many as a tracked satellite may bring, or none where the signal is lost
+pub dump-chance : (time : ℕ) (lock : News) (t : Tracked)
+    → chance time (after_dump lock (Tracking t)) ≤ 6 * tracked.chance time t
+dump-chance time lock t = by_test (is_loss lock)
+  where
+    by_test : (b : Bool)
+        → chance time (if b then Idle else Tracking t) ≤ 6 * tracked.chance time t
+    by_test true = omega arith
+    by_test false = omega arith

@@ -24,6 +24,7 @@ use Rattle.tracking_loops.specs.declared.news.News.{News}
 use Rattle.tracking_loops.specs.declared.news.News.TheVariants as locks
 use Rattle.channels.specs.declared.dump.Dump.{Dump}
 use Rattle.channels.specs.declared.tracked.Tracked.{Tracked}
+use Rattle.channels.proofs.LateLemmas.{begun as channel-begun}
 use Rattle.channels.specs.Dumps.{is_loss}
 use Rattle.channels.specs.TrackedChannels as tracked
 use Rattle.channels.specs.TrackedChannels.{counts_so_far}
@@ -108,7 +109,8 @@ module _ (settings : Settings) (xs : List Sample) (life : Life) (t : Tracked)
   pub tracked-by-now : AllByRecursion (λ (d : DefinedDump). d.time ≤ length xs)
       (dumps_of_life settings xs life)
   tracked-by-now =
-      rw tracked-dumps (dumps-within settings own xs s.tracks.follows.at.begun)
+      rw tracked-dumps (dumps-within settings own xs
+      (channel-begun settings own xs t.follower s.tracks.follows))
 
   pub tracked-on : is_over settings xs life ≡ false
   tracked-on =

@@ -16,15 +16,19 @@ use Rattle.channel_slots.specs.Stages as stages
 abbrev pub is_idle : Slot → Bool
 is_idle slot = stages.is_idle slot.stage
 
--- how many events the slot may emit in a run of samples
-abbrev pub chances : Slot → ℕ
-chances slot = stages.chance slot.stage
+-- up to how many samples of the recording may come while the slot takes none
+abbrev pub rests_until : Slot → ℕ
+rests_until slot = stages.rests_until slot.stage
+
+-- how many events the slot may emit in a run of samples after so many
+abbrev pub chances : ℕ → Slot → ℕ
+chances time slot = stages.chance time slot.stage
 
 -- what is known of it at a time
 abbrev pub IsSound : ℕ → ℕ → ℕ → Slot → Type 0
 IsSound first time reach slot = stages.IsSound first time reach slot.stage
 
--- the same as a test, whatever sample a dwell begins with
+-- the same as a test, whatever sample comes first
 abbrev pub is_sound : ℕ → ℕ → Slot → Bool
 is_sound time reach slot = stages.is_sound time reach slot.stage
 

@@ -1,6 +1,6 @@
 -- What a stage follows over the samples so far.
 use Rattle.std.specs.Prelude.{◌≡◌, ◌<◌, ◌≤◌, ◌+◌, ◌*◌, ◌==◌, ◌&&◌, nat_le, if◌then◌else◌, ℤ, ℕ}
-use Rattle.std.specs.Prelude.{Bool, true, false, List, nat_lt, Option, Some, None}
+use Rattle.std.specs.Prelude.{Bool, true, false, List, length, nat_lt, Option, Some, None}
 use Rattle.definitions.specs.Samples.{Sample}
 use Rattle.definitions.specs.Oscillators.{Settings, samples_per_ms}
 use Rattle.acquisition.specs.declared.cell.Cell.{Cell}
@@ -24,6 +24,7 @@ use Rattle.channels.specs.TrackedChannels.{counts_so_far}
 use Rattle.channel_slots.specs.declared.stage.Stage.{Stage}
 use Rattle.channel_slots.specs.declared.stage.Stage.TheVariants.{Idle, Searching, Holding, Tracking}
 use Rattle.channel_slots.specs.declared.slot_news.TheConstants.{DUMP_EVENTS}
+use Rattle.channel_slots.specs.declared.bank.TheConstants.{MOST_TIME}
 
 -- whether it follows nothing
 abbrev pub is_idle : Stage → Bool
@@ -39,33 +40,57 @@ cells_done_of (Searching s) = Some (searched.done_of s)
 cells_done_of (Holding h) = None
 cells_done_of (Tracking t) = None
 
--- how many events may come in a run of samples: those of a dump, and the answer of an acquisition
--- before it
-abbrev pub chance : Stage → ℕ
-chance Idle = 0
-chance (Searching s) = 1 + DUMP_EVENTS
-chance (Holding h) = DUMP_EVENTS * held.chance h
-chance (Tracking t) = DUMP_EVENTS * tracked.chance t
+-- up to how many samples of the recording may come while it takes none: one that is idle needs
+-- none, and one that searches takes all
+abbrev pub rests_until : Stage → ℕ
+rests_until Idle = MOST_TIME
+rests_until (Searching s) = 0
+rests_until (Holding h) = held.rests_until h
+rests_until (Tracking t) = tracked.rests_until t
 
--- what is known of it at a time: it has had a dump a sample at most; one that searches is on its
--- way to its due time, which isn't further than `reach` from its start, and its dwell begins with
--- sample `first` or later
+-- how many events may come in a run of samples after so many: those of a dump, and the answer of an
+-- acquisition before it
+abbrev pub chance : ℕ → Stage → ℕ
+chance time Idle = 0
+chance time (Searching s) = 1 + DUMP_EVENTS
+chance time (Holding h) = DUMP_EVENTS * held.chance time h
+chance time (Tracking t) = DUMP_EVENTS * tracked.chance time t
+
+-- a channel has had a dump a sample at most; it has taken all samples up to sample `first` and
+-- perhaps more, and those that it hasn't taken may wait
+pub record IsInTime (first time dumps taken rests : ℕ) : Type 0 where
+  pub few : dumps ≤ time
+  pub held : first ≤ taken
+  pub begun : taken ≤ time
+  pub waits : time ≤ rests
+
+-- what is known of it at a time: that of its channel; one that searches is on its way to its due
+-- time, which isn't further than `reach` from its start, and its dwell begins with sample `first`
+-- or later
 abbrev pub IsSound : ℕ → ℕ → ℕ → Stage → Type 0
 IsSound first time reach Idle = Unit
 IsSound first time reach (Searching s) =
     (first ≤ searched.start_of s) × (searched.due_of s ≡ time + searched.to_due_of s)
     × (0 < searched.to_due_of s) × (searched.due_of s ≤ searched.start_of s + reach)
-IsSound first time reach (Holding h) = held.dumps_of h ≤ time
-IsSound first time reach (Tracking t) = tracked.dumps_of t ≤ time
+IsSound first time reach (Holding h) =
+    IsInTime first time (held.dumps_of h) (held.taken_of h) (held.rests_until h)
+IsSound first time reach (Tracking t) =
+    IsInTime first time (tracked.dumps_of t) (tracked.taken_of t) (tracked.rests_until t)
 
--- the same as a test, whatever sample its dwell begins with
+-- the same as a test, whatever sample comes first
+abbrev pub is_in_time : ℕ → ℕ → ℕ → ℕ → Bool
+is_in_time time dumps taken rests =
+    nat_le dumps time && (nat_le taken time && nat_le time rests)
+
 abbrev pub is_sound : ℕ → ℕ → Stage → Bool
 is_sound time reach Idle = true
 is_sound time reach (Searching s) =
     (searched.due_of s == time + searched.to_due_of s)
     && (nat_lt 0 (searched.to_due_of s) && nat_le (searched.due_of s) (searched.start_of s + reach))
-is_sound time reach (Holding h) = nat_le (held.dumps_of h) time
-is_sound time reach (Tracking t) = nat_le (tracked.dumps_of t) time
+is_sound time reach (Holding h) =
+    is_in_time time (held.dumps_of h) (held.taken_of h) (held.rests_until h)
+is_sound time reach (Tracking t) =
+    is_in_time time (tracked.dumps_of t) (tracked.taken_of t) (tracked.rests_until t)
 
 -- how far the due time of an acquisition may be from its start
 abbrev pub most_wait : Settings → ℕ
@@ -75,18 +100,18 @@ most_wait settings = MOST_DWELL * samples_per_ms settings + 4 * MOST_CELLS
 abbrev pub after_dump : News → Stage → Stage
 after_dump lock stage = if is_loss lock then Idle else stage
 
--- what a search leaves with the cell that it named: the signal that was found, tracked, and nothing
--- where none was
-abbrev pub IsSettled : Cell → Searched → Stage → Type 0
-IsSettled cell s Idle = cell.found ≡ false
-IsSettled cell s (Searching other) = ⊥
-IsSettled cell s (Holding h) = ⊥
-IsSettled cell s (Tracking t) =
+-- what a search leaves with the cell that it named, after so many samples: the signal that was
+-- found, tracked, and nothing where none was
+abbrev pub IsSettled : Cell → Searched → ℕ → Stage → Type 0
+IsSettled cell s time Idle = cell.found ≡ false
+IsSettled cell s time (Searching other) = ⊥
+IsSettled cell s time (Holding h) = ⊥
+IsSettled cell s time (Tracking t) =
     (cell.found ≡ true)
-    × ((settings : Settings) (plan : Plan) (begun : ℕ) (xs : List Sample)
+    × ((settings : Settings) (plan : Plan) (begun : ℕ) (xs : List Sample) → length xs ≡ time
     → Searches settings plan begun xs s → searched.to_due_of s ≡ 0
     → tracked.Tracks settings (found_channel settings plan begun (cell_in cell)) xs t)
-    × (tracked.dumps_of t ≡ 0)
+    × (tracked.dumps_of t ≡ 0) × (tracked.taken_of t ≡ time)
 
 -- a life that began with an acquisition has come as far with it, and it isn't due yet
 pub record IsSearched (settings : Settings) (xs : List Sample) (life : Life) (s : Searched)

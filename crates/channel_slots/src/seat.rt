@@ -8,9 +8,11 @@ ghost use Rattle.channel_slots.specs.Slots.{StandsFor};
 ghost use Rattle.arrayvec.specs.ArrayVec.{array_vec_len};
 ghost use Rattle.channel_slots.specs.Banks.{keys_of, AllSound, RunsAll, IsCommanded};
 ghost use Rattle.channel_slots.specs.Banks.{HasDone, total, AddsIdle, AllIdle};
+ghost use Rattle.channel_slots.specs.Banks.{AllRest, RestsUntil};
 ghost use Rattle.channel_slots.specs.Slots.{IsSound};
 ghost use Rattle.channel_slots.specs.Stages.{most_wait};
 ghost use Rattle.acquisition.specs.declared.dwell.TheConstants.{MOST_START};
+ghost use Rattle.sample_planes.specs.declared.planes.TheConstants.{MAX_SAMPLES};
 ghost use Rattle.channel_slots.specs.declared.slot_news.TheConstants.{DUMP_EVENTS};
 ghost use Rattle.slot_protocol.specs.Commands.{request_in};
 ghost use Rattle.channel_slots.specs.declared.bank.TheConstants.{MOST_TIME};
@@ -21,6 +23,7 @@ ghost use Rattle.channel_slots.specs.NewsEvents.{if_any, count_events, lock_even
 ghost use Rattle.channel_slots.specs.NewsEvents.{events_with};
 ghost use Rattle.channel_slots.specs.declared.slot.TheConstants.{SLOT_EVENTS};
 
+use crate::bank::MOST_TIME;
 use crate::slot::{SLOT_EVENTS, Slot};
 use crate::slot_news::{DUMP_EVENTS, SlotNews};
 use crate::timeline::put_in_time;
@@ -31,7 +34,7 @@ use frame_sync::Found;
 use lane_correlator::Counts;
 use nav_message::MessageNews;
 use oscillators::Settings;
-use sample_planes::{Planes, SampleSource};
+use sample_planes::{PackedSamples, Planes, SampleSource};
 use slot_protocol::{Answer, Command, Event, MOST_SLOTS, SlotEvent};
 use std::alloc::{AllocError, Global};
 use tracking_loops::News;
@@ -122,7 +125,8 @@ impl Seat {
         self.put(reports.set.map(Event::Almanacs), time, events);
     }
 
-    /// Takes a run of samples, and inserts its events by time.
+    /// Takes a run of samples, and inserts its events by time. Where the slot rests to the end of
+    /// the run, its samples wait.
     fn run<S: SampleSource>(
         &mut self,
         run: &Planes,
@@ -139,6 +143,9 @@ impl Seat {
             events.old.items events.new.items }
     {
         let len = run.len();
+        if time + len as u64 <= self.slot.rests_until() {
+            return;
+        }
         let mut done = 0;
         while done < len {
             let (count, news) = self.slot.take(run, done, source, book);
@@ -214,26 +221,60 @@ fn add_idle(seats: &mut Vec<Seat>, client: u8, share: u8) -> Result<(), AllocErr
     Ok(())
 }
 
-/// Each slot in turn takes a run, and inserts its events by time.
+/// Each slot in turn takes a run, and inserts its events by time. All of them rest up to
+/// `rests_until` samples of the recording: where the run ends by then, none takes it. It answers up
+/// to how many samples they rest from then on.
 pub fn run_all<S: SampleSource>(
+    seats: &mut [Seat],
+    run: &PackedSamples,
+    source: &S,
+    book: &mut CodeBook,
+    time: u64,
+    rests_until: u64,
+    events: &mut ArrayVec<SlotEvent, RUN_EVENTS>,
+) -> u64
+    requires short { length run.now.samples ≤ MAX_SAMPLES }
+    requires room { time + length run.now.samples ≤ MOST_TIME }
+    requires sound { (reach : ℕ) × AllSound (S.from source.now) time reach seats.old }
+    requires to { time + length run.now.samples ≡ S.to source.now }
+    requires fits { array_vec_len events.old + SLOT_EVENTS * (length seats.old + 1)
+        ≤ RUN_EVENTS }
+    requires rest { AllRest rests_until seats.old }
+    ensures runs { RunsAll run.now.samples time (S.from source.now) (S.held source.now) seats.old
+        seats.new events.old.items events.new.items }
+    ensures rest { AllRest result seats.new }
+{
+    if time + run.len() as u64 <= rests_until {
+        return rests_until;
+    }
+    run_each(seats, &run.unpack(), source, book, time, events)
+}
+
+/// Each slot in turn takes a run, and inserts its events by time. It answers up to how many samples
+/// of the recording all of them rest from then on.
+fn run_each<S: SampleSource>(
     seats: &mut [Seat],
     run: &Planes,
     source: &S,
     book: &mut CodeBook,
     time: u64,
     events: &mut ArrayVec<SlotEvent, RUN_EVENTS>,
-)
+) -> u64
     requires room { time + length run.now ≤ MOST_TIME }
     requires sound { (reach : ℕ) × AllSound (S.from source.now) time reach seats.old }
     requires to { time + length run.now ≡ S.to source.now }
     requires fits { array_vec_len events.old + SLOT_EVENTS * (length seats.old + 1)
         ≤ RUN_EVENTS }
-    ensures { RunsAll run.now time (S.from source.now) (S.held source.now) seats.old seats.new
+    ensures runs { RunsAll run.now time (S.from source.now) (S.held source.now) seats.old seats.new
         events.old.items events.new.items }
+    ensures rest { AllRest result seats.new }
 {
+    let mut rests_until = MOST_TIME;
     for seat in seats.iter_mut() {
         seat.run(run, source, book, time, events);
+        rests_until = rests_until.min(seat.slot.rests_until());
     }
+    rests_until
 }
 
 /// One of the slots does what its client asks, and answers it.
@@ -249,6 +290,14 @@ pub fn command_at(
     ensures { IsCommanded settings.now time (request_in command) seats.old seats.new at result }
 {
     seats[at].slot.command(settings, time, command)
+}
+
+/// Up to how many samples of the recording may come while one of the slots takes none of them.
+pub fn rests_until_at(seats: &[Seat], at: usize) -> u64
+    requires { at < length seats.now }
+    ensures { RestsUntil seats.now at result }
+{
+    seats[at].slot.rests_until()
 }
 
 /// How many cells the search of one of the slots has done, if it searches.

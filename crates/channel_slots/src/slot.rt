@@ -3,6 +3,7 @@
 ghost use Rattle.std.specs.Prelude.{◌≡◌, ◌≤◌, ◌<◌, ◌+◌, ◌-◌};
 ghost use Rattle.channel_slots.specs.declared.bank.TheConstants.{MOST_TIME};
 
+use crate::bank::MOST_TIME;
 use crate::slot_news::SlotNews;
 use crate::stage::Stage;
 use ca_codes::CodeBook;
@@ -40,6 +41,7 @@ impl Slot {
     ghost use Rattle.channel_slots.specs.Stages as stages;
     ghost use Rattle.channel_slots.specs.Stages.{most_wait, after_dump};
     ghost use Rattle.channel_slots.specs.Slots.{StandsFor, Emits, IsSound, chances, is_idle};
+    ghost use Rattle.channel_slots.specs.Slots.{rests_until};
     ghost use Rattle.channel_slots.specs.Slots.{cells_done_of, first_life};
 
     /// A slot that was never asked for anything.
@@ -54,10 +56,23 @@ impl Slot {
         }
     }
 
-    /// Takes samples of a run, from sample `from` on, up to the slot's next event or the end of the
-    /// run. It answers how many these are, and what comes with the last of them. The source holds
-    /// the samples of the recording to the end of the run, from the first one on that a search
-    /// looks at. The book is any book of codes.
+    /// Up to how many samples of the recording may come while the slot takes none of them: nothing
+    /// is emitted with them.
+    pub fn rests_until(&self) -> u64
+        ensures { result ≡ rests_until self.now }
+    {
+        match &self.stage {
+            Stage::Idle => MOST_TIME,
+            Stage::Searching(_) => 0,
+            Stage::Holding(held) => held.rests_until(),
+            Stage::Tracking(tracked) => tracked.rests_until(),
+        }
+    }
+
+    /// Takes the samples that wait and those of a run, from sample `from` on, up to the slot's next
+    /// event or the end of the run. It answers how many of the run these are, and what comes with
+    /// the last of them. The source holds the samples of the recording to the end of the run, from
+    /// the first one on that a search looks at or that waits. The book is any book of codes.
     pub fn take<S: SampleSource>(
         &mut self,
         run: &Planes,
@@ -73,15 +88,19 @@ impl Slot {
         ensures as_far { IsAsFar (length run.now - from) result.0 result.1 }
         ensures tells { (settings : DefinedSettings) (xs : List Sample)
             (commands : List TimedRequest)
+            → length xs + (length run.now - from) ≡ S.to source.now
             → AreSamplesOf (xs ++ part run.now from result.0) (S.from source.now)
             (length (xs ++ part run.now from result.0)) (S.held source.now)
             → StandsFor settings xs commands self.old
             → Emits settings xs (part run.now from result.0) commands self.new
             (events_of result.1) }
         ensures chances { IfSome result.1 (λ news.
-            chances self.new + length (events_with news) ≤ chances self.old) }
-        ensures sound { (first time reach : ℕ) → IsSound first time reach self.old
-            → IsSound first (time + result.0) reach self.new }
+            chances (S.to source.now - (length run.now - from) + result.0) self.new
+            + length (events_with news)
+            ≤ chances (S.to source.now - (length run.now - from)) self.old) }
+        ensures sound { (first reach : ℕ)
+            → IsSound first (S.to source.now - (length run.now - from)) reach self.old
+            → IsSound first (S.to source.now - (length run.now - from) + result.0) reach self.new }
     {
         match &mut self.stage {
             Stage::Idle => (run.len() - from, None),
@@ -91,18 +110,19 @@ impl Slot {
                     return (count, None);
                 };
                 let prn = searched.prn();
-                self.stage.settle(&cell);
+                let left = run.len() - from - count;
+                self.stage.settle(&cell, source.end() - left as u64);
                 (count, Some(SlotNews::Acquired { prn, cell }))
             }
             Stage::Holding(held) => {
-                let (count, counts) = held.take(run, from, book);
+                let (count, counts) = held.take(run, from, source, book);
                 let Some(counts) = counts else {
                     return (count, None);
                 };
                 (count, Some(self.dump(Dump::plain(counts))))
             }
             Stage::Tracking(tracked) => {
-                let (count, dump) = tracked.take(run, from, book);
+                let (count, dump) = tracked.take(run, from, source, book);
                 let Some(dump) = dump else {
                     return (count, None);
                 };
@@ -219,13 +239,13 @@ impl Slot {
                 prn,
                 doppler,
                 half,
-            } => self.start(Stage::Holding(Held::start(settings, prn, doppler, half))),
+            } => self.start(Stage::Holding(Held::start(settings, prn, doppler, half, time))),
             Command::Track {
                 slot: _,
                 prn,
                 doppler,
                 half,
-            } => self.start(Stage::Tracking(Tracked::start(settings, prn, doppler, half))),
+            } => self.start(Stage::Tracking(Tracked::start(settings, prn, doppler, half, time))),
             Command::State { .. } => Answer::State(self.state()),
             Command::Counts { slot: _, n } => {
                 if self.is_idle() {

@@ -17,6 +17,7 @@ use Rattle.definitions.proofs.SplitLemmas.{counts_over-more, counts_over-none, c
 use Rattle.channels.specs.declared.follower.Follower.{Follower}
 use Rattle.lane_correlator.specs.Counting.{counts_in}
 use Rattle.channels.specs.Following.{IsAt, Follows, Stays, Closes, QuietInside}
+use Rattle.channels.proofs.WrapLemmas.{at-least-one, before-end}
 
 -- what a block does to a follower, before the end of a segment is looked at
 pub record Moves (ys : List Sample) (f : Follower) (phase turn : ℕ) (total : Counts) : Type 0 where
@@ -42,6 +43,14 @@ same_phases code carrier a b other turned e h =
     ∙ ap (λ (x : ℕ). let p : Phases =
     record { code = other; carrier = x; code_step = a; carrier_step = b } in p) h
 
+-- a segment has a sample left at least, and doesn't end before the last of those
+pub some-left : (f : Follower) → 0 < f.to_end
+some-left f = at-least-one f.code.phase f.code.step f.to_end f.in_cycle f.ends
+
+pub low-before : (f : Follower) (k : ℕ) → k < f.to_end
+    → f.code.phase + k * f.code.step < 1023 * 2 ^ 32
+low-before f k less = before-end f.code.phase f.code.step f.to_end f.before k less
+
 module _ (settings : Settings) (channel : Channel) (xs ys : List Sample) (f : Follower)
     (s : Follows settings channel xs f) where
   both : length (xs ++ ys) ≡ length xs + length ys
@@ -65,6 +74,13 @@ module _ (settings : Settings) (channel : Channel) (xs ys : List Sample) (f : Fo
     where
       short : (j : ℕ) → j < length ys → length (take j ys) ≤ length ys - 1
       short j b = omega (arith, length-take j ys)
+
+  -- as few samples as leave it open end no segment
+  pub none-ends : length ys < f.to_end
+      → progress settings channel (xs ++ ys) ≡ progress settings channel xs
+  none-ends few =
+      progress-quiet settings channel xs ys
+      (none_by (length ys) (low-before f (length ys) few))
 
   -- the open segment, block by block
   abbrev own : Phases

@@ -1,6 +1,7 @@
 pub mod ChanceLemmas
 pub mod FollowingLemmas
 pub mod HeldLemmas
+pub mod LateLemmas
 pub mod LockedLemmas
 pub mod MoveLemmas
 pub mod PartLemmas

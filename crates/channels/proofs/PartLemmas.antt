@@ -1,5 +1,6 @@
 -- Parts of a run of samples.
-use Rattle.std.proofs.Common.{◌≡◌, ℕ, ◌+◌, ◌<◌, ◌≤◌, List, length, drop, sym, ◌∙◌, arith}
+use Rattle.std.proofs.Common.{◌≡◌, ℕ, ◌+◌, ◌-◌, ◌<◌, ◌≤◌, List, ◌++◌, length, drop, sym, ◌∙◌, arith}
+use Rattle.std.proofs.Common.{length-append}
 use Rattle.std.specs.Prelude.{pos}
 use Rattle.std.proofs.lemmas.List.{length-take-le, length-drop, get_or-take, get_or-drop}
 use Rattle.definitions.specs.Samples.{Sample, sample_at, real}
@@ -29,3 +30,16 @@ part-sums run from count r =
 pub part-some : (run : List Sample) (from count : ℕ) → from + count ≤ length run → 0 < count
     → 0 < length (part run from count)
 part-some run from count within h = rw (part-length run from count within) h
+
+-- after a part so many samples were taken
+pub part-taken : (xs run : List Sample) (from count to taken : ℕ) → from + count ≤ length run
+    → length xs + (length run - from) ≡ to → taken + (length run - from) ≡ to + count
+    → length (xs ++ part run from count) ≡ taken
+part-taken xs run from count to taken within now then =
+    omega (
+      arith,
+      length-append xs (part run from count),
+      part-length run from count within,
+      now,
+      then,
+    )

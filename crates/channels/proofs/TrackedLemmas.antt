@@ -1,6 +1,6 @@
 -- A tracked satellite, when it begins and when it takes samples.
 use Rattle.std.proofs.Common.{◌≡◌, ℕ, ℤ, List, [], ◌∷◌, ◌++◌, length, refl, sym, ap, subst, ◌∙◌}
-use Rattle.std.proofs.Common.{arith}
+use Rattle.std.proofs.Common.{arith, ◌≤◌}
 use Rattle.std.specs.Prelude.{Some, None, Bool}
 use Rattle.std.proofs.lemmas.List.{map-append}
 use Rattle.definitions.specs.Samples.{Sample}
@@ -19,7 +19,10 @@ use Rattle.tracking_loops.specs.Standing.{StandsFor}
 use Rattle.channels.specs.declared.follower.Follower.{Follower}
 use Rattle.channels.specs.declared.tracked.Tracked.{Tracked}
 use Rattle.channels.specs.declared.dump.Dump.{Dump}
-use Rattle.channels.specs.Following.{Follows, Opens, Stays, Closes}
+use Rattle.channels.specs.Following as segments
+use Rattle.channels.specs.Following.{Opens, Stays, Closes}
+use Rattle.channels.specs.LateFollowing.{Follows}
+use Rattle.channels.proofs.LateLemmas.{fresh, waits, quiet, quiet-inside}
 use Rattle.channels.specs.TrackedChannels.{Tracks, Takes, IsSteeredFrom, counts_so_far}
 use Rattle.channels.specs.LockedMessages as messages
 use Rattle.nav_message.specs.News.{events_in}
@@ -38,7 +41,8 @@ module _ (settings : Settings) (xs : List Sample) (prn : ℕ) (doppler : ℤ) (h
   tracked-none = progress-begun settings tracked xs (omega arith)
 
   -- before its first dump it goes on as one that is held
-  pub as-held : (f : Follower) → Follows settings held xs f → Follows settings tracked xs f
+  pub as-held : (f : Follower) → segments.Follows settings held xs f
+      → segments.Follows settings tracked xs f
   unfolding loops_after
   as-held f s =
       let at = rw held-none at s.at in
@@ -75,17 +79,18 @@ module _ (settings : Settings) (channel : Channel) (xs ys : List Sample) (old ne
   abbrev before : List Counts
   before = counts_of (progress settings channel xs).dumps
 
-  pub takes-on : Stays settings channel xs ys new.follower → new.settings ≡ old.settings
+  pub takes-on : Stays settings channel xs ys new.follower.follower
+      → length (xs ++ ys) ≡ new.follower.taken → new.settings ≡ old.settings
       → new.loops ≡ old.loops → new.message ≡ old.message
       → Takes settings channel xs ys new None
-  takes-on st same loops message = record {
+  takes-on st many same loops message = record {
     inside = st.inside;
     brings = st.same;
     stands = record {
       shift = s.shift;
       steered = s.steered;
       recorded = same ∙ s.recorded;
-      follows = st.follows;
+      follows = fresh settings channel (xs ++ ys) new.follower many st.follows;
       loops = rw (st.same, loops) s.loops;
       message = rw (st.same, message) s.message;
     };
@@ -95,13 +100,14 @@ module _ (settings : Settings) (channel : Channel) (xs ys : List Sample) (old ne
   Steers : Follower → ℤ → ℤ → Settings → Type 0
   Steers mid v w known = (channel : Channel) (xs : List Sample) → Opens known channel xs mid
       → channel.steering (counts_of (progress known channel xs).dumps) ≡ record { v = v; w = w }
-      → Follows known channel xs new.follower
+      → segments.Follows known channel xs new.follower.follower
 
   pub takes-dump : (d : Dump) (mid : Follower) (v w : ℤ) (locked : Bool)
       → Closes settings channel xs ys (counts_in d.counts) mid → new.settings ≡ old.settings
       → ((channel : Channel) (xs : List Sample) → Opens old.settings channel xs mid
       → channel.steering (counts_of (progress old.settings channel xs).dumps)
-      ≡ record { v = v; w = w } → Follows old.settings channel xs new.follower)
+      ≡ record { v = v; w = w } → segments.Follows old.settings channel xs new.follower.follower)
+      → length (xs ++ ys) ≡ new.follower.taken
       → ((start : ℤ) (dumps : List Counts) → StandsFor start dumps old.loops
       → StandsFor start (dumps ++ counts_in d.counts ∷ []) new.loops)
       → ((start : ℤ) (dumps : List Counts) → StandsFor start dumps old.loops
@@ -120,7 +126,7 @@ module _ (settings : Settings) (channel : Channel) (xs ys : List Sample) (old ne
       → locked ≡ is_locked dumps)
       → Takes settings channel xs ys new (Some d)
   unfolding Steers steered_events
-  takes-dump d mid v w locked cl same steers stands news v-is w-is reads tells locked-is =
+  takes-dump d mid v w locked cl same steers many stands news v-is w-is reads tells locked-is =
       let dump : DefinedDump = record { time = length (xs ++ ys); counts = counts_in d.counts } in
       let all : counts_of (progress settings channel (xs ++ ys)).dumps
       ≡ before ++ counts_in d.counts ∷ [] =
@@ -149,7 +155,8 @@ module _ (settings : Settings) (channel : Channel) (xs ys : List Sample) (old ne
           shift = s.shift;
           steered = s.steered;
           recorded = same ∙ s.recorded;
-          follows = go channel (xs ++ ys) (record { at = cl.at; opens = cl.opens }) shift;
+          follows = fresh settings channel (xs ++ ys) new.follower many
+              (go channel (xs ++ ys) (record { at = cl.at; opens = cl.opens }) shift);
           loops = rw all loops;
           message = rw all (reads before s.message now);
         };
@@ -160,3 +167,23 @@ module _ (settings : Settings) (channel : Channel) (xs ys : List Sample) (old ne
       same-shift a b c d e f =
           ap (λ x. let p : Shift = record { v = x; w = b } in p) e
           ∙ ap (λ x. let p : Shift = record { v = c; w = x } in p) f
+
+-- more samples that it lets wait bring no dump
+pub lets-wait : (settings : Settings) (channel : Channel) (xs ys : List Sample) (t : Tracked)
+    → Tracks settings channel xs t → length (xs ++ ys) ≤ t.follower.rests_until
+    → Takes settings channel xs ys t None
+lets-wait settings channel xs ys t s rests =
+    let same : progress settings channel (xs ++ ys) ≡ progress settings channel xs =
+    quiet settings channel xs ys t.follower s.follows rests in
+    record {
+      inside = quiet-inside settings channel xs ys t.follower s.follows rests;
+      brings = same;
+      stands = record {
+        shift = s.shift;
+        steered = s.steered;
+        recorded = s.recorded;
+        follows = waits settings channel xs ys t.follower s.follows rests;
+        loops = rw same s.loops;
+        message = rw same s.message;
+      };
+    }

@@ -1,7 +1,7 @@
 -- Where a step of samples stays before the end of the code's cycle, and where it reaches the end.
 use Rattle.std.proofs.Common.{zero, suc, ◌≡◌, ◌≤◌, ◌<◌, ◌+◌, ◌-◌, ◌*◌, ◌%◌, ℕ, arith, sym}
 use Rattle.std.proofs.Common.{ap, ◌∙◌}
-use Rattle.std.proofs.Math.Nat.{mod-eq_of_lt}
+use Rattle.std.proofs.Math.Nat.{mod-eq_of_lt, mul-le-mul_right}
 use native.Mathlib.Numerals.{unary_clauses}
 use Rattle.definitions.specs.Oscillators.{code_cycle, code_phase_after}
 use Rattle.oscillators.specs.Views.{Oscillation}
@@ -57,3 +57,31 @@ past_less phase step (suc m) new some before high is =
     let more : suc m * step ≡ step + m * step = omega arith in
     let low : phase + m * step < code_cycle = simp unary_clauses at before in
     omega (arith, more, low, high, is)
+
+-- the end takes a sample at least
+pub at-least-one : (phase step w : ℕ) → phase < code_cycle → code_cycle ≤ phase + w * step → 0 < w
+at-least-one phase step zero low ends = absurd (omega (arith, low, ends))
+at-least-one phase step (suc w) low ends = omega arith
+
+-- before the last of the samples that it takes, the phase is below the cycle
+pub before-end : (phase step w : ℕ) → phase + (w - 1) * step < code_cycle → (k : ℕ) → k < w
+    → phase + k * step < code_cycle
+before-end phase step w before k less =
+    let fewer : k ≤ w - 1 = omega (arith, less) in
+    omega (arith, before, mul-le-mul_right step fewer)
+
+-- after some samples it takes so many fewer
+pub nearer : (phase step n m : ℕ) → phase + n * step + m * step ≡ phase + (n + m) * step
+nearer phase step n m = omega arith
+
+pub left-before : (phase step n w : ℕ) → n < w → phase + (w - 1) * step < code_cycle
+    → phase + n * step + (w - n - 1) * step < code_cycle
+left-before phase step n w less before =
+    let whole : n + (w - n - 1) ≡ w - 1 = omega (arith, less) in
+    rw (nearer phase step n (w - n - 1), whole) before
+
+pub left-ends : (phase step n w : ℕ) → n < w → code_cycle ≤ phase + w * step
+    → code_cycle ≤ phase + n * step + (w - n) * step
+left-ends phase step n w less ends =
+    let whole : n + (w - n) ≡ w = omega (arith, less) in
+    rw (nearer phase step n (w - n), whole) ends

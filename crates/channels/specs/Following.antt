@@ -15,6 +15,10 @@ use Rattle.lane_correlator.specs.declared.counts.Counts.{Counts as Sums}
 abbrev pub prn_of : Follower → ℕ
 prn_of f = f.prn
 
+-- how many samples there are to the end of the segment
+abbrev pub to_end_of : Follower → ℕ
+to_end_of f = f.to_end
+
 -- how many segments may end in a run of at most 1,024 samples: none where the code is so far from
 -- the end of its cycle that it doesn't come there, whatever its step is
 abbrev pub phase_chance : ℕ → ℕ

@@ -7,8 +7,9 @@ use Rattle.definitions.specs.Segments.{Channel, progress}
 use Rattle.lane_correlator.specs.declared.counts.Counts.{Counts}
 use Rattle.lane_correlator.specs.Counting.{counts_in}
 use Rattle.channels.specs.declared.held.Held.{Held}
-use Rattle.channels.specs.Following as segments
-use Rattle.channels.specs.Following.{Follows, QuietInside}
+use Rattle.channels.specs.Following.{QuietInside}
+use Rattle.channels.specs.LateFollowing as segments
+use Rattle.channels.specs.LateFollowing.{Follows}
 
 -- which satellite it is
 abbrev pub prn_of : Held → ℕ
@@ -18,9 +19,17 @@ prn_of h = segments.prn_of h.follower
 abbrev pub dumps_of : Held → ℕ
 dumps_of h = h.dumps
 
--- how many dumps may come in a run of samples
-abbrev pub chance : Held → ℕ
-chance h = segments.chance h.follower
+-- how many samples it has taken; the others wait
+abbrev pub taken_of : Held → ℕ
+taken_of h = segments.taken_of h.follower
+
+-- up to how many samples may come while it takes none
+abbrev pub rests_until : Held → ℕ
+rests_until h = segments.rests_until h.follower
+
+-- how many dumps may come in a run of samples after so many
+abbrev pub chance : ℕ → Held → ℕ
+chance time h = segments.chance time h.follower
 
 -- the shift of a channel stays the same, whatever its dumps are
 abbrev pub IsSteady : Channel → Type 0

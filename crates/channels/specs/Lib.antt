@@ -2,6 +2,7 @@ pub mod Cells
 pub mod Dumps
 pub mod Following
 pub mod HeldChannels
+pub mod LateFollowing
 pub mod LockedMessages
 pub mod Parts
 pub mod Searching

@@ -14,16 +14,25 @@ use Rattle.channels.specs.LockedMessages as messages
 use Rattle.channels.specs.declared.tracked.Tracked.{Tracked}
 use Rattle.channels.specs.declared.dump.Dump.{Dump}
 use Rattle.channels.specs.Dumps.{steered_events_in}
-use Rattle.channels.specs.Following as segments
-use Rattle.channels.specs.Following.{Follows, QuietInside}
+use Rattle.channels.specs.Following.{QuietInside}
+use Rattle.channels.specs.LateFollowing as segments
+use Rattle.channels.specs.LateFollowing.{Follows}
 
 -- how many dumps it has had
 abbrev pub dumps_of : Tracked → ℕ
 dumps_of t = dump_count t.loops
 
--- how many dumps may come in a run of samples
-abbrev pub chance : Tracked → ℕ
-chance t = segments.chance t.follower
+-- how many samples it has taken; the others wait
+abbrev pub taken_of : Tracked → ℕ
+taken_of t = segments.taken_of t.follower
+
+-- up to how many samples may come while it takes none
+abbrev pub rests_until : Tracked → ℕ
+rests_until t = segments.rests_until t.follower
+
+-- how many dumps may come in a run of samples after so many
+abbrev pub chance : ℕ → Tracked → ℕ
+chance time t = segments.chance time t.follower
 
 -- the sums of its dumps
 abbrev pub counts_so_far : Settings → Channel → List Sample → List Counts

@@ -27,21 +27,25 @@ pub struct Follower {
     code: CodeOsc,
     carrier: CarrierOsc,
     sums: Counts,
+    /// How many samples there are to the end of the segment.
+    to_end: u64,
     ghost in_cycle: { code.phase < code_cycle },
     ghost moves: { LEAST_STEP ≤ code.step },
     ghost slow: { code.step ≤ MOST_STEP },
     ghost small: { GrowWith sums code.step code.phase },
+    ghost before: { code.phase + (to_end - 1) * code.step < code_cycle },
+    ghost ends: { code_cycle ≤ code.phase + to_end * code.step },
 }
 
 impl Follower {
-    ghost use Rattle.std.specs.Prelude.{ℕ, List, length, IfSome, unsigned_abs};
+    ghost use Rattle.std.specs.Prelude.{ℕ, List, length, IfSome, IsNone, unsigned_abs};
     ghost use Rattle.definitions.specs.Samples.{Sample};
     ghost use Rattle.definitions.specs.Oscillators.{Settings as DefinedSettings};
     ghost use Rattle.definitions.specs.Segments.{Channel, counts_of, progress};
     ghost use Rattle.definitions.specs.Lives.{held_channel};
     ghost use Rattle.lane_correlator.specs.Counting.{counts_in, AreWithin};
     ghost use Rattle.channels.specs.Following.{Follows, Opens, Goes};
-    ghost use Rattle.channels.specs.Following.{BeginsAfter, prn_of, chance};
+    ghost use Rattle.channels.specs.Following.{BeginsAfter, prn_of, to_end_of, chance};
     ghost use Rattle.channels.specs.Parts.{part, IsAsFar};
 
     /// Begins at the next sample, with the code at a half chip of its cycle and the carrier at 0.
@@ -51,9 +55,11 @@ impl Follower {
             → Follows settings.now (held_channel (length xs) prn doppler half) xs result }
     {
         let v = shift_of(doppler);
+        let code = CodeOsc::new(half, settings.code_step(v, 0));
         Follower {
             prn,
-            code: CodeOsc::new(half, settings.code_step(v, 0)),
+            to_end: code.to_wrap(),
+            code,
             carrier: CarrierOsc::new(settings.carrier_step(v)),
             sums: Counts::NONE,
         }
@@ -77,6 +83,7 @@ impl Follower {
         code.jump(ago);
         Follower {
             prn,
+            to_end: code.to_wrap(),
             code,
             carrier: CarrierOsc::new(settings.carrier_step(v)),
             sums: Counts::NONE,
@@ -88,6 +95,14 @@ impl Follower {
         ensures { result ≡ prn_of self.now }
     {
         self.prn
+    }
+
+    /// How many samples there are to the end of the segment, at least 1.
+    pub fn to_end(&self) -> u64
+        ensures value { result ≡ to_end_of self.now }
+        ensures some { 0 < result }
+    {
+        self.to_end
     }
 
     /// Takes samples of a run, from sample `from` on, up to the end of the segment or of the run.
@@ -104,21 +119,25 @@ impl Follower {
         ensures goes { (settings : DefinedSettings) (channel : Channel) (xs : List Sample)
             → Follows settings channel xs self.old
             → Goes settings channel xs (part run.now from result.0) result.1 self.new }
+        ensures open { length run.now - from < to_end_of self.old → IsNone result.1 }
+        ensures left { IsNone result.1
+            → to_end_of self.new + result.0 ≡ to_end_of self.old }
         ensures chance { IfSome result.1 (λ _. chance self.new + 1 ≤ chance self.old) }
         ensures small { IfSome result.1 (λ c. AreWithin MOST_SUM (counts_in c)) }
     {
-        let to_end = self.code.to_wrap();
-        let count = to_end.min((run.len() - from) as u64);
+        let count = self.to_end.min((run.len() - from) as u64);
         let len = count as usize;
         let more = replica_sums(run, from, len, &self.carrier, &self.code, book, self.prn);
         let sums = self.sums.add(&more);
         self.code.advance(count);
         self.carrier.advance(count);
-        if count == to_end {
+        if count == self.to_end {
             self.sums = Counts::NONE;
+            self.to_end = self.code.to_wrap();
             (len, Some(sums))
         } else {
             self.sums = sums;
+            self.to_end -= count;
             (len, None)
         }
     }
@@ -139,5 +158,6 @@ impl Follower {
         self.code.set_step(settings.code_step(v, w));
         self.carrier.set_step(settings.carrier_step(v));
         self.sums = Counts::NONE;
+        self.to_end = self.code.to_wrap();
     }
 }

@@ -2,12 +2,14 @@
 
 ghost use Rattle.std.specs.Prelude.{◌≡◌, ◌≤◌, ◌<◌, ◌+◌, ◌-◌, ◌^◌};
 ghost use Rattle.channels.specs.declared.held.TheConstants.{MOST_COUNTED_DUMPS};
+ghost use Rattle.channels.specs.declared.lazy_follower.TheConstants.{MOST_TAKEN};
 
 use crate::follower::Follower;
+use crate::lazy_follower::LazyFollower;
 use ca_codes::{CodeBook, Prn};
 use lane_correlator::Counts;
 use oscillators::{Doppler, HalfChip, Settings};
-use sample_planes::Planes;
+use sample_planes::{Planes, SampleSource};
 
 /// The most dumps that a channel counts.
 pub const MOST_COUNTED_DUMPS: u64 = 1 << 62;
@@ -16,7 +18,7 @@ pub const MOST_COUNTED_DUMPS: u64 = 1 << 62;
 /// for its channel and the samples so far.
 #[derive(Debug, Drop)]
 pub struct Held {
-    follower: Follower,
+    follower: LazyFollower,
     dumps: u64,
 }
 
@@ -28,17 +30,22 @@ impl Held {
     ghost use Rattle.definitions.specs.Lives.{held_channel};
     ghost use Rattle.channels.specs.Following.{how_many};
     ghost use Rattle.channels.specs.HeldChannels.{Holds, Takes, prn_of, dumps_of};
-    ghost use Rattle.channels.specs.HeldChannels.{chance};
+    ghost use Rattle.channels.specs.HeldChannels.{chance, taken_of, rests_until};
+    ghost use Rattle.sample_planes.specs.Sources.{AreSamplesOf};
     ghost use Rattle.channels.specs.Parts.{part, IsAsFar};
 
-    /// Begins at the next sample, with the code at a half chip of its cycle and the carrier at 0.
-    pub fn start(settings: &Settings, prn: Prn, doppler: Doppler, half: HalfChip) -> Held
-        ensures stands { (xs : List Sample)
+    /// Begins at the next sample, which is number `time`, with the code at a half chip of its cycle
+    /// and the carrier at 0; `time` is at most `MOST_TAKEN`.
+    pub fn start(settings: &Settings, prn: Prn, doppler: Doppler, half: HalfChip, time: u64) -> Held
+        requires { time ≤ MOST_TAKEN }
+        ensures stands { (xs : List Sample) → length xs ≡ time
             → Holds settings.now (held_channel (length xs) prn doppler half) xs result }
         ensures dumps { dumps_of result ≡ 0 }
+        ensures taken { taken_of result ≡ time }
     {
+        let follower = Follower::start(settings, prn, doppler, half);
         Held {
-            follower: Follower::start(settings, prn, doppler, half),
+            follower: LazyFollower::new(follower, time),
             dumps: 0,
         }
     }
@@ -57,25 +64,45 @@ impl Held {
         self.dumps
     }
 
-    /// Takes samples of a run, from sample `from` on, up to the next dump or the end of the run. It
-    /// answers how many these are, and the dump if it comes with the last of them. The book is any
-    /// book of codes.
-    pub fn take(
+    /// Up to how many samples of the recording may come while it takes none: no dump comes with
+    /// them.
+    pub fn rests_until(&self) -> u64
+        ensures value { result ≡ rests_until self.now }
+        ensures begun { taken_of self.now ≤ result }
+    {
+        self.follower.rests_until()
+    }
+
+    /// Takes the samples that wait and those of a run, from sample `from` on, up to the next dump
+    /// or the end of the run. It answers how many of the run these are, and the dump if it comes
+    /// with the last of them. The source holds the samples of the recording from the first that
+    /// waits on to the end of the run. The book is any book of codes.
+    pub fn take<S: SampleSource>(
         &mut self,
         run: &Planes,
         from: usize,
+        source: &S,
         book: &mut CodeBook,
     ) -> (usize, Option<Counts>)
         requires some { from < length run.now }
+        requires early { S.to source.now ≤ MOST_TAKEN }
+        requires held { S.from source.now ≤ taken_of self.old }
+        requires begun { taken_of self.old + (length run.now - from) ≤ S.to source.now }
+        requires rests { S.to source.now - (length run.now - from) ≤ rests_until self.old }
         requires few { dumps_of self.old < MOST_COUNTED_DUMPS }
         ensures as_far { IsAsFar (length run.now - from) result.0 result.1 }
         ensures takes { (settings : DefinedSettings) (channel : Channel) (xs : List Sample)
+            → length xs + (length run.now - from) ≡ S.to source.now
+            → AreSamplesOf xs (S.from source.now) (length xs) (S.held source.now)
             → Holds settings channel xs self.old
             → Takes settings channel xs (part run.now from result.0) self.new result.1 }
         ensures dumps { dumps_of self.new ≡ dumps_of self.old + how_many result.1 }
-        ensures chance { IfSome result.1 (λ _. chance self.new + 1 ≤ chance self.old) }
+        ensures taken { taken_of self.new + (length run.now - from)
+            ≡ S.to source.now + result.0 }
+        ensures chance { IfSome result.1 (λ _. chance (taken_of self.new) self.new + 1
+            ≤ chance (S.to source.now - (length run.now - from)) self.old) }
     {
-        let (count, counts) = self.follower.take(run, from, book);
+        let (count, counts) = self.follower.take(run, from, source, book);
         let Some(counts) = counts else {
             return (count, None);
         };

@@ -7,6 +7,7 @@ ghost use Rattle.acquisition.specs.Searches as searches;
 ghost use Rattle.definitions.specs.Oscillators.{samples_per_ms};
 ghost use Rattle.definitions.specs.Acquisition.{due_time};
 ghost use Rattle.channels.specs.Cells.{done_before};
+ghost use Rattle.channels.specs.declared.lazy_follower.TheConstants.{MOST_TAKEN};
 
 use crate::tracked::Tracked;
 use acquisition::{Cell, Plan, Search};
@@ -112,16 +113,19 @@ impl Searched {
         (count as usize, self.search.result())
     }
 
-    /// The signal of a cell that was found, tracked from the time on at which the answer was due;
-    /// `None` where the cell isn't one that was found.
-    pub fn follow(&self, cell: &Cell) -> Option<Tracked>
-        requires { unsigned_abs cell.now.bin ≤ (plan_of self.now).bins }
+    /// The signal of a cell that was found, tracked from the time on at which the answer was due,
+    /// which is now: the next sample is number `time`, at most `MOST_TAKEN`. `None` where the cell
+    /// isn't one that was found.
+    pub fn follow(&self, cell: &Cell, time: u64) -> Option<Tracked>
+        requires time { time ≤ MOST_TAKEN }
+        requires bin { unsigned_abs cell.now.bin ≤ (plan_of self.now).bins }
         ensures found { IsSome result ↔ (cell.now.found ≡ true) }
         ensures tracks { IfSome result (λ t. (settings : DefinedSettings) (plan : DefinedPlan)
-            (begun : ℕ) (xs : List Sample)
+            (begun : ℕ) (xs : List Sample) → length xs ≡ time
             → Searches settings plan begun xs self.now → to_due_of self.now ≡ 0
             → Tracks settings (found_channel settings plan begun (cell_in cell.now)) xs t) }
         ensures dumps { IfSome result (λ t. tracked.dumps_of t ≡ 0) }
+        ensures taken { IfSome result (λ t. tracked.taken_of t ≡ time) }
     {
         if !cell.found {
             return None;
@@ -129,7 +133,8 @@ impl Searched {
         let plan = self.search.plan();
         let ago = wait(&self.settings, &plan);
         let doppler = plan.doppler(cell)?;
-        Some(Tracked::start_after(&self.settings, plan.prn(), doppler, cell.half, ago))
+        let prn = plan.prn();
+        Some(Tracked::start_after(&self.settings, prn, doppler, cell.half, time, ago))
     }
 }
 

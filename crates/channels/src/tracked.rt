@@ -5,14 +5,16 @@ ghost use Rattle.tracking_loops.specs.Standing.{dump_count};
 ghost use Rattle.channels.specs.LockedMessages.{bit_count};
 ghost use Rattle.tracking_loops.specs.declared.limits.TheConstants.{MOST_STEERED_DUMPS, MOST_SHIFT};
 ghost use Rattle.tracking_loops.specs.declared.limits.TheConstants.{MOST_CORRECTION};
+ghost use Rattle.channels.specs.declared.lazy_follower.TheConstants.{MOST_TAKEN};
 
 use crate::dump::Dump;
 use crate::follower::Follower;
+use crate::lazy_follower::LazyFollower;
 use crate::locked_message::LockedMessage;
 use crate::shift::shift_of;
 use ca_codes::{CodeBook, Prn};
 use oscillators::{Doppler, HalfChip, Settings};
-use sample_planes::Planes;
+use sample_planes::{Planes, SampleSource};
 use tracking_loops::Loops;
 
 /// A satellite that is followed as its loops steer it: each dump goes to the loops, and their shift
@@ -21,7 +23,7 @@ use tracking_loops::Loops;
 #[derive(Debug, Drop)]
 pub struct Tracked {
     settings: Settings,
-    follower: Follower,
+    follower: LazyFollower,
     loops: Loops,
     message: LockedMessage,
     ghost few_bits: { bit_count message ≤ dump_count loops },
@@ -33,26 +35,35 @@ impl Tracked {
     ghost use Rattle.definitions.specs.Oscillators.{Settings as DefinedSettings};
     ghost use Rattle.definitions.specs.Segments.{Channel, progress, first_progress};
     ghost use Rattle.definitions.specs.Lives.{tracked_channel, doppler_shift};
-    ghost use Rattle.channels.specs.Following.{how_many, BeginsAfter, Follows};
+    ghost use Rattle.channels.specs.Following.{how_many, BeginsAfter};
+    ghost use Rattle.channels.specs.LateFollowing as late;
+    ghost use Rattle.channels.specs.LateFollowing.{Follows};
     ghost use Rattle.channels.specs.TrackedChannels.{Tracks, Takes, IsSteeredFrom};
     ghost use Rattle.channels.specs.TrackedChannels.{dumps_of, chance, counts_so_far};
+    ghost use Rattle.channels.specs.TrackedChannels.{taken_of, rests_until};
+    ghost use Rattle.sample_planes.specs.Sources.{AreSamplesOf};
     ghost use Rattle.definitions.specs.BitEdge.{has_edge};
     ghost use Rattle.definitions.specs.Events.{pushes_of};
     ghost use Rattle.definitions.specs.Lock.{is_locked};
     ghost use Rattle.channels.specs.Parts.{part, IsAsFar};
 
-    /// Begins at the next sample, with the code at a half chip of its cycle and the carrier at 0,
-    /// and at this Doppler shift.
-    pub fn start(settings: &Settings, prn: Prn, doppler: Doppler, half: HalfChip) -> Tracked
-        ensures stands { (xs : List Sample)
+    /// Begins at the next sample, which is number `time`, with the code at a half chip of its cycle
+    /// and the carrier at 0, and at this Doppler shift; `time` is at most `MOST_TAKEN`.
+    pub fn start(
+        settings: &Settings,
+        prn: Prn,
+        doppler: Doppler,
+        half: HalfChip,
+        time: u64,
+    ) -> Tracked
+        requires { time ≤ MOST_TAKEN }
+        ensures stands { (xs : List Sample) → length xs ≡ time
             → Tracks settings.now (tracked_channel (length xs) prn doppler half) xs result }
         ensures dumps { dumps_of result ≡ 0 }
+        ensures taken { taken_of result ≡ time }
     {
-        Tracked::with(
-            settings,
-            doppler,
-            Follower::start(settings, prn, doppler, half),
-        )
+        let follower = Follower::start(settings, prn, doppler, half);
+        Tracked::with(settings, doppler, LazyFollower::new(follower, time))
     }
 
     /// Starts like `start`. But the code was at the half chip `ago` samples before the next one,
@@ -62,29 +73,30 @@ impl Tracked {
         prn: Prn,
         doppler: Doppler,
         half: HalfChip,
+        time: u64,
         ago: u64,
     ) -> Tracked
-        ensures stands { (channel : Channel) (xs : List Sample)
+        requires { time ≤ MOST_TAKEN }
+        ensures stands { (channel : Channel) (xs : List Sample) → length xs ≡ time
             → BeginsAfter settings.now prn doppler half ago (length xs) channel
             → IsSteeredFrom (doppler_shift doppler) channel
             → Tracks settings.now channel xs result }
         ensures dumps { dumps_of result ≡ 0 }
+        ensures taken { taken_of result ≡ time }
     {
-        Tracked::with(
-            settings,
-            doppler,
-            Follower::start_after(settings, prn, doppler, half, ago),
-        )
+        let follower = Follower::start_after(settings, prn, doppler, half, ago);
+        Tracked::with(settings, doppler, LazyFollower::new(follower, time))
     }
 
     /// Loops that begin at this Doppler shift steer a follower that begins with it.
-    fn with(settings: &Settings, doppler: Doppler, follower: Follower) -> Tracked
+    fn with(settings: &Settings, doppler: Doppler, follower: LazyFollower) -> Tracked
         ensures stands { (channel : Channel) (xs : List Sample)
             → Follows settings.now channel xs follower
             → progress settings.now channel xs ≡ first_progress channel
             → IsSteeredFrom (doppler_shift doppler) channel
             → Tracks settings.now channel xs result }
         ensures dumps { dumps_of result ≡ 0 }
+        ensures taken { taken_of result ≡ late.taken_of follower }
     {
         Tracked {
             settings: *settings,
@@ -150,20 +162,45 @@ impl Tracked {
         self.message.has_edge()
     }
 
-    /// Takes samples of a run, from sample `from` on, up to the next dump or the end of the run. It
-    /// answers how many these are, and the dump if it comes with the last of them. The book is any
-    /// book of codes.
-    pub fn take(&mut self, run: &Planes, from: usize, book: &mut CodeBook) -> (usize, Option<Dump>)
+    /// Up to how many samples of the recording may come while it takes none: no dump comes with
+    /// them.
+    pub fn rests_until(&self) -> u64
+        ensures value { result ≡ rests_until self.now }
+        ensures begun { taken_of self.now ≤ result }
+    {
+        self.follower.rests_until()
+    }
+
+    /// Takes the samples that wait and those of a run, from sample `from` on, up to the next dump
+    /// or the end of the run. It answers how many of the run these are, and the dump if it comes
+    /// with the last of them. The source holds the samples of the recording from the first that
+    /// waits on to the end of the run. The book is any book of codes.
+    pub fn take<S: SampleSource>(
+        &mut self,
+        run: &Planes,
+        from: usize,
+        source: &S,
+        book: &mut CodeBook,
+    ) -> (usize, Option<Dump>)
         requires some { from < length run.now }
+        requires early { S.to source.now ≤ MOST_TAKEN }
+        requires held { S.from source.now ≤ taken_of self.old }
+        requires begun { taken_of self.old + (length run.now - from) ≤ S.to source.now }
+        requires rests { S.to source.now - (length run.now - from) ≤ rests_until self.old }
         requires few { dumps_of self.old < MOST_STEERED_DUMPS }
         ensures as_far { IsAsFar (length run.now - from) result.0 result.1 }
         ensures takes { (settings : DefinedSettings) (channel : Channel) (xs : List Sample)
+            → length xs + (length run.now - from) ≡ S.to source.now
+            → AreSamplesOf xs (S.from source.now) (length xs) (S.held source.now)
             → Tracks settings channel xs self.old
             → Takes settings channel xs (part run.now from result.0) self.new result.1 }
         ensures dumps { dumps_of self.new ≡ dumps_of self.old + how_many result.1 }
-        ensures chance { IfSome result.1 (λ _. chance self.new + 1 ≤ chance self.old) }
+        ensures taken { taken_of self.new + (length run.now - from)
+            ≡ S.to source.now + result.0 }
+        ensures chance { IfSome result.1 (λ _. chance (taken_of self.new) self.new + 1
+            ≤ chance (S.to source.now - (length run.now - from)) self.old) }
     {
-        let (count, counts) = self.follower.take(run, from, book);
+        let (count, counts) = self.follower.take(run, from, source, book);
         let Some(counts) = counts else {
             return (count, None);
         };

@@ -1,8 +1,8 @@
 //! The beginning of a recording, and the dumps that two references apart from this project give for
 //! it.
 
-ghost use Rattle.std.specs.Prelude.{◌≡◌, ◌+◌, ◌<◌, ◌≤◌, IfOk};
-ghost use Rattle.channels.specs.HeldChannels.{dumps_of};
+ghost use Rattle.std.specs.Prelude.{◌≡◌, ◌+◌, ◌<◌, ◌≤◌, ◌^◌, IfOk, length};
+ghost use Rattle.channels.specs.HeldChannels.{dumps_of, taken_of, rests_until};
 
 mod locks;
 mod searching;
@@ -13,7 +13,7 @@ use channels::Held;
 use lane_correlator::Counts;
 use made_signals::RECORDING;
 use oscillators::{Doppler, HalfChip, Settings};
-use sample_planes::{Format, unpack};
+use sample_planes::{Format, NumberedSamples, PackedSamples, SampleSource, unpack};
 use std::test::Fail;
 
 /// Sums in the order of a line of counts.
@@ -31,18 +31,40 @@ fn sums([ie, qe, ip, qp, il, ql]: [i32; 6]) -> Counts {
 /// A satellite that is held before the first sample.
 fn held(settings: &Settings, prn: u8, doppler: i32, half: u16) -> Result<Held, Fail>
     ensures few { IfOk result (λ held. dumps_of held ≡ 0) }
+    ensures taken { IfOk result (λ held. taken_of held ≡ 0) }
 {
     let prn = Prn::new(prn).ok_or("a satellite")?;
     let doppler = Doppler::new(doppler).ok_or("a shift")?;
     let half = HalfChip::new(half).ok_or("a half chip")?;
-    Ok(Held::start(settings, prn, doppler, half))
+    Ok(Held::start(settings, prn, doppler, half, 0))
+}
+
+/// The first of some samples, numbered from `first` on to before `end`.
+fn so_far(all: PackedSamples<'_>, first: u64, end: u64) -> Result<NumberedSamples<'_>, Fail>
+    requires early { end < 2 ^ 32 }
+    requires some { first ≤ end }
+    ensures first { IfOk result (λ source. source.first ≡ first) }
+    ensures end { IfOk result (λ source. source.first + length source.samples ≡ end) }
+{
+    let len = (end - first) as usize;
+    if len > all.len() {
+        return Err(Fail::new("samples are missing"));
+    }
+    let source = NumberedSamples::new(all.part(0, len), first);
+    if source.end() != end {
+        return Err(Fail::new("other samples are there"));
+    }
+    Ok(source)
 }
 
 /// Takes samples of the recording from a place on, as far as the next dump, and gives the place
-/// after them and the dump.
+/// after them and the dump. Those before the place that weren't taken have waited.
 fn next(held: &mut Held, place: usize) -> Result<(usize, Option<Counts>), Fail>
     requires few { dumps_of held.old < 8 }
+    requires begun { taken_of held.old ≤ place }
+    requires rests { place ≤ rests_until held.old }
     ensures few { dumps_of held.new ≤ dumps_of held.old + 1 }
+    ensures taken { IfOk result (λ next. taken_of held.new ≡ next.0) }
 {
     if 3_392 <= place {
         return Err(Fail::new("the recording is at its end"));
@@ -54,7 +76,9 @@ fn next(held: &mut Held, place: usize) -> Result<(usize, Option<Counts>), Fail>
     if samples.len() != before + most {
         return Err(Fail::new("samples are missing"));
     }
-    let (count, dump) = held.take(&samples, before, &mut CodeBook::new());
+    let all = PackedSamples::new(Format::Real1, &RECORDING);
+    let source = so_far(all, 0, (place + most) as u64)?;
+    let (count, dump) = held.take(&samples, before, &source, &mut CodeBook::new());
     Ok((place + count, dump))
 }
 
@@ -77,5 +101,35 @@ fn first_counts_of_a_recording(rt: HostRuntime) -> Result<(), Fail> {
     let (place, dump) = next(&mut held, place)?;
     let second = sums([-623, -73, -1_079, 11, -483, 143]);
     assert_eq!(rt; (place, dump, held.dumps()), (3_392, Some(second), 2));
+    Ok(())
+}
+
+// The same dumps where samples wait: at most 512 of them, and never the one that ends a segment,
+// which is sample 1,345 and then sample 3,391.
+#[test]
+fn samples_wait(rt: HostRuntime) -> Result<(), Fail> {
+    let settings = Settings::new(2_046_000, 511_500, Format::Real1)?;
+    let mut held = held(&settings, 5, 1_250, 700)?;
+    assert_eq!(rt; held.rests_until(), 512);
+    let first = sums([-354, -50, -704, -12, -432, -42]);
+    assert_eq!(rt; next(&mut held, 512)?, (1_346, Some(first)));
+    assert_eq!(rt; held.rests_until(), 1_858);
+    assert_eq!(rt; next(&mut held, 1_858)?, (2_858, None));
+    assert_eq!(rt; held.rests_until(), 3_370);
+    let second = sums([-623, -73, -1_079, 11, -483, 143]);
+    assert_eq!(rt; next(&mut held, 3_370)?, (3_392, Some(second)));
+    Ok(())
+}
+
+// So close to the end of a segment only the samples before the last one wait.
+#[test]
+fn the_last_sample_of_a_segment_does_not_wait(rt: HostRuntime) -> Result<(), Fail> {
+    let settings = Settings::new(2_046_000, 511_500, Format::Real1)?;
+    let mut held = held(&settings, 5, 1_250, 700)?;
+    assert_eq!(rt; next(&mut held, 0)?, (1_000, None));
+    assert_eq!(rt; held.rests_until(), 1_345);
+    let first = sums([-354, -50, -704, -12, -432, -42]);
+    assert_eq!(rt; next(&mut held, 1_345)?, (1_346, Some(first)));
+    assert_eq!(rt; held.rests_until(), 1_858);
     Ok(())
 }

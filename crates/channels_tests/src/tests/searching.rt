@@ -2,6 +2,7 @@
 
 ghost use Rattle.channels.specs.Searching.{start_of, due_of, to_due_of};
 
+use super::so_far;
 use acquisition::{Cell, Plan};
 use ca_codes::{CodeBook, Prn};
 use channels::Searched;
@@ -47,17 +48,24 @@ fn one_cell_with_four_samples(rt: HostRuntime) -> Result<(), Fail> {
                 break;
             }
         }
-        let mut tracked = search.follow(&named).ok_or("a signal that was found")?;
+        let mut tracked = search
+            .follow(&named, 10_232)
+            .ok_or("a signal that was found")?;
         assert_eq!(rt;
             (tracked.prn().get(), tracked.dumps(), tracked.v()),
             (1, 0, 0)
         );
         let run = unpack(Format::Real1, &bytes, 0, 1_024);
         assert_eq!(rt; run.len(), 1_024);
-        let (count, dump) = tracked.take(&run, 0, &mut book);
+        let all = PackedSamples::new(Format::Real1, &bytes);
+        let source = so_far(all, 10_232, 11_256)?;
+        let (count, dump) = tracked.take(&run, 0, &source, &mut book);
         assert_eq!(rt; (count, dump), (1_024, None));
         assert_eq!(rt; tracked.dumps(), 0);
-        let (count, dump) = tracked.take(&run, 0, &mut book);
+        assert_eq!(rt; tracked.rests_until(), 11_768);
+        let all = PackedSamples::new(Format::Real1, &bytes);
+        let source = so_far(all, 10_232, 12_280)?;
+        let (count, dump) = tracked.take(&run, 0, &source, &mut book);
         assert_eq!(rt; (count, dump.is_some()), (1_020, true));
     }
     Ok(())
@@ -77,6 +85,6 @@ fn nothing_found_is_not_followed(rt: HostRuntime) -> Result<(), Fail> {
     assert_eq!(rt; count, 10_230);
     assert!(rt; !cell.found);
     assert_eq!(rt; cell.power, 20);
-    assert!(rt; search.follow(&cell).is_none());
+    assert!(rt; search.follow(&cell, 10_230).is_none());
     Ok(())
 }

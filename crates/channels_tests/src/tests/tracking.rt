@@ -1,11 +1,11 @@
 //! A tracked satellite beside the plain reference of tracking.
 
-use super::sums;
+use super::{so_far, sums};
 use ca_codes::{CodeBook, Prn};
 use channels::Tracked;
 use made_signals::{MadeSignal, PlainDump, PlainNews, PlainTracker, SampleStream};
 use oscillators::{Doppler, HalfChip, Settings};
-use sample_planes::{Format, unpack};
+use sample_planes::{Format, PackedSamples, unpack};
 use std::test::Fail;
 use tracking_loops::News;
 
@@ -37,7 +37,7 @@ fn news_of(news: PlainNews) -> News {
 // Each dump sets the steps of the segment after it. From dump 200 on they come by another law, and
 // dump 219 is the first that brings a lock.
 #[test]
-fn tracked_dumps_are_those_of_the_reference(rt: HostRuntime) -> Result<(), Fail> {
+fn tracked_as_the_reference(rt: HostRuntime) -> Result<(), Fail> {
     let signal = MadeSignal::with_tail(&[]);
     let mut stream = SampleStream::new(signal, 600_000);
     let mut bytes = [0; BYTES];
@@ -48,6 +48,7 @@ fn tracked_dumps_are_those_of_the_reference(rt: HostRuntime) -> Result<(), Fail>
         Prn::new(7).ok_or("a satellite")?,
         Doppler::new(1_000).ok_or("a shift")?,
         HalfChip::new(100).ok_or("a half chip")?,
+        0,
     );
     let mut book = CodeBook::new();
     let mut place = 0;
@@ -56,7 +57,10 @@ fn tracked_dumps_are_those_of_the_reference(rt: HostRuntime) -> Result<(), Fail>
         let run = unpack(Format::Real2, &bytes, place, 1_000);
         assert_eq!(rt; run.len(), 1_000);
         assert!(rt; tracked.dumps() < 1_000);
-        let (count, dump) = tracked.take(&run, 0, &mut book);
+        assert!(rt; place as u64 <= tracked.rests_until());
+        let all = PackedSamples::new(Format::Real2, &bytes);
+        let source = so_far(all, 0, place as u64 + 1_000)?;
+        let (count, dump) = tracked.take(&run, 0, &source, &mut book);
         place += count;
         let plain = plain_dump(&mut stream, &mut tracker, count)?;
         assert_eq!(rt; dump.is_some(), plain.is_some());

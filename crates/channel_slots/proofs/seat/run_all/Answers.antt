@@ -1,18 +1,9 @@
 use Rattle.std.proofs.Common.{arith}
-use Rattle.channel_slots.proofs.SeatLemmas.{runs-more, rest-more}
+use Rattle.channel_slots.proofs.RestLemmas.{all-rest-runs}
 use Rattle.channel_slots.proofs.seat.run_all.Goals as goal
 
-pub loop-seat-preserved : goal.loop-seat-preserved
-loop-seat-preserved g c =
-    record {
-      rest =
-          rest-more c.args.seats.now c.loop-seat.seats c.loop-seat.seat-index c.run.new.self
-          c.loop-seat.invariant.rest;
-      runs =
-          runs-more c.args.run.now c.args.time _ _ c.args.seats.now c.loop-seat.seats
-          c.loop-seat.seat-index c.seat-item.result c.run.new.self c.args.events.now.items
-          c.loop-seat.events.items c.run.new.events.items c.loop-seat-test.true
-          (omega (arith, c.loop-seat-test.true, c.loop-seat.auto.seats))
-          c.loop-seat.invariant.rest c.run.ensures c.loop-seat.invariant.runs;
-      fits = omega (arith, c.loop-seat.invariant.fits, c.run.ensures.few);
-    }
+pub returns-then-time-len-clause-runs : goal.returns-then-time-len-clause-runs
+returns-then-time-len-clause-runs g c =
+    all-rest-runs c.args.run.now.samples c.args.time _ _ c.args.rests_until c.args.seats.now
+    c.args.events.now.items c.requires.rest
+    (omega (arith, c.if-time-len.true, c.len.ensures))

@@ -1,16 +1,18 @@
-use Rattle.std.proofs.Common.{◌≡◌, ◌<◌, arith, ℕ, List, length, refl, sym, ap}
+use Rattle.std.proofs.lemmas.List.{get_or-set_same}
+use Rattle.std.proofs.Common.{◌≡◌, ◌<◌, ◌≤◌, arith, ℕ, List, length, refl, sym, ap}
 use Rattle.std.proofs.Common.{subst, ◌∙◌, slice_set, length-set}
 use Rattle.definitions.specs.Oscillators.{Settings}
 use Rattle.channel_slots.specs.declared.seat.Seat.{Seat}
 use Rattle.slot_protocol.specs.declared.command.Command.{Command}
 use Rattle.slot_protocol.specs.declared.answer.Answer.{Answer}
-use Rattle.channel_slots.specs.Slots.{StandsFor, IsSound}
+use Rattle.channel_slots.specs.Slots.{StandsFor, IsSound, rests_until}
 use Rattle.channel_slots.specs.Banks.{IsCommanded}
 use Rattle.slot_protocol.specs.Commands.{slot_of, request_in}
 use Rattle.channel_slots.proofs.BankLemmas.{refilled}
 use Rattle.channel_slots.proofs.CommandLemmas.{stands-at, commanded, keeps, set-keeps}
 use Rattle.channel_slots.proofs.ShareLemmas.{once-of}
 use Rattle.channel_slots.proofs.ReadyLemmas.{all-sound, all-tested}
+use Rattle.channel_slots.proofs.RestLemmas.{rest-tested, rest-earlier, all-rest}
 use Rattle.channel_slots.specs.Stages.{most_wait}
 use Rattle.channel_slots.proofs.bank.Bank.command.Goals as goal
 
@@ -26,8 +28,8 @@ done own settings time command taken ps qs at answer known same e =
 pub seat_index-at-requires-clause-slot : goal.seat_index-at-requires-clause-slot
 seat_index-at-requires-clause-slot c = rw (c.get.ensures.same ∙ c.slot.ensures) c.requires.slot
 
-pub command_at-requires-clause-at : goal.command_at-requires-clause-at
-command_at-requires-clause-at c = rw c.deref_mut.ensures.value c.seat_index-at.ensures.within
+pub command_at-answer-requires-clause-at : goal.command_at-answer-requires-clause-at
+command_at-answer-requires-clause-at c = rw c.deref_mut.ensures.value c.seat_index-at.ensures.within
 
 pub invariant_of-self : goal.invariant_of-self
 invariant_of-self c =
@@ -35,8 +37,8 @@ invariant_of-self c =
     let at : ℕ = c.seat_index-at.result in
     let e =
     done _ c.args.self.now.settings _ c.args.command _ ps
-    c.command_at.new.seats at c.command_at.result refl c.deref_mut.ensures.value
-    c.command_at.ensures in
+    c.command_at-answer.new.seats at c.command_at-answer.result refl c.deref_mut.ensures.value
+    c.command_at-answer.ensures in
     let b : at < length ps = c.seat_index-at.ensures.within in
     let k =
     keeps ps at e.old e.new e.is e.client e.number in
@@ -45,6 +47,12 @@ invariant_of-self c =
     (k.size ∙ sym (ap length c.deref_mut.ensures.value) ∙ c.deref_mut.ensures.len) in
     let reach : ℕ = most_wait c.args.self.now.settings in
     let time : ℕ = c.args.self.now.time in
+    let n : ℕ = c.min-self.result in
+    let r = c.rests_until_at.ensures in
+    let is : r.seat ≡ e.new =
+    rw (c.deref.ensures.value, e.set, whole) at r.is ∙ get_or-set_same ps at e.new r.seat b in
+    let own : n ≤ rests_until e.new.slot =
+    omega (arith, c.min-self.ensures, r.next_is ∙ ap (λ (p : Seat). rests_until p.slot) is) in
     record {
       early = c.args.self.now.early;
       sound = rw (e.set, whole) (all-tested time reach (slice_set ps at e.new)
@@ -55,6 +63,11 @@ invariant_of-self c =
       taken = c.args.self.now.taken;
       clients = c.args.self.now.clients;
       shared = c.args.self.now.shared;
+      rests = rw (e.set, whole) (rest-tested n (slice_set ps at e.new)
+          (set-keeps (λ (p : Seat). n ≤ rests_until p.slot) ps at e.old e.new b e.is
+          (λ old. own)
+          (rest-earlier c.args.self.now.rests_until n ps (omega (arith, c.min-self.ensures))
+          (all-rest c.args.self.now.rests_until ps c.args.self.now.rests))));
       keys = rw (e.set, whole) (k.keys ∙ c.args.self.now.keys);
     }
 
@@ -63,8 +76,8 @@ returns-clause-answer c settings xs asked s =
     let ps : List Seat = c.args.self.now.seats.items in
     let at : ℕ = c.seat_index-at.result in
     let e =
-    done _ settings _ c.args.command _ ps c.command_at.new.seats at c.command_at.result
-    s.recorded c.deref_mut.ensures.value c.command_at.ensures in
+    done _ settings _ c.args.command _ ps c.command_at-answer.new.seats at
+    c.command_at-answer.result s.recorded c.deref_mut.ensures.value c.command_at-answer.ensures in
     let n : c.get.result ≡ slot_of c.args.command = c.get.ensures.same ∙ c.slot.ensures in
     e.answers xs _ (sym s.now) (subst
     (λ (m : ℕ). StandsFor settings xs (asked c.args.client m) e.old.slot) n
@@ -77,8 +90,8 @@ returns-clause-stands c settings xs asked s =
     let ps : List Seat = c.args.self.now.seats.items in
     let at : ℕ = c.seat_index-at.result in
     let e =
-    done _ settings _ c.args.command _ ps c.command_at.new.seats at c.command_at.result
-    s.recorded c.deref_mut.ensures.value c.command_at.ensures in
+    done _ settings _ c.args.command _ ps c.command_at-answer.new.seats at
+    c.command_at-answer.result s.recorded c.deref_mut.ensures.value c.command_at-answer.ensures in
     let n : c.get.result ≡ slot_of c.args.command = c.get.ensures.same ∙ c.slot.ensures in
     let whole =
     refilled c.args.self.now.seats.len ps (slice_set ps at e.new)

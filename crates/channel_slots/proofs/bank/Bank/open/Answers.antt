@@ -6,6 +6,7 @@ use Rattle.definitions.specs.Runs.{is_share}
 use Rattle.channel_slots.proofs.ReadyLemmas.{all-tested}
 use Rattle.channel_slots.proofs.ShareLemmas.{idle-sound, idle-stand}
 use Rattle.channel_slots.proofs.ShareLemmas.{few-each}
+use Rattle.channel_slots.proofs.RestLemmas.{rests-at-first}
 use Rattle.channel_slots.proofs.bank.Bank.open.Goals as goal
 
 pub idle_seats-requires-clause-few : goal.idle_seats-requires-clause-few
@@ -25,6 +26,7 @@ invariant_of-result c =
       taken = c.in-Ok-open.ensures.taken;
       clients = rw c.in-Ok.ensures.0 c.in-Ok.ensures.1;
       shared = ap (list_all is_share) c.in-Ok.ensures.0 ∙ shared;
+      rests = rests-at-first c.in-Ok-idle_seats.seats.items;
       keys = c.in-Ok-idle_seats.ensures.keys ∙ ap layout (sym c.in-Ok.ensures.0);
     }
 

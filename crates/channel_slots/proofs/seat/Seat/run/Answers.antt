@@ -1,5 +1,6 @@
 use Rattle.std.proofs.Common.{◌≡◌, ◌≤◌, ◌+◌, ◌-◌, arith, ℕ, List, [], length, take, refl, sym, ap}
-use Rattle.std.proofs.Common.{◌∙◌}
+use Rattle.std.proofs.Common.{◌∙◌, length-append}
+use Rattle.channel_slots.proofs.RestLemmas.{seat-rests}
 use Rattle.std.proofs.lemmas.List.{length-take-le, length-map}
 use Rattle.definitions.specs.Samples.{Sample}
 use Rattle.channels.specs.Parts.{part}
@@ -18,7 +19,7 @@ use Rattle.channel_slots.proofs.seat.Seat.run.Goals as goal
 pub loop-done-init : goal.loop-done-init
 loop-done-init g c = record {
   within = omega arith;
-  room = λ some. omega (arith, one-chance c.args.self.now.slot);
+  room = λ some. omega (arith, one-chance (c.args.time + 0) c.args.self.now.slot);
   goes = goes-begin c.args.time c.args.self.now c.args.events.now.items _ _;
 }
 
@@ -51,18 +52,22 @@ loop-done-preserved-in-Some g c =
     sym (taken-length run done took.result.0 took.result.1
     (omega (arith, c.loop-done-test.true, c.len-len.ensures.count)) took.ensures.as_far) in
     let here : ℕ = c.args.time + (done + took.result.0) in
+    let now : g.S.SampleSource.to c.args.source.now - (length run - done) ≡ c.args.time + done =
+    omega (arith, c.requires.to, c.len-len.ensures.count, c.loop-done-test.true) in
+    let later : c.args.time + done + took.result.0 ≡ here = omega arith in
+    let before : here - length zs ≡ c.args.time + done = omega (arith, is) in
     let many : length c.put_news.new.events.items
     ≡ length c.loop-done.events.items + length (events_with news) =
     ap length c.put_news.ensures
     ∙ put_all-length time_in c.loop-done.events.items _
     ∙ ap (λ (n : ℕ). length c.loop-done.events.items + n)
     (length-map (events_with news) (event_of c.loop-done.self here)) in
-    let room : length c.put_news.new.events.items + chances took.new.self
+    let room : length c.put_news.new.events.items + chances here took.new.self
     ≤ length c.args.events.now.items + SLOT_EVENTS =
     omega (
       arith,
       many,
-      rw c.in-Some.is at took.ensures.chances,
+      rw (c.in-Some.is, now, later) at took.ensures.chances,
       c.loop-done.invariant.room c.loop-done-test.true,
     ) in
     record {
@@ -86,8 +91,20 @@ loop-done-preserved-in-Some g c =
           (record {
             events = _;
             steps = seated zs here _ _ c.loop-done.self _ (events_with news) refl refl
-                (omega (arith, is)) (rw is at took.ensures.sound)
-                (rw c.in-Some.is at took.ensures.tells);
+                (λ from reach sound.
+                rw (now, later) at (took.ensures.sound from reach) (rw before at sound))
+                (λ settings xs commands whole samples s.
+                rw c.in-Some.is at took.ensures.tells settings xs commands
+                (omega (
+                  arith,
+                  whole,
+                  length-append xs zs,
+                  is,
+                  now,
+                  c.loop-done-test.true,
+                  c.len-len.ensures.count,
+                  c.requires.to,
+                )) samples s);
             added = c.put_news.ensures;
           })
           (omega (arith, room));
@@ -102,6 +119,11 @@ loop-done-preserved g c =
     let is : took.result.0 ≡ length zs =
     sym (taken-length run done took.result.0 took.result.1
     (omega (arith, c.loop-done-test.true, c.len-len.ensures.count)) took.ensures.as_far) in
+    let here : ℕ = c.args.time + (done + took.result.0) in
+    let now : g.S.SampleSource.to c.args.source.now - (length run - done) ≡ c.args.time + done =
+    omega (arith, c.requires.to, c.len-len.ensures.count, c.loop-done-test.true) in
+    let later : c.args.time + done + took.result.0 ≡ here = omega arith in
+    let before : here - length zs ≡ c.args.time + done = omega (arith, is) in
     let whole : took.result.0 ≡ length run - done =
     took.ensures.as_far.whole (rw c.in_default.is refl) in
     record {
@@ -124,10 +146,27 @@ loop-done-preserved g c =
           c.loop-done.invariant.goes
           (record {
             events = [];
-            steps = seated zs (c.args.time + (done + took.result.0)) _ _ c.loop-done.self _ [] refl
-                refl (omega (arith, is)) (rw is at took.ensures.sound)
-                (rw c.in_default.is at took.ensures.tells);
-            added = puts-none c.loop-done.self (c.args.time + (done + took.result.0)) _;
+            steps = seated zs here _ _ c.loop-done.self _ [] refl refl
+                (λ from reach sound.
+                rw (now, later) at (took.ensures.sound from reach) (rw before at sound))
+                (λ settings xs commands all samples s.
+                rw c.in_default.is at took.ensures.tells settings xs commands
+                (omega (
+                  arith,
+                  all,
+                  length-append xs zs,
+                  is,
+                  now,
+                  c.loop-done-test.true,
+                  c.len-len.ensures.count,
+                  c.requires.to,
+                )) samples s);
+            added = puts-none c.loop-done.self here _;
           })
           (omega (arith, c.loop-done.invariant.room c.loop-done-test.true));
     }
+
+pub returns-then-time-len : goal.returns-then-time-len
+returns-then-time-len g c =
+    seat-rests c.args.run.now c.args.time _ _ c.args.self.now c.args.events.now.items
+    (omega (arith, c.if-time-len.true, c.len-len.ensures.count, c.rests_until.ensures))

@@ -8,7 +8,8 @@ abbrev pub invariant-loop-done : goal.invariant-loop-done
 invariant-loop-done g l = record {
   within : l.done ≤ l.len;
   room : l.done < l.len
-      → length l.events.items + chances l.self.slot ≤ length l.fn.events.items + SLOT_EVENTS;
+      → length l.events.items + chances (l.time + l.done) l.self.slot
+      ≤ length l.fn.events.items + SLOT_EVENTS;
   goes : SeatGoes (take l.done l.run) l.time (g.S.SampleSource.from l.source)
       (g.S.SampleSource.held l.source) l.fn.self l.self l.fn.events.items l.events.items;
 }

@@ -19,13 +19,13 @@ pub returns-in-Hold-clause-stands : goal.returns-in-Hold-clause-stands
 returns-in-Hold-clause-stands c xs commands now s =
     rw (ap request_in c.in-Hold.is) (c.start-in-Hold-2.ensures.stands _ xs commands _ s
     (starts-held _ xs _ c.start-in-Hold.result _ _ _ refl refl
-    (c.start-in-Hold.ensures.stands xs)))
+    (c.start-in-Hold.ensures.stands xs now)))
 
 pub returns-in-Track-clause-stands : goal.returns-in-Track-clause-stands
 returns-in-Track-clause-stands c xs commands now s =
     rw (ap request_in c.in-Track.is) (c.start-in-Track-2.ensures.stands _ xs commands _ s
     (starts-tracked _ xs _ c.start-in-Track.result _ _ _ refl refl
-    (c.start-in-Track.ensures.stands xs)))
+    (c.start-in-Track.ensures.stands xs now)))
 
 pub returns-then-is_idle-clause-answer : goal.returns-then-is_idle-clause-answer
 returns-then-is_idle-clause-answer c xs commands now s =

@@ -1,20 +1,25 @@
-use Rattle.std.proofs.Common.{◌<◌, ◌-◌, ◌++◌, ◌∙◌, List, length, refl, ap, arith, false}
+use Rattle.std.proofs.Common.{◌≡◌, ◌+◌, ◌<◌, ◌-◌, ◌++◌, ◌∙◌, ℕ, List, length, refl, ap, subst}
+use Rattle.std.proofs.Common.{arith, length-append, false}
 use Rattle.std.specs.Prelude.{Bool, nat_lt, Some, None}
 use Rattle.definitions.specs.Acquisition.{Plan}
 use Rattle.definitions.specs.Samples.{Sample}
 use Rattle.channels.specs.Parts.{part}
 use Rattle.channels.specs.Dumps.{plain_dump}
+use Rattle.channels.specs.TrackedChannels as tracked
+use Rattle.channels.specs.TrackedChannels.{taken_of}
 use Rattle.channels.proofs.PartLemmas.{part-some}
-use Rattle.channel_slots.specs.Stages.{is_idle}
+use Rattle.channel_slots.specs.Stages.{is_idle, IsSettled}
 use Rattle.channel_slots.specs.declared.slot_news.SlotNews.TheVariants.{Acquired, Dump}
 use Rattle.channel_slots.proofs.SearchLemmas.{from-later, searches-on, settled}
 use Rattle.channel_slots.proofs.SlotLemmas.{idle-tells, tells}
 use Rattle.channel_slots.proofs.StageLemmas.{held-takes, tracked-takes}
+use Rattle.channel_slots.proofs.NewsLemmas.{few-events}
+use Rattle.channel_slots.proofs.TellingLemmas.{earlier, dump-chance}
 use Rattle.channel_slots.proofs.TakenLemmas.{taken-length, taken-some}
 use Rattle.channel_slots.proofs.slot.Slot.take.Goals as goal
 
 pub returns-in-Idle-clause-tells : goal.returns-in-Idle-clause-tells
-returns-in-Idle-clause-tells g c settings xs commands samples s =
+returns-in-Idle-clause-tells g c settings xs commands now samples s =
     let ys : List Sample = part c.args.run.now c.args.from (c.len.result - c.args.from) in
     let more : 0 < length ys =
     part-some c.args.run.now c.args.from (c.len.result - c.args.from)
@@ -23,7 +28,7 @@ returns-in-Idle-clause-tells g c settings xs commands samples s =
     idle-tells settings xs commands c.args.self.now s ys more (ap is_idle c.in-Idle.is)
 
 pub returns-in_default-clause-tells : goal.returns-in_default-clause-tells
-returns-in_default-clause-tells g c settings xs commands samples s =
+returns-in_default-clause-tells g c settings xs commands now samples s =
     let took = c.take-count in
     let far = rw c.len-in-Searching.ensures.count at took.ensures.as_far in
     let ys : List Sample = part c.args.run.now c.args.from took.result.0 in
@@ -43,7 +48,7 @@ returns-in_default-clause-tells g c settings xs commands samples s =
     refl
 
 pub returns-in-Some-clause-tells : goal.returns-in-Some-clause-tells
-returns-in-Some-clause-tells g c settings xs commands samples s =
+returns-in-Some-clause-tells g c settings xs commands now samples s =
     let took = c.take-count in
     let far = rw c.len-in-Searching.ensures.count at took.ensures.as_far in
     let ys : List Sample = part c.args.run.now c.args.from took.result.0 in
@@ -64,11 +69,21 @@ returns-in-Some-clause-tells g c settings xs commands samples s =
     let same = c.prn-prn.ensures ∙ ap (λ (p : Plan). p.prn) stands.search.plan_is in
     settled settings xs life c.in-Searching.searched a ys _ c.in-Some.cell same answer took.new.self
     stands ((rw c.in-Some.is at took.ensures.due).0 refl) _
-    (c.settle.ensures took.new.self refl))
+    (subst (λ (n : ℕ). IsSettled c.in-Some.cell took.new.self n c.settle.new.self)
+    (omega (
+      arith,
+      now,
+      many,
+      length-append xs ys,
+      c.end.ensures.value,
+      c.len-in-Searching-2.ensures.count,
+      far.within,
+    ))
+    (c.settle.ensures took.new.self refl)))
     refl
 
 pub returns-in_default-counts-clause-tells : goal.returns-in_default-counts-clause-tells
-returns-in_default-counts-clause-tells g c settings xs commands samples s =
+returns-in_default-counts-clause-tells g c settings xs commands now samples s =
     let took = c.take-count-in-Holding in
     let ys : List Sample = part c.args.run.now c.args.from took.result.0 in
     let more = taken-some c.args.run.now c.args.from took.result.0 took.result.1
@@ -77,11 +92,12 @@ returns-in_default-counts-clause-tells g c settings xs commands samples s =
     (λ life follows.
     let h = rw c.in-Holding.is at follows in
     held-takes settings xs ys life c.in-Holding.held h more false None _
-    (rw c.in_default-counts.is at (took.ensures.takes settings _ xs h.holds)))
+    (rw c.in_default-counts.is at (took.ensures.takes settings _ xs now
+    (earlier xs ys _ _ samples) h.holds)))
     refl
 
 pub returns-in_default-dump-clause-tells : goal.returns-in_default-dump-clause-tells
-returns-in_default-dump-clause-tells g c settings xs commands samples s =
+returns-in_default-dump-clause-tells g c settings xs commands now samples s =
     let took = c.take-count-in-Tracking in
     let ys : List Sample = part c.args.run.now c.args.from took.result.0 in
     let more = taken-some c.args.run.now c.args.from took.result.0 took.result.1
@@ -90,11 +106,12 @@ returns-in_default-dump-clause-tells g c settings xs commands samples s =
     (λ life follows.
     let t = rw c.in-Tracking.is at follows in
     tracked-takes settings xs life c.in-Tracking.tracked t ys more false None _
-    (rw c.in_default-dump.is at (took.ensures.takes settings _ xs t.tracks)))
+    (rw c.in_default-dump.is at (took.ensures.takes settings _ xs now
+    (earlier xs ys _ _ samples) t.tracks)))
     refl
 
 pub returns-in-Some-counts-clause-tells : goal.returns-in-Some-counts-clause-tells
-returns-in-Some-counts-clause-tells g c settings xs commands samples s =
+returns-in-Some-counts-clause-tells g c settings xs commands now samples s =
     let took = c.take-count-in-Holding in
     let ys : List Sample = part c.args.run.now c.args.from took.result.0 in
     let more = taken-some c.args.run.now c.args.from took.result.0 took.result.1
@@ -107,11 +124,12 @@ returns-in-Some-counts-clause-tells g c settings xs commands samples s =
     let h = rw c.in-Holding.is at follows in
     rw (c.dump.ensures.stage, c.plain.ensures)
     (held-takes settings xs ys life c.in-Holding.held h more is_shown (Some _) _
-    (rw c.in-Some-counts.is at (took.ensures.takes settings _ xs h.holds))))
+    (rw c.in-Some-counts.is at (took.ensures.takes settings _ xs now
+    (earlier xs ys _ _ samples) h.holds))))
     (refl, c.dump.ensures.left))
 
 pub returns-in-Some-dump-clause-tells : goal.returns-in-Some-dump-clause-tells
-returns-in-Some-dump-clause-tells g c settings xs commands samples s =
+returns-in-Some-dump-clause-tells g c settings xs commands now samples s =
     let took = c.take-count-in-Tracking in
     let ys : List Sample = part c.args.run.now c.args.from took.result.0 in
     let more = taken-some c.args.run.now c.args.from took.result.0 took.result.1
@@ -124,5 +142,23 @@ returns-in-Some-dump-clause-tells g c settings xs commands samples s =
     let t = rw c.in-Tracking.is at follows in
     rw c.dump-in-Tracking.ensures.stage
     (tracked-takes settings xs life c.in-Tracking.tracked t ys more is_shown (Some _) _
-    (rw c.in-Some-dump.is at (took.ensures.takes settings _ xs t.tracks))))
+    (rw c.in-Some-dump.is at (took.ensures.takes settings _ xs now
+    (earlier xs ys _ _ samples) t.tracks))))
     (refl, c.dump-in-Tracking.ensures.left))
+
+pub returns-in-Some-dump-clause-chances : goal.returns-in-Some-dump-clause-chances
+returns-in-Some-dump-clause-chances g c =
+    let took = c.take-count-in-Tracking in
+    let before : ℕ =
+    g.S.SampleSource.to c.args.source.now - (length c.args.run.now - c.args.from) in
+    let now : taken_of took.new.self ≡ before + took.result.0 =
+    omega (arith, took.ensures.taken, c.requires.to) in
+    let is_shown : Bool = nat_lt 0 c.args.self.now.unprinted in
+    rw (c.in-Tracking.is, c.dump-in-Tracking.ensures.stage, c.dump-in-Tracking.ensures.news)
+    (omega (
+      arith,
+      few-events (Dump c.in-Some-dump.dump is_shown),
+      dump-chance (before + took.result.0) c.in-Some-dump.dump.lock took.new.self,
+      rw c.in-Some-dump.is at took.ensures.chance,
+      ap (λ (n : ℕ). tracked.chance n took.new.self) now,
+    ))

@@ -14,9 +14,9 @@ returns c xs =
     ∙ c.shift_of-v.ensures.value in
     started c.args.settings.now
     (held_channel (length xs) c.args.prn c.args.doppler c.args.half) xs _ refl refl
+    (ap (λ (o : Oscillation). o.phase) c.new-code.ensures)
     (ap (λ (o : Oscillation). o.phase) c.new.ensures)
-    (ap (λ (o : Oscillation). o.phase) c.new-2.ensures)
-    (ap (λ (o : Oscillation). o.step) c.new.ensures ∙ c.code_step.ensures.value
+    (ap (λ (o : Oscillation). o.step) c.new-code.ensures ∙ c.code_step.ensures.value
     ∙ ap (λ v. code_step c.args.settings.now v (pos 0)) shift)
-    (ap (λ (o : Oscillation). o.step) c.new-2.ensures ∙ c.carrier_step.ensures
+    (ap (λ (o : Oscillation). o.step) c.new.ensures ∙ c.carrier_step.ensures
     ∙ ap (λ v. carrier_step c.args.settings.now v) shift) refl

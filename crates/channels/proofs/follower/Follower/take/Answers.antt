@@ -5,10 +5,11 @@ use Rattle.oscillators.specs.Views.{Oscillation}
 use Rattle.lane_correlator.specs.Counting.{counts_in}
 use Rattle.channels.specs.Sizes.{GrowWith}
 use Rattle.channels.specs.Parts.{part}
-use Rattle.channels.proofs.FollowingLemmas.{stays, closes}
+use Rattle.channels.proofs.FollowingLemmas.{stays, closes, some-left, low-before}
 use Rattle.channels.proofs.MoveLemmas.{moves_by}
 use Rattle.channels.proofs.PartLemmas.{part-length}
 use Rattle.channels.proofs.WrapLemmas.{quiet, wraps, past_less}
+use Rattle.channels.proofs.WrapLemmas.{left-before, left-ends}
 use Rattle.channels.proofs.ChanceLemmas.{chance-less}
 use Rattle.channels.proofs.SizeLemmas.{sums_fit, sums_grow, sums_small, last-step}
 use Rattle.channels.proofs.follower.Follower.take.Goals as goal
@@ -20,27 +21,30 @@ add-sums-requires c =
     sums_fit f.sums (counts_in more.result) f.code.step f.code.phase c.min-count.result f.small
     f.moves f.in_cycle more.ensures.small more.ensures.few
 
-pub invariant_of-self-else-count-to_end : goal.invariant_of-self-else-count-to_end
-invariant_of-self-else-count-to_end c =
+pub invariant_of-self-else-count-self : goal.invariant_of-self-else-count-self
+invariant_of-self-else-count-self c =
     let f = c.args.self.now in
     let n : ℕ = c.min-count.result in
     let after =
-    quiet f.code c.advance.new.self n n c.to_wrap-to_end.result refl c.advance.ensures
-    (omega (arith, c.min-count.ensures, c.if-count-to_end.false)) c.to_wrap-to_end.ensures.least in
+    quiet f.code c.advance.new.self n n f.to_end refl c.advance.ensures
+    (omega (arith, c.min-count.ensures, c.if-count-self.false)) (low-before f) in
     let step : c.advance.new.self.step ≡ f.code.step =
     ap (λ (o : Oscillation). o.step) c.advance.ensures in
     let grown : GrowWith c.add-sums.result f.code.step (f.code.phase + n * f.code.step) =
     sums_grow f.sums c.add-sums.result (counts_in c.replica_sums-more.result) f.code.step
     f.code.phase n f.small c.replica_sums-more.ensures.small c.add-sums.ensures in
+    let less : n < f.to_end = omega (arith, c.min-count.ensures, c.if-count-self.false) in
     record {
       in_cycle = rw (after.1) (after.0);
       moves = rw step f.moves;
       slow = rw step f.slow;
       small = rw (step, after.1) grown;
+      before = rw (step, after.1) (left-before f.code.phase f.code.step n f.to_end less f.before);
+      ends = rw (step, after.1) (left-ends f.code.phase f.code.step n f.to_end less f.ends);
     }
 
-pub returns-then-count-to_end-clause-goes : goal.returns-then-count-to_end-clause-goes
-returns-then-count-to_end-clause-goes c settings channel xs s =
+pub returns-then-count-self-clause-goes : goal.returns-then-count-self-clause-goes
+returns-then-count-self-clause-goes c settings channel xs s =
     let f = c.args.self.now in
     let n : ℕ = c.min-count.result in
     let within : c.args.from + n ≤ length c.args.run.now =
@@ -48,14 +52,14 @@ returns-then-count-to_end-clause-goes c settings channel xs s =
     let ys : List Sample = part c.args.run.now c.args.from n in
     let is : n ≡ length ys = sym (part-length c.args.run.now c.args.from n within) in
     let some : 0 < length ys =
-    omega (arith, is, c.if-count-to_end.true, c.to_wrap-to_end.ensures.at_least_one) in
+    omega (arith, is, c.if-count-self.true, some-left f) in
     let before : f.code.phase + (length ys - 1) * f.code.step < code_cycle =
-    c.to_wrap-to_end.ensures.least (length ys - 1)
-    (omega (arith, is, some, c.if-count-to_end.true)) in
+    low-before f (length ys - 1)
+    (omega (arith, is, some, c.if-count-self.true)) in
     let after =
-    wraps f.code c.advance.new.self n (length ys) c.to_wrap-to_end.result is
-    c.advance.ensures some before f.slow c.to_wrap-to_end.ensures.through
-    (sym c.if-count-to_end.true) in
+    wraps f.code c.advance.new.self n (length ys) f.to_end is
+    c.advance.ensures some before f.slow f.ends
+    (sym c.if-count-self.true) in
     let moves =
     moves_by f c.args.run.now c.args.from n c.advance-2.new.self.phase
     (counts_in c.replica_sums-more.result) (counts_in c.add-sums.result) within
@@ -66,8 +70,8 @@ returns-then-count-to_end-clause-goes c settings channel xs s =
     (ap (λ (o : Oscillation). o.step) c.advance.ensures)
     (ap (λ (o : Oscillation). o.step) c.advance-2.ensures) refl
 
-pub returns-else-count-to_end-clause-goes : goal.returns-else-count-to_end-clause-goes
-returns-else-count-to_end-clause-goes c settings channel xs s =
+pub returns-else-count-self-clause-goes : goal.returns-else-count-self-clause-goes
+returns-else-count-self-clause-goes c settings channel xs s =
     let f = c.args.self.now in
     let n : ℕ = c.min-count.result in
     let within : c.args.from + n ≤ length c.args.run.now =
@@ -81,12 +85,12 @@ returns-else-count-to_end-clause-goes c settings channel xs s =
       c.min-count.ensures,
       c.len.ensures.count,
       c.requires,
-      c.if-count-to_end.false,
+      c.if-count-self.false,
     ) in
     let after =
-    quiet f.code c.advance.new.self n (length ys) c.to_wrap-to_end.result is c.advance.ensures
-    (omega (arith, is, c.min-count.ensures, c.if-count-to_end.false))
-    c.to_wrap-to_end.ensures.least in
+    quiet f.code c.advance.new.self n (length ys) f.to_end is c.advance.ensures
+    (omega (arith, is, c.min-count.ensures, c.if-count-self.false))
+    (low-before f) in
     let moves =
     moves_by f c.args.run.now c.args.from n c.advance-2.new.self.phase
     (counts_in c.replica_sums-more.result) (counts_in c.add-sums.result) within
@@ -97,31 +101,31 @@ returns-else-count-to_end-clause-goes c settings channel xs s =
     (ap (λ (o : Oscillation). o.step) c.advance.ensures)
     (ap (λ (o : Oscillation). o.step) c.advance-2.ensures) refl
 
-pub returns-then-count-to_end-clause-chance : goal.returns-then-count-to_end-clause-chance
-returns-then-count-to_end-clause-chance c =
+pub returns-then-count-self-clause-chance : goal.returns-then-count-self-clause-chance
+returns-then-count-self-clause-chance c =
     let f = c.args.self.now in
     let n : ℕ = c.min-count.result in
     let some : 0 < n =
-    omega (arith, c.if-count-to_end.true, c.to_wrap-to_end.ensures.at_least_one) in
+    omega (arith, c.if-count-self.true, some-left f) in
     let before : f.code.phase + (n - 1) * f.code.step < code_cycle =
-    c.to_wrap-to_end.ensures.least (n - 1) (omega (arith, some, c.if-count-to_end.true)) in
+    low-before f (n - 1) (omega (arith, some, c.if-count-self.true)) in
     let after =
-    wraps f.code c.advance.new.self n n c.to_wrap-to_end.result refl c.advance.ensures some before
-    f.slow c.to_wrap-to_end.ensures.through (sym c.if-count-to_end.true) in
+    wraps f.code c.advance.new.self n n f.to_end refl c.advance.ensures some before
+    f.slow f.ends (sym c.if-count-self.true) in
     chance-less f.code.phase f.code.step n _ c.replica_sums-more.ensures.few f.slow (after.0)
     (past_less f.code.phase f.code.step n _ some before (after.0) (after.1))
 
-pub returns-then-count-to_end-clause-small : goal.returns-then-count-to_end-clause-small
-returns-then-count-to_end-clause-small c =
+pub returns-then-count-self-clause-small : goal.returns-then-count-self-clause-small
+returns-then-count-self-clause-small c =
     let f = c.args.self.now in
     let n : ℕ = c.min-count.result in
     let some : 0 < n =
-    omega (arith, c.if-count-to_end.true, c.to_wrap-to_end.ensures.at_least_one) in
+    omega (arith, c.if-count-self.true, some-left f) in
     let total : ℕ = f.code.phase + n * f.code.step in
     let grown : GrowWith c.add-sums.result f.code.step total =
     sums_grow f.sums c.add-sums.result (counts_in c.replica_sums-more.result) f.code.step
     f.code.phase n f.small c.replica_sums-more.ensures.small c.add-sums.ensures in
     let low : total < code_cycle + f.code.step =
     last-step f.code.phase n f.code.step some
-    (c.to_wrap-to_end.ensures.least (n - 1) (omega (arith, some, c.if-count-to_end.true))) in
+    (low-before f (n - 1) (omega (arith, some, c.if-count-self.true))) in
     sums_small c.add-sums.result f.code.step total grown low f.moves

@@ -4,9 +4,10 @@ use Rattle.channels.proofs.TrackedLemmas.{as-held, tracked-none}
 use Rattle.channels.proofs.tracked.Tracked.start.Goals as goal
 
 pub returns-clause-stands : goal.returns-clause-stands
-returns-clause-stands c xs =
+returns-clause-stands c xs now =
     let settings = c.args.settings.now in
     c.with.ensures.stands
     (tracked_channel (length xs) c.args.prn c.args.doppler c.args.half) xs
-    (as-held settings xs c.args.prn c.args.doppler c.args.half _ (c.start.ensures xs))
+    (c.new.ensures.follows settings _ xs now
+    (as-held settings xs c.args.prn c.args.doppler c.args.half _ (c.start-follower.ensures xs)))
     (tracked-none settings xs c.args.prn c.args.doppler c.args.half) (λ dumps. refl)

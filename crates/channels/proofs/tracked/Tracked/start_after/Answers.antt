@@ -3,6 +3,8 @@ use Rattle.definitions.proofs.BlockLemmas.{progress-begun}
 use Rattle.channels.proofs.tracked.Tracked.start_after.Goals as goal
 
 pub returns-clause-stands : goal.returns-clause-stands
-returns-clause-stands c channel xs begins steered =
-    c.with.ensures.stands channel xs (c.start_after.ensures channel xs begins)
+returns-clause-stands c channel xs now begins steered =
+    c.with.ensures.stands channel xs
+    (c.new.ensures.follows c.args.settings.now channel xs now
+    (c.start_after-follower.ensures channel xs begins))
     (progress-begun c.args.settings.now channel xs (omega (arith, begins.start))) steered

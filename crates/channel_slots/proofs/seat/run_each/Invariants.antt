@@ -1,7 +1,7 @@
 use Rattle.std.proofs.Common.{◌≡◌, ◌≤◌, ◌+◌, ◌*◌, take, drop, length}
 use Rattle.channel_slots.specs.declared.slot.TheConstants.{SLOT_EVENTS}
-use Rattle.channel_slots.specs.Banks.{RunsAll}
-use Rattle.channel_slots.proofs.seat.run_all.Given as goal
+use Rattle.channel_slots.specs.Banks.{RunsAll, AllRest}
+use Rattle.channel_slots.proofs.seat.run_each.Given as goal
 
 abbrev pub invariant-loop-seat : goal.invariant-loop-seat
 invariant-loop-seat g l = record {
@@ -9,5 +9,6 @@ invariant-loop-seat g l = record {
   runs : RunsAll l.run l.time (g.S.SampleSource.from l.source) (g.S.SampleSource.held l.source)
       (take l.seat-index l.fn.seats) (take l.seat-index l.seats)
       l.fn.events.items l.events.items;
+  all_rest : AllRest l.rests_until (take l.seat-index l.seats);
   fits : length l.events.items ≤ length l.fn.events.items + SLOT_EVENTS * l.seat-index;
 }
