@@ -25,7 +25,7 @@ use Rattle.channel_slots.proofs.StageLemmas.{held-takes, tracked-takes}
 use Rattle.channel_slots.proofs.TellingLemmas.{goes-begin, goes-more}
 
 -- while a slot rests, nothing is emitted
-rests-quiet : (settings : Settings) (xs ys : List Sample) (commands : List TimedRequest)
+pub rests-quiet : (settings : Settings) (xs ys : List Sample) (commands : List TimedRequest)
     (slot : Slot) → StandsFor settings xs commands slot → 0 < length ys
     → length (xs ++ ys) ≤ rests_until slot → Emits settings xs ys commands slot []
 rests-quiet settings xs ys commands slot s more = by_stage slot.stage refl

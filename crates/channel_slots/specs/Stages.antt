@@ -56,7 +56,7 @@ chance time (Searching s) = 1 + DUMP_EVENTS
 chance time (Holding h) = DUMP_EVENTS * held.chance time h
 chance time (Tracking t) = DUMP_EVENTS * tracked.chance time t
 
--- a channel has had a dump a sample at most; it has taken all samples up to sample `first` and
+-- a channel has had a dump a sample at most; it has taken all samples before sample `first` and
 -- perhaps more, and those that it hasn't taken may wait
 pub record IsInTime (first time dumps taken rests : ℕ) : Type 0 where
   pub few : dumps ≤ time

@@ -59,7 +59,11 @@ impl Slot {
     /// Up to how many samples of the recording may come while the slot takes none of them: nothing
     /// is emitted with them.
     pub fn rests_until(&self) -> u64
-        ensures { result ≡ rests_until self.now }
+        ensures value { result ≡ rests_until self.now }
+        ensures quiet { (settings : DefinedSettings) (xs ys : List Sample)
+            (commands : List TimedRequest) → StandsFor settings xs commands self.now
+            → 0 < length ys → length (xs ++ ys) ≤ result
+            → Emits settings xs ys commands self.now [] }
     {
         match &self.stage {
             Stage::Idle => MOST_TIME,

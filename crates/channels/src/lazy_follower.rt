@@ -33,7 +33,7 @@ pub struct LazyFollower {
 }
 
 impl LazyFollower {
-    ghost use Rattle.std.specs.Prelude.{ℕ, List, length, IfSome, unsigned_abs};
+    ghost use Rattle.std.specs.Prelude.{ℕ, List, ◌++◌, length, IfSome, unsigned_abs};
     ghost use Rattle.definitions.specs.Samples.{Sample};
     ghost use Rattle.definitions.specs.Oscillators.{Settings as DefinedSettings};
     ghost use Rattle.definitions.specs.Segments.{Channel, counts_of, progress};
@@ -74,6 +74,10 @@ impl LazyFollower {
     pub fn rests_until(&self) -> u64
         ensures value { result ≡ rests_until self.now }
         ensures begun { taken_of self.now ≤ result }
+        ensures waits { (settings : DefinedSettings) (channel : Channel) (xs ys : List Sample)
+            → Follows settings channel xs self.now → length (xs ++ ys) ≤ result
+            → Follows settings channel (xs ++ ys) self.now
+            × (progress settings channel (xs ++ ys) ≡ progress settings channel xs) }
     {
         self.rests_until
     }

@@ -30,7 +30,7 @@ pub struct Tracked {
 }
 
 impl Tracked {
-    ghost use Rattle.std.specs.Prelude.{ℕ, List, length, IfSome};
+    ghost use Rattle.std.specs.Prelude.{ℕ, List, ◌++◌, length, IfSome, None};
     ghost use Rattle.definitions.specs.Samples.{Sample};
     ghost use Rattle.definitions.specs.Oscillators.{Settings as DefinedSettings};
     ghost use Rattle.definitions.specs.Segments.{Channel, progress, first_progress};
@@ -167,6 +167,9 @@ impl Tracked {
     pub fn rests_until(&self) -> u64
         ensures value { result ≡ rests_until self.now }
         ensures begun { taken_of self.now ≤ result }
+        ensures waits { (settings : DefinedSettings) (channel : Channel) (xs ys : List Sample)
+            → Tracks settings channel xs self.now → length (xs ++ ys) ≤ result
+            → Takes settings channel xs ys self.now None }
     {
         self.follower.rests_until()
     }
