@@ -1,3 +1,3 @@
 pub mod LaneLemmas
 pub mod WordLemmas
-mod SixteenLemmas
+mod WindowLemmas

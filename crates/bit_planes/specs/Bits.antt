@@ -1,5 +1,5 @@
 -- The bits of a plane.
-use Rattle.std.specs.Prelude.{◌≡◌, ℕ, ◌-◌, ◌/◌, ◌%◌, ◌^◌, ◌<◌, ◌≤◌, List, slice_index}
+use Rattle.std.specs.Prelude.{◌≡◌, ℕ, ◌+◌, ◌-◌, ◌*◌, ◌/◌, ◌%◌, ◌<◌, ◌≤◌, List, slice_index}
 use Rattle.std.specs.Int.{bit_at}
 use Rattle.bit_planes.specs.declared.plane.Plane.{Plane}
 use Rattle.bit_planes.specs.declared.plane.TheConstants.{PLACES}
@@ -16,7 +16,6 @@ pub record IsDrawn (f : ℕ → ℕ) (n : ℕ) (p : Plane) : Type 0 where
   pub drawn : (i : ℕ) → i < n → i < PLACES → bit p i ≡ f i
   pub clear : (i : ℕ) → n ≤ i → i < PLACES → bit p i ≡ 0
 
--- a word that holds f at n places so far, the last of them in its lowest bit
-pub record IsBegun (f : ℕ → ℕ) (n : ℕ) (word : ℕ) : Type 0 where
-  pub few : word < 2 ^ n
-  pub bits : (i : ℕ) → i < n → bit_at word (n - 1 - i) ≡ f i
+-- the last lane of the sixteen that a lane is one of
+abbrev pub last_of_sixteen : ℕ → ℕ
+last_of_sixteen k = 16 * (k / 16) + 15

@@ -1,22 +1,21 @@
--- Planes that are filled sixteen samples at a time.
+-- Planes that are filled 64 samples at a time.
 use Rattle.std.proofs.Common.{inl, inr, ◌≡◌, ℕ, zero, suc, ◌+◌, ◌-◌, ◌*◌, ◌/◌, ◌%◌, ◌^◌, ◌<◌, ◌≤◌}
-use Rattle.std.proofs.Common.{List, ◌∷◌, ◌++◌, length, map, get_or, refl, sym, ap, ◌∙◌, arith, ℤ}
-use Rattle.std.proofs.Common.{pos, mul-le-mul}
+use Rattle.std.proofs.Common.{List, ◌∷◌, length, map, get_or, refl, sym, ap, ◌∙◌, arith, ℤ}
+use Rattle.std.proofs.Common.{pos}
 use Rattle.std.specs.Int.{bit_at}
 use Rattle.std.specs.Prelude.{bit_xor, bit_and, min}
 use Rattle.std.proofs.lemmas.Nat.Bits.{bit_at_xor, bit_at_and}
 use Rattle.std.proofs.lemmas.Bool.{cases_lt}
 use Rattle.std.proofs.Math.Path.{ap₂}
-use Rattle.std.proofs.Math.Nat.{add-mod-mod, mod-add-mod, mod-eq_of_lt}
+use Rattle.std.proofs.Math.Nat.{add-mod-mod, mod-add-mod}
 use Rattle.std.proofs.lemmas.Nat.{mul-mod_first}
-use Rattle.std.proofs.lemmas.List.{get_or-map}
 use Rattle.std.proofs.lemmas.List.FromFn.{get_or-map-range_with_len, length-map-range_with_len}
 use Rattle.std.specs.List.{range_with_len}
 use Rattle.definitions.specs.Samples.{sign_of}
 use Rattle.definitions.specs.Codes.{chip, chip_after}
-use Rattle.definitions.specs.Oscillators.{carrier_phase_after, code_phase_after, code_cycle, cosine}
+use Rattle.definitions.specs.Oscillators.{carrier_phase_after, code_phase_after, cosine}
 use Rattle.definitions.specs.Oscillators.{sine, early_sign, late_sign}
-use Rattle.oscillators.specs.Eighths.{eighths, eighth_at}
+use Rattle.oscillators.specs.Eighths.{cos_sign_in, sin_sign_in, sin_size_in}
 use Rattle.oscillators.specs.Signs.{signed}
 
 -- ---- runs of numbers
@@ -62,47 +61,35 @@ carrier_behind phase step j r here e =
     let more : phase + j * step + r * step ≡ phase + (j + r) * step = omega arith in
     rw e (mod-add-mod (phase + j * step) (2 ^ 32) (r * step) ∙ ap (λ n. n % 2 ^ 32) more)
 
--- sixteen samples on, as they are computed
-pub carrier_turned : (phase step g here : ℕ) → here ≡ carrier_phase_after phase step (16 * g)
-    → (here + step * 16 % 2 ^ 32) % 2 ^ 32 ≡ carrier_phase_after phase step (16 * (g + 1))
-carrier_turned phase step g here e =
-    let way : step * 16 ≡ 16 * step = omega arith in
-    let next : 16 * g + 16 ≡ 16 * (g + 1) = omega arith in
-    add-mod-mod here (step * 16) (2 ^ 32) ∙ ap (λ (n : ℕ). (here + n) % 2 ^ 32) way
-    ∙ carrier_behind phase step (16 * g) 16 here e ∙ ap (carrier_phase_after phase step) next
+-- 64 samples on, as they are computed
+pub carrier_turned : (phase step : ℕ) → (phase + step * 64 % 2 ^ 32) % 2 ^ 32
+    ≡ carrier_phase_after phase step 64
+carrier_turned phase step =
+    let way : step * 64 ≡ 64 * step = omega arith in
+    add-mod-mod phase (step * 64) (2 ^ 32) ∙ ap (λ (n : ℕ). (phase + n) % 2 ^ 32) way
 
--- the table is four cycles long
-table_around : (e : ℕ) → e < 32 → get_or (eighths ++ eighths ++ eighths ++ eighths) e 0
-    ≡ get_or eighths (e % 8) 0
-table_around e h = get_or-map-range_with_len (λ (n : ℕ). get_or eighths (n % 8) 0) 0 32 e e 0 h
-    (omega arith)
+-- the bits of an eighth are those of the lane that counts eighths
+pub half_bit : (n : ℕ) → bit_at (n / 536870912 % 256) 2 ≡ bit_at (n % 4294967296 / 536870912) 2
+half_bit n = omega arith
 
-eighth_number : (here w : ℕ) → here < 2 ^ 32 → (here / 536870912 + (here % 536870912 + w) /
-    536870912 % 16) % 8 ≡ (here + w) % 4294967296 / 536870912
-eighth_number here w h = omega arith
+pub quarter_bit : (n : ℕ) → bit_at (n / 536870912 % 256) 1 ≡ bit_at (n % 4294967296 / 536870912) 1
+quarter_bit n = omega arith
 
--- what sixteen lanes find in it
-pub eighth_found : (phase step g r here cell : ℕ) → here ≡ carrier_phase_after phase step (16 * g)
-    → cell ≡ (here % 536870912 + r * step) / 536870912 % 16
-    → get_or (eighths ++ eighths ++ eighths ++ eighths) (here / 536870912 + cell) 0
-    ≡ eighth_at (carrier_phase_after phase step (16 * g + r))
-eighth_found phase step g r here cell is cell_is =
-    let below : here < 2 ^ 32 = omega (arith, is) in
-    rw cell_is (table_around (here / 536870912 + (here % 536870912 + r * step) / 536870912 % 16)
-    (omega arith)
-    ∙ ap (λ (e : ℕ). get_or eighths e 0) (eighth_number here (r * step) below
-    ∙ ap (λ (p : ℕ). p / 536870912) (carrier_behind phase step (16 * g) r here is)))
+pub eighth_bit : (n : ℕ) → bit_at (n / 536870912 % 256) 0 ≡ bit_at (n % 4294967296 / 536870912) 0
+eighth_bit n = omega arith
 
 -- cosine and sine by the bits of an eighth
-pub cosine_by_bits : (p : ℕ) → p < 2 ^ 32 → signed (bit_at (eighth_at p) 7)
-    (1 - bit_at (eighth_at p) 5) ≡ cosine p
-cosine_by_bits p h = sym (get_or-map (λ (b : ℕ). signed (bit_at b 7) (1 - bit_at b 5)) eighths
-    (p / 2 ^ 29) 0 (pos 0) (omega arith))
+pub cosine_by_bits : (p : ℕ) → p < 2 ^ 32 → signed (cos_sign_in (p / 2 ^ 29))
+    (1 - sin_size_in (p / 2 ^ 29)) ≡ cosine p
+cosine_by_bits p h = sym (get_or-map-range_with_len
+    (λ (e : ℕ). signed (cos_sign_in e) (1 - sin_size_in e)) 0 8 (p / 2 ^ 29) (p / 2 ^ 29) (pos 0)
+    (omega arith) (omega arith))
 
-pub sine_by_bits : (p : ℕ) → p < 2 ^ 32 → signed (bit_at (eighth_at p) 6) (bit_at (eighth_at p) 5)
-    ≡ sine p
-sine_by_bits p h = sym (get_or-map (λ (b : ℕ). signed (bit_at b 6) (bit_at b 5)) eighths
-    (p / 2 ^ 29) 0 (pos 0) (omega arith))
+pub sine_by_bits : (p : ℕ) → p < 2 ^ 32 → signed (sin_sign_in (p / 2 ^ 29))
+    (sin_size_in (p / 2 ^ 29)) ≡ sine p
+sine_by_bits p h = sym (get_or-map-range_with_len
+    (λ (e : ℕ). signed (sin_sign_in e) (sin_size_in e)) 0 8 (p / 2 ^ 29) (p / 2 ^ 29) (pos 0)
+    (omega arith) (omega arith))
 
 -- ---- the code
 
@@ -130,72 +117,10 @@ pub code_back : (phase way : ℕ) → phase < 4393751543808 → way ≤ 43937515
     → ((phase + (4393751543808 - way)) % 4393751543808 + way) % 4393751543808 ≡ phase
 code_back phase way below short = omega arith
 
--- no step of the code, and sixteen more
-pub code_here : (phase step : ℕ) → phase < code_cycle → phase ≡ code_phase_after phase step 0
-code_here phase step below =
-    let none : phase + 0 * step ≡ phase = omega arith in
-    sym (ap (λ n. n % (1023 * 2 ^ 32)) none ∙ mod-eq_of_lt below)
-
-pub code_turned : (phase step g here : ℕ) → here ≡ code_phase_after phase step (16 * g)
-    → (here + 16 * step) % (1023 * 2 ^ 32) ≡ code_phase_after phase step (16 * (g + 1))
-code_turned phase step g here e =
-    let next : 16 * g + 16 ≡ 16 * (g + 1) = omega arith in
-    code_behind phase step (16 * g) 16 here e ∙ ap (code_phase_after phase step) next
-
--- 64 samples on
-pub code_on : (phase step : ℕ) → (phase + 4 * (16 * step)) % (1023 * 2 ^ 32)
-    ≡ code_phase_after phase step 64
-code_on phase step = let way : 4 * (16 * step) ≡ 64 * step = omega arith in rw way refl
-
 -- chips differ by their numbers within a period
 pub same_chip : (prn m n : ℕ) → m % 1023 ≡ n % 1023 → chip prn m ≡ chip prn n
 unfolding chip
 same_chip prn m n e = ap (chip_after prn) e
-
-chip_number : (here w : ℕ) → here < 1023 * 2 ^ 32 → w ≤ 15 * 4294967295
-    → (here / 4294967296 + (here % 4294967296 + w) / 4294967296 % 16) % 1023
-    ≡ (here + w) % 4393751543808 / 4294967296 % 1023
-chip_number here w h small = omega arith
-
-chip_number_before : (here w : ℕ) → here < 1023 * 2 ^ 32 → w ≤ 15 * 4294967295
-    → (here / 4294967296 + (here % 4294967296 + w) / 4294967296 % 16 + 1022) % 1023
-    ≡ ((here + w) % 4393751543808 / 4294967296 + 1022) % 1023
-chip_number_before here w h small = omega arith
-
-pub few_steps : (r step : ℕ) → r < 16 → step < 2 ^ 32 → r * step ≤ 15 * 4294967295
-few_steps r step h l = mul-le-mul {n₁ = r} {m₁ = step} {n₂ = 15} {m₂ = 4294967295} (omega arith)
-    (omega arith)
-
-pub chip_found : (prn phase step g r here cell : ℕ) → r < 16 → step < 2 ^ 32 → here
-    ≡ code_phase_after phase step (16 * g) → cell ≡ (here % 4294967296 + r * step) / 4294967296 % 16
-    → chip prn (here / 4294967296 + cell) ≡ chip prn
-    (code_phase_after phase step (16 * g + r) / 2 ^ 32)
-chip_found prn phase step g r here cell h l is cell_is =
-    let below : here < 1023 * 2 ^ 32 = omega (arith, is) in
-    rw cell_is (same_chip prn _ _ (chip_number here (r * step) below (few_steps r step h l)
-    ∙ ap (λ (p : ℕ). p / 2 ^ 32 % 1023) (code_behind phase step (16 * g) r here is)))
-
-pub chip_before_found : (prn phase step g r here cell : ℕ) → r < 16 → step < 2 ^ 32 → here
-    ≡ code_phase_after phase step (16 * g) → cell ≡ (here % 4294967296 + r * step) / 4294967296 % 16
-    → chip prn (here / 4294967296 + cell + 1022) ≡ chip prn
-    (code_phase_after phase step (16 * g + r) / 2 ^ 32 + 1022)
-chip_before_found prn phase step g r here cell h l is cell_is =
-    let below : here < 1023 * 2 ^ 32 = omega (arith, is) in
-    rw cell_is (same_chip prn _ _ (chip_number_before here (r * step) below (few_steps r step h l)
-    ∙ ap (λ (p : ℕ). (p / 2 ^ 32 + 1022) % 1023) (code_behind phase step (16 * g) r here is)))
-
--- whether a sample lies in the second half of its chip
-half_number : (here w : ℕ) → here < 1023 * 2 ^ 32 → (here % 4294967296 + w) % 4294967296 /
-    2147483648 ≡ (here + w) % 4393751543808 % 4294967296 / 2147483648
-half_number here w h = omega arith
-
-pub half_found : (phase step g r here : ℕ) → here ≡ code_phase_after phase step (16 * g)
-    → (here % 4294967296 + r * step) % 2 ^ 32 / 2 ^ 31
-    ≡ code_phase_after phase step (16 * g + r) % 2 ^ 32 / 2 ^ 31
-half_found phase step g r here is =
-    let below : here < 1023 * 2 ^ 32 = omega (arith, is) in
-    half_number here (r * step) below ∙ ap (λ (p : ℕ). p % 2 ^ 32 / 2 ^ 31)
-    (code_behind phase step (16 * g) r here is)
 
 -- half a chip ahead
 ahead_is : (phase step j : ℕ) → code_phase_after (phase + 2 ^ 31) step j

@@ -1,10 +1,10 @@
 -- The carrier at 64 samples in a row, place j of a word being the sample j after the first.
-use Rattle.std.specs.Prelude.{◌≡◌, ℕ, ◌-◌, ◌<◌}
+use Rattle.std.specs.Prelude.{◌≡◌, ℕ, ◌-◌, ◌/◌, ◌^◌, ◌<◌}
 use Rattle.std.specs.Int.{bit_at}
 use Rattle.definitions.specs.Oscillators.{carrier_phase_after, cosine, sine}
 use Rattle.oscillators.specs.declared.carrier.CarrierWord.{CarrierWord}
 use Rattle.oscillators.specs.Signs.{signed}
-use Rattle.oscillators.specs.Eighths.{eighth_at}
+use Rattle.oscillators.specs.Eighths.{cos_sign_in, sin_sign_in, sin_size_in}
 
 -- the values at the 64 samples from a phase on
 pub record IsCarrier (phase step : ℕ) (w : CarrierWord) : Type 0 where
@@ -13,11 +13,14 @@ pub record IsCarrier (phase step : ℕ) (w : CarrierWord) : Type 0 where
   pub sin : (j : ℕ) → j < 64 → signed (bit_at w.sin_sign (63 - j)) (bit_at w.sin_size (63 - j))
       ≡ sine (carrier_phase_after phase step j)
 
--- and the bits of the eighths that they lie in
+-- and the bits of these, by the eighths that the samples lie in
+abbrev pub eighth_after : ℕ → ℕ → ℕ → ℕ
+eighth_after phase step j = carrier_phase_after phase step j / 2 ^ 29
+
 pub record AreEighths (phase step : ℕ) (w : CarrierWord) : Type 0 where
   pub cos_sign : (j : ℕ) → j < 64 → bit_at w.cos_sign (63 - j)
-      ≡ bit_at (eighth_at (carrier_phase_after phase step j)) 7
+      ≡ cos_sign_in (eighth_after phase step j)
   pub sin_sign : (j : ℕ) → j < 64 → bit_at w.sin_sign (63 - j)
-      ≡ bit_at (eighth_at (carrier_phase_after phase step j)) 6
+      ≡ sin_sign_in (eighth_after phase step j)
   pub sin_size : (j : ℕ) → j < 64 → bit_at w.sin_size (63 - j)
-      ≡ bit_at (eighth_at (carrier_phase_after phase step j)) 5
+      ≡ sin_size_in (eighth_after phase step j)

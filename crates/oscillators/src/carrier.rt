@@ -11,16 +11,8 @@ ghost use Rattle.oscillators.specs.CarrierWords.{AreEighths, IsCarrier};
 ghost use Rattle.bit_planes.specs.declared.plane.TheConstants.{PLACES, WORDS, WORD_PLACES};
 
 use crate::strides::{EIGHTH, Strides};
-use bit_planes::{Plane, pick_bytes, second_bits, third_bits, top_bits, with_sixteen};
+use bit_planes::{Plane, bit_of_each};
 use std::marker::Model;
-
-/// For each eighth of a cycle, four cycles long: 1 in the top bit where the cosine is below 0, in
-/// the next where the sine is below 0, and in the one below where the sine is 2 in size, and so the
-/// cosine 1.
-const EIGHTHS: [u8; 32] = [
-    0x00, 0x20, 0xa0, 0x80, 0xc0, 0xe0, 0x60, 0x40, 0x00, 0x20, 0xa0, 0x80, 0xc0, 0xe0, 0x60, 0x40,
-    0x00, 0x20, 0xa0, 0x80, 0xc0, 0xe0, 0x60, 0x40, 0x00, 0x20, 0xa0, 0x80, 0xc0, 0xe0, 0x60, 0x40,
-];
 
 /// An oscillator at the carrier's frequency. Its phase is in 2^-32 cycle, from 0 to below 2^32, and
 /// its step is what a sample adds to it. The fixed-point form and the values of `planes` are this
@@ -104,25 +96,16 @@ impl CarrierOsc {
           phase = carrier_phase_after self.old.phase self.old.step WORD_PLACES;
         } }
     {
-        let turn = self.step.wrapping_mul(16);
-        let mut word = CarrierWord {
-            cos_sign: 0,
-            sin_sign: 0,
-            sin_size: 0,
-        };
-        let mut here = self.phase;
-        for group in 0..4u32 {
-            let eighths = self.strides.cells_mod_16(here % EIGHTH, EIGHTH);
-            let found = pick_bytes(&EIGHTHS, (here >> 29) as usize, eighths);
-            word = CarrierWord {
-                cos_sign: with_sixteen(word.cos_sign, top_bits(found)),
-                sin_sign: with_sixteen(word.sin_sign, second_bits(found)),
-                sin_size: with_sixteen(word.sin_size, third_bits(found)),
-            };
-            here = here.wrapping_add(turn);
+        let eighths = self.strides.cells(self.phase, EIGHTH);
+        self.phase = self.phase.wrapping_add(self.step.wrapping_mul(64));
+        let half = bit_of_each(eighths, 4);
+        let quarter = bit_of_each(eighths, 2);
+        let eighth = bit_of_each(eighths, 1);
+        CarrierWord {
+            cos_sign: half ^ quarter,
+            sin_sign: half,
+            sin_size: quarter ^ eighth,
         }
-        self.phase = here;
-        word
     }
 
     /// Cosine and sine at this sample and the `n` - 1 that follow; `n` is at most 1,024. The

@@ -1,6 +1,7 @@
 //! The oscillator at the rate of the code.
 
-ghost use Rattle.std.specs.Prelude.{◌≡◌, ◌+◌, ◌-◌, ◌*◌, ◌/◌, ◌%◌, ◌<◌, ◌≤◌, ℕ, ℤ, List, pos};
+ghost use Rattle.std.specs.Prelude.{◌≡◌, ◌+◌, ◌-◌, ◌*◌, ◌/◌, ◌%◌, ◌<◌, ◌≤◌, ◌^◌, ℕ, ℤ, List};
+ghost use Rattle.std.specs.Prelude.{pos};
 ghost use Rattle.std.specs.Prelude.{map, take, length, get_or, unsigned_abs, All};
 ghost use Rattle.std.specs.List.{range_with_len};
 ghost use Rattle.definitions.specs.Oscillators.{code_cycle, code_phase_after, early_sign};
@@ -15,8 +16,8 @@ ghost use Rattle.ca_codes.specs.declared.book.TheConstants.{CODE_CHIPS};
 ghost use Rattle.oscillators.specs.declared.strides.TheConstants.{HALF_CHIP};
 
 use crate::half_chip::HalfChip;
-use crate::strides::{HALF_CHIP, Strides, second_halves, whole_chips};
-use bit_planes::{Plane, second_bits, top_bits, with_sixteen};
+use crate::strides::{HALF_CHIP, Strides, halves};
+use bit_planes::{Plane, SECOND_BIT, TOP_BIT, above_last_of_sixteen, bit_of_each};
 use ca_codes::{CODE_CHIPS, CodeBook, Prn, look_up};
 use std::marker::Model;
 
@@ -143,22 +144,26 @@ impl CodeOsc {
           phase = code_phase_after self.old.phase self.old.step WORD_PLACES;
         } }
     {
-        let turn = 16 * self.step as u64;
-        let table = book.table(prn);
-        let mut early = 0;
-        let mut late = 0;
-        let mut second_half = 0;
-        let mut ahead = in_cycle(self.phase + HALF_CHIP as u64);
-        for group in 0..4u32 {
-            let halves = self.strides.half_chips((ahead % CHIP) as u32);
-            let chips = look_up(table, (ahead >> 32) as usize, whole_chips(halves));
-            early = with_sixteen(early, top_bits(chips));
-            // The late chip is the one before the early one.
-            late = with_sixteen(late, second_bits(chips));
-            second_half = with_sixteen(second_half, second_halves(halves));
-            ahead = in_cycle(ahead + turn);
-        }
-        self.phase = in_cycle(self.phase + 4 * turn);
+        let step = self.step as u64;
+        let ahead = in_cycle(self.phase + HALF_CHIP as u64);
+        let half_chips = self.strides.cells((ahead % CHIP) as u32, HALF_CHIP);
+        // The chip at the first of each sixteen samples, the last sixteen of them in lanes 0 to 15.
+        let first = [
+            chip_number(ahead + 48 * step),
+            chip_number(ahead + 32 * step),
+            chip_number(ahead + 16 * step),
+            chip_number(ahead),
+        ];
+        let chips = look_up(
+            book.table(prn),
+            first,
+            above_last_of_sixteen(halves(half_chips)),
+        );
+        let early = bit_of_each(chips, 1 << TOP_BIT);
+        // The late chip is the one before the early one.
+        let late = bit_of_each(chips, 1 << SECOND_BIT);
+        let second_half = bit_of_each(half_chips, 1);
+        self.phase = in_cycle(self.phase + 64 * step);
         ChipWord {
             early,
             // The prompt phase lies half a chip before the early one. Where the early phase is in
@@ -214,6 +219,13 @@ pub struct ChipWord {
     pub prompt: u64,
     /// The chips half a chip behind the phase.
     pub late: u64,
+}
+
+/// The number of the chip that a phase lies in, counted on past the end of a cycle.
+fn chip_number(phase: u64) -> usize
+    ensures { result ≡ phase / 2 ^ 32 }
+{
+    (phase >> 32) as usize
 }
 
 /// The phase that is left of one less than a cycle ahead, without a division.

@@ -1,12 +1,12 @@
-//! Sixteen samples of an oscillator at once.
+//! 64 samples of an oscillator at once.
 
 ghost use Rattle.std.specs.Int.{bit_at};
 ghost use Rattle.std.specs.Prelude.{◌≡◌, ◌+◌, ◌-◌, ◌*◌, ◌/◌, ◌%◌, ◌^◌, ◌<◌, ◌≤◌, ℕ, length};
 ghost use Rattle.std.specs.Prelude.{slice_index, cond, ltb, ◌⊎◌};
-ghost use Rattle.bit_planes.specs.declared.lanes.TheConstants.{LANES};
+ghost use Rattle.bit_planes.specs.declared.plane.TheConstants.{WORD_PLACES};
 ghost use Rattle.oscillators.specs.declared.strides.TheConstants.{EIGHTH, HALF_CHIP};
 
-use bit_planes::masked_bits;
+use bit_planes::WORD_PLACES;
 use std::simd::prelude::*;
 
 /// An eighth of a cycle, in 2^-32 cycle.
@@ -15,16 +15,16 @@ pub(crate) const EIGHTH: u32 = 1 << 29;
 /// Half a chip, in 2^-32 chip.
 pub const HALF_CHIP: u32 = 1 << 31;
 
-/// How far sixteen samples lie from the first of them, in cells of a phase: lane k stands for
-/// sample 15 - k.
+/// How far 64 samples lie from the first of them, in cells of a phase: lane k stands for sample
+/// 63 - k.
 #[derive(Clone, Copy, Debug)]
 pub(crate) struct Strides {
-    /// The part of a cell.
-    low: u32x16,
     /// The whole cells.
-    whole: u8x16,
-    ghost lanes: { (length low ≡ LANES) × (length whole ≡ LANES) },
-    ghost small: { (k : ℕ) → k < LANES → slice_index low k < 2 ^ 31 },
+    whole: u8x64,
+    /// What else the last of them has room for: the part of a cell that is left, less one.
+    room: u32x64,
+    ghost lanes: { (length room ≡ WORD_PLACES) × (length whole ≡ WORD_PLACES) },
+    ghost small: { (k : ℕ) → k < WORD_PLACES → slice_index room k < 2 ^ 31 },
 }
 
 impl Strides {
@@ -35,88 +35,55 @@ impl Strides {
         requires { (cell ≡ EIGHTH) ⊎ (cell ≡ HALF_CHIP) }
         ensures { IsStrides step cell result }
     {
-        let mut low = [0; 16];
-        let mut whole = [0; 16];
-        for k in 0..16 {
-            let way = (15 - k as u64) * step as u64;
-            low[k] = (way % cell as u64) as u32;
-            whole[k] = (way / cell as u64) as u8;
+        let mut whole = [0; WORD_PLACES];
+        let mut room = [0; WORD_PLACES];
+        for k in 0..WORD_PLACES {
+            let way = (63 - k as u64) * step as u64;
+            whole[k] = (way / cell as u64 % 256) as u8;
+            room[k] = cell - 1 - (way % cell as u64) as u32;
         }
         Strides {
-            low: u32x16::from_array(low),
-            whole: u8x16::from_array(whole),
+            whole: u8x64::from_array(whole),
+            room: u32x64::from_array(room),
         }
     }
 
-    /// The numbers of the cells in which sixteen samples lie, where the first lies at `part` of
-    /// cell 0.
-    fn cells(&self, part: u32, cell: u32) -> u8x16
-        requires part { part < cell }
-        requires cell { (cell ≡ EIGHTH) ⊎ (cell ≡ HALF_CHIP) }
-        ensures long { length result ≡ LANES }
+    /// The numbers of the cells in which 64 samples lie, modulo 256, where the first lies at a phase
+    /// that is counted from the beginning of cell 0.
+    pub(crate) fn cells(&self, phase: u32, cell: u32) -> u8x64
+        requires { (cell ≡ EIGHTH) ⊎ (cell ≡ HALF_CHIP) }
+        ensures long { length result ≡ WORD_PLACES }
         ensures cells { (step : ℕ) → step < 2 ^ 32 → IsStrides step cell self.now
-            → (k : ℕ) → k < LANES → slice_index result k
-            ≡ (part + (LANES - 1 - k) * step) / cell }
+            → (k : ℕ) → k < WORD_PLACES → slice_index result k
+            ≡ (phase + (WORD_PLACES - 1 - k) * step) / cell % 256 }
     {
-        self.whole + carries(cell - 1 - part, self.low)
-    }
-
-    /// The numbers of the cells in which sixteen samples lie, modulo 16, where the first lies at
-    /// `part` of cell 0.
-    pub(crate) fn cells_mod_16(&self, part: u32, cell: u32) -> u8x16
-        requires part { part < cell }
-        requires cell { (cell ≡ EIGHTH) ⊎ (cell ≡ HALF_CHIP) }
-        ensures long { length result ≡ LANES }
-        ensures cells { (step : ℕ) → step < 2 ^ 32 → IsStrides step cell self.now
-            → (k : ℕ) → k < LANES → slice_index result k
-            ≡ (part + (LANES - 1 - k) * step) / cell % LANES }
-        ensures below { (k : ℕ) → k < LANES → slice_index result k < LANES }
-    {
-        self.cells(part, cell) & u8x16::splat(15)
-    }
-
-    /// The numbers of the half chips in which sixteen samples lie, where the first lies at `part`
-    /// of a chip.
-    pub(crate) fn half_chips(&self, part: u32) -> u8x16
-        ensures long { length result ≡ LANES }
-        ensures halves { (step : ℕ) → step < 2 ^ 32 → IsStrides step HALF_CHIP self.now
-            → (k : ℕ) → k < LANES → slice_index result k
-            ≡ (part + (LANES - 1 - k) * step) / HALF_CHIP }
-    {
-        self.cells(part % HALF_CHIP, HALF_CHIP) + u8x16::splat((part / HALF_CHIP) as u8)
+        let first = u8x64::splat((phase / cell) as u8);
+        self.whole + first + carries(phase % cell, self.room)
     }
 }
 
-/// The chips in which half chips lie.
-pub(crate) fn whole_chips(halves: u8x16) -> u8x16
-    requires { length halves ≡ LANES }
-    ensures long { length result ≡ LANES }
-    ensures chips { (k : ℕ) → k < LANES → slice_index result k ≡ slice_index halves k / 2 }
+/// 1 in each lane that has less room than a part. Below 2^31 numbers with a sign are as great, and
+/// quicker to compare.
+fn carries(part: u32, room: u32x64) -> u8x64
+    requires part { part < 2 ^ 31 }
+    requires long { length room ≡ WORD_PLACES }
+    requires small { (k : ℕ) → k < WORD_PLACES → slice_index room k < 2 ^ 31 }
+    ensures long { length result ≡ WORD_PLACES }
+    ensures carried { (k : ℕ) → k < WORD_PLACES
+        → slice_index result k ≡ cond (ltb (slice_index room k) part) 1 0 }
 {
-    halves >> u8x16::splat(1)
-}
-
-/// Which of sixteen half chips are the second half of a chip: that of lane k is bit k.
-pub(crate) fn second_halves(halves: u8x16) -> u64
-    requires { length halves ≡ LANES }
-    ensures halves { (k : ℕ) → k < LANES → bit_at result k ≡ slice_index halves k % 2 }
-    ensures few { result < 2 ^ LANES }
-{
-    masked_bits(halves, u8x16::splat(1))
-}
-
-/// 1 in each lane above a limit. Below 2^31 numbers with a sign are as great, and quicker to
-/// compare.
-fn carries(limit: u32, low: u32x16) -> u8x16
-    requires limit { limit < 2 ^ 31 }
-    requires long { length low ≡ LANES }
-    requires small { (k : ℕ) → k < LANES → slice_index low k < 2 ^ 31 }
-    ensures long { length result ≡ LANES }
-    ensures carried { (k : ℕ) → k < LANES
-        → slice_index result k ≡ cond (ltb limit (slice_index low k)) 1 0 }
-{
-    low.cast::<i32>()
-        .simd_gt(i32x16::splat(limit as i32))
-        .select(u32x16::splat(1), u32x16::splat(0))
+    i32x64::splat(part as i32)
+        .simd_gt(room.cast::<i32>())
+        .select(u32x64::splat(1), u32x64::splat(0))
         .cast::<u8>()
+}
+
+/// The halves of 64 numbers, rounded down.
+pub(crate) fn halves(numbers: u8x64) -> u8x64
+    requires { length numbers ≡ WORD_PLACES }
+    ensures long { length result ≡ WORD_PLACES }
+    ensures halves { (k : ℕ) → k < WORD_PLACES → slice_index result k
+        ≡ slice_index numbers k / 2 }
+{
+    numbers >> u8x64::splat(1)
 }

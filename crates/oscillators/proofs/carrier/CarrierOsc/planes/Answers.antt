@@ -1,10 +1,10 @@
-use Rattle.std.proofs.Common.{◌≡◌, ◌*◌, ◌+◌, ◌-◌, ◌<◌, ℕ, ap, ◌∙◌, arith}
+use Rattle.std.proofs.Common.{◌≡◌, ◌*◌, ◌+◌, ◌-◌, ◌/◌, ◌^◌, ◌<◌, ℕ, ap, ◌∙◌, arith}
 use Rattle.std.proofs.Math.Path.{ap₂}
-use Rattle.std.specs.Int.{bit_at}
 use Rattle.definitions.specs.Oscillators.{carrier_phase_after, cosine, sine}
 use Rattle.oscillators.specs.Views.{Oscillation}
 use Rattle.oscillators.specs.Signs.{signed, cos_in, sin_in}
-use Rattle.oscillators.specs.Eighths.{eighth_at}
+use Rattle.oscillators.specs.Eighths.{cos_sign_in, sin_sign_in, sin_size_in}
+use Rattle.oscillators.specs.CarrierWords.{eighth_after}
 use Rattle.oscillators.proofs.PlaneLemmas.{carrier_behind, cosine_by_bits, sine_by_bits, runs_agree}
 use Rattle.oscillators.proofs.PlaneLemmas.{run_length}
 use Rattle.oscillators.proofs.carrier.CarrierOsc.planes.Goals as goal
@@ -28,15 +28,14 @@ loop-w-preserved c =
       phase = ap (λ (o : Oscillation). o.phase) moved ∙ behind 64
           ∙ ap (carrier_phase_after phase step) next;
       step = ap (λ (o : Oscillation). o.step) moved ∙ i.step;
-      cos_sign = rw next at (c.set_word.ensures (λ (n : ℕ). bit_at
-          (eighth_at (carrier_phase_after phase step n)) 7) i.cos_sign
-          (λ j h. word.cos_sign j h ∙ ap (λ (p : ℕ). bit_at (eighth_at p) 7) (behind j)));
+      cos_sign = rw next at (c.set_word.ensures (λ (n : ℕ). cos_sign_in (eighth_after phase step n)) i.cos_sign
+          (λ j h. word.cos_sign j h ∙ ap (λ (p : ℕ). cos_sign_in (p / 2 ^ 29)) (behind j)));
       sin_sign = rw next at (c.set_word-in-loop-w.ensures
-          (λ (n : ℕ). bit_at (eighth_at (carrier_phase_after phase step n)) 6) i.sin_sign
-          (λ j h. word.sin_sign j h ∙ ap (λ (p : ℕ). bit_at (eighth_at p) 6) (behind j)));
+          (λ (n : ℕ). sin_sign_in (eighth_after phase step n)) i.sin_sign
+          (λ j h. word.sin_sign j h ∙ ap (λ (p : ℕ). sin_sign_in (p / 2 ^ 29)) (behind j)));
       sin_size = rw next at (c.set_word-in-loop-w-2.ensures
-          (λ (n : ℕ). bit_at (eighth_at (carrier_phase_after phase step n)) 5) i.sin_size
-          (λ j h. word.sin_size j h ∙ ap (λ (p : ℕ). bit_at (eighth_at p) 5) (behind j)));
+          (λ (n : ℕ). sin_size_in (eighth_after phase step n)) i.sin_size
+          (λ j h. word.sin_size j h ∙ ap (λ (p : ℕ). sin_size_in (p / 2 ^ 29)) (behind j)));
     }
 
 pub returns-clause-cos_len : goal.returns-clause-cos_len

@@ -1,18 +1,18 @@
 use Rattle.std.proofs.Common.{◌≡◌, ◌*◌}
-use Rattle.std.specs.Int.{bit_at}
 use Rattle.bit_planes.specs.Bits.{IsDrawn}
 use Rattle.definitions.specs.Oscillators.{carrier_phase_after}
-use Rattle.oscillators.specs.Eighths.{eighth_at}
+use Rattle.oscillators.specs.Eighths.{cos_sign_in, sin_sign_in, sin_size_in}
+use Rattle.oscillators.specs.CarrierWords.{eighth_after}
 use Rattle.oscillators.proofs.carrier.CarrierOsc.planes.Given as goal
 
 abbrev pub invariant-loop-w : goal.invariant-loop-w
 invariant-loop-w l = record {
   phase : l.here.phase ≡ carrier_phase_after l.self.phase l.self.step (64 * l.w);
   step : l.here.step ≡ l.self.step;
-  cos_sign : IsDrawn (λ i. bit_at (eighth_at (carrier_phase_after l.self.phase l.self.step i)) 7)
+  cos_sign : IsDrawn (λ i. cos_sign_in (eighth_after l.self.phase l.self.step i))
       (64 * l.w) l.cos_sign;
-  sin_sign : IsDrawn (λ i. bit_at (eighth_at (carrier_phase_after l.self.phase l.self.step i)) 6)
+  sin_sign : IsDrawn (λ i. sin_sign_in (eighth_after l.self.phase l.self.step i))
       (64 * l.w) l.sin_sign;
-  sin_size : IsDrawn (λ i. bit_at (eighth_at (carrier_phase_after l.self.phase l.self.step i)) 5)
+  sin_size : IsDrawn (λ i. sin_size_in (eighth_after l.self.phase l.self.step i))
       (64 * l.w) l.sin_size;
 }

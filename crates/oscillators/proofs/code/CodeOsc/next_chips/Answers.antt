@@ -1,104 +1,106 @@
-use Rattle.std.proofs.Common.{◌≡◌, ◌*◌, ◌+◌, ◌-◌, ◌<◌, ◌≤◌, ◌^◌, ◌/◌, ◌%◌, ℕ, get_or, refl, ap, ◌∙◌}
-use Rattle.std.proofs.Common.{arith, rules}
+use Rattle.std.proofs.Common.{◌≡◌, ◌*◌, ◌+◌, ◌-◌, ◌<◌, ◌^◌, ◌/◌, ◌%◌, ℕ, get_or, refl, ap, ◌∙◌}
+use Rattle.std.proofs.Common.{arith, rules, ◌∷◌, []}
+use Rattle.std.proofs.Math.Path.{ap₂}
 use Rattle.std.specs.Int.{bit_at}
 use Rattle.std.proofs.lemmas.Nat.Bits.{bit_at-lt}
 use Rattle.definitions.specs.Codes.{chip}
 use Rattle.definitions.specs.Oscillators.{code_phase_after}
 use Rattle.oscillators.specs.Views.{Oscillation}
-use Rattle.oscillators.proofs.PlaneLemmas.{code_turned, code_on, chip_found, chip_before_found}
-use Rattle.oscillators.proofs.PlaneLemmas.{half_found, chosen, prompt_between, few_steps}
-use Rattle.oscillators.proofs.StrideLemmas.{chip_of_half, few_chips, few_ways, half_bit}
+use Rattle.oscillators.proofs.PlaneLemmas.{chosen, prompt_between}
+use Rattle.oscillators.proofs.ChipLaneLemmas.{way, way_to_first, way_is_short, way_from_first}
+use Rattle.oscillators.proofs.ChipLaneLemmas.{first_not_after, number_of_lane, number_below, firsts}
+use Rattle.oscillators.proofs.ChipLaneLemmas.{chip_found, chip_before_found, half_found}
 use Rattle.oscillators.proofs.code.CodeOsc.next_chips.Goals as goal
 
-pub loop-group-preserved : goal.loop-group-preserved
-loop-group-preserved c =
-    let phase : ℕ = c.args.self.now.phase in
-    let step : ℕ = c.args.self.now.step in
-    let step_is : c.self.inside.step ≡ step = ap (λ (v : Oscillation). v.step) c.self.view_is in
-    let short : c.self.inside.step < 2 ^ 32 = search (rules, c.self.ranges) in
-    let small : step < 2 ^ 32 = rw step_is at short in
-    let strides = c.self.invariant.1 in
-    let i = c.loop-group.invariant in
-    let g : ℕ = c.loop-group.group in
-    let ahead : ℕ = c.loop-group.ahead in
-    let few : 16 * g ≤ 48 = omega arith in
-    let next : 16 * g + 16 ≡ 16 * (g + 1) = omega arith in
-    let part : ℕ = ahead % 4294967296 in
-    let within : part < 4294967296 = omega arith in
-    let half : (r : ℕ) → r < 16 → get_or c.half_chips-halves.result (15 - r) 0
-    ≡ (part + r * step) / 2147483648 = λ r h.
-    let lane : 15 - (15 - r) ≡ r = omega arith in
-    c.half_chips-halves.ensures.halves c.self.inside.step short strides (15 - r) (omega arith)
-    ∙ rw (lane, step_is) refl
-    in
-    let cell : (r : ℕ) → r < 16 → get_or c.whole_chips.result (15 - r) 0
-    ≡ (part + r * step) / 4294967296 % 16 = λ r h.
-    c.whole_chips.ensures.chips (15 - r) (omega arith) ∙ ap (λ (n : ℕ). n / 2) (half r h)
-    ∙ chip_of_half part (r * step) within (few_steps r step h small)
-    in
-    record {
-      ahead = c.in_cycle-ahead-in-loop-group.ensures
-          ∙ ap (λ (s : ℕ). (ahead + 16 * s) % (1023 * 2 ^ 32)) step_is
-          ∙ code_turned (phase + 2 ^ 31) step g ahead i.ahead;
-      early = rw next at (c.with_sixteen-early.ensures
-          (λ (n : ℕ). chip c.args.prn (code_phase_after (phase + 2 ^ 31) step n / 2 ^ 32)) (16 * g)
-          few i.early (λ r h.
-          c.top_bits.ensures.bits (15 - r) (omega arith)
-          ∙ c.look_up-chips.ensures.chips c.args.prn c.table-table.ensures (15 - r) (omega arith)
-          ∙ chip_found c.args.prn (phase + 2 ^ 31) step g r ahead
-          (get_or c.whole_chips.result (15 - r) 0) h small i.ahead (cell r h)));
-      late = rw next at (c.with_sixteen-late.ensures
-          (λ (n : ℕ). chip c.args.prn (code_phase_after (phase + 2 ^ 31) step n / 2 ^ 32 + 1022))
-          (16 * g) few i.late (λ r h.
-          c.second_bits.ensures.bits (15 - r) (omega arith)
-          ∙ c.look_up-chips.ensures.before c.args.prn c.table-table.ensures (15 - r) (omega arith)
-          ∙ chip_before_found c.args.prn (phase + 2 ^ 31) step g r ahead
-          (get_or c.whole_chips.result (15 - r) 0) h small i.ahead (cell r h)));
-      second_half = rw next at (c.with_sixteen-second_half.ensures
-          (λ (n : ℕ). code_phase_after (phase + 2 ^ 31) step n % 2 ^ 32 / 2 ^ 31) (16 * g) few
-          i.second_half (λ r h.
-          c.second_halves.ensures.halves (15 - r) (omega arith) ∙ ap (λ (n : ℕ). n % 2) (half r h)
-          ∙ half_bit part (r * step)
-          ∙ half_found (phase + 2 ^ 31) step g r ahead i.ahead));
-    }
+pub look_up-chips-requires-clause-below : goal.look_up-chips-requires-clause-below
+look_up-chips-requires-clause-below c k h =
+    let step : ℕ = c.self.inside.step in
+    let short : step < 2 ^ 32 = search (rules, c.self.ranges) in
+    let part : ℕ = c.in_cycle-ahead.result % 4294967296 in
+    let number : get_or c.above_last_of_sixteen.result k 0
+    ≡ (part + way step k) / 4294967296 - (part + way_to_first step k) / 4294967296 =
+    number_of_lane part step c.cells-half_chips.result c.halves.result
+    c.above_last_of_sixteen.result (omega arith) short
+    (c.cells-half_chips.ensures.cells step short c.self.invariant.1) c.halves.ensures.halves
+    c.above_last_of_sixteen.ensures.lanes k h in
+    rw number (number_below part (way_to_first step k) (way step k) (first_not_after step k h)
+    (way_from_first step k h short))
 
 pub returns-clause-word : goal.returns-clause-word
 returns-clause-word c =
+    let prn : ℕ = c.args.prn in
     let phase : ℕ = c.args.self.now.phase in
     let step : ℕ = c.args.self.now.step in
-    let i = c.loop-group.invariant in
-    let all : 16 * c.loop-group.group ≡ 64 = omega arith in
-    let early = (rw all at i.early).bits in
-    let late = (rw all at i.late).bits in
-    let second_half = (rw all at i.second_half).bits in
-    let place : (j : ℕ) → 64 - 1 - j ≡ 63 - j = λ j. omega arith in
+    let phase_is : c.self.inside.phase ≡ phase = ap (λ (v : Oscillation). v.phase) c.self.view_is in
+    let step_is : c.self.inside.step ≡ step = ap (λ (v : Oscillation). v.step) c.self.view_is in
+    let inside : c.self.inside.step < 2 ^ 32 = search (rules, c.self.ranges) in
+    let short : step < 2 ^ 32 = rw step_is at inside in
+    let ahead : ℕ = c.in_cycle-ahead.result in
+    let ahead_is : ahead ≡ (phase + 2 ^ 31) % (1023 * 2 ^ 32) = rw phase_is at
+    c.in_cycle-ahead.ensures in
+    let part : ℕ = ahead % 4294967296 in
+    let half : (k : ℕ) → k < 64 → get_or c.cells-half_chips.result k 0
+    ≡ (part + way step k) / 2147483648 % 256 = rw step_is at
+    (c.cells-half_chips.ensures.cells c.self.inside.step inside c.self.invariant.1) in
+    let number : (k : ℕ) → k < 64 → get_or c.above_last_of_sixteen.result k 0
+    ≡ (part + way step k) / 4294967296 - (part + way_to_first step k) / 4294967296 =
+    number_of_lane part step c.cells-half_chips.result c.halves.result
+    c.above_last_of_sixteen.result (omega arith) short half c.halves.ensures.halves
+    c.above_last_of_sixteen.ensures.lanes in
+    let first : (k : ℕ) → k < 64 → get_or (c.chip_number.result ∷ c.chip_number-2.result
+    ∷ c.chip_number-3.result ∷ c.chip_number-4.result ∷ []) (k / 16) 0
+    ≡ (ahead + way_to_first step k) / 2 ^ 32 = λ k h.
+    firsts ahead step _ _ _ _ (k / 16) (omega arith) (rw step_is at c.chip_number.ensures)
+    (rw step_is at c.chip_number-2.ensures) (rw step_is at c.chip_number-3.ensures)
+    c.chip_number-4.ensures
+    in
+    let early : (j : ℕ) → j < 64 → bit_at c.bit_of_each-early.result (63 - j)
+    ≡ chip prn (code_phase_after (phase + 2 ^ 31) step j / 2 ^ 32) = λ j h.
+    let k : ℕ = 63 - j in
+    let below : k < 64 = omega arith in
+    let place : 63 - k ≡ j = omega arith in
+    c.bit_of_each-early.ensures k 7 below refl
+    ∙ c.look_up-chips.ensures.chips prn c.table.ensures k below
+    ∙ ap (chip prn) (ap₂ (λ (a b : ℕ). a + b) (first k below) (number k below))
+    ∙ chip_found prn (phase + 2 ^ 31) ahead (way_to_first step k) (way step k) ahead_is
+    (first_not_after step k below) (way_is_short step k short)
+    ∙ ap (λ (n : ℕ). chip prn (code_phase_after (phase + 2 ^ 31) step n / 2 ^ 32)) place
+    in
+    let late : (j : ℕ) → j < 64 → bit_at c.bit_of_each-late.result (63 - j)
+    ≡ chip prn (code_phase_after (phase + 2 ^ 31) step j / 2 ^ 32 + 1022) = λ j h.
+    let k : ℕ = 63 - j in
+    let below : k < 64 = omega arith in
+    let place : 63 - k ≡ j = omega arith in
+    c.bit_of_each-late.ensures k 6 below refl
+    ∙ c.look_up-chips.ensures.before prn c.table.ensures k below
+    ∙ ap (λ (n : ℕ). chip prn (n + 1022))
+    (ap₂ (λ (a b : ℕ). a + b) (first k below) (number k below))
+    ∙ chip_before_found prn (phase + 2 ^ 31) ahead (way_to_first step k) (way step k) ahead_is
+    (first_not_after step k below) (way_is_short step k short)
+    ∙ ap (λ (n : ℕ). chip prn (code_phase_after (phase + 2 ^ 31) step n / 2 ^ 32 + 1022)) place
+    in
+    let second : (j : ℕ) → j < 64 → bit_at c.bit_of_each-second_half.result (63 - j)
+    ≡ code_phase_after (phase + 2 ^ 31) step j % 2 ^ 32 / 2 ^ 31 = λ j h.
+    let k : ℕ = 63 - j in
+    let below : k < 64 = omega arith in
+    let place : 63 - k ≡ j = omega arith in
+    c.bit_of_each-second_half.ensures k 0 below refl ∙ ap (λ (n : ℕ). bit_at n 0) (half k below)
+    ∙ half_found (phase + 2 ^ 31) ahead (way step k) ahead_is (way_is_short step k short)
+    ∙ ap (λ (n : ℕ). code_phase_after (phase + 2 ^ 31) step n % 2 ^ 32 / 2 ^ 31) place
+    in
     record {
-      early = λ j h. rw (place j) at (early j h);
-      late = λ j h. rw (place j) at (late j h);
+      early = early;
       prompt = λ j h.
-          let e : ℕ = c.loop-group.early in
-          let l : ℕ = c.loop-group.late in
-          let m : ℕ = c.loop-group.second_half in
-          chosen e l m (63 - j) ∙ prompt_between c.args.prn phase step j (bit_at e (63 - j))
-          (bit_at l (63 - j)) (bit_at m (63 - j)) (bit_at-lt e (63 - j)) (bit_at-lt l (63 - j))
-          (bit_at-lt m (63 - j))
-          (rw (place j) at (early j h)) (rw (place j) at (late j h))
-          (rw (place j) at (second_half j h));
+          chosen c.bit_of_each-early.result c.bit_of_each-late.result
+          c.bit_of_each-second_half.result (63 - j)
+          ∙ prompt_between prn phase step j _ _ _ (bit_at-lt c.bit_of_each-early.result (63 - j))
+          (bit_at-lt c.bit_of_each-late.result (63 - j))
+          (bit_at-lt c.bit_of_each-second_half.result (63 - j)) (early j h) (late j h) (second j h);
+      late = late;
     }
 
 pub returns-clause-moved : goal.returns-clause-moved
 returns-clause-moved c =
     let i = c.self.inside in
     let at : ℕ → Oscillation = λ p. record { phase = p; step = i.step } in
-    rw (← c.self.view_is) (ap at (c.in_cycle-self-inside.ensures ∙ code_on i.phase i.step))
-
-pub look_up-chips-requires-clause-below : goal.look_up-chips-requires-clause-below
-look_up-chips-requires-clause-below c k h =
-    let step : ℕ = c.self.inside.step in
-    let short : step < 2 ^ 32 = search (rules, c.self.ranges) in
-    let part : ℕ = c.loop-group.ahead % 4294967296 in
-    let chip : get_or c.whole_chips.result k 0 ≡ (part + (15 - k) * step) / 2147483648 / 2 =
-    c.whole_chips.ensures.chips k h
-    ∙ ap (λ (n : ℕ). n / 2) (c.half_chips-halves.ensures.halves step short c.self.invariant.1 k h)
-    in
-    rw chip (few_chips part ((15 - k) * step) (omega arith) (few_ways k step short))
+    rw (← c.self.view_is) (ap at c.in_cycle-self-inside.ensures)

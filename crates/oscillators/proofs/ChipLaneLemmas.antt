@@ -1,0 +1,128 @@
+-- What the lanes of a word find in a code's table. The word's first sample lies at phase `here`,
+-- and a lane's sample w after it; the first sample of the lane's sixteen lies v after it.
+use Rattle.std.proofs.Common.{◌≡◌, ℕ, zero, suc, ◌+◌, ◌-◌, ◌*◌, ◌/◌, ◌%◌, ◌^◌, ◌<◌, ◌≤◌, ◌∷◌, []}
+use Rattle.std.proofs.Common.{get_or, ap, ◌∙◌, arith, mul-le-mul, List}
+use Rattle.std.specs.Int.{bit_at}
+use Rattle.std.proofs.Math.Nat.{mod-add-mod}
+use Rattle.bit_planes.specs.Bits.{last_of_sixteen}
+use Rattle.definitions.specs.Codes.{chip}
+use Rattle.oscillators.proofs.PlaneLemmas.{same_chip}
+
+-- how far the sample of a lane lies from the first, and the first sample of its sixteen lanes
+abbrev pub way : ℕ → ℕ → ℕ
+way step k = (63 - k) * step
+
+abbrev pub way_to_first : ℕ → ℕ → ℕ
+way_to_first step k = (48 - 16 * (k / 16)) * step
+
+pub way_is_short : (step k : ℕ) → step < 2 ^ 32 → way step k ≤ 63 * 4294967295
+way_is_short step k l = mul-le-mul {n₁ = 63 - k} {m₁ = step} {n₂ = 63} {m₂ = 4294967295}
+    (omega arith) (omega arith)
+
+pub way_from_first : (step k : ℕ) → k < 64 → step < 2 ^ 32
+    → way step k ≤ way_to_first step k + 15 * 4294967295
+way_from_first step k h l =
+    let parts : way step k ≡ way_to_first step k + (15 - k % 16) * step =
+    split (48 - 16 * (k / 16)) (15 - k % 16) (63 - k) (omega arith) in
+    let few : (15 - k % 16) * step ≤ 15 * 4294967295 =
+    mul-le-mul {n₁ = 15 - k % 16} {m₁ = step} {n₂ = 15} {m₂ = 4294967295} (omega arith)
+    (omega arith) in
+    omega (arith, parts, few)
+  where
+    split : (a b n : ℕ) → n ≡ a + b → n * step ≡ a * step + b * step
+    split a b n e = rw e (omega arith)
+
+pub first_not_after : (step k : ℕ) → k < 64 → way_to_first step k ≤ way step k
+first_not_after step k h = mul-le-mul {n₁ = 48 - 16 * (k / 16)} {m₁ = step} {n₂ = 63 - k}
+    {m₂ = step} (omega arith) (omega arith)
+
+-- the number of a lane's chip after the first one of its sixteen
+pub number_is : (part v w : ℕ) → part < 4294967296 → v ≤ w → w ≤ 63 * 4294967295
+    → w ≤ v + 15 * 4294967295
+    → ((part + w) / 2147483648 % 256 / 2 + (256 - (part + v) / 2147483648 % 256 / 2)) % 256
+    ≡ (part + w) / 4294967296 - (part + v) / 4294967296
+number_is part v w small from few near = omega arith
+
+pub number_below : (part v w : ℕ) → v ≤ w → w ≤ v + 15 * 4294967295
+    → (part + w) / 4294967296 - (part + v) / 4294967296 < 16
+number_below part v w from near = omega arith
+
+-- the lanes of half chips, of chips, and of how far these are above the last ones
+pub number_of_lane : (part step : ℕ) (half chips above : List ℕ) → part < 4294967296
+    → step < 2 ^ 32
+    → ((k : ℕ) → k < 64 → get_or half k 0 ≡ (part + way step k) / 2147483648 % 256)
+    → ((k : ℕ) → k < 64 → get_or chips k 0 ≡ get_or half k 0 / 2)
+    → ((k : ℕ) → k < 64 → get_or above k 0
+    ≡ (get_or chips k 0 + (256 - get_or chips (last_of_sixteen k) 0)) % 256)
+    → (k : ℕ) → k < 64 → get_or above k 0
+    ≡ (part + way step k) / 4294967296 - (part + way_to_first step k) / 4294967296
+number_of_lane part step half chips above small short halves wholes aboves k h =
+    let last : last_of_sixteen k < 64 = omega arith in
+    let place : 63 - last_of_sixteen k ≡ 48 - 16 * (k / 16) = omega arith in
+    aboves k h
+    ∙ rw (
+      wholes k h,
+      wholes (last_of_sixteen k) last,
+      halves k h,
+      halves (last_of_sixteen k) last,
+      place,
+    ) (number_is part (way_to_first step k) (way step k) small (first_not_after step k h)
+    (way_is_short step k short) (way_from_first step k h short))
+
+-- the first chips of four times sixteen lanes
+pub firsts : (here step a b c d n : ℕ) → n < 4 → a ≡ (here + 48 * step) / 2 ^ 32
+    → b ≡ (here + 32 * step) / 2 ^ 32 → c ≡ (here + 16 * step) / 2 ^ 32 → d ≡ here / 2 ^ 32
+    → get_or (a ∷ b ∷ c ∷ d ∷ []) n 0 ≡ (here + (48 - 16 * n) * step) / 2 ^ 32
+firsts here step a b c d zero h ea eb ec ed = ea
+firsts here step a b c d (suc zero) h ea eb ec ed = eb
+firsts here step a b c d (suc (suc zero)) h ea eb ec ed = ec
+firsts here step a b c d (suc (suc (suc zero))) h ea eb ec ed = ed ∙ omega arith
+firsts here step a b c d (suc (suc (suc (suc n)))) h ea eb ec ed = absurd (omega (arith, h))
+
+-- the phase at a lane's sample
+phase_there : (phase w : ℕ) → (phase % (1023 * 2 ^ 32) + w) % (1023 * 2 ^ 32)
+    ≡ (phase + w) % (1023 * 2 ^ 32)
+phase_there phase w = mod-add-mod phase (1023 * 2 ^ 32) w
+
+chip_there : (here v w : ℕ) → here < 4393751543808 → v ≤ w → w ≤ 63 * 4294967295
+    → ((here + v) / 4294967296
+    + ((here % 4294967296 + w) / 4294967296 - (here % 4294967296 + v) / 4294967296)) % 1023
+    ≡ (here + w) % 4393751543808 / 4294967296 % 1023
+chip_there here v w below from few = omega arith
+
+chip_before_there : (here v w : ℕ) → here < 4393751543808 → v ≤ w → w ≤ 63 * 4294967295
+    → ((here + v) / 4294967296
+    + ((here % 4294967296 + w) / 4294967296 - (here % 4294967296 + v) / 4294967296) + 1022) % 1023
+    ≡ ((here + w) % 4393751543808 / 4294967296 + 1022) % 1023
+chip_before_there here v w below from few = omega arith
+
+half_there : (here w : ℕ) → w ≤ 63 * 4294967295
+    → bit_at ((here % 4294967296 + w) / 2147483648 % 256) 0
+    ≡ (here + w) % 4393751543808 % 4294967296 / 2147483648
+half_there here w few = omega arith
+
+-- the chips that lanes find, and those before them
+pub chip_found : (prn phase here v w : ℕ) → here ≡ phase % (1023 * 2 ^ 32) → v ≤ w
+    → w ≤ 63 * 4294967295
+    → chip prn ((here + v) / 4294967296
+    + ((here % 4294967296 + w) / 4294967296 - (here % 4294967296 + v) / 4294967296))
+    ≡ chip prn ((phase + w) % (1023 * 2 ^ 32) / 2 ^ 32)
+chip_found prn phase here v w is from few =
+    same_chip prn _ _ (chip_there here v w (omega (arith, is)) from few
+    ∙ rw is (ap (λ (p : ℕ). p / 2 ^ 32 % 1023) (phase_there phase w)))
+
+pub chip_before_found : (prn phase here v w : ℕ) → here ≡ phase % (1023 * 2 ^ 32) → v ≤ w
+    → w ≤ 63 * 4294967295
+    → chip prn ((here + v) / 4294967296
+    + ((here % 4294967296 + w) / 4294967296 - (here % 4294967296 + v) / 4294967296) + 1022)
+    ≡ chip prn ((phase + w) % (1023 * 2 ^ 32) / 2 ^ 32 + 1022)
+chip_before_found prn phase here v w is from few =
+    same_chip prn _ _ (chip_before_there here v w (omega (arith, is)) from few
+    ∙ rw is (ap (λ (p : ℕ). (p / 2 ^ 32 + 1022) % 1023) (phase_there phase w)))
+
+-- whether a sample lies in the second half of its chip
+pub half_found : (phase here w : ℕ) → here ≡ phase % (1023 * 2 ^ 32) → w ≤ 63 * 4294967295
+    → bit_at ((here % 4294967296 + w) / 2147483648 % 256) 0
+    ≡ (phase + w) % (1023 * 2 ^ 32) % 2 ^ 32 / 2 ^ 31
+half_found phase here w is few = half_there here w few
+    ∙ rw is (ap (λ (p : ℕ). p % 2 ^ 32 / 2 ^ 31) (phase_there phase w))
