@@ -1,5 +1,5 @@
 """What Rust wants beside a source that was made plain: premises that are checked, the usual traits,
-leave for names that only the prover uses, and what rustc has to be told about sixteen lanes."""
+leave for names that only the prover uses, and what rustc has to be told about lanes."""
 import re
 import textwrap
 
@@ -13,11 +13,8 @@ FUNCTION = re.compile(
 # A loop of a function.
 LOOP = re.compile(r'^ *(?:for|while|loop)\b', re.M)
 
-# A loop of four turns that don't ask which they are.
-FOUR = re.compile(r'^( *)for _ in 0\.\.4\w* (?=\{$)', re.M)
-
-# The type of sixteen lanes.
-LANES = re.compile(r'\b[iu]\d+x16\b')
+# The types of lanes.
+LANES = re.compile(r'\b[iu]\d+x\d+\b')
 
 ALWAYS = '#[inline(always)]'
 
@@ -64,25 +61,13 @@ def checked_text(text, constants):
 
 
 def laned_text(text):
-    """A source of a crate that works on lanes. An operation on sixteen lanes counts as sixteen to
-    rustc until it makes vectors of them, which it does last. So it leaves as calls and as loops
-    what is a few instructions in the end. Here it is told to inline the functions that take or give
-    lanes, those with a loop of four turns, and those that only call such a one. The turns of such a
-    loop are written out."""
-    names = {'no function'}
-    for found in reversed([*FOUR.finditer(text)]):
-        end = block_end(text, found.end())
-        if not re.search(r'\b(?:break|continue)\b', code_of(text[found.end():end])):
-            turn = text[found.end():end]
-            names.add(re.findall(r'\bfn (\w+)', text[:found.start()])[-1])
-            text = f'{text[:found.start()]}{found[1]}lanes::four_times!({turn});{text[end:]}'
-    call = re.compile(rf'\{{\s*self\.(?:{"|".join(names)})\([\w, ]*\)\s*\}}')
-
+    """A source of a crate that works on lanes. An operation on 64 lanes counts as 64 to rustc until
+    it makes vectors of them, which it does last. So it leaves as calls what is a few instructions
+    in the end. Here it is told to inline the functions that take or give lanes."""
     def inlined(found):
         head, _, indent = found.groups()
-        body = text[found.end() - 1:block_end(text, found.end() - 1)]
-        is_short = LANES.search(head) or 'four_times!' in body or call.fullmatch(body)
-        return f'{indent}{ALWAYS}\n' * bool(is_short and not is_inlined(text, found)) + found[0]
+        is_short = LANES.search(head) and not is_inlined(text, found)
+        return f'{indent}{ALWAYS}\n' * bool(is_short) + found[0]
 
     return FUNCTION.sub(inlined, text)
 

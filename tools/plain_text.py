@@ -26,8 +26,8 @@ REWRITTEN = [(re.compile(pattern, re.M), new) for pattern, new in [
     (r'^([ \t]*fn \w+)\(rt: HostRuntime\)([^{]*\{)', r'\1()\2\n    let rt = HostRuntime;'),
     (r'\bexpect\((&?rt, "[^"]*")\)', r'expect((\1).1)'),
     (r'\bFail::new\(', 'Fail::from('),
-    # The stable std has no vectors of sixteen numbers.
-    (r'\bstd::simd::prelude\b', 'lanes'),
+    # The stable std has no vectors of numbers.
+    (r'\bstd::simd::prelude\b', '::lanes'),
     (r'\bstd::ops::DerefSlice\b', 'core::ops::Deref'),
     (r'\bDerefSlice for\b', 'Deref for'),
     (r'\btype Elem = (\w+);', r'type Target = [\1];'),

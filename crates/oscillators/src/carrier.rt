@@ -79,6 +79,7 @@ impl CarrierOsc {
     }
 
     /// Cosine and sine at this sample and the 63 that follow. The oscillator goes on by 64 samples.
+    #[inline(always)]
     pub fn next_word(&mut self) -> CarrierWord
         ensures word { IsCarrier self.old.phase self.old.step result }
         ensures moved { self.new ≡ record self.old {
@@ -90,6 +91,7 @@ impl CarrierOsc {
 
     /// The bits of the eighths of a cycle in which this sample and the 63 that follow lie. The
     /// oscillator goes on by 64 samples.
+    #[inline(always)]
     fn next_eighths(&mut self) -> CarrierWord
         ensures word { AreEighths self.old.phase self.old.step result }
         ensures moved { self.new ≡ record self.old {

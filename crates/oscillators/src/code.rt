@@ -128,6 +128,7 @@ impl CodeOsc {
     /// The chips of a satellite at this sample and the 63 that follow: at the phase (prompt), half
     /// a chip ahead of it (early) and half a chip behind it (late). The oscillator goes on by 64
     /// samples, and the book stands for the codes as before.
+    #[inline(always)]
     pub fn next_word(&mut self, book: &mut CodeBook, prn: Prn) -> ChipWord
         ensures word { AreChips prn self.old.phase self.old.step result }
         ensures moved { self.new ≡ record self.old {
@@ -138,6 +139,7 @@ impl CodeOsc {
     }
 
     /// Does what `next_word` does. Contracts see the bits of the chips here, and their signs there.
+    #[inline(always)]
     fn next_chips(&mut self, book: &mut CodeBook, prn: Prn) -> ChipWord
         ensures word { AreChipBits prn self.old.phase self.old.step result }
         ensures moved { self.new ≡ record self.old {

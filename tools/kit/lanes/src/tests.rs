@@ -1,10 +1,10 @@
 //! Each operation against the same one on single numbers, lane by lane.
 
-use crate::{i32x16, processor, u8x16, u32x16};
+use crate::{i32x64, processor, u8x16, u8x32, u8x64, u32x16, u32x64};
 use core::array::from_fn;
 
-/// Calls a check with 100,000 pairs of sixteen pseudorandom bytes.
-fn over_bytes(mut check: impl FnMut([u8; 16], [u8; 16])) {
+/// Calls a check with 100,000 pairs of 64 pseudorandom bytes.
+fn over_bytes(mut check: impl FnMut([u8; 64], [u8; 64])) {
     let mut state = 0x9e37_79b9_7f4a_7c15_u64;
     let mut next = || {
         state ^= state << 13;
@@ -17,64 +17,77 @@ fn over_bytes(mut check: impl FnMut([u8; 16], [u8; 16])) {
     }
 }
 
+/// The lanes as they stand.
+fn lanes(wide: u8x64) -> [u8; 64] {
+    from_fn(|k| wide.0[k / 16][k % 16])
+}
+
 #[test]
 fn look_ups() {
     over_bytes(|a, b| {
         let numbers = b.map(|number| number % 16);
-        let want: [u8; 16] = from_fn(|k| a[numbers[k] as usize]);
-        let got = u8x16::from_slice(&a).swizzle_dyn(u8x16::from_array(numbers));
-        assert_eq!(got.0, want);
-        assert_eq!(processor::look_up_by_loop(a, numbers), want);
+        let want: [u8; 64] = from_fn(|k| a[k / 16 * 16 + numbers[k] as usize]);
+        let wide = u8x64::from_array(a).swizzle_dyn_within::<16>(u8x64::from_array(numbers));
+        assert_eq!(lanes(wide), want);
+        let sixteen: [u8; 16] = from_fn(|k| numbers[k]);
+        let got = u8x16::from_slice(&a).swizzle_dyn(u8x16::from_array(sixteen));
+        assert_eq!(got.to_array(), want[..16]);
+        let table = from_fn(|k| a[k]);
+        assert_eq!(processor::look_up_by_loop(table, sixteen), want[..16]);
+    });
+}
+
+#[test]
+fn side_by_side() {
+    over_bytes(|a, _| {
+        let part = |p: usize| u8x16::from_slice(&a[16 * p..]);
+        let low: u8x32 = part(0).shuffle(part(1), from_fn::<_, 32, _>(|k| k));
+        let high: u8x32 = part(2).shuffle(part(3), from_fn::<_, 32, _>(|k| k));
+        let wide: u8x64 = low.shuffle(high, from_fn::<_, 64, _>(|k| k));
+        assert_eq!(lanes(wide), a);
     });
 }
 
 #[test]
 fn choices() {
     over_bytes(|a, b| {
-        let bits = |is: &dyn Fn(usize) -> bool| (0..16).map(|k| (is(k) as u64) << k).sum::<u64>();
-        let (x, y) = (u8x16::from_array(a), u8x16::from_array(b));
-        assert_eq!(x.simd_ge(y).to_bitmask(), bits(&|k| a[k] >= b[k]));
-        let (few, other) = (x & u8x16::splat(1), y & u8x16::splat(1));
-        assert_eq!(
-            few.simd_ne(other).to_bitmask(),
-            bits(&|k| (a[k] ^ b[k]) % 2 == 1)
-        );
-        assert_eq!(processor::top_bits(a), bits(&|k| a[k] > 127));
+        let bits = |is: &dyn Fn(usize) -> bool| (0..64).map(|k| (is(k) as u64) << k).sum::<u64>();
+        let (x, y) = (u8x64::from_array(a), u8x64::from_array(b));
+        assert_eq!(x.simd_gt(y).to_bitmask(), bits(&|k| a[k] > b[k]));
+        let (few, other) = (x & u8x64::splat(1), y & u8x64::splat(1));
+        let differ = bits(&|k| (a[k] ^ b[k]) % 2 == 1);
+        assert_eq!(few.simd_ne(other).to_bitmask(), differ);
+        let top = processor::top_bits(from_fn(|k| a[k]));
+        assert_eq!(top, bits(&|k| a[k] > 127) & 0xffff);
     });
 }
 
 #[test]
 fn sums_and_shifts() {
     over_bytes(|a, b| {
-        let (x, y) = (u8x16::from_array(a), u8x16::from_array(b));
-        assert_eq!((x + y).0, from_fn(|k| (a[k] as u32 + b[k] as u32) as u8));
-        assert_eq!(
-            (x >> u8x16::splat(b[0] % 8)).0,
-            a.map(|byte| byte / (1 << (b[0] % 8)))
-        );
+        let (x, y) = (u8x64::from_array(a), u8x64::from_array(b));
+        let sums = from_fn(|k| (a[k] as u32 + b[k] as u32) as u8);
+        assert_eq!(lanes(x + y), sums);
+        let differences = from_fn(|k| (256 + a[k] as u32 - b[k] as u32) as u8);
+        assert_eq!(lanes(x - y), differences);
+        let places = b[0] % 8;
+        let halves = a.map(|byte| byte / (1 << places));
+        assert_eq!(lanes(x >> u8x64::splat(places)), halves);
     });
 }
 
 #[test]
 fn words() {
     over_bytes(|a, b| {
-        let wide = |k: usize| u32::from_le_bytes([a[k], b[k], a[15 - k], b[15 - k]]);
+        let wide = |k: usize| u32::from_le_bytes([a[k], b[k], a[63 - k], b[63 - k]]);
         let limit = i32::from_le_bytes([b[0], a[1], b[2], a[3]]);
-        let words = u32x16::from_array(from_fn(wide));
-        let is_above = words.cast::<i32>().simd_gt(i32x16::splat(limit));
-        let chosen = is_above.select(words, u32x16::splat(7)).cast::<u8>();
-        assert_eq!(
-            chosen.0,
-            from_fn(|k| if wide(k) as i32 > limit { a[k] } else { 7 })
-        );
+        let words = u32x64::from_array::<64>(from_fn(wide));
+        let is_below = i32x64::splat(limit).simd_gt(words.cast::<i32>());
+        let chosen = is_below.select(words, u32x64::splat(7)).cast::<u8>();
+        let want = from_fn(|k| if (wide(k) as i32) < limit { a[k] } else { 7 });
+        assert_eq!(lanes(chosen), want);
+        let sums = u32x16::from_array::<16>(from_fn(wide)) + u32x16::splat(limit as u32);
+        let want: [u32; 16] = from_fn(|k| (wide(k) as u64 + limit as u32 as u64) as u32);
+        assert_eq!(sums.to_array(), want);
     });
-}
-
-#[test]
-fn four_turns() {
-    let mut product = 1;
-    crate::four_times!({
-        product *= 3;
-    });
-    assert_eq!(product, 81);
 }
