@@ -48,8 +48,8 @@ impl Strides {
         }
     }
 
-    /// The numbers of the cells in which 64 samples lie, modulo 256, where the first lies at a phase
-    /// that is counted from the beginning of cell 0.
+    /// The numbers of the cells in which 64 samples lie, modulo 256. The first sample lies at a
+    /// phase that is counted from the beginning of cell 0.
     pub(crate) fn cells(&self, phase: u32, cell: u32) -> u8x64
         requires { (cell ≡ EIGHTH) ⊎ (cell ≡ HALF_CHIP) }
         ensures long { length result ≡ WORD_PLACES }
