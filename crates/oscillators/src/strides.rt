@@ -30,7 +30,9 @@ pub(crate) struct Strides {
 impl Strides {
     ghost use Rattle.oscillators.specs.Strides.{IsStrides};
 
-    /// The strides of a step, with cells of `cell` units of phase.
+    /// The strides of a step, with cells of `cell` units of phase. It is inlined, so that a cell is
+    /// a constant, and a division by it a shift.
+    #[inline(always)]
     pub(crate) fn new(step: u32, cell: u32) -> Strides
         requires { (cell ≡ EIGHTH) ⊎ (cell ≡ HALF_CHIP) }
         ensures { IsStrides step cell result }
