@@ -38,6 +38,7 @@ impl Model for CarrierOsc {
 
 impl CarrierOsc {
     /// An oscillator at phase 0.
+    #[inline(never)]
     pub fn new(step: u32) -> CarrierOsc
         ensures { result ≡ record { phase = 0; step = step } }
     {
@@ -70,7 +71,8 @@ impl CarrierOsc {
         }
     }
 
-    /// Takes another step from here on.
+    /// Takes another step from here on. It stays a call: it is long, and not done often.
+    #[inline(never)]
     pub fn set_step(&mut self, step: u32)
         ensures { self.new ≡ record self.old { step = step } }
     {

@@ -53,6 +53,7 @@ impl Model for CodeOsc {
 
 impl CodeOsc {
     /// An oscillator at the beginning of a half chip.
+    #[inline(never)]
     pub fn new(start: HalfChip, step: u32) -> CodeOsc
         ensures { result ≡ record { phase = start * HALF_CHIP; step = step } }
     {
@@ -71,7 +72,8 @@ impl CodeOsc {
         self.phase
     }
 
-    /// Takes another step from here on.
+    /// Takes another step from here on. It stays a call: it is long, and not done often.
+    #[inline(never)]
     pub fn set_step(&mut self, step: u32)
         ensures { self.new ≡ record self.old { step = step } }
     {
