@@ -6,12 +6,12 @@
 //! with 64 bytes, for a word of a plane. Lane 0 stands for the last of these places, so that a
 //! bitmask of lanes has the first place in its top bit.
 //!
-//!     use bit_planes::{Plane, bit_of_each};
+//!     use bit_planes::{Plane, TOP_BIT, bit_of_each};
 //!     use std::simd::prelude::u8x64;
 //!
 //!     let mut plane = Plane::new();
 //!     // The top bits of 64 bytes are the bits at places 0 to 63.
-//!     plane.set_word(0, bit_of_each(u8x64::splat(0x80), 0x80));
+//!     plane.set_word(0, bit_of_each(u8x64::splat(0x80), TOP_BIT));
 //!     assert_eq!(plane.bit(0), 1);
 #![tactic(auto)]
 

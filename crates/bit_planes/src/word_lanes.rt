@@ -22,13 +22,14 @@ const SIXTY_FOUR: [usize; 64] = [
     50, 51, 52, 53, 54, 55, 56, 57, 58, 59, 60, 61, 62, 63,
 ];
 
-/// One bit of each of 64 bytes, which a mask names: that of lane k is bit k.
-pub fn bit_of_each(bytes: u8x64, mask: u8) -> u64
-    requires { length bytes ≡ WORD_PLACES }
-    ensures { (k j : ℕ) → k < WORD_PLACES → mask ≡ 2 ^ j
-        → bit_at result k ≡ bit_at (slice_index bytes k) j }
+/// Bit `number` of each of 64 bytes, the lowest being bit 0: that of lane k is bit k.
+pub fn bit_of_each(bytes: u8x64, number: u32) -> u64
+    requires bytes { length bytes ≡ WORD_PLACES }
+    requires number { number < 8 }
+    ensures { (k : ℕ) → k < WORD_PLACES
+        → bit_at result k ≡ bit_at (slice_index bytes k) number }
 {
-    (bytes & u8x64::splat(mask))
+    (bytes & u8x64::splat(1 << number))
         .simd_ne(u8x64::splat(0))
         .to_bitmask()
 }

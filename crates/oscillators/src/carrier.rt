@@ -102,9 +102,9 @@ impl CarrierOsc {
     {
         let eighths = self.strides.cells(self.phase, EIGHTH);
         self.phase = self.phase.wrapping_add(self.step.wrapping_mul(64));
-        let half = bit_of_each(eighths, 4);
-        let quarter = bit_of_each(eighths, 2);
-        let eighth = bit_of_each(eighths, 1);
+        let half = bit_of_each(eighths, 2);
+        let quarter = bit_of_each(eighths, 1);
+        let eighth = bit_of_each(eighths, 0);
         CarrierWord {
             cos_sign: half ^ quarter,
             sin_sign: half,

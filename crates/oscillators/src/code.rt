@@ -163,10 +163,10 @@ impl CodeOsc {
             first,
             above_last_of_sixteen(halves(half_chips)),
         );
-        let early = bit_of_each(chips, 1 << TOP_BIT);
+        let early = bit_of_each(chips, TOP_BIT);
         // The late chip is the one before the early one.
-        let late = bit_of_each(chips, 1 << SECOND_BIT);
-        let second_half = bit_of_each(half_chips, 1);
+        let late = bit_of_each(chips, SECOND_BIT);
+        let second_half = bit_of_each(half_chips, 0);
         self.phase = in_cycle(self.phase + 64 * step);
         ChipWord {
             early,

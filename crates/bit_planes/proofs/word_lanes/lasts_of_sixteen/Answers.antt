@@ -1,7 +1,8 @@
 use Rattle.std.proofs.Common.{◌≡◌, ◌+◌, ◌<◌, ◌∙◌, ℕ, get_or, refl, arith, List, w8, lit≤}
 use Rattle.std.specs.Prelude.{replicate}
 use Rattle.std.specs.Simd.Lanes.{Each1}
-use Rattle.std.proofs.lemmas.Simd.{SwzOk-from_below, length-swz_l, get_or-swz_l_below, Each1-replicate}
+use Rattle.std.proofs.lemmas.Simd.{SwzOk-from_below, length-swz_l, get_or-swz_l_below}
+use Rattle.std.proofs.lemmas.Simd.{Each1-replicate}
 use Rattle.std.proofs.lemmas.List.{get_or-replicate}
 use Rattle.bit_planes.proofs.word_lanes.lasts_of_sixteen.Goals as goal
 

@@ -1,5 +1,6 @@
 use Rattle.std.proofs.Common.{◌≡◌, ◌+◌, ◌*◌, ◌/◌, ◌%◌, ◌<◌, ◌∙◌, ℕ, get_or, refl, arith, w8}
-use Rattle.std.proofs.lemmas.Simd.{SwzOk-from_below, Each1-from_get_or, length-swz_l, get_or-swz_l_below}
+use Rattle.std.proofs.lemmas.Simd.{SwzOk-from_below, Each1-from_get_or, length-swz_l}
+use Rattle.std.proofs.lemmas.Simd.{get_or-swz_l_below}
 use Rattle.bit_planes.proofs.word_lanes.pick_from_four.Goals as goal
 
 pub swizzle : goal.swizzle

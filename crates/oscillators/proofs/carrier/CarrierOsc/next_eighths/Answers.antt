@@ -23,17 +23,17 @@ returns-clause-word c =
     in
     let half : (j : ℕ) → j < 64 → bit_at c.bit_of_each-half.result (63 - j)
     ≡ bit_at (eighth_after phase step j) 2 = λ j h.
-    c.bit_of_each-half.ensures (63 - j) 2 (omega arith) refl
+    c.bit_of_each-half.ensures (63 - j) (omega arith)
     ∙ ap (λ (n : ℕ). bit_at n 2) (lane j h) ∙ half_bit (phase + j * step)
     in
     let quarter : (j : ℕ) → j < 64 → bit_at c.bit_of_each-quarter.result (63 - j)
     ≡ bit_at (eighth_after phase step j) 1 = λ j h.
-    c.bit_of_each-quarter.ensures (63 - j) 1 (omega arith) refl
+    c.bit_of_each-quarter.ensures (63 - j) (omega arith)
     ∙ ap (λ (n : ℕ). bit_at n 1) (lane j h) ∙ quarter_bit (phase + j * step)
     in
     let eighth : (j : ℕ) → j < 64 → bit_at c.bit_of_each-eighth.result (63 - j)
     ≡ bit_at (eighth_after phase step j) 0 = λ j h.
-    c.bit_of_each-eighth.ensures (63 - j) 0 (omega arith) refl
+    c.bit_of_each-eighth.ensures (63 - j) (omega arith)
     ∙ ap (λ (n : ℕ). bit_at n 0) (lane j h) ∙ eighth_bit (phase + j * step)
     in
     record {

@@ -28,7 +28,8 @@ loop-w-preserved c =
       phase = ap (λ (o : Oscillation). o.phase) moved ∙ behind 64
           ∙ ap (carrier_phase_after phase step) next;
       step = ap (λ (o : Oscillation). o.step) moved ∙ i.step;
-      cos_sign = rw next at (c.set_word.ensures (λ (n : ℕ). cos_sign_in (eighth_after phase step n)) i.cos_sign
+      cos_sign = rw next at (c.set_word.ensures
+          (λ (n : ℕ). cos_sign_in (eighth_after phase step n)) i.cos_sign
           (λ j h. word.cos_sign j h ∙ ap (λ (p : ℕ). cos_sign_in (p / 2 ^ 29)) (behind j)));
       sin_sign = rw next at (c.set_word-in-loop-w.ensures
           (λ (n : ℕ). sin_sign_in (eighth_after phase step n)) i.sin_sign

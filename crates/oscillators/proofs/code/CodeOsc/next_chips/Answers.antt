@@ -1,4 +1,4 @@
-use Rattle.std.proofs.Common.{◌≡◌, ◌*◌, ◌+◌, ◌-◌, ◌<◌, ◌^◌, ◌/◌, ◌%◌, ℕ, get_or, refl, ap, ◌∙◌}
+use Rattle.std.proofs.Common.{◌≡◌, ◌*◌, ◌+◌, ◌-◌, ◌<◌, ◌^◌, ◌/◌, ◌%◌, ℕ, get_or, ap, ◌∙◌}
 use Rattle.std.proofs.Common.{arith, rules, ◌∷◌, []}
 use Rattle.std.proofs.Math.Path.{ap₂}
 use Rattle.std.specs.Int.{bit_at}
@@ -59,7 +59,7 @@ returns-clause-word c =
     let k : ℕ = 63 - j in
     let below : k < 64 = omega arith in
     let place : 63 - k ≡ j = omega arith in
-    c.bit_of_each-early.ensures k 7 below refl
+    c.bit_of_each-early.ensures k below
     ∙ c.look_up-chips.ensures.chips prn c.table.ensures k below
     ∙ ap (chip prn) (ap₂ (λ (a b : ℕ). a + b) (first k below) (number k below))
     ∙ chip_found prn (phase + 2 ^ 31) ahead (way_to_first step k) (way step k) ahead_is
@@ -71,7 +71,7 @@ returns-clause-word c =
     let k : ℕ = 63 - j in
     let below : k < 64 = omega arith in
     let place : 63 - k ≡ j = omega arith in
-    c.bit_of_each-late.ensures k 6 below refl
+    c.bit_of_each-late.ensures k below
     ∙ c.look_up-chips.ensures.before prn c.table.ensures k below
     ∙ ap (λ (n : ℕ). chip prn (n + 1022))
     (ap₂ (λ (a b : ℕ). a + b) (first k below) (number k below))
@@ -84,7 +84,7 @@ returns-clause-word c =
     let k : ℕ = 63 - j in
     let below : k < 64 = omega arith in
     let place : 63 - k ≡ j = omega arith in
-    c.bit_of_each-second_half.ensures k 0 below refl ∙ ap (λ (n : ℕ). bit_at n 0) (half k below)
+    c.bit_of_each-second_half.ensures k below ∙ ap (λ (n : ℕ). bit_at n 0) (half k below)
     ∙ half_found (phase + 2 ^ 31) ahead (way step k) ahead_is (way_is_short step k short)
     ∙ ap (λ (n : ℕ). code_phase_after (phase + 2 ^ 31) step n % 2 ^ 32 / 2 ^ 31) place
     in
