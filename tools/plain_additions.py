@@ -60,13 +60,22 @@ def checked_text(text, constants):
     return LAW.sub(r'#[doc(hidden)]\n\1', FUNCTION.sub(checked, text))
 
 
-def laned_text(text):
-    """A source of a crate that works on lanes. An operation on 64 lanes counts as 64 to rustc until
-    it makes vectors of them, which it does last. So it leaves as calls what is a few instructions
-    in the end. Here it is told to inline the functions that take or give lanes."""
+def types_of_lanes(texts):
+    """The structures of some sources that have a field of lanes."""
+    fields = re.findall(r'\bstruct (\w+) \{\n((?:    .*\n)*)', ''.join(texts))
+    return {name for name, rows in fields if LANES.search(code_of(rows))}
+
+
+def laned_text(text, types):
+    """A source of a crate that works on lanes, with the structures of these. An operation on 64
+    lanes of words counts as 64 to rustc until it makes vectors of them, which it does last. So it
+    leaves as calls what is a few instructions in the end, and keeps in memory what such a call
+    takes by a reference. Here it is told to inline the functions that take or give lanes, and those
+    that take a structure of them."""
     def inlined(found):
         head, _, indent = found.groups()
-        is_short = LANES.search(head) and not is_inlined(text, found)
+        taken = types.intersection(re.findall(r'\w+', head.split('->')[0]))
+        is_short = (LANES.search(head) or taken) and not is_inlined(text, found)
         return f'{indent}{ALWAYS}\n' * bool(is_short) + found[0]
 
     return FUNCTION.sub(inlined, text)

@@ -1,3 +1,4 @@
 pub mod LaneLemmas
 pub mod WordLemmas
 mod WindowLemmas
+pub mod SpreadLemmas

@@ -1,10 +1,11 @@
-//! Planes of bits, one bit for each of up to 1,024 samples, and the lanes that fill them sixteen or
-//! 64 samples at a time.
+//! Planes of bits, one bit for each of up to 1,024 samples, and lanes of bytes, one byte for each
+//! of sixteen or 64 samples.
 //!
 //! A `Plane` stands for a bit at each place. `pick_bytes` looks up sixteen bytes of a table, and
-//! `masked_bits` gives sixteen bits of a plane from them. `pick_from_four` and `bit_of_each` do so
-//! with 64 bytes, for a word of a plane. Lane 0 stands for the last of these places, so that a
-//! bitmask of lanes has the first place in its top bit.
+//! `marked_bytes` puts a number into the lanes whose bit is 1. `pick_from_four` looks up 64 bytes,
+//! `bit_of_each` gives bits of them as a word of a plane, and `mask_of_each` as masks in their
+//! lanes. Lane 0 stands for the last of these places, so that a bitmask of lanes has the first
+//! place in its top bit.
 //!
 //!     use bit_planes::{Plane, TOP_BIT, bit_of_each};
 //!     use std::simd::prelude::u8x64;
@@ -17,10 +18,12 @@
 
 mod lanes;
 mod plane;
+mod spread;
 #[cfg(test)]
 mod tests;
 mod word_lanes;
 
-pub use lanes::{LANES, SECOND_BIT, TOP_BIT, masked_bits, pick_bytes};
-pub use plane::{GROUPS, PLACES, Plane, WORD_PLACES, WORDS};
-pub use word_lanes::{above_last_of_sixteen, bit_of_each, pick_from_four};
+pub use lanes::{LANES, SECOND_BIT, TOP_BIT, pick_bytes};
+pub use plane::{PLACES, Plane, WORD_PLACES, WORDS};
+pub use spread::marked_bytes;
+pub use word_lanes::{above_last_of_sixteen, bit_of_each, mask_of_each, pick_from_four};

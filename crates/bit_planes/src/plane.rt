@@ -1,10 +1,8 @@
 //! A bit for each sample of a run.
 
-ghost use Rattle.std.specs.Prelude.{◌≡◌, ◌+◌, ◌-◌, ◌*◌, ◌<◌, ◌^◌, ℕ, length};
+ghost use Rattle.std.specs.Prelude.{◌≡◌, ◌+◌, ◌-◌, ◌*◌, ◌<◌, ℕ};
 ghost use Rattle.std.specs.Int.{bit_at};
-ghost use Rattle.bit_planes.specs.declared.lanes.TheConstants.{LANES};
-ghost use Rattle.bit_planes.specs.declared.plane.TheConstants.{PLACES, WORDS, GROUPS};
-ghost use Rattle.bit_planes.specs.declared.plane.TheConstants.{WORD_PLACES};
+ghost use Rattle.bit_planes.specs.declared.plane.TheConstants.{PLACES, WORDS, WORD_PLACES};
 
 /// The places of a plane.
 pub const PLACES: usize = 1024;
@@ -14,9 +12,6 @@ pub const WORD_PLACES: usize = 64;
 
 /// The words of 64 places of a plane.
 pub const WORDS: usize = 16;
-
-/// The groups of sixteen places of a plane.
-pub const GROUPS: usize = 64;
 
 /// A bit for each of 1,024 places.
 #[derive(Clone, Copy, Debug)]
@@ -33,18 +28,6 @@ impl Plane {
         ensures { (f : ℕ → ℕ) → IsDrawn f 0 result }
     {
         Plane { words: [0; WORDS] }
-    }
-
-    /// Sets the sixteen places from `16 * group` on, all of which are 0, as all after them are. The
-    /// first of them is the highest bit.
-    pub fn put(&mut self, group: usize, bits: u64)
-        requires group { group < GROUPS }
-        requires bits { bits < 2 ^ 16 }
-        ensures { (f : ℕ → ℕ) → IsDrawn f (LANES * group) self.old
-            → ((r : ℕ) → r < LANES → bit_at bits (LANES - 1 - r) ≡ f (LANES * group + r))
-            → IsDrawn f (LANES * group + LANES) self.new }
-    {
-        self.words[group / 4] |= bits << (48 - 16 * (group % 4));
     }
 
     /// Sets the 64 places from `64 * w` on. They and all places after them are 0 before. The first
@@ -66,14 +49,5 @@ impl Plane {
         ensures small { result < 2 }
     {
         (self.words[place / 64] >> (63 - place % 64)) & 1
-    }
-
-    /// The 64 places from `64 * w` on, the first of them in the top bit.
-    pub fn word(&self, w: usize) -> u64
-        requires { w < WORDS }
-        ensures { (j : ℕ) → j < WORD_PLACES
-            → bit_at result (WORD_PLACES - 1 - j) ≡ bit self.now (WORD_PLACES * w + j) }
-    {
-        self.words[w]
     }
 }

@@ -1,9 +1,14 @@
-pub mod WordLemmas
+pub mod ByteLemmas
+pub mod HalfLemmas
+pub mod LaneSumLemmas
+pub mod PlaceTableLemmas
+pub mod MaskLemmas
+pub mod TableLemmas
+pub mod WipedLemmas
 pub mod PlaceLemmas
-pub mod PartLemmas
-pub mod RunLemmas
+pub mod SmallLemmas
 pub mod SumLemmas
-mod ReplicaLemmas
-mod TallyLemmas
-pub mod WordOfRunLemmas
-mod LoopLemmas
+pub mod LoopLemmas
+pub mod WordLemmas
+pub mod ReplicaLemmas
+pub mod TallyLemmas

@@ -1,97 +1,18 @@
--- Sums with a replica that is moved to the beginning of a word, and the replica of words.
-use Rattle.std.proofs.Common.{List, length, ◌≡◌, ℕ, ◌+◌, ◌-◌, ◌*◌, ◌/◌, ◌%◌, ◌<◌, ◌≤◌, refl, sym}
+-- Sums with a replica that is moved to the beginning of a word, and the replica of lanes.
+use Rattle.std.proofs.Common.{List, ◌≡◌, ℕ, ◌+◌, ◌-◌, ◌*◌, ◌/◌, ◌%◌, ◌<◌, ◌≤◌, refl, sym, get_or}
 use Rattle.std.proofs.Common.{ap, ◌∙◌, arith}
-use Rattle.std.specs.Prelude.{ℤ, ◌*ℤ◌, unsigned_abs}
-use Rattle.std.proofs.lemmas.Nat.Bits.{bit_at-lt}
-use Rattle.std.specs.Int.{bit_at}
-use Rattle.definitions.specs.Samples.{Sample, sample_at, sign_of}
-use Rattle.sample_planes.specs.Signs.{IsWord}
+use Rattle.std.specs.Prelude.{ℤ, pos, ◌*ℤ◌}
+use Rattle.definitions.specs.Samples.{Sample}
 use Rattle.definitions.specs.Oscillators.{carrier_phase_after, code_phase_after, cosine, sine}
-use Rattle.definitions.specs.Oscillators.{early_sign, prompt_sign, late_sign}
+use Rattle.definitions.specs.Oscillators.{early_sign, prompt_sign, late_sign, cosines, sines}
 use Rattle.definitions.specs.Correlation.{Replica, Phases, replica_of, six_sums, in_phase_sum}
 use Rattle.definitions.specs.Correlation.{quadrature_sum, wiped_in_phase, wiped_quadrature}
 use Rattle.definitions.proofs.SumsLemmas.{total-same}
-use Rattle.oscillators.specs.declared.carrier.CarrierWord.{CarrierWord}
-use Rattle.oscillators.specs.declared.code.ChipWord.{ChipWord}
-use Rattle.oscillators.specs.Signs.{signed}
-use Rattle.oscillators.specs.CarrierWords.{IsCarrier}
-use Rattle.oscillators.specs.ChipWords.{AreChips}
+use Rattle.oscillators.specs.declared.code.ChipLanes.{ChipLanes}
+use Rattle.oscillators.specs.Lanes.{AreEighthLanes, AreChipLanes}
 use Rattle.oscillators.proofs.PlaneLemmas.{carrier_behind, code_behind}
+use Rattle.lane_correlator.specs.Chips.{AreMasksOfChips}
 use Rattle.lane_correlator.specs.ReplicaWords.{AreOf}
-use Rattle.lane_correlator.specs.Factors.{AreChips as AreFactors, AreThreeChips}
-use Rattle.lane_correlator.specs.declared.factors.Factors.{Factors}
-use Rattle.lane_correlator.proofs.PartLemmas.{AreSmall, part_small}
-use Rattle.lane_correlator.proofs.PartLemmas.{wave_small}
-
--- ---- a replica that words are of
-of_words : CarrierWord → ChipWord → ℕ → Replica
-of_words carrier chips base = record {
-  cos = λ i. signed (bit_at carrier.cos_sign (63 - (i - base))) (1 - bit_at carrier.sin_size
-      (63 - (i - base)));
-  sin = λ i. signed (bit_at carrier.sin_sign (63 - (i - base))) (bit_at carrier.sin_size
-      (63 - (i - base)));
-  early = λ i. sign_of (bit_at chips.early (63 - (i - base)));
-  prompt = λ i. sign_of (bit_at chips.prompt (63 - (i - base)));
-  late = λ i. sign_of (bit_at chips.late (63 - (i - base)));
-}
-
-pub record OwnReplica (base end : ℕ) (carrier : CarrierWord) (chips : ChipWord) : Type 0 where
-  pub replica : Replica
-  pub own : AreOf replica base end carrier chips
-
-pub own_replica : (base end : ℕ) (carrier : CarrierWord) (chips : ChipWord)
-    → OwnReplica base end carrier chips
-unfolding of_words
-own_replica base end carrier chips = record {
-  replica = of_words carrier chips base;
-  own =
-      record {
-        cos = λ j h. rw (back j) refl;
-        sin = λ j h. rw (back j) refl;
-        early =
-            λ j h. rw (back j) refl;
-        prompt = λ j h. rw (back j) refl;
-        late = λ j h. rw (back j) refl;
-      };
-}
-  where
-    back : (j : ℕ) → base + j - base ≡ j
-    back j = omega arith
-
--- its chips are signs, and with samples it is small
-pub chips_of_replica : (r : Replica) (base end : ℕ) (carrier : CarrierWord) (chips : ChipWord)
-    → AreOf r base end carrier chips
-    → AreThreeChips r base end (chips.early, chips.prompt, chips.late)
-unfolding AreFactors
-chips_of_replica r base end carrier chips of =
-    record { early = of.early; prompt = of.prompt; late = of.late }
-
-pub small_of_replica : (samples : List Sample) (r : Replica) (w first end : ℕ) → end ≤ 64
-    → (i : Factors) (carrier : CarrierWord) (chips : ChipWord) → 64 * w + end ≤ length samples
-    → IsWord samples w i.negative i.large
-    → ((j : ℕ) → j < end → unsigned_abs (sample_at samples (64 * w + j)).quadrature ≤ 3)
-    → AreOf r (64 * w) end carrier chips
-    → AreSmall (sample_at samples) r.cos r.sin (64 * w + first) (64 * w + end)
-unfolding IsWord
-small_of_replica samples r w first end room i carrier chips long parts quadratures of = record {
-  in_phase = on_word w first end (λ k. unsigned_abs (sample_at samples k).in_phase ≤ 3) (λ j h.
-      rw (parts j (omega arith) (omega arith))
-      (part_small (bit_at i.negative (63 - j)) (bit_at i.large (63 - j))
-      (bit_at-lt i.negative (63 - j)) (bit_at-lt i.large (63 - j))));
-  quadrature = on_word w first end (λ k. unsigned_abs (sample_at samples k).quadrature ≤ 3)
-      quadratures;
-  wave = on_word w first end (λ k. unsigned_abs (r.cos k) + unsigned_abs (r.sin k) ≤ 3) (λ j h.
-      rw (of.cos j h, of.sin j h)
-      (wave_small (bit_at carrier.cos_sign (63 - j)) (bit_at carrier.sin_sign (63 - j))
-      (bit_at carrier.sin_size (63 - j)) (bit_at-lt carrier.cos_sign (63 - j))
-      (bit_at-lt carrier.sin_sign (63 - j)) (bit_at-lt carrier.sin_size (63 - j))));
-}
-  where
-    on_word : (w first end : ℕ) (P : ℕ → Type 0) → ((j : ℕ) → j < end → P (64 * w + j)) → (k : ℕ)
-        → 64 * w + first ≤ k → k < 64 * w + end → P k
-    on_word w first end P each k from below =
-        let place : 64 * w + (k - 64 * w) ≡ k = omega arith in
-        rw place at (each (k - 64 * w) (omega arith))
 
 -- ---- a replica from a sample on, by the numbers of the run
 pub placed : ℕ → Phases → ℕ → Replica
@@ -103,22 +24,24 @@ placed prn p start = record {
   late = λ i. late_sign prn (code_phase_after p.code p.code_step (i - start));
 }
 
--- the words at a word of the run are of it
-pub words_of_placed : (prn : ℕ) (p : Phases) (first w end carrier_at code_at : ℕ)
-    (carrier : CarrierWord) (chips : ChipWord) → first ≤ w → end ≤ 64
+-- the lanes at a word of the run are of it
+pub lanes_of_placed : (prn : ℕ) (p : Phases) (first w carrier_at code_at : ℕ) (eighths : List ℕ)
+    (chips : ChipLanes) → first ≤ w
     → ((j : ℕ) → carrier_phase_after carrier_at p.carrier_step j ≡ carrier_phase_after p.carrier
     p.carrier_step (64 * (w - first) + j))
     → ((j : ℕ) → code_phase_after code_at p.code_step j ≡ code_phase_after p.code p.code_step
     (64 * (w - first) + j))
-    → IsCarrier carrier_at p.carrier_step carrier → AreChips prn code_at p.code_step chips
-    → AreOf (placed prn p (64 * first)) (64 * w) end carrier chips
+    → AreEighthLanes carrier_at p.carrier_step eighths → AreChipLanes prn code_at p.code_step chips
+    → AreOf (placed prn p (64 * first)) (64 * w) eighths chips
 unfolding placed
-words_of_placed prn p first w end carrier_at code_at carrier chips h few at at' is are = record {
-  cos = λ j l. sym (is.cos j (omega arith) ∙ ap cosine (on_carrier j));
-  sin = λ j l. sym (is.sin j (omega arith) ∙ ap sine (on_carrier j));
-  early = λ j l. sym (are.early j (omega arith) ∙ ap (early_sign prn) (on_code j));
-  prompt = λ j l. sym (are.prompt j (omega arith) ∙ ap (prompt_sign prn) (on_code j));
-  late = λ j l. sym (are.late j (omega arith) ∙ ap (late_sign prn) (on_code j));
+lanes_of_placed prn p first w carrier_at code_at eighths chips h at at' is are = record {
+  cos = λ j l. sym (ap (λ (e : ℕ). get_or cosines e (pos 0)) (is.eighths j l)
+      ∙ ap cosine (on_carrier j));
+  sin = λ j l. sym (ap (λ (e : ℕ). get_or sines e (pos 0)) (is.eighths j l)
+      ∙ ap sine (on_carrier j));
+  early = λ j l. ap (early_sign prn) (sym (on_code j)) ∙ (are.early j l).value;
+  prompt = λ j l. ap (prompt_sign prn) (sym (on_code j)) ∙ (are.prompt j l).value;
+  late = λ j l. ap (late_sign prn) (sym (on_code j)) ∙ (are.late j l).value;
 }
   where
     place : (j : ℕ) → 64 * (w - first) + j ≡ 64 * w + j - 64 * first
@@ -131,6 +54,15 @@ words_of_placed prn p first w end carrier_at code_at carrier chips h few at at' 
     on_code : (j : ℕ) → code_phase_after code_at p.code_step j ≡ code_phase_after p.code p.code_step
         (64 * w + j - 64 * first)
     on_code j = at' j ∙ ap (code_phase_after p.code p.code_step) (place j)
+
+-- its chips are masks
+pub masks_of_chips : (prn phase step : ℕ) (chips : ChipLanes) → AreChipLanes prn phase step chips
+    → AreMasksOfChips chips
+masks_of_chips prn phase step chips are = record {
+  early = λ j h. (are.early j h).either;
+  prompt = λ j h. (are.prompt j h).either;
+  late = λ j h. (are.late j h).either;
+}
 
 -- a word further on
 pub carrier_word_on : (phase step first w at next : ℕ) → first ≤ w

@@ -1,6 +1,6 @@
 pub mod Counting
-pub mod Products
-pub mod Words
-pub mod ReplicaWords
-pub mod Factors
+pub mod Bytes
+pub mod ByteSums
+pub mod Chips
 pub mod Tallies
+pub mod ReplicaWords

@@ -1,23 +1,20 @@
--- The words of a replica, and the phases of oscillators.
-use Rattle.std.specs.Prelude.{◌≡◌, ℕ, ◌+◌, ◌-◌, ◌<◌}
-use Rattle.std.specs.Int.{bit_at}
-use Rattle.definitions.specs.Samples.{sign_of}
+-- The lanes of a replica, and the phases of oscillators.
+use Rattle.std.specs.Prelude.{◌≡◌, ◌⊎◌, ℕ, ◌+◌, ◌<◌, List}
+use Rattle.definitions.specs.Samples.{Sample}
 use Rattle.definitions.specs.Correlation.{Replica, Phases}
-use Rattle.oscillators.specs.declared.carrier.CarrierWord.{CarrierWord}
-use Rattle.oscillators.specs.declared.code.ChipWord.{ChipWord}
-use Rattle.oscillators.specs.Signs.{signed}
+use Rattle.bit_planes.specs.ByteLanes.{place_in}
+use Rattle.sample_planes.specs.Signs.{AreOneBit}
+use Rattle.oscillators.specs.declared.code.ChipLanes.{ChipLanes}
 use Rattle.oscillators.specs.Views.{Oscillation}
+use Rattle.lane_correlator.specs.Bytes.{cosine_in, sine_in, mask_sign}
 
--- place j of the words has the replica at base + j, for each place before the end
-pub record AreOf (r : Replica) (base end : ℕ) (carrier : CarrierWord) (chips : ChipWord) : Type 0
-  where
-    pub cos : (j : ℕ) → j < end → r.cos (base + j) ≡ signed (bit_at carrier.cos_sign (63 - j))
-        (1 - bit_at carrier.sin_size (63 - j))
-    pub sin : (j : ℕ) → j < end → r.sin (base + j) ≡ signed (bit_at carrier.sin_sign (63 - j))
-        (bit_at carrier.sin_size (63 - j))
-    pub early : (j : ℕ) → j < end → r.early (base + j) ≡ sign_of (bit_at chips.early (63 - j))
-    pub prompt : (j : ℕ) → j < end → r.prompt (base + j) ≡ sign_of (bit_at chips.prompt (63 - j))
-    pub late : (j : ℕ) → j < end → r.late (base + j) ≡ sign_of (bit_at chips.late (63 - j))
+-- place j of the lanes has the replica at base + j
+pub record AreOf (r : Replica) (base : ℕ) (eighths : List ℕ) (chips : ChipLanes) : Type 0 where
+  pub cos : (j : ℕ) → j < 64 → r.cos (base + j) ≡ cosine_in (place_in eighths j)
+  pub sin : (j : ℕ) → j < 64 → r.sin (base + j) ≡ sine_in (place_in eighths j)
+  pub early : (j : ℕ) → j < 64 → r.early (base + j) ≡ mask_sign (place_in chips.early j)
+  pub prompt : (j : ℕ) → j < 64 → r.prompt (base + j) ≡ mask_sign (place_in chips.prompt j)
+  pub late : (j : ℕ) → j < 64 → r.late (base + j) ≡ mask_sign (place_in chips.late j)
 
 -- the phases and steps of a carrier and a code
 abbrev pub phases_of : Oscillation → Oscillation → Phases
@@ -27,3 +24,7 @@ phases_of carrier code = record {
   code_step = code.step;
   carrier_step = carrier.step;
 }
+
+-- the greatest size of products of samples with a carrier: 3 where each part of these is 1 in size
+abbrev pub IsMostProduct : List Sample → ℕ → Type 0
+IsMostProduct xs most = ((most ≡ 3) × AreOneBit xs) ⊎ (most ≡ 9)

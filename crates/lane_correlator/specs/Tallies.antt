@@ -1,26 +1,33 @@
--- Six sums by the sizes of their products.
-use Rattle.std.specs.Prelude.{ℕ, ◌*◌, ◌≤◌, pos, ◌-ℤ◌}
-use Rattle.definitions.specs.Correlation.{Counts as DefinedCounts}
+-- Six sums while they are added up.
+use Rattle.std.specs.Prelude.{ℕ, ◌+◌, ◌*◌, ◌≤◌}
+use Rattle.definitions.specs.Correlation.{Counts, sum_of_counts}
+use Rattle.oscillators.specs.declared.code.ChipLanes.{ChipLanes}
+use Rattle.lane_correlator.specs.Bytes.{signed_total}
+use Rattle.lane_correlator.specs.Counting.{counts_in}
+use Rattle.lane_correlator.specs.ByteSums.{AreLow}
+use Rattle.lane_correlator.specs.Chips.{lanes_in}
 use Rattle.lane_correlator.specs.declared.tally.Tally.{Tally}
+use Rattle.lane_correlator.specs.declared.wiped.Wiped.{Wiped}
 
--- each sum is all sizes less twice those below 0
-abbrev pub tally_in : Tally → DefinedCounts
-tally_in t = record {
-  ie = pos t.all_i -ℤ pos (2 * t.ie);
-  qe = pos t.all_q -ℤ pos (2 * t.qe);
-  ip = pos t.all_i -ℤ pos (2 * t.ip);
-  qp = pos t.all_q -ℤ pos (2 * t.qp);
-  il = pos t.all_i -ℤ pos (2 * t.il);
-  ql = pos t.all_q -ℤ pos (2 * t.ql);
+-- the sums of the words before, and those of the lanes
+abbrev pub tally_in : Tally → Counts
+tally_in t = sum_of_counts (counts_in t.counts) (lanes_in t.early t.prompt t.late)
+
+-- the six sums of the products of a word with its chips
+abbrev pub word_sums : Wiped → ChipLanes → Counts
+word_sums p chips = record {
+  ie = signed_total p.i chips.early;
+  qe = signed_total p.q chips.early;
+  ip = signed_total p.i chips.prompt;
+  qp = signed_total p.q chips.prompt;
+  il = signed_total p.i chips.late;
+  ql = signed_total p.q chips.late;
 }
 
--- each of its sums of sizes is n at most
-pub record AreFew (n : ℕ) (t : Tally) : Type 0 where
-  pub all_i : t.all_i ≤ n
-  pub all_q : t.all_q ≤ n
-  pub ie : t.ie ≤ n
-  pub qe : t.qe ≤ n
-  pub ip : t.ip ≤ n
-  pub qp : t.qp ≤ n
-  pub il : t.il ≤ n
-  pub ql : t.ql ≤ n
+-- the lanes have room for one word more, which adds two products to a lane, each `most` at most in
+-- size
+pub record HasRoom (most : ℕ) (t : Tally) : Type 0 where
+  pub filled : t.filled + 2 * most ≤ 127
+  pub early : AreLow t.filled t.early
+  pub prompt : AreLow t.filled t.prompt
+  pub late : AreLow t.filled t.late

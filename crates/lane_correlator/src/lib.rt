@@ -2,10 +2,10 @@
 //! the chips of a code.
 //!
 //! `replica_sums` gives the sums with the early, prompt and late chips, in phase and in quadrature.
-//! It makes the carrier and the code on the way. `six_sums` gives the same with planes of a carrier
-//! and a code, and `pair_sum` those with the prompt chips alone. All three are proved to be the
-//! plain sums over every range of the run, for real and for complex samples. (IS-GPS-200 has the
-//! signal alone; how a receiver correlates with it is this project's own.)
+//! It makes the carrier and the code on the way, 64 samples at a time, and adds up products in
+//! lanes of bytes. It is proved to give the plain sums over every range of the run, for real and
+//! for complex samples. (IS-GPS-200 has the signal alone; how a receiver correlates with it is this
+//! project's own.)
 //!
 //!     use ca_codes::{CodeBook, Prn};
 //!     use lane_correlator::replica_sums;
@@ -22,17 +22,14 @@
 //!     let counts = replica_sums(&run, 0, run.len(), &carrier, &code, &mut CodeBook::new(), prn);
 #![tactic(auto)]
 
+mod chip_sums;
 mod counts;
-mod factors;
-mod six;
-mod sums;
 mod tally;
 #[cfg(test)]
 mod tests;
+mod wiped;
 mod with_replica;
-mod word;
 
 pub use counts::Counts;
-pub use factors::MOST_PRODUCT;
-pub use sums::{pair_sum, six_sums};
+pub use wiped::MOST_PRODUCT;
 pub use with_replica::replica_sums;

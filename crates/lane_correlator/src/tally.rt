@@ -1,88 +1,121 @@
 //! Six sums while they are added up.
 
-ghost use Rattle.std.specs.Prelude.{◌≡◌, ◌+◌, ◌*◌, ◌≤◌, ℕ, pos, ◌-ℤ◌, unsigned_abs};
-ghost use Rattle.definitions.specs.Correlation.{sum_of_counts};
-ghost use Rattle.lane_correlator.specs.Counting.{counts_in};
-ghost use Rattle.lane_correlator.specs.declared.tally.TheConstants.{MOST_SIZES};
+ghost use Rattle.std.specs.Prelude.{◌≡◌, ◌+◌, ◌*◌, ◌≤◌, ℕ};
+ghost use Rattle.definitions.specs.Correlation.{sum_of_counts, no_counts};
+ghost use Rattle.oscillators.specs.Lanes.{HasAllLanes};
+ghost use Rattle.lane_correlator.specs.Bytes.{AreAtMost};
+ghost use Rattle.lane_correlator.specs.ByteSums.{HasLanes};
+ghost use Rattle.lane_correlator.specs.Chips.{AreMasksOfChips, lanes_in};
+ghost use Rattle.lane_correlator.specs.Counting.{counts_in, AreWithin};
+ghost use Rattle.lane_correlator.specs.declared.chip_sums.TheConstants.{MOST_OF_LANES};
+ghost use Rattle.lane_correlator.specs.declared.tally.TheConstants.{MOST_COUNTS, MOST_OF_LANE};
 
+use crate::chip_sums::ChipSums;
 use crate::counts::Counts;
+use crate::wiped::Wiped;
+use oscillators::ChipLanes;
 
-/// The most that a sum of sizes may come to, so that the sums fit in an `i32`. A run has less.
-pub(crate) const MOST_SIZES: u32 = 1_000_000;
+/// The most that a lane may come to, so that its sum fits in a byte with a sign.
+pub(crate) const MOST_OF_LANE: u32 = 127;
 
-/// Six sums of products by their sizes, which take fewer steps to add up than numbers with a sign:
-/// each sum is all sizes less twice those that are below 0.
+/// The most that sums may come to, so that they fit in an `i32`. A run has less.
+pub(crate) const MOST_COUNTS: u32 = 1_000_000;
+
+/// Six sums while they are added up.
 #[derive(Clone, Copy, Debug)]
 pub(crate) struct Tally {
-    /// All sizes, in phase and in quadrature.
-    pub(crate) all_i: u32,
-    pub(crate) all_q: u32,
-    /// The sizes of the products below 0 with the early, prompt and late chips, in phase (i) and in
-    /// quadrature (q).
-    pub(crate) ie: u32,
-    pub(crate) qe: u32,
-    pub(crate) ip: u32,
-    pub(crate) qp: u32,
-    pub(crate) il: u32,
-    pub(crate) ql: u32,
+    early: ChipSums,
+    prompt: ChipSums,
+    late: ChipSums,
+    /// The most that a lane can have come to.
+    filled: u32,
+    /// The sums of the words that were in the lanes before.
+    counts: Counts,
 }
 
 impl Tally {
-    ghost use Rattle.lane_correlator.specs.Tallies.{tally_in, AreFew};
+    ghost use Rattle.lane_correlator.specs.Tallies.{tally_in, word_sums, HasRoom};
 
-    /// That of no products.
-    pub(crate) const NONE: Tally = Tally {
-        all_i: 0,
-        all_q: 0,
-        ie: 0,
-        qe: 0,
-        ip: 0,
-        qp: 0,
-        il: 0,
-        ql: 0,
-    };
-
-    /// Adds place by place.
-    pub(crate) fn add(&self, other: &Tally) -> Tally
-        requires these { AreFew MOST_SIZES self.now }
-        requires those { AreFew MOST_SIZES other.now }
-        ensures sums { tally_in result ≡ sum_of_counts (tally_in self.now) (tally_in other.now) }
-        ensures few { (m n : ℕ) → AreFew m self.now → AreFew n other.now → AreFew (m + n) result }
+    /// The sums over no samples.
+    #[inline(always)]
+    pub(crate) fn none() -> Tally
+        ensures sums { tally_in result ≡ no_counts }
+        ensures few { counts_in result.counts ≡ no_counts }
+        ensures room { (most : ℕ) → 2 * most ≤ MOST_OF_LANE → HasRoom most result }
     {
         Tally {
-            all_i: self.all_i + other.all_i,
-            all_q: self.all_q + other.all_q,
-            ie: self.ie + other.ie,
-            qe: self.qe + other.qe,
-            ip: self.ip + other.ip,
-            qp: self.qp + other.qp,
-            il: self.il + other.il,
-            ql: self.ql + other.ql,
+            early: ChipSums::none(),
+            prompt: ChipSums::none(),
+            late: ChipSums::none(),
+            filled: 0,
+            counts: Counts::NONE,
+        }
+    }
+
+    /// Adds the products of the samples of a word with three kinds of chips. The samples without
+    /// their carrier are at most `most` in size. A lane takes two of them.
+    #[inline(always)]
+    pub(crate) fn add(self, wiped: Wiped, chips: ChipLanes, most: u32) -> Tally
+        requires wiped { HasLanes wiped }
+        requires in_phase { AreAtMost most wiped.i }
+        requires quadrature { AreAtMost most wiped.q }
+        requires most { 2 * most ≤ MOST_OF_LANE }
+        requires lanes { HasAllLanes chips }
+        requires masks { AreMasksOfChips chips }
+        requires few { AreWithin MOST_COUNTS (counts_in self.counts) }
+        requires room { HasRoom most self }
+        ensures sums { tally_in result ≡ sum_of_counts (tally_in self) (word_sums wiped chips) }
+        ensures few { (n : ℕ) → AreWithin n (counts_in self.counts)
+            → AreWithin (n + MOST_OF_LANES) (counts_in result.counts) }
+        ensures room { HasRoom most result }
+    {
+        let early = self.early.add(wiped.i, wiped.q, chips.early);
+        let prompt = self.prompt.add(wiped.i, wiped.q, chips.prompt);
+        let late = self.late.add(wiped.i, wiped.q, chips.late);
+        let filled = self.filled + 2 * most;
+        let has_room = filled + 2 * most <= MOST_OF_LANE;
+        if has_room {
+            Tally {
+                early,
+                prompt,
+                late,
+                filled,
+                counts: self.counts,
+            }
+        } else {
+            let counts = self.counts.add(&counts_of(&early, &prompt, &late));
+            Tally {
+                early: ChipSums::none(),
+                prompt: ChipSums::none(),
+                late: ChipSums::none(),
+                filled: 0,
+                counts,
+            }
         }
     }
 
     /// The sums.
+    #[inline(always)]
     pub(crate) fn counts(&self) -> Counts
-        requires { AreFew MOST_SIZES self.now }
+        requires { AreWithin MOST_COUNTS (counts_in self.now.counts) }
         ensures { counts_in result ≡ tally_in self.now }
     {
-        Counts {
-            ie: sum(self.all_i, self.ie),
-            qe: sum(self.all_q, self.qe),
-            ip: sum(self.all_i, self.ip),
-            qp: sum(self.all_q, self.qp),
-            il: sum(self.all_i, self.il),
-            ql: sum(self.all_q, self.ql),
-        }
+        self.counts
+            .add(&counts_of(&self.early, &self.prompt, &self.late))
     }
 }
 
-/// A sum by all sizes and those below 0.
-fn sum(all: u32, below: u32) -> i32
-    requires all { all ≤ MOST_SIZES }
-    requires below { below ≤ MOST_SIZES }
-    ensures value { result ≡ pos all -ℤ pos (2 * below) }
-    ensures small { unsigned_abs result ≤ 2 * MOST_SIZES }
+/// The sums that lanes have.
+fn counts_of(early: &ChipSums, prompt: &ChipSums, late: &ChipSums) -> Counts
+    ensures sums { counts_in result ≡ lanes_in early.now prompt.now late.now }
+    ensures small { AreWithin MOST_OF_LANES (counts_in result) }
 {
-    all as i32 - (2 * below) as i32
+    Counts {
+        ie: early.in_phase(),
+        qe: early.quadrature(),
+        ip: prompt.in_phase(),
+        qp: prompt.quadrature(),
+        il: late.in_phase(),
+        ql: late.quadrature(),
+    }
 }

@@ -1,17 +1,16 @@
 //! Sums with a replica that is made as it is needed, 64 samples at a time.
 
-ghost use Rattle.std.specs.Prelude.{◌≡◌, ◌+◌, ◌*◌, ◌≤◌, length, false};
+ghost use Rattle.std.specs.Prelude.{◌≡◌, ◌+◌, ◌*◌, ◌≤◌, length};
 ghost use Rattle.definitions.specs.Samples.{sample_at};
 ghost use Rattle.definitions.specs.Correlation.{six_sums, replica_of};
-ghost use Rattle.sample_planes.specs.Signs.{AreOneBit};
 ghost use Rattle.lane_correlator.specs.Counting.{counts_in, AreWithin};
-ghost use Rattle.lane_correlator.specs.ReplicaWords.{phases_of};
-ghost use Rattle.lane_correlator.specs.declared.factors.TheConstants.{MOST_PRODUCT};
+ghost use Rattle.lane_correlator.specs.ReplicaWords.{phases_of, IsMostProduct};
+ghost use Rattle.lane_correlator.specs.declared.wiped.TheConstants.{MOST_PRODUCT};
 ghost use Rattle.sample_planes.specs.declared.planes.TheConstants.{MAX_SAMPLES};
 
 use crate::counts::Counts;
-use crate::six::word_sums;
 use crate::tally::Tally;
+use crate::wiped::{MOST_PRODUCT, Wiped};
 use ca_codes::{CodeBook, Prn};
 use oscillators::{CarrierOsc, CodeOsc};
 use sample_planes::Planes;
@@ -35,45 +34,31 @@ pub fn replica_sums(
     ensures small { AreWithin (MOST_PRODUCT * count) (counts_in result) }
     ensures few { count ≤ MAX_SAMPLES }
 {
-    // Two calls, so that the sums over samples of one bit are made without their sizes.
-    if samples.has_sizes() {
-        run_sums(samples, from, count, carrier, code, book, prn, true)
-    } else {
-        run_sums(samples, from, count, carrier, code, book, prn, false)
-    }
-}
-
-/// `replica_sums`, where the caller says whether parts of samples have sizes.
-#[inline(always)]
-fn run_sums(
-    samples: &Planes,
-    from: usize,
-    count: usize,
-    carrier: &CarrierOsc,
-    code: &CodeOsc,
-    book: &mut CodeBook,
-    prn: Prn,
-    has_sizes: bool,
-) -> Counts
-    requires within { from + count ≤ length samples.now }
-    requires one_bit { has_sizes ≡ false → AreOneBit samples.now }
-    ensures sums { counts_in result ≡ six_sums (λ j. sample_at samples.now (from + j))
-        (replica_of prn (phases_of carrier.now code.now)) 0 count }
-    ensures small { AreWithin (MOST_PRODUCT * count) (counts_in result) }
-    ensures few { count ≤ MAX_SAMPLES }
-{
     let len = samples.len();
     let to = from + count;
     let before = from % 64;
     let mut carrier = carrier.earlier(before as u32);
     let mut code = code.earlier(before as u32);
-    let mut sums = Tally::NONE;
+    let most = most_product(samples);
+    let mut tally = Tally::none();
     for w in from / 64..(to.min(len) + 63) / 64 {
-        let wave = carrier.next_word();
-        let chips = code.next_word(book, prn);
+        let eighths = carrier.next_eighths();
+        let chips = code.next_lanes(book, prn);
         let first = from.max(64 * w) - 64 * w;
         let end = to.min(64 * w + 64) - 64 * w;
-        sums = sums.add(&word_sums(samples, w, wave, chips, first, end, has_sizes));
+        let wiped = Wiped::new(eighths, samples.codes(w), samples.codes_q(w)).within(first, end);
+        tally = tally.add(wiped, chips, most);
     }
-    sums.counts()
+    tally.counts()
+}
+
+/// The greatest size of the products of a run's samples with a carrier.
+fn most_product(samples: &Planes) -> u32
+    ensures { IsMostProduct samples.now result }
+{
+    if samples.has_sizes() {
+        MOST_PRODUCT
+    } else {
+        MOST_PRODUCT / 3
+    }
 }

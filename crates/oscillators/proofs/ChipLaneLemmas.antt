@@ -1,7 +1,13 @@
 -- What the lanes of a word find in a code's table. The word's first sample lies at phase `here`,
 -- and a lane's sample w after it; the first sample of the lane's sixteen lies v after it.
 use Rattle.std.proofs.Common.{◌≡◌, ℕ, zero, suc, ◌+◌, ◌-◌, ◌*◌, ◌/◌, ◌%◌, ◌^◌, ◌<◌, ◌≤◌, ◌∷◌, []}
-use Rattle.std.proofs.Common.{get_or, ap, ◌∙◌, arith, mul-le-mul, List}
+use Rattle.std.proofs.Common.{get_or, ap, ◌∙◌, arith, mul-le-mul, List, length, refl, sym, inl}
+use Rattle.std.proofs.Common.{inr, ℤ}
+use Rattle.std.specs.Prelude.{bit_xor, bit_and, min, ◌⊎◌}
+use Rattle.std.specs.Simd.Lanes.{zip2}
+use Rattle.std.proofs.lemmas.Simd.{get_or-zip2, length-zip2}
+use Rattle.definitions.specs.Samples.{sign_of}
+use Rattle.oscillators.specs.Lanes.{IsMask}
 use Rattle.std.specs.Int.{bit_at}
 use Rattle.std.proofs.Math.Nat.{mod-add-mod}
 use Rattle.bit_planes.specs.Bits.{last_of_sixteen}
@@ -126,3 +132,77 @@ pub half_found : (phase here w : ℕ) → here ≡ phase % (1023 * 2 ^ 32) → w
     ≡ (phase + w) % (1023 * 2 ^ 32) % 2 ^ 32 / 2 ^ 31
 half_found phase here w is few = half_there here w few
     ∙ rw is (ap (λ (p : ℕ). p % 2 ^ 32 / 2 ^ 31) (phase_there phase w))
+
+-- masks of lanes, and what two of them make
+pair_long : (f : ℕ → ℕ → ℕ) (xs ys : List ℕ) → length xs ≡ 64 → length ys ≡ 64
+    → length (zip2 f xs ys) ≡ 64
+pair_long f xs ys lx ly = length-zip2 f xs ys (lx ∙ sym ly) ∙ lx
+
+pair_lane : (f : ℕ → ℕ → ℕ) (xs ys : List ℕ) (k : ℕ) → length xs ≡ 64 → length ys ≡ 64 → k < 64
+    → get_or (zip2 f xs ys) k 0 ≡ f (get_or xs k 0) (get_or ys k 0)
+pair_lane f xs ys k lx ly h = get_or-zip2 f xs ys k 0 0 0 (omega (arith, lx)) (omega (arith, ly))
+
+-- where masks are chosen from two by those of a third
+pub chosen_long : (early late half : List ℕ) → length early ≡ 64 → length late ≡ 64
+    → length half ≡ 64
+    → length (zip2 bit_xor late (zip2 bit_and (zip2 bit_xor early late) half)) ≡ 64
+chosen_long early late half le ll lh = pair_long bit_xor late
+    (zip2 bit_and (zip2 bit_xor early late) half) ll (pair_long bit_and
+    (zip2 bit_xor early late) half (pair_long bit_xor early late le ll) lh)
+
+chosen_mask : (e l h : ℕ) → e < 2 → l < 2 → h < 2
+    → bit_xor (255 * l) (bit_and (bit_xor (255 * e) (255 * l)) (255 * h))
+    ≡ 255 * ((l + min ((e + l) % 2) h) % 2)
+chosen_mask zero zero zero he hl hh = refl
+chosen_mask zero zero (suc zero) he hl hh = refl
+chosen_mask zero (suc zero) zero he hl hh = refl
+chosen_mask zero (suc zero) (suc zero) he hl hh = refl
+chosen_mask (suc zero) zero zero he hl hh = refl
+chosen_mask (suc zero) zero (suc zero) he hl hh = refl
+chosen_mask (suc zero) (suc zero) zero he hl hh = refl
+chosen_mask (suc zero) (suc zero) (suc zero) he hl hh = refl
+chosen_mask (suc (suc e)) l h he hl hh = absurd (omega (arith, he))
+chosen_mask zero (suc (suc l)) h he hl hh = absurd (omega (arith, hl))
+chosen_mask (suc zero) (suc (suc l)) h he hl hh = absurd (omega (arith, hl))
+chosen_mask zero zero (suc (suc h)) he hl hh = absurd (omega (arith, hh))
+chosen_mask zero (suc zero) (suc (suc h)) he hl hh = absurd (omega (arith, hh))
+chosen_mask (suc zero) zero (suc (suc h)) he hl hh = absurd (omega (arith, hh))
+chosen_mask (suc zero) (suc zero) (suc (suc h)) he hl hh = absurd (omega (arith, hh))
+
+pub chosen_lane : (early late half : List ℕ) (k e l h : ℕ) → length early ≡ 64
+    → length late ≡ 64 → length half ≡ 64 → k < 64 → e < 2 → l < 2 → h < 2
+    → get_or early k 0 ≡ 255 * e → get_or late k 0 ≡ 255 * l → get_or half k 0 ≡ 255 * h
+    → get_or (zip2 bit_xor late (zip2 bit_and (zip2 bit_xor early late) half)) k 0
+    ≡ 255 * ((l + min ((e + l) % 2) h) % 2)
+chosen_lane early late half k e l h le ll lh below he hl hh ee el eh =
+    let either : List ℕ = zip2 bit_xor early late in
+    let long : length (zip2 bit_xor early late) ≡ 64 = pair_long bit_xor early late le ll in
+    pair_lane bit_xor late (zip2 bit_and either half) k ll (pair_long bit_and either half long lh)
+    below
+    ∙ rw (
+      pair_lane bit_and either half k long lh below,
+      pair_lane bit_xor early late k le ll below,
+      ee,
+      el,
+      eh,
+    )
+    (chosen_mask e l h he hl hh)
+
+-- what a mask says of its chip
+pub top_of_mask : (c : ℕ) → c < 2 → bit_at (255 * c) 7 ≡ c
+top_of_mask c h = omega arith
+
+pub mask_of_sign : (s : ℤ) (c mask : ℕ) → c < 2 → mask ≡ 255 * c → sign_of c ≡ s
+    → IsMask s mask
+mask_of_sign s c mask h is e = record {
+  either = none_or_all c h is;
+  value = sym (ap sign_of back ∙ e);
+}
+  where
+    none_or_all : (c : ℕ) → c < 2 → mask ≡ 255 * c → (mask ≡ 0) ⊎ (mask ≡ 255)
+    none_or_all zero h is = inl is
+    none_or_all (suc zero) h is = inr is
+    none_or_all (suc (suc c)) h is = absurd (omega (arith, h))
+
+    back : mask / 255 ≡ c
+    back = omega (arith, is)

@@ -3,8 +3,7 @@ use Rattle.std.proofs.Common.{inl, inr, ◌≡◌, ℕ, zero, suc, ◌+◌, ◌-
 use Rattle.std.proofs.Common.{List, ◌∷◌, length, map, get_or, refl, sym, ap, ◌∙◌, arith, ℤ}
 use Rattle.std.proofs.Common.{pos}
 use Rattle.std.specs.Int.{bit_at}
-use Rattle.std.specs.Prelude.{bit_xor, bit_and, min}
-use Rattle.std.proofs.lemmas.Nat.Bits.{bit_at_xor, bit_at_and}
+use Rattle.std.specs.Prelude.{min}
 use Rattle.std.proofs.lemmas.Bool.{cases_lt}
 use Rattle.std.proofs.Math.Path.{ap₂}
 use Rattle.std.proofs.Math.Nat.{add-mod-mod, mod-add-mod}
@@ -68,15 +67,19 @@ carrier_turned phase step =
     let way : step * 64 ≡ 64 * step = omega arith in
     add-mod-mod phase (step * 64) (2 ^ 32) ∙ ap (λ (n : ℕ). (phase + n) % 2 ^ 32) way
 
--- the bits of an eighth are those of the lane that counts eighths
-pub half_bit : (n : ℕ) → bit_at (n / 536870912 % 256) 2 ≡ bit_at (n % 4294967296 / 536870912) 2
-half_bit n = omega arith
+-- the lane that counts eighths, modulo 8
+pub eighth_of_lane : (n : ℕ) → n / 536870912 % 256 % 8 ≡ n % 4294967296 / 536870912
+eighth_of_lane n = omega arith
 
-pub quarter_bit : (n : ℕ) → bit_at (n / 536870912 % 256) 1 ≡ bit_at (n % 4294967296 / 536870912) 1
-quarter_bit n = omega arith
+-- the bits of an eighth are those of a lane
+pub half_bit : (lane eighth : ℕ) → lane % 8 ≡ eighth → bit_at lane 2 ≡ bit_at eighth 2
+half_bit lane eighth e = omega arith
 
-pub eighth_bit : (n : ℕ) → bit_at (n / 536870912 % 256) 0 ≡ bit_at (n % 4294967296 / 536870912) 0
-eighth_bit n = omega arith
+pub quarter_bit : (lane eighth : ℕ) → lane % 8 ≡ eighth → bit_at lane 1 ≡ bit_at eighth 1
+quarter_bit lane eighth e = omega arith
+
+pub eighth_bit : (lane eighth : ℕ) → lane % 8 ≡ eighth → bit_at lane 0 ≡ bit_at eighth 0
+eighth_bit lane eighth e = omega arith
 
 -- cosine and sine by the bits of an eighth
 pub cosine_by_bits : (p : ℕ) → p < 2 ^ 32 → signed (cos_sign_in (p / 2 ^ 29))
@@ -138,14 +141,6 @@ early_is prn phase step j = ap (λ (p : ℕ). sign_of (chip prn (p / 2 ^ 32))) (
 behind_number : (p : ℕ) → p < 4393751543808 → ((p + 2147483648) % 4393751543808 / 4294967296 + 1022)
     % 1023 ≡ (p + 4393751543808 - 2147483648) % 4393751543808 / 4294967296 % 1023
 behind_number p h = omega arith
-
--- where a word is chosen from two by the bits of a third
-pub chosen : (e l h i : ℕ) → bit_at (bit_xor l (bit_and (bit_xor e l) h)) i
-    ≡ (bit_at l i + min ((bit_at e i + bit_at l i) % 2) (bit_at h i)) % 2
-chosen e l h i =
-    bit_at_xor l (bit_and (bit_xor e l) h) i
-    ∙ ap (λ (n : ℕ). (bit_at l i + n) % 2) (bit_at_and (bit_xor e l) h i
-    ∙ ap (λ (n : ℕ). min n (bit_at h i)) (bit_at_xor e l i))
 
 second_number : (p a : ℕ) → p < 4393751543808 → a ≡ (p + 2147483648) % 4393751543808
     → a % 4294967296 / 2147483648 ≡ 1 → a / 4294967296 % 1023 ≡ p / 4294967296 % 1023

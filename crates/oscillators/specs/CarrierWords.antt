@@ -1,19 +1,11 @@
 -- The carrier at 64 samples in a row, place j of a word being the sample j after the first.
 use Rattle.std.specs.Prelude.{◌≡◌, ℕ, ◌-◌, ◌/◌, ◌^◌, ◌<◌}
 use Rattle.std.specs.Int.{bit_at}
-use Rattle.definitions.specs.Oscillators.{carrier_phase_after, cosine, sine}
+use Rattle.definitions.specs.Oscillators.{carrier_phase_after}
 use Rattle.oscillators.specs.declared.carrier.CarrierWord.{CarrierWord}
-use Rattle.oscillators.specs.Signs.{signed}
 use Rattle.oscillators.specs.Eighths.{cos_sign_in, sin_sign_in, sin_size_in}
 
--- the values at the 64 samples from a phase on
-pub record IsCarrier (phase step : ℕ) (w : CarrierWord) : Type 0 where
-  pub cos : (j : ℕ) → j < 64 → signed (bit_at w.cos_sign (63 - j)) (1 - bit_at w.sin_size (63 - j))
-      ≡ cosine (carrier_phase_after phase step j)
-  pub sin : (j : ℕ) → j < 64 → signed (bit_at w.sin_sign (63 - j)) (bit_at w.sin_size (63 - j))
-      ≡ sine (carrier_phase_after phase step j)
-
--- and the bits of these, by the eighths that the samples lie in
+-- the bits of cosine and sine by the eighths that the samples lie in, from a phase on
 abbrev pub eighth_after : ℕ → ℕ → ℕ → ℕ
 eighth_after phase step j = carrier_phase_after phase step j / 2 ^ 29
 

@@ -5,3 +5,4 @@ pub mod Signs
 pub mod Eighths
 pub mod CarrierWords
 pub mod ChipWords
+pub mod Lanes

@@ -6,13 +6,15 @@ ghost use Rattle.std.specs.List.{range_with_len};
 ghost use Rattle.definitions.specs.Oscillators.{carrier_phase_after, cosine, sine};
 ghost use Rattle.bit_planes.specs.Bits.{bit};
 ghost use Rattle.oscillators.specs.Views.{Oscillation, CarrierViews};
-ghost use Rattle.oscillators.specs.Signs.{signed, cos_in, sin_in, IsCosWord, IsSinWord};
-ghost use Rattle.oscillators.specs.CarrierWords.{AreEighths, IsCarrier};
-ghost use Rattle.bit_planes.specs.declared.plane.TheConstants.{PLACES, WORDS, WORD_PLACES};
+ghost use Rattle.oscillators.specs.Signs.{signed, cos_in, sin_in};
+ghost use Rattle.oscillators.specs.CarrierWords.{AreEighths};
+ghost use Rattle.oscillators.specs.Lanes.{AreEighthLanes};
+ghost use Rattle.bit_planes.specs.declared.plane.TheConstants.{PLACES, WORD_PLACES};
 
 use crate::strides::{EIGHTH, Strides};
 use bit_planes::{Plane, bit_of_each};
 use std::marker::Model;
+use std::simd::prelude::*;
 
 /// An oscillator at the carrier's frequency. Its phase is in 2^-32 cycle, from 0 to below 2^32, and
 /// its step is what a sample adds to it. The fixed-point form and the values of `planes` are this
@@ -80,28 +82,31 @@ impl CarrierOsc {
         self.strides = Strides::new(step, EIGHTH);
     }
 
-    /// Cosine and sine at this sample and the 63 that follow. The oscillator goes on by 64 samples.
-    #[inline(always)]
-    pub fn next_word(&mut self) -> CarrierWord
-        ensures word { IsCarrier self.old.phase self.old.step result }
-        ensures moved { self.new ≡ record self.old {
-          phase = carrier_phase_after self.old.phase self.old.step WORD_PLACES;
-        } }
-    {
-        self.next_eighths()
-    }
-
-    /// The bits of the eighths of a cycle in which this sample and the 63 that follow lie. The
+    /// The eighths of a cycle in which this sample and the 63 that follow lie, by their numbers, 0
+    /// to 7. Lane k stands for sample 63 - k. Only the low three bits of a lane count. The
     /// oscillator goes on by 64 samples.
     #[inline(always)]
-    fn next_eighths(&mut self) -> CarrierWord
-        ensures word { AreEighths self.old.phase self.old.step result }
+    pub fn next_eighths(&mut self) -> u8x64
+        ensures eighths { AreEighthLanes self.old.phase self.old.step result }
         ensures moved { self.new ≡ record self.old {
           phase = carrier_phase_after self.old.phase self.old.step WORD_PLACES;
         } }
     {
         let eighths = self.strides.cells(self.phase, EIGHTH);
         self.phase = self.phase.wrapping_add(self.step.wrapping_mul(64));
+        eighths
+    }
+
+    /// The bits of cosine and sine at this sample and the 63 that follow. The oscillator goes on by
+    /// 64 samples.
+    #[inline(always)]
+    fn next_bits(&mut self) -> CarrierWord
+        ensures word { AreEighths self.old.phase self.old.step result }
+        ensures moved { self.new ≡ record self.old {
+          phase = carrier_phase_after self.old.phase self.old.step WORD_PLACES;
+        } }
+    {
+        let eighths = self.next_eighths();
         let half = bit_of_each(eighths, 2);
         let quarter = bit_of_each(eighths, 1);
         let eighth = bit_of_each(eighths, 0);
@@ -128,7 +133,7 @@ impl CarrierOsc {
         let mut sin_sign = Plane::new();
         let mut sin_size = Plane::new();
         for w in 0..(n + 63) / 64 {
-            let word = here.next_eighths();
+            let word = here.next_bits();
             cos_sign.set_word(w, word.cos_sign);
             sin_sign.set_word(w, word.sin_sign);
             sin_size.set_word(w, word.sin_size);
@@ -144,7 +149,7 @@ impl CarrierOsc {
 
 /// Cosine and sine of a carrier at 64 samples, the first of them in the top bits.
 #[derive(Clone, Copy, Debug)]
-pub struct CarrierWord {
+struct CarrierWord {
     /// 1 where the cosine is below 0.
     pub cos_sign: u64,
     /// 1 where the sine is below 0.
@@ -202,19 +207,6 @@ impl CarrierPlanes {
         ensures small { unsigned_abs result ≤ 2 }
     {
         signed(self.sin_sign.bit(i), self.sin_size.bit(i))
-    }
-
-    /// Cosine and sine from sample `64 * w` on.
-    pub fn word(&self, w: usize) -> CarrierWord
-        requires { w < WORDS }
-        ensures cos { IsCosWord self.now.cos w result.cos_sign result.sin_size }
-        ensures sin { IsSinWord self.now.sin w result.sin_sign result.sin_size }
-    {
-        CarrierWord {
-            cos_sign: self.cos_sign.word(w),
-            sin_sign: self.sin_sign.word(w),
-            sin_size: self.sin_size.word(w),
-        }
     }
 }
 

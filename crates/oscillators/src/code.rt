@@ -9,17 +9,19 @@ ghost use Rattle.definitions.specs.Oscillators.{prompt_sign, late_sign};
 ghost use Rattle.definitions.specs.Samples.{sign_of};
 ghost use Rattle.bit_planes.specs.Bits.{bit};
 ghost use Rattle.oscillators.specs.Views.{Oscillation, CodeViews};
-ghost use Rattle.oscillators.specs.Signs.{sign_in, IsChipWord};
-ghost use Rattle.oscillators.specs.ChipWords.{AreChips, AreChipBits};
-ghost use Rattle.bit_planes.specs.declared.plane.TheConstants.{PLACES, WORDS, WORD_PLACES};
+ghost use Rattle.oscillators.specs.Signs.{sign_in};
+ghost use Rattle.oscillators.specs.ChipWords.{AreChipBits, AreChipMasks};
+ghost use Rattle.oscillators.specs.Lanes.{AreChipLanes, HasAllLanes};
+ghost use Rattle.bit_planes.specs.declared.plane.TheConstants.{PLACES, WORD_PLACES};
 ghost use Rattle.ca_codes.specs.declared.book.TheConstants.{CODE_CHIPS};
 ghost use Rattle.oscillators.specs.declared.strides.TheConstants.{HALF_CHIP};
 
 use crate::half_chip::HalfChip;
 use crate::strides::{HALF_CHIP, Strides, halves};
-use bit_planes::{Plane, SECOND_BIT, TOP_BIT, above_last_of_sixteen, bit_of_each};
+use bit_planes::{Plane, SECOND_BIT, TOP_BIT, above_last_of_sixteen, bit_of_each, mask_of_each};
 use ca_codes::{CODE_CHIPS, CodeBook, Prn, look_up};
 use std::marker::Model;
+use std::simd::prelude::*;
 
 /// The code's cycle of 1,023 chips, in 2^-32 chip.
 const CODE_CYCLE: u64 = (CODE_CHIPS as u64) << 32;
@@ -127,23 +129,42 @@ impl CodeOsc {
         }
     }
 
-    /// The chips of a satellite at this sample and the 63 that follow: at the phase (prompt), half
-    /// a chip ahead of it (early) and half a chip behind it (late). The oscillator goes on by 64
-    /// samples, and the book stands for the codes as before.
+    /// Masks of the chips of a satellite at this sample and the 63 that follow: at the phase
+    /// (prompt), half a chip ahead of it (early) and half a chip behind it (late). The oscillator
+    /// goes on by 64 samples, and the book stands for the codes as before.
     #[inline(always)]
-    pub fn next_word(&mut self, book: &mut CodeBook, prn: Prn) -> ChipWord
-        ensures word { AreChips prn self.old.phase self.old.step result }
+    pub fn next_lanes(&mut self, book: &mut CodeBook, prn: Prn) -> ChipLanes
+        ensures chips { AreChipLanes prn self.old.phase self.old.step result }
+        ensures long { HasAllLanes result }
         ensures moved { self.new ≡ record self.old {
           phase = code_phase_after self.old.phase self.old.step WORD_PLACES;
         } }
     {
-        self.next_chips(book, prn)
+        self.next_masks(book, prn)
     }
 
-    /// Does what `next_word` does. Contracts see the bits of the chips here, and their signs there.
+    /// The chips as bits of words. The oscillator goes on by 64 samples.
     #[inline(always)]
     fn next_chips(&mut self, book: &mut CodeBook, prn: Prn) -> ChipWord
         ensures word { AreChipBits prn self.old.phase self.old.step result }
+        ensures moved { self.new ≡ record self.old {
+          phase = code_phase_after self.old.phase self.old.step WORD_PLACES;
+        } }
+    {
+        let masks = self.next_masks(book, prn);
+        ChipWord {
+            early: bit_of_each(masks.early, TOP_BIT),
+            prompt: bit_of_each(masks.prompt, TOP_BIT),
+            late: bit_of_each(masks.late, TOP_BIT),
+        }
+    }
+
+    /// Does what `next_lanes` does. Contracts see the masks by the chips here, and by their signs
+    /// there.
+    #[inline(always)]
+    fn next_masks(&mut self, book: &mut CodeBook, prn: Prn) -> ChipLanes
+        ensures masks { AreChipMasks prn self.old.phase self.old.step result }
+        ensures long { HasAllLanes result }
         ensures moved { self.new ≡ record self.old {
           phase = code_phase_after self.old.phase self.old.step WORD_PLACES;
         } }
@@ -163,12 +184,12 @@ impl CodeOsc {
             first,
             above_last_of_sixteen(halves(half_chips)),
         );
-        let early = bit_of_each(chips, TOP_BIT);
+        let early = mask_of_each(chips, TOP_BIT);
         // The late chip is the one before the early one.
-        let late = bit_of_each(chips, SECOND_BIT);
-        let second_half = bit_of_each(half_chips, 0);
+        let late = mask_of_each(chips, SECOND_BIT);
+        let second_half = mask_of_each(half_chips, 0);
         self.phase = in_cycle(self.phase + 64 * step);
-        ChipWord {
+        ChipLanes {
             early,
             // The prompt phase lies half a chip before the early one. Where the early phase is in
             // the second half of its chip, the prompt chip is that chip. Else it is the chip before
@@ -216,13 +237,25 @@ impl CodeOsc {
 
 /// The chips of a satellite at 64 samples, the first of them in the top bits.
 #[derive(Clone, Copy, Debug)]
-pub struct ChipWord {
+struct ChipWord {
     /// The chips half a chip ahead of the phase.
     pub early: u64,
     /// The chips at the phase.
     pub prompt: u64,
     /// The chips half a chip behind the phase.
     pub late: u64,
+}
+
+/// Masks of the chips of a satellite at 64 samples, 255 for chip 1 and 0 for chip 0. Lane k stands
+/// for sample 63 - k.
+#[derive(Clone, Copy, Debug)]
+pub struct ChipLanes {
+    /// The chips half a chip ahead of the phase.
+    pub early: u8x64,
+    /// The chips at the phase.
+    pub prompt: u8x64,
+    /// The chips half a chip behind the phase.
+    pub late: u8x64,
 }
 
 /// The number of the chip that a phase lies in, counted on past the end of a cycle.
@@ -303,20 +336,6 @@ impl CodePlanes {
         ensures small { unsigned_abs result ≤ 1 }
     {
         sign(self.late.bit(i))
-    }
-
-    /// The chips from sample `64 * w` on.
-    pub fn word(&self, w: usize) -> ChipWord
-        requires { w < WORDS }
-        ensures early { IsChipWord self.now.early w result.early }
-        ensures prompt { IsChipWord self.now.prompt w result.prompt }
-        ensures late { IsChipWord self.now.late w result.late }
-    {
-        ChipWord {
-            early: self.early.word(w),
-            prompt: self.prompt.word(w),
-            late: self.late.word(w),
-        }
     }
 }
 

@@ -2,8 +2,9 @@
 //! through its samples.
 //!
 //! `Settings` gives the steps for a Doppler shift; `CarrierOsc` and `CodeOsc` keep a phase, step it
-//! on, and give the replica of up to 1,024 samples as planes. Each step, phase and value is proved
-//! to be that of its definition, for every step of 32 bits.
+//! on, and give the replica of 64 samples in lanes of bytes, or of up to 1,024 samples as planes of
+//! bits. Each step, phase and value is proved to be that of its definition, for every step of 32
+//! bits.
 //!
 //!     use oscillators::{CarrierOsc, CodeOsc, Doppler, HalfChip, Settings};
 //!     use sample_planes::Format;
@@ -22,8 +23,8 @@ mod half_chip;
 mod settings;
 mod strides;
 
-pub use carrier::{CarrierOsc, CarrierPlanes, CarrierWord};
-pub use code::{ChipWord, CodeOsc, CodePlanes};
+pub use carrier::{CarrierOsc, CarrierPlanes};
+pub use code::{ChipLanes, CodeOsc, CodePlanes};
 pub use doppler::{Doppler, DopplerFault, MOST_DOPPLER};
 pub use half_chip::{HalfChip, HalfChipFault, LAST_HALF_CHIP};
 pub use settings::{

@@ -142,6 +142,27 @@ fn carrier_views_at_extreme_steps(rt: HostRuntime) {
     }
 }
 
+#[test]
+fn eighths_at_extreme_steps(rt: HostRuntime) {
+    for step in EXTREME_STEPS {
+        let mut osc = CarrierOsc::new(0x9000_0001);
+        osc.advance(3);
+        osc.set_step(step);
+        for w in 0..2 {
+            let lanes = osc.next_eighths().to_array();
+            for j in 0..64 {
+                let i = 64 * w + j;
+                let phase = (3 * 0x9000_0001 + i as u128 * step as u128) % 0x1_0000_0000;
+                assert_eq!(rt;
+                    (lanes[63 - j] % 8) as u128,
+                    phase / 0x2000_0000,
+                    "at sample {i} with step {step}"
+                );
+            }
+        }
+    }
+}
+
 /// The sign of the chip at a phase of any number of cycles.
 fn sign(book: &mut CodeBook, prn: Prn, phase: u128) -> i8 {
     if book.chip(prn, (phase % CYCLE / 0x1_0000_0000) as u32) {
@@ -170,6 +191,42 @@ fn code_views_at_every_half_chip_and_extreme_steps(rt: HostRuntime) -> Result<()
                     (early, prompt, late),
                     "at sample {i} from {half_chips} with step {step}"
                 );
+            }
+        }
+    }
+    Ok(())
+}
+
+/// The mask of the chip at a phase of any number of cycles.
+fn mask(book: &mut CodeBook, prn: Prn, phase: u128) -> u8 {
+    if sign(book, prn, phase) < 0 { 255 } else { 0 }
+}
+
+#[test]
+fn chip_masks_at_extreme_steps(rt: HostRuntime) -> Result<(), Fail> {
+    let prn = Prn::new(19).ok_or("a satellite")?;
+    let mut book = CodeBook::new();
+    for half_chips in [0u16, 1, 1_023, 2_045] {
+        for step in EXTREME_STEPS {
+            let mut osc = CodeOsc::new(HalfChip::new(half_chips).ok_or("a half chip")?, step);
+            for w in 0..2 {
+                let lanes = osc.next_lanes(&mut book, prn);
+                let early = lanes.early.to_array();
+                let prompt = lanes.prompt.to_array();
+                let late = lanes.late.to_array();
+                for j in 0..64 {
+                    let i = 64 * w + j;
+                    let phase = half_chips as u128 * 0x8000_0000 + i as u128 * step as u128;
+                    assert_eq!(rt;
+                        (early[63 - j], prompt[63 - j], late[63 - j]),
+                        (
+                            mask(&mut book, prn, phase + 0x8000_0000),
+                            mask(&mut book, prn, phase),
+                            mask(&mut book, prn, phase + CYCLE - 0x8000_0000)
+                        ),
+                        "at sample {i} from {half_chips} with step {step}"
+                    );
+                }
             }
         }
     }

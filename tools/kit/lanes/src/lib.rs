@@ -1,6 +1,6 @@
 //! Several numbers at once, as far as the sources use them: a stand-in for `std::simd`, which isn't
-//! in the stable std. Most operations are loops over arrays, and rustc makes vectors of these. The
-//! two that it makes no vectors of are in `processor`.
+//! in the stable std. Operations on lanes of bytes are in `processor`. The others are loops over
+//! arrays, and rustc makes vectors of these.
 #![cfg_attr(not(test), no_std)]
 
 mod processor;
@@ -8,7 +8,7 @@ mod processor;
 mod tests;
 
 use core::array::from_fn;
-use core::ops::{Add, BitAnd, Shr, Sub};
+use core::ops::{Add, BitAnd, BitXor, Shr, Sub};
 
 /// `P` times sixteen lanes of a number, where `P` is 1, 2 or 4.
 #[derive(Clone, Copy, Debug)]
@@ -32,9 +32,9 @@ pub type u32x64 = Lanes<u32, 4>;
 #[allow(non_camel_case_types)]
 pub type i32x64 = Lanes<i32, 4>;
 
-/// Yes or no for each of `P` times sixteen lanes.
+/// Yes (255) or no (0) for each of `P` times sixteen lanes.
 #[derive(Clone, Copy, Debug)]
-pub struct Choice<const P: usize>([[bool; 16]; P]);
+pub struct Choice<const P: usize>([[u8; 16]; P]);
 
 /// What each sixteen lanes give. They are written out, since rustc leaves a loop over them as it
 /// is: until it makes vectors of them, its turns look too long.
@@ -52,7 +52,13 @@ fn parts<T: Copy, const P: usize>(part: impl Fn(usize) -> T) -> [T; P] {
     all
 }
 
-impl<T: Copy + PartialOrd, const P: usize> Lanes<T, P> {
+/// The first values of a slice. Panics where it has too few.
+#[inline(always)]
+fn first<T: Copy, const N: usize>(values: &[T]) -> [T; N] {
+    *values.first_chunk().expect("enough values")
+}
+
+impl<T: Copy, const P: usize> Lanes<T, P> {
     /// The same value in each lane.
     #[inline(always)]
     pub fn splat(value: T) -> Self {
@@ -62,14 +68,26 @@ impl<T: Copy + PartialOrd, const P: usize> Lanes<T, P> {
     #[inline(always)]
     pub fn from_array<const N: usize>(values: [T; N]) -> Self {
         const { assert!(N == 16 * P) };
-        Lanes(parts(|p| from_fn(|k| values[16 * p + k])))
+        Self::from_slice(&values)
     }
 
     /// The first values of a slice. Panics where it has too few.
     #[inline(always)]
     pub fn from_slice(values: &[T]) -> Self {
         let values = &values[..16 * P];
-        Lanes(parts(|p| from_fn(|k| values[16 * p + k])))
+        Lanes(parts(|p| first(&values[16 * p..])))
+    }
+
+    /// Writes the lanes to the beginning of a slice. Panics where it is too short.
+    #[inline(always)]
+    pub fn copy_to_slice(self, values: &mut [T]) {
+        values[..16 * P].copy_from_slice(self.0.as_flattened());
+    }
+
+    /// Each lane as by `as`.
+    #[inline(always)]
+    pub fn cast<U: As<T>>(self) -> Lanes<U, P> {
+        Lanes(U::of(self.0))
     }
 
     /// The lanes at these positions, where those of `second` are counted on from the end of `self`.
@@ -85,16 +103,6 @@ impl<T: Copy + PartialOrd, const P: usize> Lanes<T, P> {
         debug_assert!(positions.iter().enumerate().all(|(k, &at)| at == k));
         Lanes(parts(|p| if p < P { self.0[p] } else { second.0[p - P] }))
     }
-
-    #[inline(always)]
-    pub fn simd_gt(self, other: Self) -> Choice<P> {
-        Choice(parts(|p| from_fn(|k| self.0[p][k] > other.0[p][k])))
-    }
-
-    #[inline(always)]
-    pub fn simd_ne(self, other: Self) -> Choice<P> {
-        Choice(parts(|p| from_fn(|k| self.0[p][k] != other.0[p][k])))
-    }
 }
 
 impl<T: Copy> Lanes<T, 1> {
@@ -104,24 +112,76 @@ impl<T: Copy> Lanes<T, 1> {
     }
 }
 
+impl<T: Copy> Lanes<T, 4> {
+    #[inline(always)]
+    pub fn to_array(self) -> [T; 64] {
+        first(self.0.as_flattened())
+    }
+
+    /// `LEN` lanes from lane `START` on. They are 32, and begin with a sixteen; `std::simd` takes
+    /// others too, and no source of this workspace has any.
+    #[inline(always)]
+    pub fn extract<const START: usize, const LEN: usize>(self) -> Lanes<T, 2> {
+        const { assert!(LEN == 32 && START % 16 == 0) };
+        Lanes(parts(|p| self.0[START / 16 + p]))
+    }
+}
+
 impl<const P: usize> Choice<P> {
     /// The lane of `yes` where the choice is yes, and else that of `no`.
     #[inline(always)]
-    pub fn select<T: Copy>(self, yes: Lanes<T, P>, no: Lanes<T, P>) -> Lanes<T, P> {
-        let lane = |p: usize, k: usize| if self.0[p][k] { yes.0[p][k] } else { no.0[p][k] };
-        Lanes(parts(|p| from_fn(|k| lane(p, k))))
+    pub fn select<T: Number>(self, yes: Lanes<T, P>, no: Lanes<T, P>) -> Lanes<T, P> {
+        Lanes(T::select(self.0, yes.0, no.0))
     }
 
     /// Bit k is 1 where lane k is yes.
     #[inline(always)]
     pub fn to_bitmask(self) -> u64 {
-        let bytes = |p: usize| self.0[p].map(|is| if is { 0x80 } else { 0 });
-        let bits: [u64; P] = parts(|p| processor::top_bits(bytes(p)) << (16 * p));
-        bits.iter().fold(0, |all, bits| all | bits)
+        processor::top_bits(self.0)
+    }
+}
+
+/// A number that lanes are chosen of.
+pub trait Number: Copy {
+    /// The lanes of `yes` where a lane of `choice` is 255, and those of `no` where it is 0.
+    #[inline(always)]
+    fn select<const P: usize>(
+        choice: [[u8; 16]; P],
+        yes: [[Self; 16]; P],
+        no: [[Self; 16]; P],
+    ) -> [[Self; 16]; P] {
+        let lane = |p: usize, k: usize| if choice[p][k] != 0 { yes[p][k] } else { no[p][k] };
+        parts(|p| from_fn(|k| lane(p, k)))
+    }
+}
+
+impl Number for u32 {}
+
+impl Number for u8 {
+    #[inline(always)]
+    fn select<const P: usize>(
+        choice: [[u8; 16]; P],
+        yes: [[u8; 16]; P],
+        no: [[u8; 16]; P],
+    ) -> [[u8; 16]; P] {
+        processor::xor(no, processor::and(choice, processor::xor(yes, no)))
+    }
+}
+
+impl<const P: usize> Lanes<i32, P> {
+    #[inline(always)]
+    pub fn simd_gt(self, other: Self) -> Choice<P> {
+        let lane = |p: usize, k: usize| if self.0[p][k] > other.0[p][k] { 255 } else { 0 };
+        Choice(parts(|p| from_fn(|k| lane(p, k))))
     }
 }
 
 impl<const P: usize> Lanes<u8, P> {
+    #[inline(always)]
+    pub fn simd_ne(self, other: Self) -> Choice<P> {
+        Choice(processor::xor(processor::equal(self.0, other.0), [[255; 16]; P]))
+    }
+
     /// Each sixteen lanes by themselves: lane k of them is the lane of theirs in `self` that lane k
     /// of `numbers` names. `K` is 16, and the numbers are below it; `std::simd` takes others too,
     /// and no source of this workspace has any.
@@ -129,7 +189,7 @@ impl<const P: usize> Lanes<u8, P> {
     pub fn swizzle_dyn_within<const K: usize>(self, numbers: Self) -> Self {
         const { assert!(K == 16) };
         debug_assert!(numbers.0.iter().flatten().all(|&number| number < 16));
-        Lanes(parts(|p| processor::look_up(self.0[p], numbers.0[p])))
+        Lanes(processor::look_up(self.0, numbers.0))
     }
 }
 
@@ -141,54 +201,82 @@ impl u8x16 {
     }
 }
 
-impl<const P: usize> Lanes<u32, P> {
-    /// Each lane cut off as by `as`.
+impl<const P: usize> Lanes<u16, P> {
+    /// The sum of all lanes, which wraps.
     #[inline(always)]
-    pub fn cast<T: Cut>(self) -> Lanes<T, P> {
-        Lanes(parts(|p| self.0[p].map(T::cut)))
+    pub fn reduce_sum(self) -> u16 {
+        processor::sum_of_all(self.0)
     }
 }
 
-/// A type that a `u32` can be cut to.
-pub trait Cut: Copy {
-    fn cut(value: u32) -> Self;
+/// A type that values of another become by `as`.
+pub trait As<T>: Copy {
+    fn of<const P: usize>(lanes: [[T; 16]; P]) -> [[Self; 16]; P];
 }
 
-impl Cut for i32 {
+impl As<u8> for u16 {
     #[inline(always)]
-    fn cut(value: u32) -> i32 {
-        value as i32
+    fn of<const P: usize>(lanes: [[u8; 16]; P]) -> [[u16; 16]; P] {
+        parts(|p| processor::widened(lanes[p]))
     }
 }
 
-impl Cut for u8 {
+impl As<u32> for i32 {
     #[inline(always)]
-    fn cut(value: u32) -> u8 {
-        value as u8
+    fn of<const P: usize>(lanes: [[u32; 16]; P]) -> [[i32; 16]; P] {
+        parts(|p| lanes[p].map(|lane| lane as i32))
     }
 }
 
-/// An operator on the lanes of two numbers of a type, by the function of a lane.
-macro_rules! operator {
-    ($($of:ident $name:ident $number:ident $lane:expr;)*) => {
+impl As<u32> for u8 {
+    #[inline(always)]
+    fn of<const P: usize>(lanes: [[u32; 16]; P]) -> [[u8; 16]; P] {
+        parts(|p| lanes[p].map(|lane| lane as u8))
+    }
+}
+
+impl<const P: usize> Add for Lanes<u32, P> {
+    type Output = Self;
+
+    /// Sums wrap.
+    #[inline(always)]
+    fn add(self, other: Self) -> Self {
+        Lanes(parts(|p| from_fn(|k| self.0[p][k].wrapping_add(other.0[p][k]))))
+    }
+}
+
+/// Operators on lanes of bytes. Sums and differences wrap.
+macro_rules! operators {
+    ($($of:ident $name:ident $by:ident;)*) => {
         $(
-            impl<const P: usize> $of for Lanes<$number, P> {
+            impl<const P: usize> $of for Lanes<u8, P> {
                 type Output = Self;
 
                 #[inline(always)]
                 fn $name(self, other: Self) -> Self {
-                    Lanes(parts(|p| from_fn(|k| $lane(self.0[p][k], other.0[p][k]))))
+                    Lanes(processor::$by(self.0, other.0))
                 }
             }
         )*
     };
 }
 
-// Sums and differences wrap. Each byte is shifted by its own number of places, modulo 8.
-operator! {
-    Add add u8 u8::wrapping_add;
-    Add add u32 u32::wrapping_add;
-    Sub sub u8 u8::wrapping_sub;
-    BitAnd bitand u8 |a: u8, b: u8| a & b;
-    Shr shr u8 |a: u8, b: u8| a >> (b % 8);
+operators! {
+    Add add sum;
+    Sub sub difference;
+    BitAnd bitand and;
+    BitXor bitxor xor;
+}
+
+impl<const P: usize> Shr for Lanes<u8, P> {
+    type Output = Self;
+
+    /// Each byte is shifted by as many places, below 8; `std::simd` takes others too, and no source
+    /// of this workspace has any.
+    #[inline(always)]
+    fn shr(self, places: Self) -> Self {
+        let first = places.0[0][0];
+        debug_assert!(first < 8 && places.0.iter().flatten().all(|&number| number == first));
+        Lanes(processor::shifted(self.0, first))
+    }
 }

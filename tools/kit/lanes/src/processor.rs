@@ -1,40 +1,129 @@
-//! The two operations on sixteen bytes that rustc makes no vectors of. On x86-64 each is one
-//! instruction, elsewhere a loop. No other file of the workspace has `unsafe`.
+//! The operations on lanes of bytes. On x86-64 each is an instruction or a few, on 32 bytes where
+//! the build is for processors that have AVX2, and else on sixteen. Of loops rustc makes vectors
+//! last of all, and until then 64 bytes are 64 values to it. Elsewhere they are loops. No other
+//! file of the workspace has `unsafe`.
 #![allow(unsafe_code)]
 
-/// Byte k of the result is the byte of the table that number k names. The numbers are below 16.
+#[cfg(target_arch = "x86_64")]
+use core::arch::x86_64 as arch;
+#[cfg(not(target_arch = "x86_64"))]
+use core::array::from_fn;
+
+/// `P` times sixteen bytes.
+type Bytes<const P: usize> = [[u8; 16]; P];
+
+/// Operations on two bytes in each lane: each with the function of a lane, and with its instruction
+/// on sixteen bytes and on 32.
+macro_rules! operations {
+    ($($name:ident $lane:expr, $sixteen:ident $pair:ident;)*) => {
+        $(
+            #[inline(always)]
+            pub(crate) fn $name<const P: usize>(a: Bytes<P>, b: Bytes<P>) -> Bytes<P> {
+                #[cfg(all(target_arch = "x86_64", target_feature = "avx2"))]
+                if P > 1 {
+                    // SAFETY: the build is for processors that have AVX2.
+                    return x86_64::by_vectors(a, b, |a, b| unsafe { arch::$pair(a, b) });
+                }
+                // SAFETY: every x86-64 has SSE2.
+                #[cfg(target_arch = "x86_64")]
+                return x86_64::by_vectors(a, b, |a, b| unsafe { arch::$sixteen(a, b) });
+                #[cfg(not(target_arch = "x86_64"))]
+                from_fn(|p| from_fn(|k| $lane(a[p][k], b[p][k])))
+            }
+        )*
+    };
+}
+
+// Sums and differences wrap. Equal bytes give 255, and others 0.
+operations! {
+    sum u8::wrapping_add, _mm_add_epi8 _mm256_add_epi8;
+    difference u8::wrapping_sub, _mm_sub_epi8 _mm256_sub_epi8;
+    and |a: u8, b: u8| a & b, _mm_and_si128 _mm256_and_si256;
+    xor |a: u8, b: u8| a ^ b, _mm_xor_si128 _mm256_xor_si256;
+    equal |a: u8, b: u8| if a == b { 255 } else { 0 }, _mm_cmpeq_epi8 _mm256_cmpeq_epi8;
+}
+
+/// The bytes, shifted down by fewer than 8 places.
 #[inline(always)]
-pub(crate) fn look_up(table: [u8; 16], numbers: [u8; 16]) -> [u8; 16] {
+pub(crate) fn shifted<const P: usize>(bytes: Bytes<P>, places: u8) -> Bytes<P> {
+    #[cfg(target_arch = "x86_64")]
+    let shifted = x86_64::shifted_pairs(bytes, places);
+    #[cfg(not(target_arch = "x86_64"))]
+    let shifted = bytes.map(|sixteen| sixteen.map(|byte| byte >> places));
+    and(shifted, [[255 >> places; 16]; P])
+}
+
+/// In each sixteen bytes, byte k of the result is the byte of the table that number k names. The
+/// numbers are below 16.
+#[inline(always)]
+pub(crate) fn look_up<const P: usize>(table: Bytes<P>, numbers: Bytes<P>) -> Bytes<P> {
+    #[cfg(all(target_arch = "x86_64", target_feature = "avx2"))]
+    if P > 1 {
+        // SAFETY: the build is for processors that have AVX2.
+        return x86_64::by_vectors(table, numbers, |table, numbers| unsafe {
+            arch::_mm256_shuffle_epi8(table, numbers)
+        });
+    }
     #[cfg(target_arch = "x86_64")]
     if x86_64::has_look_up() {
         // SAFETY: the processor has SSSE3, as was just asked.
-        return unsafe { x86_64::look_up(table, numbers) };
+        return x86_64::by_vectors(table, numbers, |a, b| unsafe { x86_64::look_up(a, b) });
     }
-    look_up_by_loop(table, numbers)
+    let mut found = table;
+    for p in 0..P {
+        found[p] = look_up_by_loop(table[p], numbers[p]);
+    }
+    found
 }
 
-/// The same as a loop. It stays a call, so that callers on x86-64 stay short.
+/// The same of sixteen bytes as a loop. It stays a call, so that callers on x86-64 stay short.
 #[inline(never)]
 pub(crate) fn look_up_by_loop(table: [u8; 16], numbers: [u8; 16]) -> [u8; 16] {
     numbers.map(|number| table[number as usize % 16])
 }
 
-/// The top bits of sixteen bytes: bit k is that of byte k.
+/// The top bits of the bytes: bit k is that of byte k.
 #[inline(always)]
-pub(crate) fn top_bits(bytes: [u8; 16]) -> u64 {
+pub(crate) fn top_bits<const P: usize>(bytes: Bytes<P>) -> u64 {
     #[cfg(target_arch = "x86_64")]
     return x86_64::top_bits(bytes);
     #[cfg(not(target_arch = "x86_64"))]
-    (0..16).map(|k| (bytes[k] as u64 >> 7) << k).sum()
+    (0..16 * P).map(|k| (bytes[k / 16][k % 16] as u64 >> 7) << k).sum()
+}
+
+/// The bytes as numbers of 16 bits.
+#[inline(always)]
+pub(crate) fn widened(bytes: [u8; 16]) -> [u16; 16] {
+    #[cfg(target_arch = "x86_64")]
+    return x86_64::widened(bytes);
+    #[cfg(not(target_arch = "x86_64"))]
+    bytes.map(u16::from)
+}
+
+/// The sum of numbers, which wraps.
+#[inline(always)]
+pub(crate) fn sum_of_all<const P: usize>(numbers: [[u16; 16]; P]) -> u16 {
+    #[cfg(target_arch = "x86_64")]
+    return x86_64::sum_of_all(numbers);
+    #[cfg(not(target_arch = "x86_64"))]
+    numbers.as_flattened().iter().fold(0, |sum, &number| sum.wrapping_add(number))
 }
 
 #[cfg(target_arch = "x86_64")]
 mod x86_64 {
+    use super::Bytes;
     #[cfg(not(target_feature = "ssse3"))]
     use core::arch::asm;
     #[cfg(target_feature = "ssse3")]
     use core::arch::x86_64::_mm_shuffle_epi8;
-    use core::arch::x86_64::{__cpuid, __m128i, _mm_movemask_epi8};
+    use core::arch::x86_64::{
+        __cpuid, __m128i, _mm_add_epi64, _mm_and_si128, _mm_cvtsi32_si128, _mm_cvtsi128_si32,
+        _mm_movemask_epi8, _mm_packus_epi16, _mm_sad_epu8, _mm_set1_epi16, _mm_setzero_si128,
+        _mm_slli_epi64, _mm_srl_epi16, _mm_srli_epi16, _mm_srli_si128, _mm_unpackhi_epi8,
+        _mm_unpacklo_epi8,
+    };
+    #[cfg(target_feature = "avx2")]
+    use core::arch::x86_64::{__m256i, _mm256_srl_epi16};
     use core::mem::transmute;
     use core::sync::atomic::{AtomicU8, Ordering};
 
@@ -71,35 +160,119 @@ mod x86_64 {
     /// # Safety
     /// The processor has SSSE3.
     #[inline(always)]
-    pub(super) unsafe fn look_up(table: [u8; 16], numbers: [u8; 16]) -> [u8; 16] {
-        let (table, numbers) = (vector(table), vector(numbers));
-        let found: __m128i;
+    pub(super) unsafe fn look_up(table: __m128i, numbers: __m128i) -> __m128i {
         // SAFETY: the caller sees to SSSE3. The instruction touches no memory.
         #[cfg(target_feature = "ssse3")]
         unsafe {
-            found = _mm_shuffle_epi8(table, numbers);
+            _mm_shuffle_epi8(table, numbers)
         }
         // The same instruction by its name: in a build for any processor rustc doesn't inline the
         // function above.
         // SAFETY: the caller sees to SSSE3. The instruction touches no memory, stack or flags.
         #[cfg(not(target_feature = "ssse3"))]
         unsafe {
+            let found: __m128i;
             asm!("pshufb {}, {}", inlateout(xmm_reg) table => found, in(xmm_reg) numbers,
                 options(pure, nomem, nostack, preserves_flags));
+            found
         }
-        // SAFETY: both types have 16 bytes, and any bits are bytes.
-        unsafe { transmute::<__m128i, [u8; 16]>(found) }
+    }
+
+    /// The bytes, shifted down two by two: each gets bits of the one behind it at its top.
+    #[inline(always)]
+    pub(super) fn shifted_pairs<const P: usize>(bytes: Bytes<P>, places: u8) -> Bytes<P> {
+        // SAFETY: every x86-64 has SSE2, and for AVX2 the build has to be for it.
+        unsafe {
+            let places = _mm_cvtsi32_si128(places as i32);
+            #[cfg(target_feature = "avx2")]
+            if P > 1 {
+                return by_vectors(bytes, bytes, |a, _| _mm256_srl_epi16(a, places));
+            }
+            by_vectors(bytes, bytes, |a, _| _mm_srl_epi16(a, places))
+        }
     }
 
     #[inline(always)]
-    pub(super) fn top_bits(bytes: [u8; 16]) -> u64 {
-        // SAFETY: every x86-64 has SSE2. The mask has 16 bits, so it isn't negative.
-        unsafe { _mm_movemask_epi8(vector(bytes)) as u64 }
+    pub(super) fn top_bits<const P: usize>(bytes: Bytes<P>) -> u64 {
+        let part = |p: usize| {
+            // SAFETY: every x86-64 has SSE2. The mask has 16 bits, so it isn't negative.
+            let bits = unsafe { _mm_movemask_epi8(vector(&bytes, p)) };
+            (bits as u64) << (16 * p)
+        };
+        let parts = crate::parts::<u64, P>(part);
+        parts.iter().fold(0, |all, bits| all | bits)
     }
 
     #[inline(always)]
-    fn vector(bytes: [u8; 16]) -> __m128i {
-        // SAFETY: both types have 16 bytes, and any bits are a vector.
-        unsafe { transmute::<[u8; 16], __m128i>(bytes) }
+    pub(super) fn widened(bytes: [u8; 16]) -> [u16; 16] {
+        // SAFETY: every x86-64 has SSE2. Two vectors have the bits of sixteen numbers.
+        unsafe {
+            let (bytes, zero) = (vector(&[bytes], 0), _mm_setzero_si128());
+            transmute([_mm_unpacklo_epi8(bytes, zero), _mm_unpackhi_epi8(bytes, zero)])
+        }
     }
+
+    #[inline(always)]
+    pub(super) fn sum_of_all<const P: usize>(numbers: [[u16; 16]; P]) -> u16 {
+        // There is an instruction that adds up bytes. It takes the low ones of the numbers, and
+        // then the high ones. Where the numbers were bytes before, rustc leaves out the high ones,
+        // and the way there and back.
+        // SAFETY: every x86-64 has SSE2. Two vectors have the bits of sixteen numbers.
+        unsafe {
+            let (zero, all) = (_mm_setzero_si128(), _mm_set1_epi16(255));
+            let (mut low, mut high) = (zero, zero);
+            for sixteen in numbers {
+                let [a, b] = transmute::<[u16; 16], [__m128i; 2]>(sixteen);
+                let bytes = _mm_packus_epi16(_mm_and_si128(a, all), _mm_and_si128(b, all));
+                low = _mm_add_epi64(low, _mm_sad_epu8(bytes, zero));
+                let bytes = _mm_packus_epi16(_mm_srli_epi16::<8>(a), _mm_srli_epi16::<8>(b));
+                high = _mm_add_epi64(high, _mm_sad_epu8(bytes, zero));
+            }
+            let sums = _mm_add_epi64(low, _mm_slli_epi64::<8>(high));
+            let sums = _mm_add_epi64(sums, _mm_srli_si128::<8>(sums));
+            _mm_cvtsi128_si32(sums) as u16
+        }
+    }
+
+    /// What a function makes of the vectors that lie in the bytes: 1, 2 or 4 of them.
+    #[inline(always)]
+    pub(super) fn by_vectors<V: Vector, const P: usize>(
+        a: Bytes<P>,
+        b: Bytes<P>,
+        of: impl Fn(V, V) -> V,
+    ) -> Bytes<P> {
+        let mut all = a;
+        let mut put = |n: usize| {
+            let made = of(vector(&a, n), vector(&b, n));
+            assert!((n + 1) * size_of::<V>() <= 16 * P);
+            // SAFETY: vector n lies within the bytes, as was just seen, and any bits are bytes.
+            unsafe { all.as_mut_ptr().cast::<V>().add(n).write_unaligned(made) };
+        };
+        let many = 16 * P / size_of::<V>();
+        put(0);
+        if many > 1 {
+            put(1);
+        }
+        if many > 2 {
+            put(2);
+            put(3);
+        }
+        all
+    }
+
+    /// Vector number n of those that lie in the bytes.
+    #[inline(always)]
+    fn vector<V: Vector, const P: usize>(bytes: &Bytes<P>, n: usize) -> V {
+        assert!((n + 1) * size_of::<V>() <= 16 * P);
+        // SAFETY: the vector lies within the bytes, as was just seen, and any bits are one.
+        unsafe { bytes.as_ptr().cast::<V>().add(n).read_unaligned() }
+    }
+
+    /// A vector of 16 or 32 bytes, which any bits are.
+    pub(super) trait Vector: Copy {}
+
+    impl Vector for __m128i {}
+
+    #[cfg(target_feature = "avx2")]
+    impl Vector for __m256i {}
 }

@@ -1,6 +1,6 @@
 //! Each operation against the same one on single numbers, lane by lane.
 
-use crate::{i32x64, processor, u8x16, u8x32, u8x64, u32x16, u32x64};
+use crate::{Lanes, i32x64, processor, u8x16, u8x32, u8x64, u32x16, u32x64};
 use core::array::from_fn;
 
 /// Calls a check with 100,000 pairs of 64 pseudorandom bytes.
@@ -17,18 +17,13 @@ fn over_bytes(mut check: impl FnMut([u8; 64], [u8; 64])) {
     }
 }
 
-/// The lanes as they stand.
-fn lanes(wide: u8x64) -> [u8; 64] {
-    from_fn(|k| wide.0[k / 16][k % 16])
-}
-
 #[test]
 fn look_ups() {
     over_bytes(|a, b| {
         let numbers = b.map(|number| number % 16);
         let want: [u8; 64] = from_fn(|k| a[k / 16 * 16 + numbers[k] as usize]);
         let wide = u8x64::from_array(a).swizzle_dyn_within::<16>(u8x64::from_array(numbers));
-        assert_eq!(lanes(wide), want);
+        assert_eq!(wide.to_array(), want);
         let sixteen: [u8; 16] = from_fn(|k| numbers[k]);
         let got = u8x16::from_slice(&a).swizzle_dyn(u8x16::from_array(sixteen));
         assert_eq!(got.to_array(), want[..16]);
@@ -44,7 +39,22 @@ fn side_by_side() {
         let low: u8x32 = part(0).shuffle(part(1), from_fn::<_, 32, _>(|k| k));
         let high: u8x32 = part(2).shuffle(part(3), from_fn::<_, 32, _>(|k| k));
         let wide: u8x64 = low.shuffle(high, from_fn::<_, 64, _>(|k| k));
-        assert_eq!(lanes(wide), a);
+        assert_eq!(wide.to_array(), a);
+    });
+}
+
+#[test]
+fn parts_and_slices() {
+    over_bytes(|a, b| {
+        let (x, y) = (u8x64::from_array(a), u8x64::from_array(b));
+        let (low, high) = (x.extract::<0, 32>(), y.extract::<32, 32>());
+        let whole: u8x64 = low.shuffle(high, from_fn::<_, 64, _>(|k| k));
+        let want = from_fn(|k| if k < 32 { a[k] } else { b[k] });
+        assert_eq!(whole.to_array(), want);
+        let mut some = b;
+        u8x16::from_slice(&a[5..]).copy_to_slice(&mut some[9..]);
+        let want = from_fn(|k| if (9..25).contains(&k) { a[k - 4] } else { b[k] });
+        assert_eq!(some, want);
     });
 }
 
@@ -53,12 +63,15 @@ fn choices() {
     over_bytes(|a, b| {
         let bits = |is: &dyn Fn(usize) -> bool| (0..64).map(|k| (is(k) as u64) << k).sum::<u64>();
         let (x, y) = (u8x64::from_array(a), u8x64::from_array(b));
-        assert_eq!(x.simd_gt(y).to_bitmask(), bits(&|k| a[k] > b[k]));
+        assert_eq!(x.simd_ne(y).to_bitmask(), bits(&|k| a[k] != b[k]));
         let (few, other) = (x & u8x64::splat(1), y & u8x64::splat(1));
         let differ = bits(&|k| (a[k] ^ b[k]) % 2 == 1);
         assert_eq!(few.simd_ne(other).to_bitmask(), differ);
-        let top = processor::top_bits(from_fn(|k| a[k]));
-        assert_eq!(top, bits(&|k| a[k] > 127) & 0xffff);
+        let chosen = few.simd_ne(other).select(y, x);
+        assert_eq!(chosen.to_array(), from_fn(|k| if differ >> k & 1 == 1 { b[k] } else { a[k] }));
+        let sixteen = u8x16::from_slice(&a).simd_ne(u8x16::splat(b[0]));
+        assert_eq!(sixteen.to_bitmask(), bits(&|k| k < 16 && a[k] != b[0]));
+        assert_eq!(processor::top_bits(x.0), bits(&|k| a[k] > 127));
     });
 }
 
@@ -67,12 +80,19 @@ fn sums_and_shifts() {
     over_bytes(|a, b| {
         let (x, y) = (u8x64::from_array(a), u8x64::from_array(b));
         let sums = from_fn(|k| (a[k] as u32 + b[k] as u32) as u8);
-        assert_eq!(lanes(x + y), sums);
+        assert_eq!((x + y).to_array(), sums);
         let differences = from_fn(|k| (256 + a[k] as u32 - b[k] as u32) as u8);
-        assert_eq!(lanes(x - y), differences);
+        assert_eq!((x - y).to_array(), differences);
+        assert_eq!((x ^ y).to_array(), from_fn(|k| a[k] ^ b[k]));
+        let sum: u32 = a[16..48].iter().map(|&byte| byte as u32).sum();
+        let half = x.extract::<16, 32>().cast::<u16>();
+        assert_eq!(half.reduce_sum() as u32, sum);
+        let long = |k: usize| a[k] as u16 * 256 + b[k] as u16;
+        let sum = (0..32).map(long).fold(0, u16::wrapping_add);
+        assert_eq!(Lanes::<u16, 2>::from_array::<32>(from_fn(long)).reduce_sum(), sum);
         let places = b[0] % 8;
         let halves = a.map(|byte| byte / (1 << places));
-        assert_eq!(lanes(x >> u8x64::splat(places)), halves);
+        assert_eq!((x >> u8x64::splat(places)).to_array(), halves);
     });
 }
 
@@ -85,7 +105,7 @@ fn words() {
         let is_below = i32x64::splat(limit).simd_gt(words.cast::<i32>());
         let chosen = is_below.select(words, u32x64::splat(7)).cast::<u8>();
         let want = from_fn(|k| if (wide(k) as i32) < limit { a[k] } else { 7 });
-        assert_eq!(lanes(chosen), want);
+        assert_eq!(chosen.to_array(), want);
         let sums = u32x16::from_array::<16>(from_fn(wide)) + u32x16::splat(limit as u32);
         let want: [u32; 16] = from_fn(|k| (wide(k) as u64 + limit as u32 as u64) as u32);
         assert_eq!(sums.to_array(), want);

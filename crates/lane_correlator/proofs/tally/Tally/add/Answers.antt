@@ -1,28 +1,76 @@
-use Rattle.std.proofs.Common.{refl, arith}
-use Rattle.lane_correlator.proofs.TallyLemmas.{less_added}
+use Rattle.std.proofs.Common.{◌+◌, ◌∙◌, ap, arith}
+use Rattle.definitions.specs.Correlation.{Counts, sum_of_counts}
+use Rattle.lane_correlator.specs.Chips.{lanes_in}
+use Rattle.lane_correlator.specs.Counting.{counts_in}
+use Rattle.lane_correlator.proofs.SumLemmas.{sums_fit, more_within, added_within}
+use Rattle.lane_correlator.proofs.TallyLemmas.{AreAllAdded, all_added, sums_added}
+use Rattle.lane_correlator.proofs.TallyLemmas.{emptied_into}
 use Rattle.lane_correlator.proofs.tally.Tally.add.Goals as goal
+use Rattle.lane_correlator.proofs.tally.Tally.add.Goals.{After-result-1}
+use Rattle.lane_correlator.proofs.tally.Tally.add.Goals.{After-none-else-has_room-2}
 
-pub returns-clause-sums : goal.returns-clause-sums
-returns-clause-sums c =
-    let s = c.args.self.now in
-    let o = c.args.other.now in
-    rw (
-      less_added s.all_i s.ie o.all_i o.ie,
-      less_added s.all_q s.qe o.all_q o.qe,
-      less_added s.all_i s.ip o.all_i o.ip,
-      less_added s.all_q s.qp o.all_q o.qp,
-      less_added s.all_i s.il o.all_i o.il,
-      less_added s.all_q s.ql o.all_q o.ql,
-    ) refl
+pub add-counts-requires : goal.add-counts-requires
+add-counts-requires c = sums_fit 1000000 4096 (counts_in c.args.self.counts)
+    (counts_in c.counts_of.result) c.requires.few c.counts_of.ensures.small (omega arith)
 
-pub returns-clause-few : goal.returns-clause-few
-returns-clause-few c m n these those = record {
-  all_i = omega (arith, these.all_i, those.all_i);
-  all_q = omega (arith, these.all_q, those.all_q);
-  ie = omega (arith, these.ie, those.ie);
-  qe = omega (arith, these.qe, those.qe);
-  ip = omega (arith, these.ip, those.ip);
-  qp = omega (arith, these.qp, those.qp);
-  il = omega (arith, these.il, those.il);
-  ql = omega (arith, these.ql, those.ql);
+-- the word is added to all lanes
+added : (c : After-result-1) → AreAllAdded c.args.most c.args.self c.args.wiped c.args.chips
+    c.add-early.result c.add-prompt.result c.add-late.result
+added c = all_added c.args.most c.args.self c.args.wiped c.args.chips c.add-early.result
+    c.add-prompt.result c.add-late.result c.requires.room c.requires.in_phase c.requires.quadrature
+    c.requires.masks c.add-early.ensures c.add-prompt.ensures c.add-late.ensures
+
+added-before : (c : After-none-else-has_room-2)
+    → AreAllAdded c.args.most c.args.self c.args.wiped c.args.chips c.add-early.result
+    c.add-prompt.result
+    c.add-late.result
+added-before c = all_added c.args.most c.args.self c.args.wiped c.args.chips c.add-early.result
+    c.add-prompt.result c.add-late.result c.requires.room c.requires.in_phase c.requires.quadrature
+    c.requires.masks c.add-early.ensures c.add-prompt.ensures c.add-late.ensures
+
+pub returns-then-has_room-clause-sums : goal.returns-then-has_room-clause-sums
+returns-then-has_room-clause-sums c = sums_added c.args.most c.args.self c.args.wiped c.args.chips
+    c.add-early.result c.add-prompt.result c.add-late.result (counts_in c.args.self.counts)
+    (added c)
+
+pub returns-else-has_room-clause-sums : goal.returns-else-has_room-clause-sums
+returns-else-has_room-clause-sums c =
+    let before : Counts = counts_in c.args.self.counts in
+    let lanes : Counts = lanes_in c.add-early.result c.add-prompt.result c.add-late.result in
+    emptied_into before lanes (counts_in c.add-counts.result) _ c.none.result
+    c.none-else-has_room.result c.none-else-has_room-2.result
+    c.none.ensures.in_phase c.none.ensures.quadrature
+    c.none-else-has_room.ensures.in_phase
+    c.none-else-has_room.ensures.quadrature
+    c.none-else-has_room-2.ensures.in_phase
+    c.none-else-has_room-2.ensures.quadrature
+    (c.add-counts.ensures ∙ ap (sum_of_counts before) c.counts_of.ensures.sums)
+    (sums_added c.args.most c.args.self c.args.wiped c.args.chips c.add-early.result
+    c.add-prompt.result
+    c.add-late.result before (added-before c))
+
+pub returns-then-has_room-clause-few : goal.returns-then-has_room-clause-few
+returns-then-has_room-clause-few c n within = more_within n (n + 4096)
+    (counts_in c.args.self.counts) (omega arith) within
+
+pub returns-else-has_room-clause-few : goal.returns-else-has_room-clause-few
+returns-else-has_room-clause-few c n within =
+    rw c.add-counts.ensures (added_within n 4096 (n + 4096) (counts_in c.args.self.counts)
+    (counts_in c.counts_of.result) within c.counts_of.ensures.small (omega arith))
+
+pub returns-then-has_room-clause-room
+    : goal.returns-then-has_room-clause-room
+returns-then-has_room-clause-room c = record {
+  filled = c.if-has_room.true;
+  early = (added c).early.low;
+  prompt = (added c).prompt.low;
+  late = (added c).late.low;
+}
+
+pub returns-else-has_room-clause-room : goal.returns-else-has_room-clause-room
+returns-else-has_room-clause-room c = record {
+  filled = omega (arith, c.requires.most);
+  early = c.none.ensures.low;
+  prompt = c.none-else-has_room.ensures.low;
+  late = c.none-else-has_room-2.ensures.low;
 }

@@ -1,15 +1,11 @@
 use Rattle.std.proofs.Common.{◌≡◌, ◌*◌, ◌+◌, ◌-◌, ◌<◌, ◌/◌, ◌%◌, ◌^◌, ℕ, get_or, refl, ap, ◌∙◌}
 use Rattle.std.proofs.Common.{arith, rules}
-use Rattle.std.proofs.Math.Path.{ap₂}
-use Rattle.std.specs.Int.{bit_at}
-use Rattle.std.proofs.lemmas.Nat.Bits.{bit_at_xor}
 use Rattle.oscillators.specs.Views.{Oscillation}
-use Rattle.oscillators.specs.CarrierWords.{eighth_after}
-use Rattle.oscillators.proofs.PlaneLemmas.{carrier_turned, half_bit, quarter_bit, eighth_bit}
+use Rattle.oscillators.proofs.PlaneLemmas.{carrier_turned, eighth_of_lane}
 use Rattle.oscillators.proofs.carrier.CarrierOsc.next_eighths.Goals as goal
 
-pub returns-clause-word : goal.returns-clause-word
-returns-clause-word c =
+pub returns-clause-eighths : goal.returns-clause-eighths
+returns-clause-eighths c =
     let phase : ℕ = c.args.self.now.phase in
     let step : ℕ = c.args.self.now.step in
     let phase_is : c.self.inside.phase ≡ phase = ap (λ (v : Oscillation). v.phase) c.self.view_is in
@@ -21,27 +17,9 @@ returns-clause-word c =
     c.cells-eighths.ensures.cells c.self.inside.step short c.self.invariant (63 - j) (omega arith)
     ∙ rw (place, phase_is, step_is) refl
     in
-    let half : (j : ℕ) → j < 64 → bit_at c.bit_of_each-half.result (63 - j)
-    ≡ bit_at (eighth_after phase step j) 2 = λ j h.
-    c.bit_of_each-half.ensures (63 - j) (omega arith)
-    ∙ ap (λ (n : ℕ). bit_at n 2) (lane j h) ∙ half_bit (phase + j * step)
-    in
-    let quarter : (j : ℕ) → j < 64 → bit_at c.bit_of_each-quarter.result (63 - j)
-    ≡ bit_at (eighth_after phase step j) 1 = λ j h.
-    c.bit_of_each-quarter.ensures (63 - j) (omega arith)
-    ∙ ap (λ (n : ℕ). bit_at n 1) (lane j h) ∙ quarter_bit (phase + j * step)
-    in
-    let eighth : (j : ℕ) → j < 64 → bit_at c.bit_of_each-eighth.result (63 - j)
-    ≡ bit_at (eighth_after phase step j) 0 = λ j h.
-    c.bit_of_each-eighth.ensures (63 - j) (omega arith)
-    ∙ ap (λ (n : ℕ). bit_at n 0) (lane j h) ∙ eighth_bit (phase + j * step)
-    in
     record {
-      cos_sign = λ j h. bit_at_xor c.bit_of_each-half.result c.bit_of_each-quarter.result (63 - j)
-          ∙ ap₂ (λ (a b : ℕ). (a + b) % 2) (half j h) (quarter j h);
-      sin_sign = half;
-      sin_size = λ j h. bit_at_xor c.bit_of_each-quarter.result c.bit_of_each-eighth.result (63 - j)
-          ∙ ap₂ (λ (a b : ℕ). (a + b) % 2) (quarter j h) (eighth j h);
+      long = c.cells-eighths.ensures.long;
+      eighths = λ j h. ap (λ (n : ℕ). n % 8) (lane j h) ∙ eighth_of_lane (phase + j * step);
     }
 
 pub returns-clause-moved : goal.returns-clause-moved

@@ -1,106 +1,20 @@
-use Rattle.std.proofs.Common.{◌≡◌, ◌*◌, ◌+◌, ◌-◌, ◌<◌, ◌^◌, ◌/◌, ◌%◌, ℕ, get_or, ap, ◌∙◌}
-use Rattle.std.proofs.Common.{arith, rules, ◌∷◌, []}
-use Rattle.std.proofs.Math.Path.{ap₂}
+use Rattle.std.proofs.Common.{ℕ, ◌∙◌, ◌-◌, ap, arith}
 use Rattle.std.specs.Int.{bit_at}
-use Rattle.std.proofs.lemmas.Nat.Bits.{bit_at-lt}
-use Rattle.definitions.specs.Codes.{chip}
-use Rattle.definitions.specs.Oscillators.{code_phase_after}
-use Rattle.oscillators.specs.Views.{Oscillation}
-use Rattle.oscillators.proofs.PlaneLemmas.{chosen, prompt_between}
-use Rattle.oscillators.proofs.ChipLaneLemmas.{way, way_to_first, way_is_short, way_from_first}
-use Rattle.oscillators.proofs.ChipLaneLemmas.{first_not_after, number_of_lane, number_below, firsts}
-use Rattle.oscillators.proofs.ChipLaneLemmas.{chip_found, chip_before_found, half_found}
+use Rattle.ca_codes.proofs.BookLemmas.{chip_below_two}
+use Rattle.oscillators.proofs.ChipLaneLemmas.{top_of_mask}
 use Rattle.oscillators.proofs.code.CodeOsc.next_chips.Goals as goal
-
-pub look_up-chips-requires-clause-below : goal.look_up-chips-requires-clause-below
-look_up-chips-requires-clause-below c k h =
-    let step : ℕ = c.self.inside.step in
-    let short : step < 2 ^ 32 = search (rules, c.self.ranges) in
-    let part : ℕ = c.in_cycle-ahead.result % 4294967296 in
-    let number : get_or c.above_last_of_sixteen.result k 0
-    ≡ (part + way step k) / 4294967296 - (part + way_to_first step k) / 4294967296 =
-    number_of_lane part step c.cells-half_chips.result c.halves.result
-    c.above_last_of_sixteen.result (omega arith) short
-    (c.cells-half_chips.ensures.cells step short c.self.invariant.1) c.halves.ensures.halves
-    c.above_last_of_sixteen.ensures.lanes k h in
-    rw number (number_below part (way_to_first step k) (way step k) (first_not_after step k h)
-    (way_from_first step k h short))
 
 pub returns-clause-word : goal.returns-clause-word
 returns-clause-word c =
-    let prn : ℕ = c.args.prn in
-    let phase : ℕ = c.args.self.now.phase in
-    let step : ℕ = c.args.self.now.step in
-    let phase_is : c.self.inside.phase ≡ phase = ap (λ (v : Oscillation). v.phase) c.self.view_is in
-    let step_is : c.self.inside.step ≡ step = ap (λ (v : Oscillation). v.step) c.self.view_is in
-    let inside : c.self.inside.step < 2 ^ 32 = search (rules, c.self.ranges) in
-    let short : step < 2 ^ 32 = rw step_is at inside in
-    let ahead : ℕ = c.in_cycle-ahead.result in
-    let ahead_is : ahead ≡ (phase + 2 ^ 31) % (1023 * 2 ^ 32) = rw phase_is at
-    c.in_cycle-ahead.ensures in
-    let part : ℕ = ahead % 4294967296 in
-    let half : (k : ℕ) → k < 64 → get_or c.cells-half_chips.result k 0
-    ≡ (part + way step k) / 2147483648 % 256 = rw step_is at
-    (c.cells-half_chips.ensures.cells c.self.inside.step inside c.self.invariant.1) in
-    let number : (k : ℕ) → k < 64 → get_or c.above_last_of_sixteen.result k 0
-    ≡ (part + way step k) / 4294967296 - (part + way_to_first step k) / 4294967296 =
-    number_of_lane part step c.cells-half_chips.result c.halves.result
-    c.above_last_of_sixteen.result (omega arith) short half c.halves.ensures.halves
-    c.above_last_of_sixteen.ensures.lanes in
-    let first : (k : ℕ) → k < 64 → get_or (c.chip_number.result ∷ c.chip_number-2.result
-    ∷ c.chip_number-3.result ∷ c.chip_number-4.result ∷ []) (k / 16) 0
-    ≡ (ahead + way_to_first step k) / 2 ^ 32 = λ k h.
-    firsts ahead step _ _ _ _ (k / 16) (omega arith) (rw step_is at c.chip_number.ensures)
-    (rw step_is at c.chip_number-2.ensures) (rw step_is at c.chip_number-3.ensures)
-    c.chip_number-4.ensures
-    in
-    let early : (j : ℕ) → j < 64 → bit_at c.bit_of_each-early.result (63 - j)
-    ≡ chip prn (code_phase_after (phase + 2 ^ 31) step j / 2 ^ 32) = λ j h.
-    let k : ℕ = 63 - j in
-    let below : k < 64 = omega arith in
-    let place : 63 - k ≡ j = omega arith in
-    c.bit_of_each-early.ensures k below
-    ∙ c.look_up-chips.ensures.chips prn c.table.ensures k below
-    ∙ ap (chip prn) (ap₂ (λ (a b : ℕ). a + b) (first k below) (number k below))
-    ∙ chip_found prn (phase + 2 ^ 31) ahead (way_to_first step k) (way step k) ahead_is
-    (first_not_after step k below) (way_is_short step k short)
-    ∙ ap (λ (n : ℕ). chip prn (code_phase_after (phase + 2 ^ 31) step n / 2 ^ 32)) place
-    in
-    let late : (j : ℕ) → j < 64 → bit_at c.bit_of_each-late.result (63 - j)
-    ≡ chip prn (code_phase_after (phase + 2 ^ 31) step j / 2 ^ 32 + 1022) = λ j h.
-    let k : ℕ = 63 - j in
-    let below : k < 64 = omega arith in
-    let place : 63 - k ≡ j = omega arith in
-    c.bit_of_each-late.ensures k below
-    ∙ c.look_up-chips.ensures.before prn c.table.ensures k below
-    ∙ ap (λ (n : ℕ). chip prn (n + 1022))
-    (ap₂ (λ (a b : ℕ). a + b) (first k below) (number k below))
-    ∙ chip_before_found prn (phase + 2 ^ 31) ahead (way_to_first step k) (way step k) ahead_is
-    (first_not_after step k below) (way_is_short step k short)
-    ∙ ap (λ (n : ℕ). chip prn (code_phase_after (phase + 2 ^ 31) step n / 2 ^ 32 + 1022)) place
-    in
-    let second : (j : ℕ) → j < 64 → bit_at c.bit_of_each-second_half.result (63 - j)
-    ≡ code_phase_after (phase + 2 ^ 31) step j % 2 ^ 32 / 2 ^ 31 = λ j h.
-    let k : ℕ = 63 - j in
-    let below : k < 64 = omega arith in
-    let place : 63 - k ≡ j = omega arith in
-    c.bit_of_each-second_half.ensures k below ∙ ap (λ (n : ℕ). bit_at n 0) (half k below)
-    ∙ half_found (phase + 2 ^ 31) ahead (way step k) ahead_is (way_is_short step k short)
-    ∙ ap (λ (n : ℕ). code_phase_after (phase + 2 ^ 31) step n % 2 ^ 32 / 2 ^ 31) place
-    in
+    let masks = c.next_masks-masks.ensures.masks in
     record {
-      early = early;
-      prompt = λ j h.
-          chosen c.bit_of_each-early.result c.bit_of_each-late.result
-          c.bit_of_each-second_half.result (63 - j)
-          ∙ prompt_between prn phase step j _ _ _ (bit_at-lt c.bit_of_each-early.result (63 - j))
-          (bit_at-lt c.bit_of_each-late.result (63 - j))
-          (bit_at-lt c.bit_of_each-second_half.result (63 - j)) (early j h) (late j h) (second j h);
-      late = late;
+      early = λ j h. c.bit_of_each.ensures (63 - j) (omega arith)
+          ∙ ap (λ (n : ℕ). bit_at n 7) (masks.early j h)
+          ∙ top_of_mask _ (chip_below_two c.args.prn _);
+      prompt = λ j h. c.bit_of_each-2.ensures (63 - j) (omega arith)
+          ∙ ap (λ (n : ℕ). bit_at n 7) (masks.prompt j h)
+          ∙ top_of_mask _ (chip_below_two c.args.prn _);
+      late = λ j h. c.bit_of_each-3.ensures (63 - j) (omega arith)
+          ∙ ap (λ (n : ℕ). bit_at n 7) (masks.late j h)
+          ∙ top_of_mask _ (chip_below_two c.args.prn _);
     }
-
-pub returns-clause-moved : goal.returns-clause-moved
-returns-clause-moved c =
-    let i = c.self.inside in
-    let at : ℕ → Oscillation = λ p. record { phase = p; step = i.step } in
-    rw (← c.self.view_is) (ap at c.in_cycle-self-inside.ensures)

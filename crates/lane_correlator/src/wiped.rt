@@ -1,0 +1,200 @@
+//! 64 samples with their carrier taken off, in lanes of bytes.
+
+ghost use Rattle.std.specs.Prelude.{◌≡◌, ◌+◌, ◌*◌, ◌<◌, ◌≤◌, ◌/◌, ◌%◌, ℕ, length};
+ghost use Rattle.std.specs.Prelude.{slice_index, bit_xor, unsigned_abs, pos, ◌-ℤ◌};
+ghost use Rattle.std.specs.Prelude.{List, IfSome, IfNone};
+ghost use Rattle.definitions.specs.Samples.{Sample};
+ghost use Rattle.sample_planes.specs.Signs.{AreReal};
+ghost use Rattle.sample_planes.specs.Codes.{AreCodes, AreQuadratureCodes};
+ghost use Rattle.bit_planes.specs.declared.plane.TheConstants.{WORD_PLACES};
+ghost use Rattle.bit_planes.specs.ByteLanes.{place_in};
+ghost use Rattle.lane_correlator.specs.Bytes.{AreNibbles, AreFound, cosine_times, sine_times};
+ghost use Rattle.lane_correlator.specs.Bytes.{signed_byte};
+
+use bit_planes::WORD_PLACES;
+use std::simd::prelude::*;
+
+/// The greatest size of the product of a sample and a carrier, in phase or in quadrature: each part
+/// of a sample is at most 3 in size, and of the two carriers one is 1 in size and the other 2.
+pub const MOST_PRODUCT: u32 = 9;
+
+/// Products of the cosine with the sizes of samples, modulo 256: that of each eighth of a cycle,
+/// and then three times that of each. They stand there once for each sixteen lanes.
+const COSINES: [u8; WORD_PLACES] = [
+    2, 1, 255, 254, 254, 255, 1, 2, 6, 3, 253, 250, 250, 253, 3, 6, 2, 1, 255, 254, 254, 255, 1, 2,
+    6, 3, 253, 250, 250, 253, 3, 6, 2, 1, 255, 254, 254, 255, 1, 2, 6, 3, 253, 250, 250, 253, 3, 6,
+    2, 1, 255, 254, 254, 255, 1, 2, 6, 3, 253, 250, 250, 253, 3, 6,
+];
+
+/// Those of the sine.
+const SINES: [u8; WORD_PLACES] = [
+    1, 2, 2, 1, 255, 254, 254, 255, 3, 6, 6, 3, 253, 250, 250, 253, 1, 2, 2, 1, 255, 254, 254, 255,
+    3, 6, 6, 3, 253, 250, 250, 253, 1, 2, 2, 1, 255, 254, 254, 255, 3, 6, 6, 3, 253, 250, 250, 253,
+    1, 2, 2, 1, 255, 254, 254, 255, 3, 6, 6, 3, 253, 250, 250, 253,
+];
+
+/// Those of minus the sine.
+const MINUS_SINES: [u8; WORD_PLACES] = [
+    255, 254, 254, 255, 1, 2, 2, 1, 253, 250, 250, 253, 3, 6, 6, 3, 255, 254, 254, 255, 1, 2, 2, 1,
+    253, 250, 250, 253, 3, 6, 6, 3, 255, 254, 254, 255, 1, 2, 2, 1, 253, 250, 250, 253, 3, 6, 6, 3,
+    255, 254, 254, 255, 1, 2, 2, 1, 253, 250, 250, 253, 3, 6, 6, 3,
+];
+
+/// Masks of places from one on. From entry n on stand those of the lanes of places n to 63.
+const FROM_PLACE: [u8; 2 * WORD_PLACES] = [
+    255, 255, 255, 255, 255, 255, 255, 255, 255, 255, 255, 255, 255, 255, 255, 255, 255, 255, 255,
+    255, 255, 255, 255, 255, 255, 255, 255, 255, 255, 255, 255, 255, 255, 255, 255, 255, 255, 255,
+    255, 255, 255, 255, 255, 255, 255, 255, 255, 255, 255, 255, 255, 255, 255, 255, 255, 255, 255,
+    255, 255, 255, 255, 255, 255, 255, 0, 0, 0, 0, 0, 0, 0, 0, 0, 0, 0, 0, 0, 0, 0, 0, 0, 0, 0, 0,
+    0, 0, 0, 0, 0, 0, 0, 0, 0, 0, 0, 0, 0, 0, 0, 0, 0, 0, 0, 0, 0, 0, 0, 0, 0, 0, 0, 0, 0, 0, 0, 0,
+    0, 0, 0, 0, 0, 0, 0, 0, 0, 0, 0, 0,
+];
+
+/// 64 samples times the conjugate of a carrier: numbers from -9 to 9, modulo 256. Lane k stands for
+/// sample 63 - k.
+#[derive(Clone, Copy, Debug)]
+pub(crate) struct Wiped {
+    /// Their parts in phase.
+    pub(crate) i: u8x64,
+    /// Their parts in quadrature.
+    pub(crate) q: u8x64,
+}
+
+impl Wiped {
+    ghost use Rattle.lane_correlator.specs.ByteSums.{IsWiped, HasLanes};
+    ghost use Rattle.lane_correlator.specs.Bytes.{IsWithin};
+
+    /// Samples times the conjugate of a carrier, by the codes of their parts and the eighths of a
+    /// cycle that the carrier lies in, whose numbers count modulo 8. Real samples have no codes in
+    /// quadrature.
+    #[inline(always)]
+    pub(crate) fn new(eighths: u8x64, codes: u8x64, codes_q: Option<[u8; WORD_PLACES]>) -> Wiped
+        requires eighths { length eighths ≡ WORD_PLACES }
+        requires codes { AreNibbles codes }
+        requires codes_q { IfSome codes_q AreNibbles }
+        ensures long { HasLanes result }
+        ensures wiped { (xs : List Sample) (w : ℕ) → AreCodes xs w codes
+            → IfSome codes_q (AreQuadratureCodes xs w) → IfNone codes_q (AreReal xs)
+            → IsWiped xs w eighths result }
+    {
+        let at = turned(eighths, codes);
+        let i = cosine_times(at);
+        let q = minus_sine_times(at);
+        match codes_q {
+            None => Wiped { i, q },
+            Some(codes) => {
+                let at = turned(eighths, u8x64::from_array(codes));
+                Wiped {
+                    i: i + sine_times(at),
+                    q: q + cosine_times(at),
+                }
+            }
+        }
+    }
+
+    /// Those at places `first` to `end` - 1, and 0 at the others.
+    #[inline(always)]
+    pub(crate) fn within(self, first: usize, end: usize) -> Wiped
+        requires long { HasLanes self }
+        requires ordered { first ≤ end }
+        requires end { end ≤ WORD_PLACES }
+        ensures long { HasLanes result }
+        ensures in_phase { IsWithin first end self.i result.i }
+        ensures quadrature { IsWithin first end self.q result.q }
+    {
+        if first == 0 && end == WORD_PLACES {
+            return self;
+        }
+        let inside = mask_of_places(first, end);
+        Wiped {
+            i: self.i & inside,
+            q: self.q & inside,
+        }
+    }
+}
+
+/// Eighths of a cycle, turned by half a cycle where a sample is below 0, with the size of the
+/// sample above them.
+fn turned(eighths: u8x64, codes: u8x64) -> u8x64
+    requires eighths { length eighths ≡ WORD_PLACES }
+    requires codes { AreNibbles codes }
+    ensures few { AreNibbles result }
+    ensures turned { (k : ℕ) → k < WORD_PLACES → slice_index result k
+        ≡ bit_xor (slice_index eighths k % 8) (slice_index codes k) }
+{
+    (eighths & u8x64::splat(7)) ^ codes
+}
+
+/// Cosines times the sizes of samples.
+#[inline(always)]
+fn cosine_times(at: u8x64) -> u8x64
+    requires { AreNibbles at }
+    ensures long { length result ≡ WORD_PLACES }
+    ensures found { AreFound cosine_times at result }
+    ensures small { (k : ℕ) → k < WORD_PLACES
+        → unsigned_abs (signed_byte (slice_index result k)) ≤ 6 }
+{
+    products(u8x64::from_array(COSINES), at)
+}
+
+/// Sines times the sizes of samples.
+#[inline(always)]
+fn sine_times(at: u8x64) -> u8x64
+    requires { AreNibbles at }
+    ensures long { length result ≡ WORD_PLACES }
+    ensures found { AreFound sine_times at result }
+    ensures small { (k : ℕ) → k < WORD_PLACES
+        → unsigned_abs (signed_byte (slice_index result k)) ≤ 6 }
+{
+    products(u8x64::from_array(SINES), at)
+}
+
+/// Minus the sines times the sizes of samples.
+#[inline(always)]
+fn minus_sine_times(at: u8x64) -> u8x64
+    requires { AreNibbles at }
+    ensures long { length result ≡ WORD_PLACES }
+    ensures found { AreFound (λ n. pos 0 -ℤ sine_times n) at result }
+    ensures small { (k : ℕ) → k < WORD_PLACES
+        → unsigned_abs (signed_byte (slice_index result k)) ≤ 6 }
+{
+    products(u8x64::from_array(MINUS_SINES), at)
+}
+
+/// Bytes of a table that stands four times, by their lanes' numbers.
+fn products(table: u8x64, at: u8x64) -> u8x64
+    requires table { length table ≡ WORD_PLACES }
+    requires at { length at ≡ WORD_PLACES }
+    requires below { (k : ℕ) → k < WORD_PLACES → slice_index at k < 16 }
+    ensures long { length result ≡ WORD_PLACES }
+    ensures found { (k : ℕ) → k < WORD_PLACES
+        → slice_index result k ≡ slice_index table (16 * (k / 16) + slice_index at k) }
+{
+    table.swizzle_dyn_within::<16>(at)
+}
+
+/// 255 in the lanes of places `first` to `end` - 1, and 0 in the others.
+#[inline(always)]
+fn mask_of_places(first: usize, end: usize) -> u8x64
+    requires ordered { first ≤ end }
+    requires end { end ≤ WORD_PLACES }
+    ensures long { length result ≡ WORD_PLACES }
+    ensures inside { (j : ℕ) → first ≤ j → j < end → place_in result j ≡ 255 }
+    ensures before { (j : ℕ) → j < first → j < WORD_PLACES → place_in result j ≡ 0 }
+    ensures behind { (j : ℕ) → end ≤ j → j < WORD_PLACES → place_in result j ≡ 0 }
+{
+    from_place(&FROM_PLACE, first) ^ from_place(&FROM_PLACE, end)
+}
+
+/// 64 entries of a table of masks from one on. It is a table, since a comparison of lanes beside a
+/// branch is compiled lane by lane.
+#[inline(always)]
+fn from_place(masks: &[u8], place: usize) -> u8x64
+    requires long { length masks.now ≡ 2 * WORD_PLACES }
+    requires place { place ≤ WORD_PLACES }
+    ensures long { length result ≡ WORD_PLACES }
+    ensures masks { (k : ℕ) → k < WORD_PLACES
+        → slice_index result k ≡ slice_index masks.now (place + k) }
+{
+    u8x64::from_slice(&masks[place..])
+}
