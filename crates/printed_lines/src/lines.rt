@@ -26,9 +26,8 @@ pub fn answer_line(client: u8, time: u64, slot: u8, answer: &Answer) -> Line
     ensures { result ≡ ended_line
         (for_client client (at_time time (answer_text slot (answer_in answer.now)))) }
 {
-    let mut line = Line::new(client, time);
-    put_answer(&mut line, slot, answer);
-    line.end();
+    let mut line = Line::blank();
+    line.make_answer(client, time, slot, answer);
     line
 }
 
@@ -37,9 +36,8 @@ pub fn answer_line(client: u8, time: u64, slot: u8, answer: &Answer) -> Line
 pub fn refusal_line(client: u8, time: u64, number: u8) -> Line
     ensures { result ≡ ended_line (for_client client (at_time time (refusal_text number))) }
 {
-    let mut line = Line::new(client, time);
-    put_refusal(&mut line, number);
-    line.end();
+    let mut line = Line::blank();
+    line.make_refusal(client, time, number);
     line
 }
 
@@ -51,4 +49,26 @@ pub fn end_line(client: u8, time: u64) -> Line
     line.word(b"end");
     line.end();
     line
+}
+
+impl Line {
+    /// Makes it the line of what a client's slot answers at a time, with its end.
+    pub fn make_answer(&mut self, client: u8, time: u64, slot: u8, answer: &Answer)
+        ensures { self.new ≡ ended_line
+            (for_client client (at_time time (answer_text slot (answer_in answer.now)))) }
+    {
+        self.begin(client, time);
+        put_answer(self, slot, answer);
+        self.end();
+    }
+
+    /// Makes it the line that refuses a line of a client's script at a time, with its end. The
+    /// number is that of the refusal.
+    pub fn make_refusal(&mut self, client: u8, time: u64, number: u8)
+        ensures { self.new ≡ ended_line (for_client client (at_time time (refusal_text number))) }
+    {
+        self.begin(client, time);
+        put_refusal(self, number);
+        self.end();
+    }
 }

@@ -61,17 +61,33 @@ impl Line {
     ghost use Rattle.printed_lines.specs.declared.words.TheConstants.{KIND_LETTERS, KIND_BYTES};
     ghost use Rattle.printed_lines.specs.Room.{HasRoom, TakesUp};
 
+    /// A line with no word, in whose room others can be made.
+    pub fn blank() -> Self
+        ensures { result ≡ [] }
+    {
+        Line {
+            bytes: ArrayVec::new(),
+        }
+    }
+
     /// A line of a client at a time.
     pub(crate) fn new(client: u8, time: u64) -> Self
         ensures text { result ≡ decimal client ++ 32 ∷ decimal time }
         ensures short { length result ≤ HEAD_BYTES }
     {
-        let mut line = Line {
-            bytes: ArrayVec::new(),
-        };
-        push_decimal(&mut line.bytes, client.into());
-        line.number(time);
+        let mut line = Line::blank();
+        line.begin(client, time);
         line
+    }
+
+    /// Begins a line of a client at a time, in the room of what was there.
+    pub(crate) fn begin(&mut self, client: u8, time: u64)
+        ensures text { self.new ≡ decimal client ++ 32 ∷ decimal time }
+        ensures short { length self.new ≤ HEAD_BYTES }
+    {
+        self.bytes.clear();
+        push_decimal(&mut self.bytes, client.into());
+        self.number(time);
     }
 
     /// Adds the kind of a line and the slot that it is of.

@@ -1,7 +1,7 @@
 -- The clients' queues, side by side, and the bank.
 use Rattle.std.proofs.Common.{◌≡◌, ℕ, zero, suc, ◌+◌, ◌<◌, ◌≤◌, List, [], ◌∷◌, ◌++◌, length, take}
 use Rattle.std.proofs.Common.{drop, refl, sym, ap, ◌∙◌, subst, arith, get_or, slice_set, inl, inr}
-use Rattle.std.specs.Prelude.{map, flat_map, slice_get, Option, Some, None, min}
+use Rattle.std.specs.Prelude.{map, flat_map, slice_get, Option, Some, None, IfSome, IsNone, min}
 use Rattle.std.specs.List.{AllByRecursion, enumerate_from}
 use Rattle.std.proofs.Math.Seq.{take-append_seam}
 use Rattle.arrayvec.specs.ArrayVec.{ArrayVec, with_items}
@@ -20,6 +20,12 @@ use Rattle.receiver.specs.Queues.{left_of, NoneDue, gap, least_gap_of, all_left,
 use Rattle.receiver.specs.Sessions.{IsQueue, AreQueues, answers_waiting, with_entry, entry_now}
 use Rattle.receiver.proofs.QueueLemmas.{none-waits, one-answered, at-now, later, waits-all}
 use Rattle.receiver.proofs.QueueLemmas.{none-before, before-each}
+
+-- what follows of the value that is there, if one is
+pub some-then : {A : Type 0} (P Q : A → Type 0) → ((x : A) → P x → Q x) → (o : Option A)
+    → IfSome o P → IfSome o Q
+some-then P Q each (Some x) p = each x p
+some-then P Q each None p = p
 
 -- a value that is there
 pub some-is : {A : Type 0} (x y : A) → Some x ≡ Some y → x ≡ y
@@ -119,6 +125,12 @@ as-many now b [] rs due t = absurd t
 as-many now b (q ∷ qs) [] due t = absurd t
 as-many now b (q ∷ qs) (r ∷ rs) due (inl h) = ap (λ (l : List Queue). suc (length l)) h.2
 as-many now b (q ∷ qs) (r ∷ rs) due (inr h) = ap suc (as-many now (b + 1) qs rs due h.2)
+
+-- so too where none was due
+pub as-many-still : (now : ℕ) (qs rs : List Queue) (o : Option Due)
+    → IfSome o (λ due. TakesDue now 1 qs rs due) → (IsNone o → rs ≡ qs) → length rs ≡ length qs
+as-many-still now qs rs (Some due) t kept = as-many now 1 qs rs due t
+as-many-still now qs rs None t kept = ap length (kept refl)
 
 pub fewer-left : (now b : ℕ) (qs rs : List Queue) (due : Due) → TakesDue now b qs rs due
     → all_left rs < all_left qs
@@ -356,3 +368,21 @@ takes-at now b (q ∷ qs) (suc i) d r due h early taken is =
 pub written-back : (v : ArrayVec Queue) (new : List Queue) → length new ≡ length v.items
     → (with_items v new).items ≡ new
 written-back v new e = rw (sym e) (take-append_seam new (drop (length new) v.items))
+
+-- what taking an entry promises, of the list that the queues were lent from
+pub record Took (v : ArrayVec Queue) (new : List Queue) (now : ℕ) (o : Option Due) : Type 0 where
+  pub some : IfSome o (λ due. TakesDue now 1 v.items new due)
+  pub none : IsNone o → AllByRecursion (λ queue. NoneDue now (left_of queue)) v.items
+  pub kept : IsNone o → new ≡ v.items
+  pub whole : (with_items v new).items ≡ new
+
+pub took : (v : ArrayVec Queue) (lent new : List Queue) (now : ℕ) (o : Option Due)
+    → lent ≡ v.items → IfSome o (λ due. TakesDue now 1 lent new due)
+    → (IsNone o → AllByRecursion (λ queue. NoneDue now (left_of queue)) lent)
+    → (IsNone o → new ≡ lent) → Took v new now o
+took v lent new now o e some none kept = record {
+  some = rw e at some;
+  none = λ n. rw e at (none n);
+  kept = λ n. kept n ∙ e;
+  whole = written-back v new (as-many-still now lent new o some kept ∙ ap length e);
+}

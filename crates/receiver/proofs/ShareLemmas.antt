@@ -4,6 +4,7 @@ use Rattle.std.proofs.Common.{length, take, drop, get_or, refl, sym, ap, ◌∙�
 use Rattle.std.proofs.Common.{Bool, true, false, inl, inr}
 use Rattle.std.specs.Prelude.{ℤ, pos, negsuc, int_le, ◌&&◌, if◌then◌else◌, Option, Some, None}
 use Rattle.std.specs.Prelude.{Result, Ok, Err, IfOk, nat_lt, nat_le, not, map, ◌==◌}
+use Rattle.std.specs.Prelude.{IfSome, IsNone}
 use Rattle.std.specs.List.{AllByRecursion, list_all}
 use Rattle.std.proofs.lemmas.Bool.{and_parts, leb-true, ltb-true, lt-ltb}
 use Rattle.std.proofs.lemmas.Int.{ints}
@@ -271,3 +272,11 @@ still-in-shares now b (s ∷ shares) (q ∷ qs) (r ∷ rs) due all (inr h) =
     let others : are_in_shares shares rs ≡ true =
     still-in-shares now (b + 1) shares qs rs due both.1 h.2 in
     rw (own, others) refl
+
+-- so too where none was due
+pub in-shares-still : (now : ℕ) (shares : List ℕ) (qs rs : List Queue) (o : Option Due)
+    → are_in_shares shares qs ≡ true → IfSome o (λ due. TakesDue now 1 qs rs due)
+    → (IsNone o → rs ≡ qs) → are_in_shares shares rs ≡ true
+in-shares-still now shares qs rs (Some due) all t kept =
+    still-in-shares now 1 shares qs rs due all t
+in-shares-still now shares qs rs None all t kept = ap (are_in_shares shares) (kept refl) ∙ all

@@ -17,7 +17,7 @@ use Rattle.definitions.specs.Commands.{TimedRequest}
 use Rattle.receiver.specs.declared.due.Due.{Due}
 use Rattle.receiver.specs.declared.queue.Queue.{Queue}
 use Rattle.receiver.specs.declared.session.Session.{Session}
-use Rattle.receiver.specs.Queues.{left_of, least_gap_of, all_left}
+use Rattle.receiver.specs.Queues.{left_of, least_gap_of, all_left, TakesDue}
 
 -- how the samples are packed
 abbrev pub packing_in : Session → Packing
@@ -91,6 +91,11 @@ pub record StandsFor (settings : Settings) (clients : List Client) (session : Se
   pub shares : map (λ (client : Client). client.slots) clients ≡ shares_of session.bank
   pub queues : AreQueues xs done 1 clients session.queues.items
   pub waits : waiting ≡ answers_waiting settings xs done 1 session.queues.items
+
+-- the first entry that is due was taken from its queue, and the bank has not answered it yet
+pub record TakesNext (old : Session) (due : Due) (new : Session) : Type 0 where
+  pub bank : new.bank ≡ old.bank
+  pub queues : TakesDue (time_of old) 1 old.queues.items new.queues.items due
 
 -- a line of those that wait was given, with its end, and the others wait
 pub record GaveLine (settings : Settings) (clients : List Client) (xs : List Sample)

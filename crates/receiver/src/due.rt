@@ -7,7 +7,7 @@ ghost use Rattle.receiver.specs.Sessions.{Answers};
 
 use channel_slots::{Bank, Command};
 use client_commands::Refusal;
-use printed_lines::{Line, answer_line, refusal_line};
+use printed_lines::Line;
 
 /// An entry of a client's script that is to be answered now.
 #[derive(Drop)]
@@ -17,12 +17,12 @@ pub struct Due {
 }
 
 impl Due {
-    /// Gives the line of the answer, with its end. A refused line never reaches the bank.
-    pub fn answer(self, bank: &mut Bank) -> Line
+    /// Makes a line that of the answer, with its end. A refused line never reaches the bank.
+    pub fn answer(self, bank: &mut Bank, line: &mut Line)
         requires first { 1 ≤ self.client }
         requires slot { IfOk self.what (λ command.
             slot_of command < share_of bank.old self.client) }
-        ensures { Answers bank.old bank.new self result }
+        ensures { Answers bank.old bank.new self line.new }
     {
         let Due { client, what } = self;
         let time = bank.time();
@@ -30,9 +30,9 @@ impl Due {
             Ok(command) => {
                 let slot = command.slot().get();
                 let answer = bank.command(client, command);
-                answer_line(client, time, slot, &answer)
+                line.make_answer(client, time, slot, &answer);
             }
-            Err(refusal) => refusal_line(client, time, refusal.number()),
+            Err(refusal) => line.make_refusal(client, time, refusal.number()),
         }
     }
 }

@@ -8,6 +8,7 @@ ghost use Rattle.sample_planes.specs.Packings.{packing_of};
 ghost use Rattle.receiver.specs.Queues.{are_in_shares};
 ghost use Rattle.sample_planes.specs.declared.planes.TheConstants.{MAX_SAMPLES};
 
+use crate::due::Due;
 use crate::queue::Queue;
 use crate::queues::{least_gap, queues_of, take_due};
 use arrayvec::ArrayVec;
@@ -42,7 +43,9 @@ impl<'a> Session<'a> {
     ghost use Rattle.std.specs.List.{list_all};
     ghost use Rattle.definitions.specs.Runs.{is_share};
     ghost use Rattle.receiver.specs.Clients.{clients_with};
-    ghost use Rattle.receiver.specs.Sessions.{StandsFor, Gives, packing_in, time_of};
+    ghost use Rattle.channel_slots.specs.BankStates.{share_of};
+    ghost use Rattle.slot_protocol.specs.Commands.{slot_of};
+    ghost use Rattle.receiver.specs.Sessions.{StandsFor, TakesNext, Gives, packing_in, time_of};
     ghost use Rattle.receiver.specs.Sessions.{until_next, lines_left};
 
     /// A session before the first sample. It takes the memory of the slots.
@@ -139,22 +142,38 @@ impl<'a> Session<'a> {
         self.bank.feed_into(run, events);
     }
 
-    /// The line of the next answer at this time, with its end.
+    /// Takes the next entry that is to be answered at this time.
     #[tactic(auto, unfolding(crate::specs::Sessions::until_next))]
-    pub fn answer(&mut self) -> Option<Line>
+    pub fn next_due(&mut self) -> Option<Due>
         ensures packing { packing_in self.new ≡ packing_in self.old }
         ensures time { time_of self.new ≡ time_of self.old }
+        ensures first { IfSome result (λ due. 1 ≤ due.client) }
+        ensures slot { IfSome result (λ due. IfOk due.what (λ command.
+            slot_of command < share_of self.new.bank due.client)) }
         ensures ready { IsNone result → 0 < until_next self.new }
         ensures fewer { IfSome result (λ _. lines_left self.new < lines_left self.old) }
-        ensures some { IfSome result (λ line. Gives self.old line self.new) }
+        ensures some { IfSome result (λ due. TakesNext self.old due self.new) }
         ensures none { IsNone result
             → (settings : DefinedSettings) (clients : List Client) (xs : List Sample)
             (waiting : List (List ℕ)) → StandsFor settings clients self.old xs waiting
             → (waiting ≡ []) × StandsFor settings clients self.new xs [] }
     {
         let now = self.bank.time();
-        let due = take_due(&mut self.queues, now)?;
-        Some(due.answer(&mut self.bank))
+        take_due(&mut self.queues, now)
+    }
+
+    /// Answers an entry that was taken. Makes a line that of the answer, with its end.
+    pub fn answer(&mut self, due: Due, line: &mut Line)
+        requires first { 1 ≤ due.client }
+        requires slot { IfOk due.what (λ command.
+            slot_of command < share_of self.old.bank due.client) }
+        ensures packing { packing_in self.new ≡ packing_in self.old }
+        ensures time { time_of self.new ≡ time_of self.old }
+        ensures left { lines_left self.new ≡ lines_left self.old }
+        ensures gives { (before : Session) → TakesNext before due self.old
+            → Gives before line.new self.new }
+    {
+        due.answer(&mut self.bank, line);
     }
 }
 

@@ -12,7 +12,7 @@ use crate::devices::{DeviceFault, Sink};
 use crate::faults::Stop;
 use crate::output::Output;
 use crate::session::Session;
-use printed_lines::{end_line, event_line};
+use printed_lines::{Line, end_line, event_line};
 use slot_protocol::SlotEvent;
 
 /// Puts the lines of the slots' events.
@@ -36,7 +36,10 @@ pub fn put_answers<W: Sink>(session: &mut Session, out: &mut Output<W>) -> Resul
         (promised W.Sink out.new) result }
     ensures writes { Writes W.Sink out.old out.new result }
 {
-    while let Some(line) = session.answer() {
+    // One room serves for all of them, so that no line is moved.
+    let mut line = Line::blank();
+    while let Some(due) = session.next_due() {
+        session.answer(due, &mut line);
         out.put(&line)?;
     }
     Ok(())

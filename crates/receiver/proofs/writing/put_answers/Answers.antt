@@ -8,8 +8,8 @@ use Rattle.receiver.proofs.HeldLemmas.{kept-part}
 use Rattle.receiver.proofs.OutputLemmas.{nothing-written, wrote-then, writes-broke, adds-err}
 use Rattle.receiver.proofs.writing.put_answers.Goals as goal
 
-pub loop-line-init : goal.loop-line-init
-loop-line-init g c = record {
+pub loop-due-init : goal.loop-due-init
+loop-due-init g c = record {
   format = refl;
   time = refl;
   wrote = nothing-written g.W.Sink c.args.out.now;
@@ -18,17 +18,18 @@ loop-line-init g c = record {
       (promised g.W.Sink c.args.out.now) stands;
 }
 
-pub loop-line-preserved : goal.loop-line-preserved
-loop-line-preserved g c = let s = g.W.Sink in let i = c.loop-line.invariant in record {
-  format = c.in-Some.ensures.packing ∙ i.format;
-  time = c.in-Some.ensures.time ∙ i.time;
-  wrote = wrote-then s c.args.out.now c.loop-line.out c.put.new.self _ i.wrote
+pub loop-due-preserved : goal.loop-due-preserved
+loop-due-preserved g c = let s = g.W.Sink in let i = c.loop-due.invariant in record {
+  format = c.answer.ensures.packing ∙ c.in-Some.ensures.packing ∙ i.format;
+  time = c.answer.ensures.time ∙ c.in-Some.ensures.time ∙ i.time;
+  wrote = wrote-then s c.args.out.now c.loop-due.out c.put.new.self _ i.wrote
       c.in_ok-put.ensures.writes;
   answered =
       λ settings clients xs waiting stands. answered-more settings clients xs waiting
-      (promised s c.args.out.now) (promised s c.loop-line.out) (promised s c.put.new.self)
-      c.loop-line.session c.answer.new.self c.deref.result.now
-      (rw c.deref.ensures.0 c.in-Some.ensures.some) c.in_ok-put.ensures.puts
+      (promised s c.args.out.now) (promised s c.loop-due.out) (promised s c.put.new.self)
+      c.loop-due.session c.answer.new.self c.deref.result.now
+      (rw c.deref.ensures.0
+      (c.answer.ensures.gives c.loop-due.session c.in-Some.ensures.some)) c.in_ok-put.ensures.puts
       (i.answered settings clients xs waiting stands);
 }
 
@@ -36,31 +37,32 @@ pub returns-in_err-put-clause-adds : goal.returns-in_err-put-clause-adds
 returns-in_err-put-clause-adds g c settings clients xs waiting stands =
     let s = g.W.Sink in
     let a = promised s c.args.out.now in
-    let b = promised s c.loop-line.out in
+    let b = promised s c.loop-due.out in
     let d = promised s c.put.new.self in (
       adds-err a d (as_bytes waiting) c.from_residual.result c.from_residual.ensures.0
-          (answered-part settings clients xs waiting a b d c.loop-line.session c.answer.new.self
-          c.deref.result.now (rw c.deref.ensures.0 c.in-Some.ensures.some)
+          (answered-part settings clients xs waiting a b d c.loop-due.session c.answer.new.self
+          c.deref.result.now (rw c.deref.ensures.0
+          (c.answer.ensures.gives c.loop-due.session c.in-Some.ensures.some))
           (kept-part b d _ c.in_err-put.ensures.puts)
-          (c.loop-line.invariant.answered settings clients xs waiting stands)),
+          (c.loop-due.invariant.answered settings clients xs waiting stands)),
       IfOk-from_err c.from_residual.result _ c.from_residual.ensures.0,
     )
 
 pub returns-in_err-put-clause-writes : goal.returns-in_err-put-clause-writes
 returns-in_err-put-clause-writes g c =
-    writes-broke g.W.Sink c.args.out.now c.loop-line.out c.put.new.self _ c.from_residual.result
-    c.loop-line.invariant.wrote c.in_err-put.ensures.writes c.from_residual.ensures.0
+    writes-broke g.W.Sink c.args.out.now c.loop-due.out c.put.new.self _ c.from_residual.result
+    c.loop-due.invariant.wrote c.in_err-put.ensures.writes c.from_residual.ensures.0
 
 pub returns-clause-adds : goal.returns-clause-adds
 unfolding as_bytes
 returns-clause-adds g c settings clients xs waiting stands =
-    let h = c.loop-line.invariant.answered settings clients xs waiting stands in
+    let h = c.loop-due.invariant.answered settings clients xs waiting stands in
     let n = c.in_default.ensures.none refl settings clients xs h.left h.stands in (
-      wrote-all (promised g.W.Sink c.args.out.now) (promised g.W.Sink c.loop-line.out)
+      wrote-all (promised g.W.Sink c.args.out.now) (promised g.W.Sink c.loop-due.out)
           (as_bytes waiting) (as_bytes h.left) (ap as_bytes n.0) h.wrote,
       n.1,
     )
 
 pub returns-clause-writes : goal.returns-clause-writes
-returns-clause-writes g c = let w = c.loop-line.invariant.wrote in
+returns-clause-writes g c = let w = c.loop-due.invariant.wrote in
     record { same = w.same; grows = w.grows; failure = w.failure }

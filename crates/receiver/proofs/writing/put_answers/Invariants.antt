@@ -8,8 +8,8 @@ use Rattle.receiver.specs.Outputs.{promised}
 use Rattle.receiver.proofs.OutputLemmas.{Wrote}
 use Rattle.receiver.proofs.writing.put_answers.Given as goal
 
-abbrev pub invariant-loop-line : goal.invariant-loop-line
-invariant-loop-line g l = let sink = g.W.Sink in record {
+abbrev pub invariant-loop-due : goal.invariant-loop-due
+invariant-loop-due g l = let sink = g.W.Sink in record {
   format : packing_in l.session ≡ packing_in l.fn.session;
   time : time_of l.session ≡ time_of l.fn.session;
   wrote : Wrote sink l.fn.out l.out;
@@ -19,5 +19,5 @@ invariant-loop-line g l = let sink = g.W.Sink in record {
       (promised sink l.out);
 }
 
-abbrev pub decreases-loop-line : goal.decreases-loop-line
-decreases-loop-line g l = lines_left l.session
+abbrev pub decreases-loop-due : goal.decreases-loop-due
+decreases-loop-due g l = lines_left l.session

@@ -1,7 +1,7 @@
 use Rattle.std.proofs.Common.{◌≤◌, length, arith, rules}
 use Rattle.std.specs.Fmt.{decimal}
 use Rattle.printed_lines.proofs.RoomLemmas.{byte-length}
-use Rattle.printed_lines.proofs.words.Line.new.Goals as goal
+use Rattle.printed_lines.proofs.words.Line.begin.Goals as goal
 
 pub push_decimal-requires : goal.push_decimal-requires
 push_decimal-requires c =
