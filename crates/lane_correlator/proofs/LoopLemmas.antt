@@ -7,7 +7,7 @@ use Rattle.definitions.specs.Correlation.{Replica, six_sums, sum_of_counts, no_c
 use Rattle.definitions.specs.Correlation.{Counts as DefinedCounts}
 use Rattle.definitions.proofs.CorrelationLemmas.{six_sums-split}
 use Rattle.lane_correlator.specs.Counting.{counts_in, AreWithin}
-use Rattle.lane_correlator.specs.Tallies.{tally_in}
+use Rattle.lane_correlator.specs.Tallies.{tally_in, AreFew}
 use Rattle.lane_correlator.specs.declared.tally.Tally.{Tally}
 use Rattle.lane_correlator.proofs.SumLemmas.{six_sums-none, none_within, added_within}
 use Rattle.lane_correlator.proofs.SumLemmas.{more_within}
@@ -16,7 +16,7 @@ use Rattle.lane_correlator.proofs.SumLemmas.{more_within}
 pub record HasSums (x : ℕ → Sample) (r : Replica) (from to w : ℕ) (t : Tally) : Type 0 where
   pub sums : tally_in t ≡ six_sums x r from (min to (max from (64 * w)))
   pub small : AreWithin (9 * (min to (max from (64 * w)) - from)) (tally_in t)
-  pub few : AreWithin (4096 * (w - from / 64)) (counts_in t.counts)
+  pub few : AreFew (4096 * (w - from / 64)) t
 
 -- what a word adds has the sums over its part of the range
 pub record HasWord (x : ℕ → Sample) (r : Replica) (w first end : ℕ) (word : DefinedCounts) : Type 0
@@ -27,16 +27,17 @@ pub record HasWord (x : ℕ → Sample) (r : Replica) (w first end : ℕ) (word 
 -- a word is added
 pub record IsAdded (a : Tally) (word : DefinedCounts) (t : Tally) : Type 0 where
   pub sums : tally_in t ≡ sum_of_counts (tally_in a) word
-  pub few : (n : ℕ) → AreWithin n (counts_in a.counts) → AreWithin (n + 4096) (counts_in t.counts)
+  pub few : (n : ℕ) → AreFew n a → AreFew (n + 4096) t
 
 pub none_before : (x : ℕ → Sample) (r : Replica) (from to : ℕ) (t : Tally) → from ≤ to
-    → tally_in t ≡ no_counts → counts_in t.counts ≡ no_counts → HasSums x r from to (from / 64) t
+    → tally_in t ≡ no_counts → AreFew 0 t → HasSums x r from to (from / 64) t
 none_before x r from to t ordered none no_few =
     let first : min to (max from (64 * (from / 64))) ≡ from = omega (arith, ordered) in
     record {
       sums = rw first (none ∙ sym (six_sums-none x r from));
       small = rw (first, none) (none_within (9 * (from - from)));
-      few = rw no_few (none_within (4096 * (from / 64 - from / 64)));
+      few = more_within 0 (4096 * (from / 64 - from / 64)) (counts_in t.counts) (omega arith)
+          no_few;
     }
 
 -- one word more
@@ -68,7 +69,7 @@ word_more x r from to w first end a word t ordered begun inside first_is end_is 
 
 -- the few counts of a run
 pub run_few : (x : ℕ → Sample) (r : Replica) (from to w : ℕ) (t : Tally) → HasSums x r from to w t
-    → w ≤ 16 → AreWithin 1000000 (counts_in t.counts)
+    → w ≤ 16 → AreFew 1000000 t
 run_few x r from to w t before short = more_within (4096 * (w - from / 64)) 1000000
     (counts_in t.counts) (omega (arith, short)) before.few
 

@@ -9,6 +9,7 @@ use Rattle.std.proofs.lemmas.List.FromFn.{get_or-map-range_with_len}
 use Rattle.sample_planes.specs.Signs.{part_of}
 use Rattle.sample_planes.specs.Codes.{IsCode}
 use Rattle.lane_correlator.specs.Bytes.{signed_byte, cosine_in, sine_in, cosine_times, sine_times}
+use Rattle.lane_correlator.specs.Bytes.{minus_sine_times, IsTableOf}
 use Rattle.lane_correlator.specs.declared.wiped.TheConstants.{COSINES, SINES, MINUS_SINES}
 
 -- two functions that have the same first values
@@ -29,29 +30,28 @@ small_below f b n i h all =
     ∙ ap (λ (l : List Bool). get_or l i false) all ∙ get_or-replicate n i true false h in
     leb-true (unsigned_abs (f i)) b is
 
--- ---- the tables stand four times
+-- ---- the tables
 
-pub found_cosine : (p : ℕ) → p < 64 → signed_byte (get_or COSINES p 0) ≡ cosine_times (p % 16)
-found_cosine p h = each_below (λ n. signed_byte (get_or COSINES n 0)) (λ n. cosine_times (n % 16))
-    64 p h refl
+pub cosine_table : IsTableOf cosine_times COSINES
+cosine_table = record {
+  entries = λ p h. each_below (λ n. signed_byte (get_or COSINES n 0)) (λ n. cosine_times (n % 16))
+      64 p h refl;
+  small = λ n h. small_below cosine_times 6 16 n h refl;
+}
 
-pub found_sine : (p : ℕ) → p < 64 → signed_byte (get_or SINES p 0) ≡ sine_times (p % 16)
-found_sine p h = each_below (λ n. signed_byte (get_or SINES n 0)) (λ n. sine_times (n % 16)) 64 p h
-    refl
+pub sine_table : IsTableOf sine_times SINES
+sine_table = record {
+  entries = λ p h. each_below (λ n. signed_byte (get_or SINES n 0)) (λ n. sine_times (n % 16)) 64 p
+      h refl;
+  small = λ n h. small_below sine_times 6 16 n h refl;
+}
 
-pub found_minus_sine : (p : ℕ) → p < 64
-    → signed_byte (get_or MINUS_SINES p 0) ≡ pos 0 -ℤ sine_times (p % 16)
-found_minus_sine p h = each_below (λ n. signed_byte (get_or MINUS_SINES n 0))
-    (λ n. pos 0 -ℤ sine_times (n % 16)) 64 p h refl
-
-pub small_cosine : (n : ℕ) → n < 16 → unsigned_abs (cosine_times n) ≤ 6
-small_cosine n h = small_below cosine_times 6 16 n h refl
-
-pub small_sine : (n : ℕ) → n < 16 → unsigned_abs (sine_times n) ≤ 6
-small_sine n h = small_below sine_times 6 16 n h refl
-
-pub small_minus_sine : (n : ℕ) → n < 16 → unsigned_abs (pos 0 -ℤ sine_times n) ≤ 6
-small_minus_sine n h = small_below (λ n. pos 0 -ℤ sine_times n) 6 16 n h refl
+pub minus_sine_table : IsTableOf minus_sine_times MINUS_SINES
+minus_sine_table = record {
+  entries = λ p h. each_below (λ n. signed_byte (get_or MINUS_SINES n 0))
+      (λ n. minus_sine_times (n % 16)) 64 p h refl;
+  small = λ n h. small_below minus_sine_times 6 16 n h refl;
+}
 
 -- ---- a sample below 0 turns the carrier by half a cycle
 

@@ -29,14 +29,23 @@ cosine_times at = pos (1 + 2 * (at / 8)) *ℤ cosine_in at
 abbrev pub sine_times : ℕ → ℤ
 sine_times at = pos (1 + 2 * (at / 8)) *ℤ sine_in at
 
+abbrev pub minus_sine_times : ℕ → ℤ
+minus_sine_times at = pos 0 -ℤ sine_times at
+
 -- 64 lanes below 16
 pub record AreNibbles (lanes : List ℕ) : Type 0 where
   pub long : length lanes ≡ 64
   pub few : (k : ℕ) → k < 64 → slice_index lanes k < 16
 
--- the lanes of a table that others name
-abbrev pub AreFound : (ℕ → ℤ) → List ℕ → List ℕ → Type 0
-AreFound f at lanes = (k : ℕ) → k < 64 → signed_byte (slice_index lanes k) ≡ f (slice_index at k)
+-- a table has sixteen values of a function, each 6 at most in size, once for each sixteen lanes
+pub record IsTableOf (f : ℕ → ℤ) (table : List ℕ) : Type 0 where
+  pub entries : (p : ℕ) → p < 64 → signed_byte (slice_index table p) ≡ f (p % 16)
+  pub small : (n : ℕ) → n < 16 → unsigned_abs (f n) ≤ 6
+
+-- the values that the numbers of lanes name
+pub record AreFound (f : ℕ → ℤ) (at lanes : List ℕ) : Type 0 where
+  pub values : (k : ℕ) → k < 64 → signed_byte (slice_index lanes k) ≡ f (slice_index at k)
+  pub small : (k : ℕ) → k < 64 → unsigned_abs (signed_byte (slice_index lanes k)) ≤ 6
 
 -- the numbers at the places from first to end - 1 of lanes, and 0 at the others
 pub record IsWithin (first end : ℕ) (all lanes : List ℕ) : Type 0 where

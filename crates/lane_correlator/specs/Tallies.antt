@@ -3,7 +3,7 @@ use Rattle.std.specs.Prelude.{ℕ, ◌+◌, ◌*◌, ◌≤◌}
 use Rattle.definitions.specs.Correlation.{Counts, sum_of_counts}
 use Rattle.oscillators.specs.declared.code.ChipLanes.{ChipLanes}
 use Rattle.lane_correlator.specs.Bytes.{signed_total}
-use Rattle.lane_correlator.specs.Counting.{counts_in}
+use Rattle.lane_correlator.specs.Counting.{counts_in, AreWithin}
 use Rattle.lane_correlator.specs.ByteSums.{AreLow}
 use Rattle.lane_correlator.specs.Chips.{lanes_in}
 use Rattle.lane_correlator.specs.declared.tally.Tally.{Tally}
@@ -12,6 +12,10 @@ use Rattle.lane_correlator.specs.declared.wiped.Wiped.{Wiped}
 -- the sums of the words before, and those of the lanes
 abbrev pub tally_in : Tally → Counts
 tally_in t = sum_of_counts (counts_in t.counts) (lanes_in t.early t.prompt t.late)
+
+-- the sums of the words before are n at most in size
+abbrev pub AreFew : ℕ → Tally → Type 0
+AreFew n t = AreWithin n (counts_in t.counts)
 
 -- the six sums of the products of a word with its chips
 abbrev pub word_sums : Wiped → ChipLanes → Counts

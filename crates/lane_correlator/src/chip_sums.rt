@@ -122,6 +122,7 @@ fn sum_of_lanes(sums: u8x32, beyond: u8x32) -> i32
     ensures value { result ≡ sum_of_lanes sums beyond }
     ensures small { unsigned_abs result ≤ MOST_OF_LANES }
 {
+    // They are raised by 128, so that none is below 0.
     let lanes = sums - beyond + u8x32::splat(128);
     lanes.cast::<u16>().reduce_sum() as i32 - 4_096
 }

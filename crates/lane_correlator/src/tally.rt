@@ -21,7 +21,8 @@ pub(crate) const MOST_OF_LANE: u32 = 127;
 /// The most that sums may come to, so that they fit in an `i32`. A run has less.
 pub(crate) const MOST_COUNTS: u32 = 1_000_000;
 
-/// Six sums while they are added up.
+/// Six sums while they are added up: in lanes of bytes, and those that lanes had before they were
+/// emptied.
 #[derive(Clone, Copy, Debug)]
 pub(crate) struct Tally {
     early: ChipSums,
@@ -34,13 +35,13 @@ pub(crate) struct Tally {
 }
 
 impl Tally {
-    ghost use Rattle.lane_correlator.specs.Tallies.{tally_in, word_sums, HasRoom};
+    ghost use Rattle.lane_correlator.specs.Tallies.{tally_in, word_sums, AreFew, HasRoom};
 
     /// The sums over no samples.
     #[inline(always)]
     pub(crate) fn none() -> Tally
         ensures sums { tally_in result ≡ no_counts }
-        ensures few { counts_in result.counts ≡ no_counts }
+        ensures few { AreFew 0 result }
         ensures room { (most : ℕ) → 2 * most ≤ MOST_OF_LANE → HasRoom most result }
     {
         Tally {
@@ -62,11 +63,10 @@ impl Tally {
         requires most { 2 * most ≤ MOST_OF_LANE }
         requires lanes { HasAllLanes chips }
         requires masks { AreMasksOfChips chips }
-        requires few { AreWithin MOST_COUNTS (counts_in self.counts) }
+        requires few { AreFew MOST_COUNTS self }
         requires room { HasRoom most self }
         ensures sums { tally_in result ≡ sum_of_counts (tally_in self) (word_sums wiped chips) }
-        ensures few { (n : ℕ) → AreWithin n (counts_in self.counts)
-            → AreWithin (n + MOST_OF_LANES) (counts_in result.counts) }
+        ensures few { (n : ℕ) → AreFew n self → AreFew (n + MOST_OF_LANES) result }
         ensures room { HasRoom most result }
     {
         let early = self.early.add(wiped.i, wiped.q, chips.early);
@@ -97,7 +97,7 @@ impl Tally {
     /// The sums.
     #[inline(always)]
     pub(crate) fn counts(&self) -> Counts
-        requires { AreWithin MOST_COUNTS (counts_in self.now.counts) }
+        requires { AreFew MOST_COUNTS self.now }
         ensures { counts_in result ≡ tally_in self.now }
     {
         self.counts

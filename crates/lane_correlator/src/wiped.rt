@@ -1,15 +1,14 @@
 //! 64 samples with their carrier taken off, in lanes of bytes.
 
-ghost use Rattle.std.specs.Prelude.{◌≡◌, ◌+◌, ◌*◌, ◌<◌, ◌≤◌, ◌/◌, ◌%◌, ℕ, length};
-ghost use Rattle.std.specs.Prelude.{slice_index, bit_xor, unsigned_abs, pos, ◌-ℤ◌};
+ghost use Rattle.std.specs.Prelude.{◌≡◌, ◌+◌, ◌*◌, ◌<◌, ◌≤◌, ◌%◌, ℕ, ℤ, length};
+ghost use Rattle.std.specs.Prelude.{slice_index, bit_xor};
 ghost use Rattle.std.specs.Prelude.{List, IfSome, IfNone};
 ghost use Rattle.definitions.specs.Samples.{Sample};
 ghost use Rattle.sample_planes.specs.Signs.{AreReal};
 ghost use Rattle.sample_planes.specs.Codes.{AreCodes, AreQuadratureCodes};
 ghost use Rattle.bit_planes.specs.declared.plane.TheConstants.{WORD_PLACES};
 ghost use Rattle.bit_planes.specs.ByteLanes.{place_in};
-ghost use Rattle.lane_correlator.specs.Bytes.{AreNibbles, AreFound, cosine_times, sine_times};
-ghost use Rattle.lane_correlator.specs.Bytes.{signed_byte};
+ghost use Rattle.lane_correlator.specs.Bytes.{AreNibbles, IsTableOf, AreFound};
 
 use bit_planes::WORD_PLACES;
 use std::simd::prelude::*;
@@ -78,15 +77,15 @@ impl Wiped {
             → IsWiped xs w eighths result }
     {
         let at = turned(eighths, codes);
-        let i = cosine_times(at);
-        let q = minus_sine_times(at);
+        let i = products(u8x64::from_array(COSINES), at);
+        let q = products(u8x64::from_array(MINUS_SINES), at);
         match codes_q {
             None => Wiped { i, q },
             Some(codes) => {
                 let at = turned(eighths, u8x64::from_array(codes));
                 Wiped {
-                    i: i + sine_times(at),
-                    q: q + cosine_times(at),
+                    i: i + products(u8x64::from_array(SINES), at),
+                    q: q + products(u8x64::from_array(COSINES), at),
                 }
             }
         }
@@ -125,50 +124,13 @@ fn turned(eighths: u8x64, codes: u8x64) -> u8x64
     (eighths & u8x64::splat(7)) ^ codes
 }
 
-/// Cosines times the sizes of samples.
+/// Entries of a table of products, by the numbers of lanes. The table stands four times.
 #[inline(always)]
-fn cosine_times(at: u8x64) -> u8x64
-    requires { AreNibbles at }
-    ensures long { length result ≡ WORD_PLACES }
-    ensures found { AreFound cosine_times at result }
-    ensures small { (k : ℕ) → k < WORD_PLACES
-        → unsigned_abs (signed_byte (slice_index result k)) ≤ 6 }
-{
-    products(u8x64::from_array(COSINES), at)
-}
-
-/// Sines times the sizes of samples.
-#[inline(always)]
-fn sine_times(at: u8x64) -> u8x64
-    requires { AreNibbles at }
-    ensures long { length result ≡ WORD_PLACES }
-    ensures found { AreFound sine_times at result }
-    ensures small { (k : ℕ) → k < WORD_PLACES
-        → unsigned_abs (signed_byte (slice_index result k)) ≤ 6 }
-{
-    products(u8x64::from_array(SINES), at)
-}
-
-/// Minus the sines times the sizes of samples.
-#[inline(always)]
-fn minus_sine_times(at: u8x64) -> u8x64
-    requires { AreNibbles at }
-    ensures long { length result ≡ WORD_PLACES }
-    ensures found { AreFound (λ n. pos 0 -ℤ sine_times n) at result }
-    ensures small { (k : ℕ) → k < WORD_PLACES
-        → unsigned_abs (signed_byte (slice_index result k)) ≤ 6 }
-{
-    products(u8x64::from_array(MINUS_SINES), at)
-}
-
-/// Bytes of a table that stands four times, by their lanes' numbers.
 fn products(table: u8x64, at: u8x64) -> u8x64
     requires table { length table ≡ WORD_PLACES }
-    requires at { length at ≡ WORD_PLACES }
-    requires below { (k : ℕ) → k < WORD_PLACES → slice_index at k < 16 }
+    requires at { AreNibbles at }
     ensures long { length result ≡ WORD_PLACES }
-    ensures found { (k : ℕ) → k < WORD_PLACES
-        → slice_index result k ≡ slice_index table (16 * (k / 16) + slice_index at k) }
+    ensures found { (f : ℕ → ℤ) → IsTableOf f table → AreFound f at result }
 {
     table.swizzle_dyn_within::<16>(at)
 }
