@@ -1,10 +1,16 @@
 -- The program ends before its options are known.
-use Rattle.std.proofs.Common.{ℕ, ◌≡◌, refl, List, []}
+use Rattle.std.proofs.Common.{ℕ, ◌≡◌, ◌⊎◌, refl, List, []}
 use Rattle.std.specs.Prelude.{Option, Some, None, IfSome, unwrap_or}
 use Rattle.clap.specs.Walk.{Text}
+use Rattle.clap.specs.Faults.{fault_of}
+use Rattle.clap.specs.Kinds.{IsAmong}
+use Rattle.clap.specs.declared.builder.value_parser.ValueParser.{ValueParser}
+use Rattle.clap.specs.declared.error.kind.ErrorKind.{ErrorKind}
+use Rattle.clap.specs.declared.error.kind.ErrorKind.TheVariants.{OutOfMemory}
 use Rattle.receiver.specs.Runs.{Devices}
 use Rattle.receiver_options.proofs.CommandLineLemmas.{some-names, names-formats}
-use Rattle.receiver_cli.specs.Endings.{HasEnded, without_words}
+use Rattle.receiver_options.specs.CommandLines.{receiver, NamesFormats}
+use Rattle.receiver_cli.specs.Endings.{HasEnded, without_words, without_options, parser_status}
 
 -- the words that are given, where they are known
 given-words : (given : Option (List Text)) → IfSome given (λ all. unwrap_or given [] ≡ all)
@@ -21,5 +27,21 @@ without-memory given bytes_of devices status is = record {
   formats = names-formats;
   ending = without_words;
   comes = refl;
+  by_ending = is;
+}
+
+-- the option parser gives no options, and no device was touched
+pub with-options-refused : (given : Option (List Text)) (bytes_of : List ℕ → Option (List ℕ))
+    (devices : Devices) (words : List Text) (names : ValueParser) (kind : ErrorKind) (status : ℕ)
+    → IfSome given (λ all. words ≡ all) → NamesFormats names
+    → (kind ≡ OutOfMemory) ⊎ IsAmong kind (fault_of (receiver names) words)
+    → status ≡ parser_status kind → HasEnded given bytes_of devices devices status
+with-options-refused given bytes_of devices words names kind status are formats fault is = record {
+  words = words;
+  are_given = are;
+  names = names;
+  formats = formats;
+  ending = without_options kind;
+  comes = (fault, refl);
   by_ending = is;
 }

@@ -1,8 +1,8 @@
-use Rattle.std.proofs.Common.{refl, map}
+use Rattle.std.proofs.Common.{map}
 use Rattle.std.specs.Prelude.{string_bytes}
 use Rattle.clap.specs.Values.{kind_of}
-use Rattle.receiver_cli.specs.Endings.{received, without_options}
-use Rattle.receiver_cli.proofs.CommandLineLemmas.{without-memory}
+use Rattle.receiver_cli.specs.Endings.{received}
+use Rattle.receiver_cli.proofs.CommandLineLemmas.{without-memory, with-options-refused}
 use Rattle.receiver_cli.proofs.program.carry_out_in_room.Goals as goal
 
 pub returns-in-Err : goal.returns-in-Err
@@ -31,13 +31,9 @@ pub returns : goal.returns
 returns g c =
     let parses = rw c.deref.ensures.value at c.in-Err-matches.ensures.parses in
     record {
-      status = record {
-        words = map (λ word. string_bytes word) c.in-Ok.words.items;
-        are_given = c.in-Ok.ensures.all;
-        names = parses.names;
-        formats = parses.formats;
-        ending = without_options (kind_of c.in-Err-matches.error);
-        comes = (parses.fault, refl);
-        by_ending = c.refuse.ensures.status;
-      };
+      status =
+          with-options-refused (g.C.CommandLine.given c.args.line.now) _ _
+          (map (λ word. string_bytes word) c.in-Ok.words.items) parses.names
+          (kind_of c.in-Err-matches.error) _ c.in-Ok.ensures.all parses.formats parses.fault
+          c.refuse.ensures.status;
     }
