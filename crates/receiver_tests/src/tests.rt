@@ -1,24 +1,15 @@
-//! Whole runs: what they answer, and what they write, over readers and writers that count and fail.
+//! Whole runs over readers and writers that count and fail: what they answer, and what they write.
+//! `tools/runs-check` tries what needs no device of its own, over the built program.
 
 ghost use Rattle.std.specs.Prelude.{◌≡◌, ◌≤◌, ◌%◌, ◌^◌};
 
-mod acquisitions;
-mod clients;
 mod devices;
 mod expected;
 mod fakes;
-mod held_text;
 mod limits;
-mod long_scripts;
-mod messages;
-mod recording;
-mod reference;
 mod runs;
-mod scripts;
 mod shares;
-mod signals;
 mod std_devices;
-mod tracking;
 
 use crate::tests::fakes::{Giving, Holding};
 use oscillators::Settings;

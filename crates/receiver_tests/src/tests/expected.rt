@@ -36,26 +36,6 @@ pub fn tells(
     has_told(rt, answered, writer, answer, text)
 }
 
-/// Sees that a run over these bytes, at most so many a read, comes to their end and writes this.
-pub fn writes(
-    rt: &(impl Abort + Alloc<A = Global>),
-    scripts: &[&[u8]],
-    bytes: &[u8],
-    bytes_a_read: usize,
-    samples: u64,
-    text: &str,
-) -> Result<(), Fail> {
-    let mut reader = Giving::pieces(bytes, bytes_a_read);
-    tells(
-        rt,
-        scripts,
-        &mut reader,
-        &mut Holding::whole(),
-        Ok(samples),
-        text,
-    )
-}
-
 /// Sees that a run of one script over at most so many samples answers and writes this, and flushes
 /// it. Gives the number of reads.
 pub fn tells_within(

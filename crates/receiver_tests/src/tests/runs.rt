@@ -1,12 +1,10 @@
 //! Runs of one client, and the texts of faults.
 
 use super::{FIRST_COUNT, FIRST_COUNT_LINES};
-use crate::tests::expected::{has_told, tells, writes};
+use crate::tests::expected::tells;
 use crate::tests::fakes::{Giving, Holding};
 use made_signals::code_file;
-use oscillators::Settings;
-use receiver::{DeviceFault, RunFault, run};
-use sample_planes::Format;
+use receiver::{DeviceFault, RunFault};
 use std::alloc::{Alloc, Global};
 use std::process::Abort;
 use std::test::Fail;
@@ -62,63 +60,6 @@ fn first_count(rt: HostRuntime) -> Result<(), Fail> {
         }
     }
     Ok(())
-}
-
-// The slot begins half a chip before the end of the code, so its first segment is one sample. Chips
-// 1,022 and 0 of satellite 1 are 0 and 1. The sample and the prompt and late chip are chip 1,022;
-// the early chip is that of the next period, and of the other sign.
-#[test]
-fn early_wraps(rt: HostRuntime) -> Result<(), Fail> {
-    let script = b"2045 hold 0 1 0 2045\n2045 counts 0 1";
-    let text = "1 2045 ok\n\
-        1 2045 ok\n\
-        1 2046 count 0 -2 1 2 -1 2 -1\n\
-        1 2048 end\n";
-    writes(&rt, &[script], &code_file(), usize::MAX, 2_048, text)
-}
-
-/// Sees the line of the first dump of four samples: at four samples a chip, with the carrier a
-/// quarter of a cycle a sample, and the slot at the last chip's begin.
-fn counts_four_samples(
-    rt: &(impl Abort + Alloc<A = Global>),
-    format: Format,
-    bytes: &[u8],
-    text: &str,
-) -> Result<(), Fail> {
-    let settings = Settings::new(4_092_000, 1_023_000, format)?;
-    let mut reader = Giving::whole(bytes);
-    let mut writer = Holding::whole();
-    let script = b"0 hold 0 1 0 2044\n0 counts 0 1\n";
-    let answer = run(rt.alloc(), settings, &[script], &mut reader, &mut writer);
-    has_told(rt, answer, &writer, Ok(4), text)
-}
-
-// The samples are 3, -3, 1, -1, a quarter of a cycle apart, where the carrier's pairs are (2, 1),
-// (-1, 2), (-2, -1), (1, -2). At four samples a chip they are chip 1,022, which is 0 as chip 1,021
-// is. The early chip of the last two is chip 0, which is 1: so the in-phase products are 6, 3, -2,
-// -1 with the prompt and the late chip, and 6, 3, 2, 1 with the early one; the quadrature products
-// are -3, 6, 1, -2 and -3, 6, -1, 2.
-#[test]
-fn two_bit_byte(rt: HostRuntime) -> Result<(), Fail> {
-    let text = "1 0 ok\n\
-        1 0 ok\n\
-        1 4 count 0 12 4 6 2 6 2\n\
-        1 4 end\n";
-    counts_four_samples(&rt, Format::Real2, &[0x72], text)
-}
-
-// Complex samples meet the same carrier and the same chips as the two-bit byte above. A sample
-// (x, y) with the pair (c, s) gives x c + y s in phase, and y c - x s in quadrature.
-//
-// The byte 1b as `iq1` is (1, 1), (1, -1), (-1, 1), (-1, -1): the products are (3, 1), (-3, -1),
-// (1, -3), (1, -3). The bytes 4b 2d as `iq2` are (3, 1), (-1, -3), (1, -1), (-3, 3): the products
-// are (7, -1), (-5, 5), (-1, 3), (-9, -3).
-#[test]
-fn complex_bytes(rt: HostRuntime) -> Result<(), Fail> {
-    let text = "1 0 ok\n1 0 ok\n1 4 count 0 -2 6 2 -6 2 -6\n1 4 end\n";
-    counts_four_samples(&rt, Format::Iq1, &[0x1b], text)?;
-    let text = "1 0 ok\n1 0 ok\n1 4 count 0 12 4 -8 4 -8 4\n1 4 end\n";
-    counts_four_samples(&rt, Format::Iq2, &[0x4b, 0x2d], text)
 }
 
 // Three lines come before the first read, three with the last of 256 bytes, and the end after the

@@ -92,15 +92,19 @@ fn run_over<R: Source, W: Sink>(
     Ok(run(alloc, plain_settings()?, &[script], reader, writer))
 }
 
-#[test]
-fn std_devices_run(rt: HostRuntime) -> Result<(), Fail> {
+/// A run of the first count over slices.
+fn run_into(alloc: Global, room: &mut [u8]) -> Result<Result<u64, RunFault>, Fail> {
     let code = code_file();
     let mut bytes = code.as_slice();
-    let mut room = [0u8; 100];
     let mut reader = Plain::new(&mut bytes);
-    let mut writer = Plain::new(&mut room[..]);
-    let answer = run_over(rt.alloc(), FIRST_COUNT, &mut reader, &mut writer)?;
-    assert_eq!(rt; answer, Ok(2048));
+    let mut writer = Plain::new(room);
+    run_over(alloc, FIRST_COUNT, &mut reader, &mut writer)
+}
+
+#[test]
+fn std_devices_run(rt: HostRuntime) -> Result<(), Fail> {
+    let mut room = [0u8; 100];
+    assert_eq!(rt; run_into(rt.alloc(), &mut room)?, Ok(2048));
     let text = FIRST_COUNT_LINES.as_bytes();
     assert_eq!(rt; room.get(..text.len()), Some(text));
     assert_eq!(rt; room.get(text.len()), Some(&0));
@@ -146,11 +150,8 @@ fn writer_takes_nothing(rt: HostRuntime) -> Result<(), Fail> {
     assert_eq!(rt; answer, Err(RunFault::Write));
     assert_eq!(rt; inner.writes, 1);
     // A slice that is full takes nothing, either.
-    let mut reader = Giving::faulty(&code, usize::MAX, 100);
     let mut room = [b'?'; 4];
-    let mut writer = Plain::new(&mut room[..0]);
-    let answer = run_over(rt.alloc(), FIRST_COUNT, &mut reader, &mut writer)?;
-    assert_eq!(rt; answer, Err(RunFault::Write));
+    assert_eq!(rt; run_into(rt.alloc(), &mut room[..0])?, Err(RunFault::Write));
     assert_eq!(rt; room, [b'?'; 4]);
     Ok(())
 }

@@ -1,0 +1,96 @@
+"""Several clients over the same samples, with equal and with unequal shares of the slots."""
+from .made_signal import code_file
+
+# Holds satellite 1 from the first sample on, and asks for one dump. Each sample of the code's file
+# meets its own chip, so the prompt products are 2,046 times +1, and the carrier's pair is 2 and 1
+# throughout. The early and the late chip are half a chip away: half of the samples meet their own
+# chip, the others a neighbouring one. The products of all neighbouring chips of satellite 1 add up
+# to -1, so 1,023 - 1 is left of these.
+FIRST_COUNT = '0 hold 0 1 0 0\n0 counts 0 1\n'
+SUMS = '2044 -1022 4092 -2046 2044 -1022'
+
+
+def two_clients_bytewise(runs):
+    """A client that counts, and one that asks for states."""
+    second = '1 state 0\n3 state 0\n777 state 3\n'
+    runs.see('two clients', [FIRST_COUNT, second], code_file(),
+             '1 0 ok\n'
+             '1 0 ok\n'
+             '2 1 state 0 idle\n'
+             '2 3 state 0 idle\n'
+             '2 777 state 3 idle\n'
+             f'1 2046 count 0 {SUMS}\n'
+             '1 2048 end\n'
+             '2 2048 end\n', pieces=(1, 3, 256))
+
+
+def strangers_errors(runs):
+    """A line `x` has no time, so all 200 stand at 0."""
+    runs.see('200 refused lines of another client', [FIRST_COUNT, 'x\n' * 200], code_file(),
+             '1 0 ok\n1 0 ok\n' + '2 0 err 3\n' * 200 +
+             f'1 2046 count 0 {SUMS}\n1 2048 end\n2 2048 end\n')
+
+
+def same_time_order(runs):
+    """At one time the lines that samples cause come first, then the answers, by client; so client
+    2's dump stands before client 1's state."""
+    runs.see('the order at one time', ['2046 state 0\n', FIRST_COUNT], code_file(),
+             '2 0 ok\n'
+             '2 0 ok\n'
+             f'2 2046 count 0 {SUMS}\n'
+             '1 2046 state 0 idle\n'
+             '1 2048 end\n'
+             '2 2048 end\n')
+    runs.see('the order of one client', [f'{FIRST_COUNT}2046 state 0\n'], code_file(),
+             '1 0 ok\n'
+             '1 0 ok\n'
+             f'1 2046 count 0 {SUMS}\n'
+             '1 2046 state 0 hold 1 1\n'
+             '1 2048 end\n')
+
+
+def slots_of_each_share(runs):
+    """Each client has the slots below its share."""
+    runs.see('shares of eight and one', ['0 state 7\n', '0 state 1\n'], b'',
+             '1 0 state 7 idle\n2 0 err 8\n1 0 end\n2 0 end\n', '--shares', '81')
+
+
+def sixty_four_searches(runs):
+    """With samples that are all 1 each cell's sums are 2 and -1 times two samples for each chip, of
+    which all chips of satellite 1 add up to -1. So all powers are 20, and none of them reaches a
+    hundred times the mean. All searches are due after a period and four samples for each of 2,046
+    cells."""
+    numbers, slots = range(1, 9), range(8)
+    script = ''.join(f'0 acquire {slot} 1 0 0 1 1000\n' for slot in slots)
+    runs.see('64 searches', [script] * 8, bytes(1279),
+             ''.join(f'{client} 0 ok\n' for client in numbers for _ in slots) +
+             ''.join(f'{client} 10230 acq {slot} 1 none 0 0 20\n'
+                     for client in numbers for slot in slots) +
+             ''.join(f'{client} 10232 end\n' for client in numbers), '--shares', '88888888')
+
+
+def share_of_eight_beside_others(runs):
+    """A client's lines are the same whatever shares the others have, and whatever they ask."""
+    own = '0 hold 7 1 0 0\n0 counts 7 1\n0 state 6\n'
+    wanted = f'2 0 ok\n2 0 ok\n2 0 state 6 idle\n2 2046 count 7 {SUMS}\n2 2048 end\n'.encode()
+    for share, other in (('8', ''),
+                         ('1', 'x\n0 hold 0 7 0 0\n0 hold 0 7 0 0\n0 stop 1\n'),
+                         ('4', '0 acquire 3 1 0 0 1 1000\n2047 state 3\n'),
+                         ('8', '0 hold 7 2 0 1000\n0 counts 7 5\n1 stop 7\n2048 state 7\n')):
+        came = b''.join(runs.written([other, own], code_file(), ['--shares', f'{share}8'], 3))
+        lines = b''.join(line for line in came.splitlines(True) if line.startswith(b'2 '))
+        runs.tell(f'a share of eight beside one of {share}', lines == wanted, lines)
+
+
+def four_slots_each(runs):
+    """Where no shares are given, each client has four slots."""
+    scripts = [FIRST_COUNT, '0 state 3\n0 state 4\n']
+    came = b''.join(runs.written(scripts, code_file()))
+    first = b'1 0 ok\n1 0 ok\n2 0 state 3 idle\n2 0 err 8\n'
+    is_right = came.startswith(first) and came.endswith(b'\n1 2048 end\n2 2048 end\n')
+    runs.tell('four slots each', is_right, came)
+    runs.see('shares of four', scripts, code_file(), came.decode(), '--shares', '44')
+
+
+ROWS = (two_clients_bytewise, strangers_errors, same_time_order, slots_of_each_share,
+        sixty_four_searches, share_of_eight_beside_others, four_slots_each)

@@ -1,0 +1,84 @@
+"""Satellites that are searched for, and tracked where they are found."""
+from .made_signal import code_file
+
+# As many bytes of samples as a dwell of one period needs, with the four samples for each of its
+# cells.
+DUE_BYTES = 1279
+LONG_FILE = code_file(12288)
+
+
+def code_is_found(runs):
+    """The code stands at the third half chip where the search begins: there all products of samples
+    and chips are 1, so that the sums are 2,046 times 2 and -1, and the power is 5 times the square
+    of 2,046. It is due after a period and four samples for each of the 2,046 cells."""
+    script = '2 acquire 0 1 0 0 1 10\n'
+    for size, lines in ((DUE_BYTES, '1 2 ok\n1 10232 acq 0 1 found 0 2 20930580\n1 10232 end\n'),
+                        (DUE_BYTES - 1, '1 2 ok\n1 10224 end\n')):
+        runs.see(f'a search over {size} bytes', [script], LONG_FILE[:size], lines,
+                 pieces=(1, 3, 128, 2000))
+
+
+def equal_cells(runs):
+    """With samples that are all 1 each cell's sums are 2 and -1 times two samples for each chip, of
+    which all chips of satellite 1 add up to -1. So all powers are 20, and the first cell is named.
+    It reaches ten tenths of the mean, and not eleven."""
+    for threshold, word in ((10, 'found'), (11, 'none')):
+        runs.see(f'equal cells at {threshold} tenths', [f'0 acquire 0 1 0 0 1 {threshold}\n'],
+                 bytes(DUE_BYTES), f'1 0 ok\n1 10230 acq 0 1 {word} 0 0 20\n1 10232 end\n')
+
+
+def waiting_state(runs):
+    """One cell is done with every fourth sample after the dwell."""
+    script = '0 acquire 0 1 0 0 1 10\n2046 state 0\n2049 state 0\n2050 state 0\n'
+    runs.see('the state of a search', [script], LONG_FILE[:257],
+             '1 0 ok\n'
+             '1 2046 state 0 acquire 1 0 2046\n'
+             '1 2049 state 0 acquire 1 0 2046\n'
+             '1 2050 state 0 acquire 1 1 2046\n'
+             '1 2056 end\n', pieces=(1, 257))
+
+
+def commands_at_the_due_time(runs):
+    """At the due time the answer of the search comes first. Where the signal is found the slot
+    tracks it by then; where it isn't, the slot is idle. The cell of satellite 2 comes from a
+    program in another language, which adds up each cell by itself."""
+    found = '2 acquire 0 1 0 0 1 10\n10232 state 0\n10232 stop 0\n10232 state 0\n'
+    missed = '2 acquire 3 2 0 0 1 1000\n10232 state 3\n10232 stop 3\n'
+    runs.see('commands at the due time', [found, missed], LONG_FILE,
+             '1 2 ok\n'
+             '2 2 ok\n'
+             '1 10232 acq 0 1 found 0 2 20930580\n'
+             '2 10232 acq 3 2 none 0 12 84500\n'
+             '1 10232 state 0 track 1 0 0 0 open\n'
+             '1 10232 ok\n'
+             '1 10232 state 0 idle\n'
+             '2 10232 state 3 idle\n'
+             '2 10232 err 10\n'
+             '1 12288 end\n'
+             '2 12288 end\n')
+
+
+def commands_while_it_searches(runs):
+    """While it searches, a slot takes `counts` and `stop`, and no other start."""
+    script = ('0 acquire 0 1 0 0 1 10\n'
+              '5 acquire 0 2 0 0 1 10\n'
+              '6 hold 0 1 0 0\n'
+              '7 track 0 1 0 0\n'
+              '8 counts 0 3\n'
+              '3000 stop 0\n'
+              '3000 state 0\n'
+              '3000 stop 0\n')
+    runs.see('commands while a slot searches', [script], LONG_FILE,
+             '1 0 ok\n'
+             '1 5 err 9\n'
+             '1 6 err 9\n'
+             '1 7 err 9\n'
+             '1 8 ok\n'
+             '1 3000 ok\n'
+             '1 3000 state 0 idle\n'
+             '1 3000 err 10\n'
+             '1 12288 end\n')
+
+
+ROWS = (code_is_found, equal_cells, waiting_state, commands_at_the_due_time,
+        commands_while_it_searches)

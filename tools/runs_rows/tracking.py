@@ -1,0 +1,74 @@
+"""A satellite that is tracked, beside the plain tracker."""
+from .made_signal import Signal
+from .signals import TRACK, see
+from .tracker import Reference
+
+
+def counts(runs):
+    """The loops' steps are those of the segment that begins with the dump, and not of a later one:
+    else the second dump would differ already."""
+    signal = Signal()
+    samples = signal.samples(800000)
+    lines = Reference(signal, samples, 300).follow([(0, 'ok'), (0, 'ok'), (800000, 'end')])
+    see(runs, 'tracked counts', signal, samples, TRACK + '0 counts 0 300\n', lines)
+
+
+def segment_of_one_sample(runs):
+    """The first segment begins half a chip before the end of the code and has one sample. The
+    carrier's pair there is 2 and 1, and the value is 3 times the chip's sign: so the prompt and the
+    late sum are 6 and -3. The early chip is the first of the code, which is 1 as the last one is
+    0."""
+    signal = Signal(rate=2046000, offset=511500, satellite=5, half_chip=2045)
+    samples = signal.samples(20000)
+    lines = Reference(signal, samples, 4).follow([(0, 'ok'), (0, 'ok'), (1, None), (20000, 'end')])
+    first = ('1 0 ok\n'
+             '1 0 ok\n'
+             '1 1 count 0 -6 3 6 -3 6 -3\n'
+             '1 1 state 0 ')
+    runs.tell('the plain tracker\'s segment of one sample', lines.startswith(first), lines)
+    see(runs, 'a first segment of one sample', signal, samples,
+        '0 track 0 5 1000 2045\n0 counts 0 4\n1 state 0\n', lines)
+
+
+def states(runs):
+    """A state at the time of a dump shows it, and one sample before doesn't."""
+    signal = Signal()
+    samples = signal.samples(1000000)
+    times = [0, 2377, 2378, 4878, 300000, 497378, 499878, 547377, 547378, 1000000]
+    steps = [(0, 'ok'), *((time, None) for time in times), (1000000, 'end')]
+    script = TRACK + ''.join(f'{time} state 0\n' for time in times)
+    see(runs, 'states of a tracked slot', signal, samples, script,
+        Reference(signal, samples).follow(steps))
+
+
+def lost(runs):
+    """Noise hides the signal for 260 milliseconds, and later for good."""
+    signal = Signal()
+    samples = signal.samples(4700000, [(750000, 1400000), (2150000, 4700000)])
+    reference = Reference(signal, samples)
+    lines = reference.follow([(0, 'ok'), (4700000, 'state 0 idle'), (4700000, 'err 10'),
+                              (4700000, 'ok'), (4700000, 'end')])
+    is_right = reference.news == ['lock', 'unlock', 'lock', 'unlock', 'lost']
+    runs.tell('the plain tracker over a hidden signal', is_right, reference.news)
+    see(runs, 'a hidden signal is lost', signal, samples,
+        f'{TRACK}4700000 state 0\n4700000 stop 0\n4700000 {TRACK[2:]}', lines)
+
+
+def refused_track(runs):
+    """The refused lines stand between two dumps and at the very time of the third one. Five dumps
+    are counted all the same."""
+    signal = Signal()
+    samples = signal.samples(20000)
+    lines = Reference(signal, samples, 5).follow([
+        (0, 'ok'), (0, 'ok'), (5000, 'err 9'), (5000, 'err 9'), (7378, 'err 9'), (7378, None),
+        (20000, 'end')])
+    script = (TRACK +
+              '0 counts 0 5\n'
+              '5000 track 0 7 1000 100\n'
+              '5000 hold 0 5 0 0\n'
+              '7378 track 0 1 -2000 7\n'
+              '7378 state 0\n')
+    see(runs, 'a refused track changes nothing', signal, samples, script, lines)
+
+
+ROWS = counts, segment_of_one_sample, states, lost, refused_track
