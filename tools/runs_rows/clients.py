@@ -92,5 +92,29 @@ def four_slots_each(runs):
     runs.see('shares of four', scripts, code_file(), came.decode(), '--shares', '44')
 
 
+def first_dumps(runs):
+    """Satellites 1 and 7 begin half a chip before the end of their codes, in eight samples of
+    value 1. Of both chip 0 is 1 and chip 1022 is 0. Satellite 1 is at 0 Hz, where one sample ends
+    the segment, and the carrier's first pair is 2, 1: the early chip, of the next period, has the
+    sign -1, the others +1. Satellite 7 is a little slower than half a chip a sample, so the second
+    sample ends the segment. The carrier has turned a little less than a whole cycle back there,
+    where its pair is 2, -1: the signs of the quadrature cancel. It is the same whichever satellite
+    has a chip table first, and for slots of shares that differ."""
+    first, second = 'hold {} 1 0 2045', 'hold {} 7 -1000 2045'
+    for name, holds, slots, lines, options in (
+            ('two first dumps', (first, second), (0, 0),
+             ['1 1 count 0 -2 1 2 -1 2 -1', '2 2 count 0 -4 0 4 0 4 0'], ()),
+            ('two first dumps the other way round', (second, first), (0, 0),
+             ['2 1 count 0 -2 1 2 -1 2 -1', '1 2 count 0 -4 0 4 0 4 0'], ()),
+            ('first dumps of one and of eight slots', (first, second), (0, 7),
+             ['1 1 count 0 -2 1 2 -1 2 -1', '2 2 count 7 -4 0 4 0 4 0'], ('--shares', '18'))):
+        one, other = (f'0 {hold.format(slot)}\n0 counts {slot} 1\n'
+                      for hold, slot in zip(holds, slots))
+        asked = f'0 state {slots[1]}\n'
+        text = ['1 0 ok', '1 0 ok', f'2 0 state {slots[1]} idle', '2 0 ok', '2 0 ok', *lines,
+                '1 8 end', '2 8 end']
+        runs.see(name, [one, asked + other], bytes(1), ''.join(f'{it}\n' for it in text), *options)
+
+
 ROWS = (two_clients_bytewise, strangers_errors, same_time_order, slots_of_each_share,
-        sixty_four_searches, share_of_eight_beside_others, four_slots_each)
+        sixty_four_searches, share_of_eight_beside_others, four_slots_each, first_dumps)

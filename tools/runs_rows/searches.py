@@ -80,5 +80,70 @@ def commands_while_it_searches(runs):
              '1 12288 end\n')
 
 
+def state_at_the_due_time(runs):
+    """The last cell but one is done a sample before the answer. A found satellite is tracked from
+    then on, and where none is found the slot is idle."""
+    runs.see('the state before and at the due time',
+             ['2 acquire 0 1 0 0 1 10\n10231 state 0\n10232 state 0\n'], LONG_FILE,
+             '1 2 ok\n'
+             '1 10231 state 0 acquire 1 2045 2046\n'
+             '1 10232 acq 0 1 found 0 2 20930580\n'
+             '1 10232 state 0 track 1 0 0 0 open\n'
+             '1 12288 end\n', pieces=(128,))
+    for threshold, word, state in (10, 'found', 'track 1 0 0 0 open'), (11, 'none', 'idle'):
+        runs.see(f'the state after equal cells at {threshold} tenths',
+                 [f'0 acquire 0 1 0 0 1 {threshold}\n10230 state 0\n'], bytes(DUE_BYTES),
+                 '1 0 ok\n'
+                 f'1 10230 acq 0 1 {word} 0 0 20\n'
+                 f'1 10230 state 0 {state}\n'
+                 '1 10232 end\n', pieces=(128,))
+
+
+def cells_come_with_samples(runs):
+    """The dwell ends at 2,046, and one cell is done with every four samples after it."""
+    cells = ((0, 0), (2045, 0), (2049, 0), (2050, 1), (2053, 1), (2054, 2), (6137, 1022),
+             (6138, 1023), (10225, 2044), (10226, 2045), (10229, 2045))
+    states = ''.join(f'{time} state 0\n' for time, _ in cells)
+    lines = ''.join(f'1 {time} state 0 acquire 1 {done} 2046\n' for time, done in cells)
+    runs.see('cells come with samples', [f'0 acquire 0 1 0 0 1 10\n{states}10229 stop 0\n'],
+             LONG_FILE[:DUE_BYTES], f'1 0 ok\n{lines}1 10229 ok\n1 10232 end\n', pieces=(125,))
+
+
+def counts_outlast_the_search(runs):
+    """A slot that searches is busy. Its counts are kept, and printed from the first tracked dump
+    on: at the due time the code is at half chip 2, so 2,044 samples of it are left. Of the
+    neighbouring chips' products, which add up to -1, those of chips 0 and 1 are missing early,
+    which is 1, and those of chips 1,022 and 0 late, which is -1."""
+    script = ('2 acquire 0 1 0 0 1 10\n'
+              '3000 hold 0 2 0 2045\n'
+              '3000 track 0 2 0 2045\n'
+              '3000 acquire 0 2 0 0 1 10\n'
+              '3000 counts 0 1\n')
+    runs.see('counts outlast the search', [script], LONG_FILE,
+             '1 2 ok\n'
+             '1 3000 err 9\n'
+             '1 3000 err 9\n'
+             '1 3000 err 9\n'
+             '1 3000 ok\n'
+             '1 10232 acq 0 1 found 0 2 20930580\n'
+             '1 12276 count 0 2040 -1020 4088 -2044 2044 -1022\n'
+             '1 12288 end\n', pieces=(128,))
+
+
+def stop_at_the_due_time(runs):
+    """A search that is stopped emits nothing. At the due time its answer comes first: then a found
+    signal is tracked, and is stopped, and where nothing was found the slot is idle."""
+    for threshold, time, answers in ((10, 0, ['0 ok']),
+                                     (10, 10229, ['10229 ok']),
+                                     (10, 10230, ['10230 acq 0 1 found 0 0 20', '10230 ok']),
+                                     (11, 10229, ['10229 ok']),
+                                     (11, 10230, ['10230 acq 0 1 none 0 0 20', '10230 err 10'])):
+        lines = ''.join(f'1 {line}\n' for line in ('0 ok', *answers, '10232 end'))
+        runs.see(f'a stop at {time} of a search at {threshold} tenths',
+                 [f'0 acquire 0 1 0 0 1 {threshold}\n{time} stop 0\n'], bytes(DUE_BYTES), lines,
+                 pieces=(128,))
+
+
 ROWS = (code_is_found, equal_cells, waiting_state, commands_at_the_due_time,
-        commands_while_it_searches)
+        commands_while_it_searches, state_at_the_due_time, cells_come_with_samples,
+        counts_outlast_the_search, stop_at_the_due_time)

@@ -5,11 +5,11 @@ ghost use Rattle.channel_slots.specs.BankStates.{settings_of, shares_of};
 ghost use Rattle.definitions.specs.Samples.{real1};
 ghost use Rattle.sample_planes.specs.declared.planes.TheConstants.{MAX_SAMPLES};
 
-use super::{acquire, hold, plain_settings, slot_zero, sums, track};
+use super::{acquire, plain_settings, slot_zero};
 use acquisition::{Cell, Plan};
 use arrayvec::ArrayVec;
 use ca_codes::Prn;
-use channel_slots::{Answer, Bank, Command, Event, Phase, Refusal, SlotEvent, SlotNo, SlotState};
+use channel_slots::{Bank, Command, Event, SlotEvent, SlotNo};
 use made_signals::long_code_file;
 use oscillators::HalfChip;
 use sample_planes::{Format, PackedSamples};
@@ -113,102 +113,6 @@ fn told_at(time: u64, event: Event) -> SlotEvent {
     }
 }
 
-/// A slot that searches for satellite 1, and has done so many of 2,046 cells.
-fn searching(done: u64) -> Result<SlotState, Fail> {
-    Ok(SlotState::Acquire {
-        prn: Prn::new(1).ok_or("a satellite")?,
-        done,
-        cells: 2_046,
-    })
-}
-
-/// A slot that tracks satellite 1 at 0 Hz, and has had no dump.
-fn tracking() -> Result<SlotState, Fail> {
-    Ok(SlotState::Track {
-        prn: Prn::new(1).ok_or("a satellite")?,
-        dumps: 0,
-        v: 0,
-        w: 0,
-        phase: Phase::Unlocked,
-    })
-}
-
-// The dwell is samples 2 to 2,047, and there are 2,046 cells: the answer is due at 2,048 + 8,184,
-// and not before. From then on the signal is tracked.
-#[test]
-fn acquire_code_file(rt: HostRuntime) -> Result<(), Fail> {
-    let bytes = long_code_file();
-    let recording = PackedSamples::new(Format::Real1, &bytes);
-    let state = Command::State { slot: slot_zero()? };
-    let mut bank = bank_of_one(rt.alloc())?;
-    hear(&rt, &mut bank, &recording, 1_024, 2, &[])?;
-    assert_eq!(rt; bank.command(1, acquire(1, 10)?), Answer::Accepted);
-    hear(&rt, &mut bank, &recording, 1_024, 10_231, &[])?;
-    let shown = searching(2_045)?;
-    assert_eq!(rt; bank.command(1, state), Answer::State(shown));
-    let named = told_at(10_232, found_at_two()?);
-    hear(&rt, &mut bank, &recording, 1_024, 10_232, &[named])?;
-    let shown = tracking()?;
-    assert_eq!(rt; bank.command(1, state), Answer::State(shown));
-    Ok(())
-}
-
-// The chips add up to -1, each is seen twice, and so every cell has sums of -4 in phase and 2 in
-// quadrature: the first one is named, and no cell has more than the mean.
-#[test]
-fn equal_cells(rt: HostRuntime) -> Result<(), Fail> {
-    let state = Command::State { slot: slot_zero()? };
-    let zeros = [0; 1_279];
-    let recording = PackedSamples::new(Format::Real1, &zeros);
-    for (threshold, found) in [(10, true), (11, false)] {
-        let mut bank = bank_of_one(rt.alloc())?;
-        bank.command(1, acquire(1, threshold)?);
-        let named = Event::Acquired {
-            prn: Prn::new(1).ok_or("a satellite")?,
-            cell: Cell {
-                bin: 0,
-                half: HalfChip::new(0).ok_or("a half chip")?,
-                power: 20,
-                found,
-            },
-        };
-        let told = told_at(10_230, named);
-        hear(&rt, &mut bank, &recording, 1_024, 10_230, &[told])?;
-        let shown = if found { tracking()? } else { SlotState::Idle };
-        assert_eq!(rt; bank.command(1, state), Answer::State(shown));
-        hear(&rt, &mut bank, &recording, 1_024, 10_232, &[])?;
-    }
-    Ok(())
-}
-
-// The dwell ends at 2,046, and one cell is done with every four samples after it.
-#[test]
-fn cells_come_with_samples(rt: HostRuntime) -> Result<(), Fail> {
-    let bytes = long_code_file();
-    let recording = PackedSamples::new(Format::Real1, &bytes);
-    let state = Command::State { slot: slot_zero()? };
-    let mut bank = bank_of_one(rt.alloc())?;
-    bank.command(1, acquire(1, 10)?);
-    for (time, done) in [
-        (0, 0),
-        (2_045, 0),
-        (2_049, 0),
-        (2_050, 1),
-        (2_053, 1),
-        (2_054, 2),
-        (6_137, 1_022),
-        (6_138, 1_023),
-        (10_225, 2_044),
-        (10_226, 2_045),
-        (10_229, 2_045),
-    ] {
-        hear(&rt, &mut bank, &recording, 1_000, time, &[])?;
-        let shown = searching(done)?;
-        assert_eq!(rt; bank.command(1, state), Answer::State(shown), "at {time}");
-    }
-    Ok(())
-}
-
 /// Client 1's slot 0 is to search over ten periods at time 0, and slot s of client k over one at
 /// time 4 (k - 1) + s.
 fn ask_in_turn(bank: &mut Bank, recording: &PackedSamples) -> Result<(), Fail>
@@ -261,6 +165,7 @@ fn cells_among_strangers(rt: HostRuntime) -> Result<(), Fail> {
     assert_eq!(rt; bank.cells_done(8, last), Some(1_980));
     assert_eq!(rt; bank.cells_done(0, last), None);
     assert_eq!(rt; bank.cells_done(9, first), None);
+    assert_eq!(rt; bank.cells_done(1, SlotNo::new(7).ok_or("a slot")?), None);
     let told = feed_to(&mut bank, &recording, 1_024, 20_463)?;
     assert_eq!(rt; told.len(), 31);
     hear_in_turn(&rt, told.as_slice());
@@ -268,58 +173,6 @@ fn cells_among_strangers(rt: HostRuntime) -> Result<(), Fail> {
     assert_eq!(rt; bank.cells_done(1, first), Some(0));
     hear(&rt, &mut bank, &recording, 1_024, 20_464, &[])?;
     assert_eq!(rt; bank.cells_done(1, first), Some(1));
-    Ok(())
-}
-
-// A slot that searches is busy. Its counts are kept, and printed from the first tracked dump on:
-// at the due time the code is at half chip 2, so 2,044 samples of it are left. Of the neighbouring
-// chips' products, which add up to -1, those of chips 0 and 1 are missing early, which is 1, and
-// those of chips 1,022 and 0 late, which is -1.
-#[test]
-fn counts_outlast_the_search(rt: HostRuntime) -> Result<(), Fail> {
-    let bytes = long_code_file();
-    let recording = PackedSamples::new(Format::Real1, &bytes);
-    let counts = Command::Counts {
-        slot: slot_zero()?,
-        n: 1,
-    };
-    let mut bank = bank_of_one(rt.alloc())?;
-    hear(&rt, &mut bank, &recording, 1_024, 2, &[])?;
-    bank.command(1, acquire(1, 10)?);
-    hear(&rt, &mut bank, &recording, 1_024, 3_000, &[])?;
-    let busy = Answer::Refused(Refusal::Busy);
-    assert_eq!(rt; bank.command(1, hold(2, 0)?), busy);
-    assert_eq!(rt; bank.command(1, track(2, 0)?), busy);
-    assert_eq!(rt; bank.command(1, acquire(2, 10)?), busy);
-    assert_eq!(rt; bank.command(1, counts), Answer::Accepted);
-    let named = told_at(10_232, found_at_two()?);
-    let counts = sums([2_040, -1_020, 4_088, -2_044, 2_044, -1_022]);
-    let count = told_at(12_276, Event::Count(counts));
-    hear(&rt, &mut bank, &recording, 1_024, 12_288, &[named, count])?;
-    Ok(())
-}
-
-// A search that is stopped emits nothing. At the due time its answer comes first: then a found
-// signal is tracked, and is stopped, and where nothing was found the slot is idle.
-#[test]
-fn stop_at_the_due_time(rt: HostRuntime) -> Result<(), Fail> {
-    let zeros = [0; 1_279];
-    let recording = PackedSamples::new(Format::Real1, &zeros);
-    let stop = Command::Stop { slot: slot_zero()? };
-    for (threshold, time, events, answer) in [
-        (10, 0, 0, Answer::Accepted),
-        (10, 10_229, 0, Answer::Accepted),
-        (10, 10_230, 1, Answer::Accepted),
-        (11, 10_229, 0, Answer::Accepted),
-        (11, 10_230, 1, Answer::Refused(Refusal::Idle)),
-    ] {
-        let mut bank = bank_of_one(rt.alloc())?;
-        bank.command(1, acquire(1, threshold)?);
-        let told = feed_to(&mut bank, &recording, 1_024, time)?;
-        assert_eq!(rt; told.len(), events, "by {time}");
-        assert_eq!(rt; bank.command(1, stop), answer, "at {time}");
-        hear(&rt, &mut bank, &recording, 1_024, 10_232, &[])?;
-    }
     Ok(())
 }
 
