@@ -151,11 +151,6 @@ impl Holding {
         device
     }
 
-    /// Adds bytes that no run wrote.
-    pub fn add(&mut self, bytes: &[u8]) -> Result<(), Fail> {
-        Ok(self.bytes.try_extend_from_slice(bytes)?)
-    }
-
     /// What was written.
     pub fn text(&self) -> Result<&str, Fail> {
         Ok(std::str::from_utf8(self.bytes.as_slice())?)
