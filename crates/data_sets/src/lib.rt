@@ -40,6 +40,3 @@ pub use almanac_set::{AlmanacSet, SATELLITES};
 pub use data_sets::DataSets;
 pub use report::{FIELDS_OF_EPHEMERIS, Report};
 pub use reports::Reports;
-
-#[cfg(test)]
-mod tests;

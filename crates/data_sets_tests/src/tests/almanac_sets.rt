@@ -1,6 +1,7 @@
 //! Sets of almanacs. What is expected was worked out by hand from the rules.
 
-use crate::{AlmanacSet, DataSets, Report, Reports};
+use data_sets::{AlmanacSet, DataSets, Report, Reports};
+use std::process::Abort;
 use subframes::Page;
 
 // The row of the specification: each almanac is reported, the last of 32 makes the set, another
@@ -11,12 +12,12 @@ fn almanac_set(rt: HostRuntime) {
     let mut health = [0; 32];
     for sv in 1..=32 {
         let set = if sv == 32 { Some(health) } else { None };
-        assert_eq!(rt; sets.take(&page(sv, 5, 0)), told(sv, 5, 0, set), "{sv}");
+        assert_told(&rt, &mut sets, [sv, 5, 0], set);
     }
-    assert_eq!(rt; sets.take(&page(3, 6, 0)), told(3, 6, 0, None));
-    assert_eq!(rt; sets.take(&page(3, 5, 0)), told(3, 5, 0, None));
+    assert_told(&rt, &mut sets, [3, 6, 0], None);
+    assert_told(&rt, &mut sets, [3, 5, 0], None);
     health[2] = 1;
-    assert_eq!(rt; sets.take(&page(3, 5, 1)), told(3, 5, 1, Some(health)));
+    assert_told(&rt, &mut sets, [3, 5, 1], Some(health));
 }
 
 // Whichever almanac is missing, the others make no set, however often they come.
@@ -26,13 +27,10 @@ fn one_missing(rt: HostRuntime) {
         let mut sets = DataSets::new();
         for sv in 1..=64 {
             if sv % 32 + 1 != missing {
-                assert_eq!(rt; sets.take(&page(sv % 32 + 1, 5, 0)).set, None, "{missing}");
+                assert_told(&rt, &mut sets, [sv % 32 + 1, 5, 0], None);
             }
         }
-        assert_eq!(rt;
-            sets.take(&page(missing, 5, 0)),
-            told(missing, 5, 0, Some([0; 32]))
-        );
+        assert_told(&rt, &mut sets, [missing, 5, 0], Some([0; 32]));
     }
 }
 
@@ -42,13 +40,9 @@ fn next_time(rt: HostRuntime) {
     let mut sets = sets_but_32();
     let _ = sets.take(&page(32, 5, 0));
     for sv in 1..=31 {
-        assert_eq!(rt; sets.take(&page(sv, 6, 0)).set, None, "{sv}");
+        assert_told(&rt, &mut sets, [sv, 6, 0], None);
     }
-    let expected = AlmanacSet {
-        toa: 6,
-        health: [0; 32],
-    };
-    assert_eq!(rt; sets.take(&page(32, 6, 0)).set, Some(expected));
+    assert_told(&rt, &mut sets, [32, 6, 0], Some([0; 32]));
 }
 
 // A set is compared with the one that was reported last: a health that changes and changes back
@@ -60,18 +54,15 @@ fn changes_and_back(rt: HostRuntime) {
     let _ = sets.take(&page(32, 5, 0));
     for sick in [63, 0] {
         health[31] = sick;
-        let expected = AlmanacSet { toa: 5, health };
-        assert_eq!(rt; sets.take(&page(32, 5, sick)).set, Some(expected));
-        assert_eq!(rt; sets.take(&page(32, 5, sick)).set, None);
+        assert_told(&rt, &mut sets, [32, 5, sick], Some(health));
+        assert_told(&rt, &mut sets, [32, 5, sick], None);
     }
     let drifting = Page::Almanac([1, 7, 0, 5, 0, 0, 0, 0, 0, 0, 0, 0, -1]);
-    assert_eq!(rt;
-        sets.take(&drifting).set,
-        Some(AlmanacSet {
-            toa: 5,
-            health: [0; 32]
-        })
-    );
+    let expected = AlmanacSet {
+        toa: 5,
+        health: [0; 32],
+    };
+    assert_set(&rt, &mut sets, &drifting, Some(expected));
 }
 
 // An almanac of no satellite from 1 to 32, which no subframe holds, is reported and changes
@@ -80,14 +71,13 @@ fn changes_and_back(rt: HostRuntime) {
 fn no_satellite(rt: HostRuntime) {
     let mut sets = sets_but_32();
     for sv in [0, 33, -1, 64, i64::MIN, i64::MAX] {
-        assert_eq!(rt; sets.take(&page(sv, 5, 1)), told(sv, 5, 1, None), "{sv}");
+        assert_told(&rt, &mut sets, [sv, 5, 1], None);
     }
-    let expected = told(32, 5, 0, Some([0; 32]));
-    assert_eq!(rt; sets.take(&page(32, 5, 0)), expected);
+    assert_told(&rt, &mut sets, [32, 5, 0], Some([0; 32]));
     for sv in [0, 33, -1, 64, i64::MIN, i64::MAX] {
-        assert_eq!(rt; sets.take(&page(sv, 6, 1)), told(sv, 6, 1, None), "{sv}");
+        assert_told(&rt, &mut sets, [sv, 6, 1], None);
     }
-    assert_eq!(rt; sets.take(&page(32, 5, 0)).set, None);
+    assert_told(&rt, &mut sets, [32, 5, 0], None);
 }
 
 // Pages of other kinds leave the almanacs as they are, and bring no set of them.
@@ -96,11 +86,28 @@ fn between_other_pages(rt: HostRuntime) {
     let mut sets = DataSets::new();
     for sv in 1..=31 {
         let _ = sets.take(&page(sv, 5, 0));
-        assert_eq!(rt; sets.take(&Page::Utc([sv; 18])).set, None);
-        assert_eq!(rt; sets.take(&Page::Clock([sv; 11])).set, None);
+        assert_set(&rt, &mut sets, &Page::Utc([sv; 18]), None);
+        assert_set(&rt, &mut sets, &Page::Clock([sv; 11]), None);
     }
-    assert_eq!(rt; sets.take(&page(32, 5, 0)), told(32, 5, 0, Some([0; 32])));
-    assert_eq!(rt; sets.take(&Page::Health([1; 28])).set, None);
+    assert_told(&rt, &mut sets, [32, 5, 0], Some([0; 32]));
+    assert_set(&rt, &mut sets, &Page::Health([1; 28]), None);
+}
+
+/// Asserts that an almanac, given as `page` has it, is reported, and makes a set of these healths.
+fn assert_told(
+    rt: &impl Abort,
+    sets: &mut DataSets,
+    almanac: [i64; 3],
+    healths: Option<[i64; 32]>,
+) {
+    let [sv, toa, health] = almanac;
+    let reports = sets.take(&page(sv, toa, health));
+    assert_eq!(rt; reports, told(sv, toa, health, healths), "{almanac:?}");
+}
+
+/// Asserts which set of almanacs a page brings.
+fn assert_set(rt: &impl Abort, sets: &mut DataSets, page: &Page, expected: Option<AlmanacSet>) {
+    assert_eq!(rt; sets.take(page).set, expected, "{page:?}");
 }
 
 /// What almanacs of satellites 1 to 31 leave, for time of applicability 5, all other numbers 0.

@@ -3,7 +3,7 @@
 
 mod almanac_sets;
 
-use crate::{DataSets, Report};
+use data_sets::{DataSets, Report};
 use frame_sync::Subframe;
 use std::process::Abort;
 use subframes::{
@@ -20,41 +20,54 @@ const IODE3: usize = 11 + 11 + 7;
 
 #[test]
 fn matching_issues(rt: HostRuntime) {
-    let mut sets = DataSets::new();
-    assert_eq!(rt; sets.take(&clock(7)).page, None);
-    assert_eq!(rt; sets.take(&eph2(7)).page, None);
-    assert_eq!(rt; sets.take(&eph3(8)).page, None);
-    assert_eq!(rt; sets.take(&eph2(8)).page, None);
-    assert_eq!(rt; sets.take(&clock(8)).page, Some(set(8, 8)));
-    assert_eq!(rt; sets.take(&clock(8)).page, None);
+    assert_reports(
+        &rt,
+        &mut DataSets::new(),
+        &[
+            (clock(7), None),
+            (eph2(7), None),
+            (eph3(8), None),
+            (eph2(8), None),
+            (clock(8), Some(set(8, 8))),
+            (clock(8), None),
+        ],
+    );
 }
 
 // The subframe 3 whose word 5 is missing makes no page, so that there is nothing to take.
 #[test]
 fn incomplete_page(rt: HostRuntime) {
-    let mut sets = DataSets::new();
-    assert_eq!(rt; sets.take(&clock(7)).page, None);
-    assert_eq!(rt; sets.take(&eph2(7)).page, None);
     let zero = Some(0);
     let incomplete = subframe(&rt, 0x8c, [zero, zero, None, zero, zero, zero, zero, zero]);
     assert_eq!(rt; Page::read(&incomplete), None);
     // Word 10 begins with the issue of data: bits 271 to 278.
     let last = Some(0x07_0000);
-    let complete = subframe(&rt, 0x8c, [zero, zero, zero, zero, zero, zero, zero, last]);
-    let page = Page::read(&complete).expect(&rt, "a page");
-    assert_eq!(rt; sets.take(&page).page, Some(set(7, 7)));
-    assert_eq!(rt; sets.take(&page).page, None);
+    let page = page(&rt, 0x8c, [zero, zero, zero, zero, zero, zero, zero, last]);
+    assert_reports(
+        &rt,
+        &mut DataSets::new(),
+        &[
+            (clock(7), None),
+            (eph2(7), None),
+            (page, Some(set(7, 7))),
+            (page, None),
+        ],
+    );
 }
 
 // Three subframes of zeros are of one issue, 0: the set has 31 zeros.
 #[test]
 fn zero_subframes(rt: HostRuntime) {
-    let mut sets = DataSets::new();
-    let expected = [None, None, Some(Report::Eph([0; 31]))];
-    for (handover, report) in [0x84, 0x88, 0x8c].iter().zip(expected) {
-        let page = Page::read(&subframe(&rt, *handover, [Some(0); 8])).expect(&rt, "a page");
-        assert_eq!(rt; sets.take(&page).page, report, "at {handover}");
-    }
+    let zeros = [Some(0); 8];
+    assert_reports(
+        &rt,
+        &mut DataSets::new(),
+        &[
+            (page(&rt, 0x84, zeros), None),
+            (page(&rt, 0x88, zeros), None),
+            (page(&rt, 0x8c, zeros), Some(Report::Eph([0; 31]))),
+        ],
+    );
 }
 
 // A set is compared with the one reported last, and not with those before: one issue, another and
@@ -63,10 +76,16 @@ fn zero_subframes(rt: HostRuntime) {
 fn returning_issue(rt: HostRuntime) {
     let mut sets = DataSets::new();
     for issue in [7, 8, 7] {
-        assert_eq!(rt; sets.take(&clock(issue)).page, None);
-        assert_eq!(rt; sets.take(&eph2(issue)).page, None);
-        assert_eq!(rt; sets.take(&eph3(issue)).page, Some(set(issue, issue)));
-        assert_eq!(rt; sets.take(&eph2(issue)).page, None);
+        assert_reports(
+            &rt,
+            &mut sets,
+            &[
+                (clock(issue), None),
+                (eph2(issue), None),
+                (eph3(issue), Some(set(issue, issue))),
+                (eph2(issue), None),
+            ],
+        );
     }
 }
 
@@ -75,15 +94,18 @@ fn returning_issue(rt: HostRuntime) {
 #[test]
 fn changed_values(rt: HostRuntime) {
     let mut sets = DataSets::new();
-    let _ = sets.take(&clock(7));
-    let _ = sets.take(&eph2(7));
-    assert_eq!(rt; sets.take(&eph3(7)).page, Some(set(7, 7)));
+    let whole = [
+        (clock(7), None),
+        (eph2(7), None),
+        (eph3(7), Some(set(7, 7))),
+    ];
+    assert_reports(&rt, &mut sets, &whole);
     for crs in [1, -1, 0] {
         let changed = Page::Eph2([7, crs, 0, 0, 0, 0, 0, 0, 0, 0, 0]);
         let mut numbers = set_numbers(7, 7);
         numbers[IODE + 1] = crs;
-        assert_eq!(rt; sets.take(&changed).page, Some(Report::Eph(numbers)));
-        assert_eq!(rt; sets.take(&changed).page, None);
+        let rows = [(changed, Some(Report::Eph(numbers))), (changed, None)];
+        assert_reports(&rt, &mut sets, &rows);
     }
 }
 
@@ -91,14 +113,19 @@ fn changed_values(rt: HostRuntime) {
 // numbers of the set like others.
 #[test]
 fn low_bits_of_the_issue(rt: HostRuntime) {
-    let mut sets = DataSets::new();
-    let _ = sets.take(&eph3(7));
-    let _ = sets.take(&eph2(7));
-    assert_eq!(rt; sets.take(&clock(263)).page, Some(set(263, 7)));
-    assert_eq!(rt; sets.take(&clock(7)).page, Some(set(7, 7)));
-    assert_eq!(rt; sets.take(&clock(775)).page, Some(set(775, 7)));
-    assert_eq!(rt; sets.take(&clock(776)).page, None);
-    assert_eq!(rt; sets.take(&clock(775)).page, None);
+    assert_reports(
+        &rt,
+        &mut DataSets::new(),
+        &[
+            (eph3(7), None),
+            (eph2(7), None),
+            (clock(263), Some(set(263, 7))),
+            (clock(7), Some(set(7, 7))),
+            (clock(775), Some(set(775, 7))),
+            (clock(776), None),
+            (clock(775), None),
+        ],
+    );
 }
 
 // No subframe holds an issue below zero, but a page made by hand may. -249 is 7 less 256, so its
@@ -112,10 +139,8 @@ fn issues_below_zero(rt: HostRuntime) {
         ([-249, -249, -249], false),
     ] {
         let [first, second, third] = issues;
-        let mut sets = DataSets::new();
-        assert_eq!(rt; sets.take(&clock(first)).page, None);
-        assert_eq!(rt; sets.take(&eph2(second)).page, None);
-        assert_eq!(rt; sets.take(&eph3(third)).page.is_some(), is_set, "{first}");
+        let found = are_reported(clock(first), eph2(second), eph3(third));
+        assert_eq!(rt; found, [false, false, is_set], "{first}");
     }
 }
 
@@ -129,10 +154,8 @@ fn two_of_three(rt: HostRuntime) {
         ([7, 7, 8], false),
     ] {
         let [first, second, third] = issues;
-        let mut sets = DataSets::new();
-        assert_eq!(rt; sets.take(&eph3(third)).page, None);
-        assert_eq!(rt; sets.take(&clock(first)).page, None);
-        assert_eq!(rt; sets.take(&eph2(second)).page.is_some(), is_set);
+        let found = are_reported(eph3(third), clock(first), eph2(second));
+        assert_eq!(rt; found, [false, false, is_set]);
     }
 }
 
@@ -157,36 +180,24 @@ fn numbers_in_table_order(rt: HostRuntime) {
 // mind them.
 #[test]
 fn other_pages_each_time(rt: HostRuntime) {
-    let mut sets = DataSets::new();
     let almanac = [1, 5, 0, 7, -1, 0, 63, 0, 0, 0, -8_388_608, 0, 1];
     let utc = [1, 56, -1, 2, 3, 4, 5, 6, 7, 8, 9, 10, 11, 12, 18, 13, 7, 18];
     let health = [
         1, 51, 7, 8, 0, 0, 0, 63, 0, 0, 0, 0, 0, 0, 0, 0, 0, 0, 0, 0, 0, 0, 0, 0, 0, 0, 0, 1,
     ];
     let text = *b"GPS L1 C/A TEST, 22 CH";
-    let _ = sets.take(&clock(7));
-    let _ = sets.take(&eph2(7));
-    for _ in 0..2 {
-        assert_eq!(rt;
-            sets.take(&Page::Almanac(almanac)).page,
-            Some(Report::Alm(almanac))
-        );
-        assert_eq!(rt; sets.take(&Page::Utc(utc)).page, Some(Report::Utc(utc)));
-        assert_eq!(rt;
-            sets.take(&Page::Health(health)).page,
-            Some(Report::Hlt(health))
-        );
-        assert_eq!(rt;
-            sets.take(&Page::Message(text)).page,
-            Some(Report::Msg(text))
-        );
-    }
-    assert_eq!(rt; sets.take(&eph3(7)).page, Some(set(7, 7)));
-    assert_eq!(rt;
-        sets.take(&Page::Almanac(almanac)).page,
-        Some(Report::Alm(almanac))
-    );
-    assert_eq!(rt; sets.take(&eph3(7)).page, None);
+    let others = [
+        (Page::Almanac(almanac), Some(Report::Alm(almanac))),
+        (Page::Utc(utc), Some(Report::Utc(utc))),
+        (Page::Health(health), Some(Report::Hlt(health))),
+        (Page::Message(text), Some(Report::Msg(text))),
+    ];
+    let last = [(eph3(7), Some(set(7, 7))), others[0], (eph3(7), None)];
+    let mut sets = DataSets::new();
+    assert_reports(&rt, &mut sets, &[(clock(7), None), (eph2(7), None)]);
+    assert_reports(&rt, &mut sets, &others);
+    assert_reports(&rt, &mut sets, &others);
+    assert_reports(&rt, &mut sets, &last);
 }
 
 // By its name each of the 31 numbers of a set is that of its page: 268 is 256 + 12.
@@ -199,62 +210,109 @@ fn values_by_name(rt: HostRuntime) {
         .take(&Page::Eph3([23, 24, 25, 26, 27, 28, 29, 12, 31]))
         .page;
     let set = report.expect(&rt, "a set");
-    for (field, expected) in [
-        (Field::Clock(ClockField::Wn), Some(1)),
-        (Field::Clock(ClockField::Iodc), Some(268)),
-        (Field::Clock(ClockField::Af0), Some(11)),
-        (Field::Eph2(Eph2Field::Iode), Some(12)),
-        (Field::Eph2(Eph2Field::E), Some(17)),
-        (Field::Eph2(Eph2Field::Aodo), Some(22)),
-        (Field::Eph3(Eph3Field::Cic), Some(23)),
-        (Field::Eph3(Eph3Field::Iode), Some(12)),
-        (Field::Eph3(Eph3Field::Idot), Some(31)),
-        (Field::Almanac(AlmanacField::E), None),
-        (Field::Health(HealthField::Toa), None),
-    ] {
-        assert_eq!(rt; set.value(field), expected, "at {}", field.name());
-    }
-    for (field, number) in set.fields().iter().zip(set.values()) {
-        assert_eq!(rt; set.value(*field), Some(*number), "at {}", field.name());
-    }
-    assert_eq!(rt; set.fields().len(), 31);
+    assert_values(
+        &rt,
+        &set,
+        &[
+            (Field::Clock(ClockField::Wn), Some(1)),
+            (Field::Clock(ClockField::Iodc), Some(268)),
+            (Field::Clock(ClockField::Af0), Some(11)),
+            (Field::Eph2(Eph2Field::Iode), Some(12)),
+            (Field::Eph2(Eph2Field::E), Some(17)),
+            (Field::Eph2(Eph2Field::Aodo), Some(22)),
+            (Field::Eph3(Eph3Field::Cic), Some(23)),
+            (Field::Eph3(Eph3Field::Iode), Some(12)),
+            (Field::Eph3(Eph3Field::Idot), Some(31)),
+            (Field::Almanac(AlmanacField::E), None),
+            (Field::Health(HealthField::Toa), None),
+        ],
+    );
+    assert_each_value(&rt, &set);
+    assert_lengths(&rt, &set, 31);
 }
 
 // A single page says by its fields' names what it says as a page, and a message nothing.
 #[test]
-fn values_of_single_pages(rt: HostRuntime) {
+fn values_of_an_almanac(rt: HostRuntime) {
     let mut sets = DataSets::new();
     let almanac = [1, 5, 0, 7, -1, 0, 63, 0, 0, 0, -8_388_608, 0, 1];
     let report = sets
         .take(&Page::Almanac(almanac))
         .page
         .expect(&rt, "a report");
-    for (field, expected) in [
-        (Field::Almanac(AlmanacField::Sv), Some(5)),
-        (Field::Almanac(AlmanacField::Health), Some(63)),
-        (Field::Almanac(AlmanacField::M0), Some(-8_388_608)),
-        (Field::Almanac(AlmanacField::Af1), Some(1)),
-        (Field::Eph2(Eph2Field::M0), None),
-    ] {
-        assert_eq!(rt; report.value(field), expected, "at {}", field.name());
-    }
+    assert_values(
+        &rt,
+        &report,
+        &[
+            (Field::Almanac(AlmanacField::Sv), Some(5)),
+            (Field::Almanac(AlmanacField::Health), Some(63)),
+            (Field::Almanac(AlmanacField::M0), Some(-8_388_608)),
+            (Field::Almanac(AlmanacField::Af1), Some(1)),
+            (Field::Eph2(Eph2Field::M0), None),
+        ],
+    );
     assert_eq!(rt; report.values(), almanac.as_slice());
+}
 
+#[test]
+fn values_of_other_pages(rt: HostRuntime) {
     let utc = Report::Utc([1, 56, -1, 2, 3, 4, 5, 6, 7, 8, 9, 10, 11, 12, 18, 13, 7, 19]);
-    assert_eq!(rt; utc.value(Field::Utc(UtcField::Dtls)), Some(18));
-    assert_eq!(rt; utc.value(Field::Utc(UtcField::Dtlsf)), Some(19));
-    assert_eq!(rt; utc.fields().len(), 18);
+    let dtls = Field::Utc(UtcField::Dtls);
+    let dtlsf = Field::Utc(UtcField::Dtlsf);
+    assert_values(&rt, &utc, &[(dtls, Some(18)), (dtlsf, Some(19))]);
+    assert_lengths(&rt, &utc, 18);
 
-    let mut health = [0; 28];
-    health[27] = 63;
-    let health = Report::Hlt(health);
-    assert_eq!(rt; health.value(Field::Health(HealthField::H24)), Some(63));
-    assert_eq!(rt; health.fields().len(), 28);
+    let mut numbers = [0; 28];
+    numbers[27] = 63;
+    let health = Report::Hlt(numbers);
+    let last = Field::Health(HealthField::H24);
+    assert_values(&rt, &health, &[(last, Some(63))]);
+    assert_lengths(&rt, &health, 28);
 
     let message = Report::Msg(*b"GPS L1 C/A TEST, 22 CH");
-    assert_eq!(rt; message.value(Field::Health(HealthField::H24)), None);
-    assert_eq!(rt; message.values().len(), 0);
-    assert_eq!(rt; message.fields().len(), 0);
+    assert_values(&rt, &message, &[(last, None)]);
+    assert_lengths(&rt, &message, 0);
+}
+
+/// Asserts what each of these pages, one after another, makes reported.
+fn assert_reports(rt: &impl Abort, sets: &mut DataSets, rows: &[(Page, Option<Report>)]) {
+    for (page, expected) in rows {
+        assert_eq!(rt; sets.take(page).page, *expected, "at {page:?}");
+    }
+}
+
+/// Whether each of three pages, the first of all, makes something reported.
+fn are_reported(first: Page, second: Page, third: Page) -> [bool; 3] {
+    let mut sets = DataSets::new();
+    [
+        sets.take(&first).page.is_some(),
+        sets.take(&second).page.is_some(),
+        sets.take(&third).page.is_some(),
+    ]
+}
+
+/// Asserts the values that a report has by these names.
+fn assert_values(rt: &impl Abort, report: &Report, rows: &[(Field, Option<i64>)]) {
+    for (field, expected) in rows {
+        assert_value(rt, report, *field, *expected);
+    }
+}
+
+/// Asserts that by its name each field of a report has the value in its place.
+fn assert_each_value(rt: &impl Abort, report: &Report) {
+    for (field, number) in report.fields().iter().zip(report.values()) {
+        assert_value(rt, report, *field, Some(*number));
+    }
+}
+
+fn assert_value(rt: &impl Abort, report: &Report, field: Field, expected: Option<i64>) {
+    assert_eq!(rt; report.value(field), expected, "at {}", field.name());
+}
+
+/// Asserts how many fields and how many values a report has.
+fn assert_lengths(rt: &impl Abort, report: &Report, expected: usize) {
+    let found = (report.fields().len(), report.values().len());
+    assert_eq!(rt; found, (expected, expected));
 }
 
 /// The clock page of an issue whose other numbers are 0.
@@ -283,6 +341,11 @@ fn set_numbers(clock: i64, issue: i64) -> [i64; 31] {
     numbers[IODE] = issue;
     numbers[IODE3] = issue;
     numbers
+}
+
+/// The page of the subframe with this word 2 and these words from word 3 on.
+fn page(rt: &impl Abort, handover: u32, words: [Option<u32>; 8]) -> Page {
+    Page::read(&subframe(rt, handover, words)).expect(rt, "a page")
 }
 
 /// The subframe with this word 2 and these words from word 3 on.
