@@ -19,8 +19,6 @@
 mod incoming;
 mod subframe;
 mod sync;
-#[cfg(test)]
-mod tests;
 mod window;
 
 pub use subframe::{COUNT_LIMIT, HEADER_WORDS, LAST_ID, SUBFRAME_WORDS, Subframe};

@@ -23,8 +23,6 @@ mod lock;
 mod loops;
 mod news;
 mod steering;
-#[cfg(test)]
-mod tests;
 mod window;
 
 pub use limits::{MOST_CORRECTION, MOST_ERROR, MOST_SHIFT, MOST_STEERED_DUMPS, MOST_SUM};

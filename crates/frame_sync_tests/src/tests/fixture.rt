@@ -2,7 +2,7 @@
 
 ghost use Rattle.std.specs.Prelude.{◌≤◌};
 
-use crate::{Found, FrameSync, Subframe};
+use frame_sync::{Found, FrameSync, Subframe};
 use std::alloc::{AllocError, Global};
 use std::process::Abort;
 
@@ -41,8 +41,25 @@ pub fn inverted_from(bits: &Vec<bool>, place: usize) -> Result<Vec<bool>, AllocE
     Ok(inverted)
 }
 
-/// Asserts that this is all that is found among bits, each with the number of its push, from 1.
+/// What has to be found with the bit of a number, from 1: the words, and the gap before them.
+type Row = (u64, [Option<u32>; 10], Option<u64>);
+
+/// Asserts that this is all that is found among bits.
 pub fn assert_found(
+    rt: &impl Abort,
+    alloc: Global,
+    bits: &[bool],
+    rows: &[Row],
+) -> Result<(), AllocError> {
+    let mut expected = Vec::new(alloc);
+    for (push, words, gap) in rows {
+        expected.push(found_at(rt, *push, *words, *gap))?;
+    }
+    assert_all_found(rt, alloc, bits, &expected)
+}
+
+/// Asserts that this is all that is found among bits, each with the number of its push, from 1.
+pub fn assert_all_found(
     rt: &impl Abort,
     alloc: Global,
     bits: &[bool],

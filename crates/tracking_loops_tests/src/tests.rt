@@ -2,8 +2,9 @@
 
 ghost use Rattle.std.specs.Prelude.{◌≡◌, pos};
 
-use crate::{Loops, News};
 use lane_correlator::Counts;
+use std::process::Abort;
+use tracking_loops::{Loops, News};
 
 fn prompt(ip: i32, qp: i32) -> Counts
     ensures ip { result.ip ≡ ip }
@@ -35,8 +36,7 @@ fn loop_steps(rt: HostRuntime) {
         ql: 0,
     });
     assert_eq!(rt; news, News::Nothing);
-    assert_eq!(rt; loops.v(), 0);
-    assert_eq!(rt; loops.w(), 39_312);
+    assert_stand(&rt, &loops, (0, 39_312, 1));
     let news = loops.take(Counts {
         ie: 1,
         qe: 0,
@@ -46,9 +46,22 @@ fn loop_steps(rt: HostRuntime) {
         ql: 0,
     });
     assert_eq!(rt; news, News::Nothing);
-    assert_eq!(rt; loops.v(), -218_560);
-    assert_eq!(rt; loops.w(), -39_328);
-    assert_eq!(rt; loops.dumps(), 2);
+    assert_stand(&rt, &loops, (-218_560, -39_328, 2));
+}
+
+/// Asserts the shift, the correction and the number of dumps.
+fn assert_stand(rt: &impl Abort, loops: &Loops, expected: (i64, i64, u64)) {
+    assert_eq!(rt; (loops.v(), loops.w(), loops.dumps()), expected);
+}
+
+/// Asserts the news of a dump, and whether the loops are locked after it.
+fn assert_news(rt: &impl Abort, loops: &Loops, dump: u64, news: News, expected: (News, bool)) {
+    assert_eq!(rt; (news, loops.locked()), expected, "dump {dump}");
+}
+
+/// Asserts the shift.
+fn assert_shift(rt: &impl Abort, loops: &Loops, expected: i64) {
+    assert_eq!(rt; loops.v(), expected);
 }
 
 // Windows that are all bad: 50 of them end with dump 199 + 50 * 20. The carrier doesn't turn, and a
@@ -60,21 +73,13 @@ fn loop_steps_never_locked(rt: HostRuntime) {
     for dump in 1..1200u64 {
         assert!(rt; loops.dumps() < 1200);
         let news = loops.take(prompt(1, 1));
-        assert_eq!(rt;
-            news,
-            if dump == 1199 {
-                News::Lost
-            } else {
-                News::Nothing
-            },
-            "dump {dump}"
-        );
-        assert!(rt; !loops.locked());
-        if dump < 200 {
-            assert_eq!(rt; loops.v(), 0);
-        }
-        if dump == 200 {
-            assert_eq!(rt; loops.v(), 360_448);
+        let expected = match dump {
+            1199 => News::Lost,
+            _ => News::Nothing,
+        };
+        assert_news(&rt, &loops, dump, news, (expected, false));
+        if dump <= 200 {
+            assert_shift(&rt, &loops, if dump < 200 { 0 } else { 360_448 });
         }
     }
 }
@@ -97,8 +102,8 @@ fn loop_steps_locked_once(rt: HostRuntime) {
             1219 => News::Lost,
             _ => News::Nothing,
         };
-        assert_eq!(rt; news, expected, "dump {dump}");
-        assert_eq!(rt; loops.locked(), dump >= 219 && dump < 419);
+        let is_locked = dump >= 219 && dump < 419;
+        assert_news(&rt, &loops, dump, news, (expected, is_locked));
     }
 }
 
@@ -116,7 +121,8 @@ fn good_window_ends_the_run(rt: HostRuntime) {
             619 => News::Unlock,
             _ => News::Nothing,
         };
-        assert_eq!(rt; news, expected, "dump {dump}");
+        let is_locked = dump >= 219 && dump < 619;
+        assert_news(&rt, &loops, dump, news, (expected, is_locked));
     }
 }
 
@@ -128,13 +134,13 @@ fn shift_is_limited(rt: HostRuntime) {
     let mut loops = Loops::start(1 << 30);
     let _ = loops.take(prompt(1, 0));
     let _ = loops.take(prompt(0, 1));
-    assert_eq!(rt; loops.v(), 1 << 30);
+    assert_shift(&rt, &loops, 1 << 30);
     for _ in 3..210u64 {
         assert!(rt; loops.dumps() < 210);
         let _ = loops.take(prompt(0, 1));
-        assert_eq!(rt; loops.v(), 1 << 30);
+        assert_shift(&rt, &loops, 1 << 30);
     }
     assert!(rt; loops.dumps() < 210);
     let _ = loops.take(prompt(-1, 1));
-    assert_eq!(rt; loops.v(), (1 << 30) - 12_288 - 348_160);
+    assert_shift(&rt, &loops, (1 << 30) - 12_288 - 348_160);
 }

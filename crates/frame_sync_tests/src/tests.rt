@@ -45,16 +45,13 @@ const DATA: [Option<u32>; 10] = [
 fn subframe_search(rt: HostRuntime) -> Result<(), AllocError> {
     let alloc = rt.alloc();
     let mut bits = bits_of_words(alloc, &WORDS)?;
-    assert_found(&rt, alloc, &bits, &[found_at(&rt, 302, DATA, None)])?;
+    assert_found(&rt, alloc, &bits, &[(302, DATA, None)])?;
     let inverted = inverted_from(&bits, 0)?;
-    assert_found(&rt, alloc, &inverted, &[found_at(&rt, 302, DATA, None)])?;
+    assert_found(&rt, alloc, &inverted, &[(302, DATA, None)])?;
 
     add_bits(&mut bits, 0, 5)?;
     add_words(&mut bits, &WORDS)?;
-    let both = [
-        found_at(&rt, 302, DATA, None),
-        found_at(&rt, 607, DATA, Some(5)),
-    ];
+    let both = [(302, DATA, None), (607, DATA, Some(5))];
     assert_found(&rt, alloc, &bits, &both)
 }
 
@@ -63,12 +60,7 @@ fn subframe_search_damaged(rt: HostRuntime) -> Result<(), AllocError> {
     let alloc = rt.alloc();
     let sent = [TELEMETRY, HANDOVER, 0, 0, 1 << 29, 0, 0, 0, 0, 0];
     let bits = bits_of_words(alloc, &sent)?;
-    assert_found(
-        &rt,
-        alloc,
-        &bits,
-        &[found_at(&rt, 302, without_word(4), None)],
-    )
+    assert_found(&rt, alloc, &bits, &[(302, without_word(4), None)])
 }
 
 #[test]
@@ -76,7 +68,7 @@ fn subframe_search_behind_preamble(rt: HostRuntime) -> Result<(), AllocError> {
     let alloc = rt.alloc();
     let mut bits = bits_of_words(alloc, &[0b1000_1011 << 22, 0])?;
     add_words(&mut bits, &WORDS)?;
-    assert_found(&rt, alloc, &bits, &[found_at(&rt, 362, DATA, None)])
+    assert_found(&rt, alloc, &bits, &[(362, DATA, None)])
 }
 
 #[test]
@@ -85,24 +77,14 @@ fn subframe_search_header_inside(rt: HostRuntime) -> Result<(), AllocError> {
     let sent = [TELEMETRY, HANDOVER, 0, 0, 0, TELEMETRY, HANDOVER, 0, 0, 0];
     let mut bits = bits_of_words(alloc, &sent)?;
     add_words(&mut bits, &[0; 5])?;
-    assert_found(
-        &rt,
-        alloc,
-        &bits,
-        &[found_at(&rt, 302, with_header_at_six(), None)],
-    )
+    assert_found(&rt, alloc, &bits, &[(302, with_header_at_six(), None)])
 }
 
 #[test]
 fn inverted_tail(rt: HostRuntime) -> Result<(), AllocError> {
     let alloc = rt.alloc();
     let bits = inverted_from(&bits_of_words(alloc, &WORDS)?, 2 + 150)?;
-    assert_found(
-        &rt,
-        alloc,
-        &bits,
-        &[found_at(&rt, 302, without_word(5), None)],
-    )
+    assert_found(&rt, alloc, &bits, &[(302, without_word(5), None)])
 }
 
 #[test]
@@ -112,7 +94,7 @@ fn changed_last_bit(rt: HostRuntime) -> Result<(), AllocError> {
     let bits = bits_of_words(alloc, &sent)?;
     let mut words = without_word(4);
     words[5] = None;
-    assert_found(&rt, alloc, &bits, &[found_at(&rt, 302, words, None)])
+    assert_found(&rt, alloc, &bits, &[(302, words, None)])
 }
 
 #[test]
@@ -121,13 +103,8 @@ fn false_header(rt: HostRuntime) -> Result<(), AllocError> {
     let mut bits = bits_of_words(alloc, &[TELEMETRY, HANDOVER, 0, 0, 0])?;
     add_words(&mut bits, &WORDS)?;
     add_words(&mut bits, &WORDS)?;
-    let false_one = found_at(&rt, 302, with_header_at_six(), None);
-    assert_found(
-        &rt,
-        alloc,
-        &bits,
-        &[false_one, found_at(&rt, 752, DATA, Some(150))],
-    )
+    let false_one = (302, with_header_at_six(), None);
+    assert_found(&rt, alloc, &bits, &[false_one, (752, DATA, Some(150))])
 }
 
 #[test]

@@ -1,13 +1,14 @@
 //! A long stream of whole subframes, cut ones, bare and false headers, inverted parts and noise,
 //! compared with a plain search for the least candidates.
 
-ghost use Rattle.std.specs.Prelude.{◌+◌, ◌^◌, ◌<◌, ◌≤◌, length};
+ghost use Rattle.std.specs.Prelude.{◌≡◌, ◌+◌, ◌^◌, ◌<◌, ◌≤◌, length};
 
-use super::fixture::assert_found;
+use super::fixture::assert_all_found;
 use super::mixture::Mixture;
-use crate::{Found, Subframe};
+use frame_sync::{Found, Subframe};
 use nav_parity::check;
-use std::alloc::AllocError;
+use std::alloc::{AllocError, Global};
+use std::process::Abort;
 
 const LENGTH: usize = 100_000;
 
@@ -15,13 +16,27 @@ const LENGTH: usize = 100_000;
 fn least_candidates(rt: HostRuntime) -> Result<(), AllocError> {
     let bits = Mixture::of_length(rt.alloc(), LENGTH)?;
     assert_eq!(rt; bits.len(), LENGTH);
-    let mut expected = Vec::new(rt.alloc());
+    let expected = candidates(&rt, rt.alloc(), &bits)?;
+    // As a search in another language, over the same stream, has them.
+    assert_eq!(rt; kinds(&expected), (191, 70, 7));
+    assert_all_found(&rt, rt.alloc(), &bits, &expected)
+}
+
+/// The least candidates among bits, each with the number of its last bit, from 1.
+fn candidates(
+    rt: &impl Abort,
+    alloc: Global,
+    bits: &[bool],
+) -> Result<Vec<(u64, Found)>, AllocError>
+    requires { length bits.now ≡ 100000 }
+{
+    let mut expected = Vec::new(alloc);
     let mut from = 0;
     for place in 2..LENGTH - 299 {
-        if place < from || !is_candidate(&bits, place) {
+        if place < from || !is_candidate(bits, place) {
             continue;
         }
-        let subframe = subframe_at(&bits, place).expect(&rt, "a header");
+        let subframe = subframe_at(bits, place).expect(rt, "a header");
         let is_awaited = expected.is_empty() || place == from;
         let gap = if is_awaited {
             None
@@ -31,17 +46,14 @@ fn least_candidates(rt: HostRuntime) -> Result<(), AllocError> {
         from = place + 300;
         expected.push((from as u64, Found { subframe, gap }))?;
     }
-    // As a search in another language, over the same stream, has them.
-    let whole = expected
-        .iter()
-        .filter(|(_, found)| found.subframe.complete())
-        .count();
-    let at_once = expected
-        .iter()
-        .filter(|(_, found)| found.gap.is_none())
-        .count();
-    assert_eq!(rt; (expected.len(), whole, at_once), (191, 70, 7));
-    assert_found(&rt, rt.alloc(), &bits, &expected)
+    Ok(expected)
+}
+
+/// How many subframes were found, how many of them are complete, and how many come at once.
+fn kinds(all: &[(u64, Found)]) -> (usize, usize, usize) {
+    let whole = all.iter().filter(|it| it.1.subframe.complete()).count();
+    let at_once = all.iter().filter(|it| it.1.gap.is_none()).count();
+    (all.len(), whole, at_once)
 }
 
 /// The ten words from a place on, each where it passes with the two bits before it.
