@@ -14,6 +14,7 @@ use lane_correlator::Counts;
 use made_signals::RECORDING;
 use oscillators::{Doppler, HalfChip, Settings};
 use sample_planes::{Format, NumberedSamples, PackedSamples, SampleSource, unpack};
+use std::process::Abort;
 use std::test::Fail;
 
 /// Sums in the order of a line of counts.
@@ -28,15 +29,16 @@ fn sums([ie, qe, ip, qp, il, ql]: [i32; 6]) -> Counts {
     }
 }
 
-/// A satellite that is held before the first sample.
-fn held(settings: &Settings, prn: u8, doppler: i32, half: u16) -> Result<Held, Fail>
+/// Satellite 5, held before the first sample of the recording.
+fn held() -> Result<Held, Fail>
     ensures few { IfOk result (λ held. dumps_of held ≡ 0) }
     ensures taken { IfOk result (λ held. taken_of held ≡ 0) }
 {
-    let prn = Prn::new(prn).ok_or("a satellite")?;
-    let doppler = Doppler::new(doppler).ok_or("a shift")?;
-    let half = HalfChip::new(half).ok_or("a half chip")?;
-    Ok(Held::start(settings, prn, doppler, half, 0))
+    let settings = Settings::new(2_046_000, 511_500, Format::Real1)?;
+    let prn = Prn::new(5).ok_or("a satellite")?;
+    let doppler = Doppler::new(1_250).ok_or("a shift")?;
+    let half = HalfChip::new(700).ok_or("a half chip")?;
+    Ok(Held::start(&settings, prn, doppler, half, 0))
 }
 
 /// The first of some samples, numbered from `first` on to before `end`.
@@ -82,25 +84,48 @@ fn next(held: &mut Held, place: usize) -> Result<(usize, Option<Counts>), Fail>
     Ok((place + count, dump))
 }
 
-// The first segment begins at half chip 700 and ends with sample 1,345; it takes two runs. The
-// second is the next 2,046 samples, in three.
+/// Asserts what `next` gives, where the channel may wait up to the place.
+fn assert_next(
+    rt: &impl Abort,
+    held: &mut Held,
+    place: usize,
+    expected: (usize, Option<Counts>),
+) -> Result<(), Fail>
+    requires begun { taken_of held.old ≤ place }
+    ensures taken { IfOk result (λ _. taken_of held.new ≡ expected.0) }
+{
+    assert!(rt; held.dumps() < 8 && place as u64 <= held.rests_until());
+    assert_eq!(rt; next(held, place)?, expected);
+    Ok(())
+}
+
+/// Asserts how many dumps there were, and how long no sample has to be taken.
+fn assert_stands(rt: &impl Abort, held: &Held, dumps: u64, rests_until: u64) {
+    assert_eq!(rt; (held.dumps(), held.rests_until()), (dumps, rests_until));
+}
+
+/// The counts of the first segment, which ends with sample 1,345, and of the second.
+fn first_and_second() -> [Option<Counts>; 2] {
+    [
+        Some(sums([-354, -50, -704, -12, -432, -42])),
+        Some(sums([-623, -73, -1_079, 11, -483, 143])),
+    ]
+}
+
+// The first segment begins at half chip 700 and ends with sample 1,345; it takes two runs of 1,000
+// samples at most. The second is the next 2,046 samples, in three. Then 512 samples may wait.
 #[test]
 fn first_counts_of_a_recording(rt: HostRuntime) -> Result<(), Fail> {
-    let settings = Settings::new(2_046_000, 511_500, Format::Real1)?;
-    let mut held = held(&settings, 5, 1_250, 700)?;
+    let [first, second] = first_and_second();
+    let mut held = held()?;
     assert_eq!(rt; (held.prn().get(), held.dumps()), (5, 0));
-    let (place, dump) = next(&mut held, 0)?;
-    assert_eq!(rt; dump, None);
-    let (place, dump) = next(&mut held, place)?;
-    let first = sums([-354, -50, -704, -12, -432, -42]);
-    assert_eq!(rt; (place, dump, held.dumps()), (1_346, Some(first), 1));
-    let (place, dump) = next(&mut held, place)?;
-    assert_eq!(rt; dump, None);
-    let (place, dump) = next(&mut held, place)?;
-    assert_eq!(rt; dump, None);
-    let (place, dump) = next(&mut held, place)?;
-    let second = sums([-623, -73, -1_079, 11, -483, 143]);
-    assert_eq!(rt; (place, dump, held.dumps()), (3_392, Some(second), 2));
+    assert_next(&rt, &mut held, 0, (1_000, None))?;
+    assert_next(&rt, &mut held, 1_000, (1_346, first))?;
+    assert_stands(&rt, &held, 1, 1_858);
+    assert_next(&rt, &mut held, 1_346, (2_346, None))?;
+    assert_next(&rt, &mut held, 2_346, (3_346, None))?;
+    assert_next(&rt, &mut held, 3_346, (3_392, second))?;
+    assert_stands(&rt, &held, 2, 3_904);
     Ok(())
 }
 
@@ -108,28 +133,24 @@ fn first_counts_of_a_recording(rt: HostRuntime) -> Result<(), Fail> {
 // which is sample 1,345 and then sample 3,391.
 #[test]
 fn samples_wait(rt: HostRuntime) -> Result<(), Fail> {
-    let settings = Settings::new(2_046_000, 511_500, Format::Real1)?;
-    let mut held = held(&settings, 5, 1_250, 700)?;
-    assert_eq!(rt; held.rests_until(), 512);
-    let first = sums([-354, -50, -704, -12, -432, -42]);
-    assert_eq!(rt; next(&mut held, 512)?, (1_346, Some(first)));
-    assert_eq!(rt; held.rests_until(), 1_858);
-    assert_eq!(rt; next(&mut held, 1_858)?, (2_858, None));
-    assert_eq!(rt; held.rests_until(), 3_370);
-    let second = sums([-623, -73, -1_079, 11, -483, 143]);
-    assert_eq!(rt; next(&mut held, 3_370)?, (3_392, Some(second)));
-    Ok(())
+    let [first, second] = first_and_second();
+    let mut held = held()?;
+    assert_stands(&rt, &held, 0, 512);
+    assert_next(&rt, &mut held, 512, (1_346, first))?;
+    assert_stands(&rt, &held, 1, 1_858);
+    assert_next(&rt, &mut held, 1_858, (2_858, None))?;
+    assert_stands(&rt, &held, 1, 3_370);
+    assert_next(&rt, &mut held, 3_370, (3_392, second))
 }
 
 // So close to the end of a segment only the samples before the last one wait.
 #[test]
 fn the_last_sample_of_a_segment_does_not_wait(rt: HostRuntime) -> Result<(), Fail> {
-    let settings = Settings::new(2_046_000, 511_500, Format::Real1)?;
-    let mut held = held(&settings, 5, 1_250, 700)?;
-    assert_eq!(rt; next(&mut held, 0)?, (1_000, None));
-    assert_eq!(rt; held.rests_until(), 1_345);
-    let first = sums([-354, -50, -704, -12, -432, -42]);
-    assert_eq!(rt; next(&mut held, 1_345)?, (1_346, Some(first)));
-    assert_eq!(rt; held.rests_until(), 1_858);
+    let [first, _] = first_and_second();
+    let mut held = held()?;
+    assert_next(&rt, &mut held, 0, (1_000, None))?;
+    assert_stands(&rt, &held, 0, 1_345);
+    assert_next(&rt, &mut held, 1_345, (1_346, first))?;
+    assert_stands(&rt, &held, 1, 1_858);
     Ok(())
 }

@@ -47,20 +47,25 @@ impl Reading {
         self.message.take(&counts, is_locked)
     }
 
+    /// Takes such a dump, which brings no news.
+    fn take_nothing(&mut self, rt: &impl Abort, is_negative: bool, is_locked: bool) {
+        assert_eq!(rt; self.take(rt, is_negative, is_locked), MessageNews::Nothing);
+    }
+
     /// Takes the dump of a lock and 360 after it. Their bits alternate up to the edge, which is
     /// found with the sixteenth change and not before, and end in two bits 0.
     fn lock(&mut self, rt: &impl Abort) {
-        assert_eq!(rt; self.take(rt, true, true), MessageNews::Nothing);
+        self.take_nothing(rt, true, true);
         for k in 0..360u32 {
             let news = self.take(rt, k < 340 && k / 20 % 2 == 1, true);
-            assert_eq!(rt; news == MessageNews::Edge, k == 320, "push {k}");
-            assert_eq!(rt; self.message.has_edge(), 320 <= k, "push {k}");
+            let edge = (news == MessageNews::Edge, self.message.has_edge());
+            assert_eq!(rt; edge, (k == 320, 320 <= k), "push {k}");
         }
     }
 
     /// Takes the dump of an unlock.
     fn unlock(&mut self, rt: &impl Abort) {
-        assert_eq!(rt; self.take(rt, false, false), MessageNews::Nothing);
+        self.take_nothing(rt, false, false);
         assert!(rt; !self.message.has_edge());
     }
 
@@ -72,6 +77,11 @@ impl Reading {
             news = self.take(rt, word >> (29 - k / 20) & 1 == 1, true);
         }
         news
+    }
+
+    /// Takes a word that brings no news.
+    fn take_bare_word(&mut self, rt: &impl Abort, word: u32) {
+        assert_eq!(rt; self.take_word(rt, word), MessageNews::Nothing);
     }
 
     /// Takes the subframe of a satellite's almanac, and sees that it is reported. Gives the set
@@ -88,6 +98,19 @@ impl Reading {
         let page = Report::Alm([1, satellite.into(), 0, 5, 0, 0, 0, 0, 0, 0, 0, 0, 0]);
         assert_eq!(rt; reports.page, Some(page));
         reports.set
+    }
+
+    /// Takes the almanacs of satellites 1 to `last`, which complete no set.
+    fn take_almanacs_to(&mut self, rt: &impl Abort, last: u8) {
+        for satellite in 1..=last {
+            self.take_set(rt, satellite, None);
+        }
+    }
+
+    /// Takes the almanac of a satellite, and sees which set it completes.
+    fn take_set(&mut self, rt: &impl Abort, satellite: u8, expected: Option<AlmanacSet>) {
+        let set = self.take_almanac(rt, satellite);
+        assert_eq!(rt; set, expected, "satellite {satellite}");
     }
 }
 
@@ -124,12 +147,12 @@ fn start_ends_with_the_lock(rt: HostRuntime) {
     let mut reading = Reading::new();
     reading.lock(&rt);
     for word in [HEADER[0], HEADER[1], 0, 0, 0] {
-        assert_eq!(rt; reading.take_word(&rt, word), MessageNews::Nothing);
+        reading.take_bare_word(&rt, word);
     }
     reading.unlock(&rt);
     reading.lock(&rt);
     for _ in 0..10 {
-        assert_eq!(rt; reading.take_word(&rt, 0), MessageNews::Nothing);
+        reading.take_bare_word(&rt, 0);
     }
 }
 
@@ -139,20 +162,14 @@ fn start_ends_with_the_lock(rt: HostRuntime) {
 fn almanacs_end_with_the_lock(rt: HostRuntime) {
     let mut reading = Reading::new();
     reading.lock(&rt);
-    for satellite in 1..=31 {
-        assert_eq!(rt; reading.take_almanac(&rt, satellite), None);
-    }
+    reading.take_almanacs_to(&rt, 31);
     reading.unlock(&rt);
     reading.lock(&rt);
-    assert_eq!(rt; reading.take_almanac(&rt, 32), None);
-    for satellite in 1..=30 {
-        assert_eq!(rt; reading.take_almanac(&rt, satellite), None);
-    }
-    assert_eq!(rt; reading.take_almanac(&rt, 31), Some(ALMANACS));
+    reading.take_set(&rt, 32, None);
+    reading.take_almanacs_to(&rt, 30);
+    reading.take_set(&rt, 31, Some(ALMANACS));
     reading.unlock(&rt);
     reading.lock(&rt);
-    for satellite in 1..=31 {
-        assert_eq!(rt; reading.take_almanac(&rt, satellite), None);
-    }
-    assert_eq!(rt; reading.take_almanac(&rt, 32), Some(ALMANACS));
+    reading.take_almanacs_to(&rt, 31);
+    reading.take_set(&rt, 32, Some(ALMANACS));
 }

@@ -1,11 +1,16 @@
 //! A tracked satellite beside the plain reference of tracking.
 
+ghost use Rattle.std.specs.Prelude.{◌≡◌, ◌+◌, ◌≤◌, IfOk};
+ghost use Rattle.channels.specs.TrackedChannels.{taken_of};
+
 use super::{so_far, sums};
 use ca_codes::{CodeBook, Prn};
 use channels::Tracked;
+use lane_correlator::Counts;
 use made_signals::{MadeSignal, PlainDump, PlainNews, PlainTracker, SampleStream};
 use oscillators::{Doppler, HalfChip, Settings};
 use sample_planes::{Format, PackedSamples, unpack};
+use std::process::Abort;
 use std::test::Fail;
 use tracking_loops::News;
 
@@ -34,6 +39,73 @@ fn news_of(news: PlainNews) -> News {
     }
 }
 
+/// Takes the samples of a run from a place on, up to the next dump, and gives how many these are,
+/// and the dump's counts and news.
+fn next(
+    tracked: &mut Tracked,
+    bytes: &[u8; BYTES],
+    place: usize,
+    book: &mut CodeBook,
+) -> Result<(usize, Option<(Counts, News)>), Fail>
+    requires begun { taken_of tracked.old ≡ place }
+    ensures taken { IfOk result (λ next. taken_of tracked.new ≡ place + next.0) }
+    ensures within { IfOk result (λ next. place + next.0 ≤ 600000) }
+{
+    if 599_000 < place || tracked.rests_until() < place as u64 || 1_000 <= tracked.dumps() {
+        return Err(Fail::new("no run can be taken"));
+    }
+    let run = unpack(Format::Real2, bytes, place, 1_000);
+    if run.len() != 1_000 {
+        return Err(Fail::new("samples are missing"));
+    }
+    let all = PackedSamples::new(Format::Real2, bytes);
+    let source = so_far(all, 0, place as u64 + 1_000)?;
+    let (count, dump) = tracked.take(&run, 0, &source, book);
+    let Some(dump) = dump else {
+        return Ok((count, None));
+    };
+    Ok((count, Some((dump.counts, dump.lock))))
+}
+
+/// Asserts that both came to a dump, or neither did.
+fn assert_same(
+    rt: &impl Abort,
+    tracked: &Tracked,
+    dump: Option<(Counts, News)>,
+    plain: Option<PlainDump>,
+) {
+    assert_eq!(rt; dump.is_some(), plain.is_some());
+    if let (Some(dump), Some(plain)) = (dump, plain) {
+        assert_same_dump(rt, tracked, dump, &plain);
+    }
+}
+
+fn assert_same_dump(rt: &impl Abort, tracked: &Tracked, dump: (Counts, News), plain: &PlainDump) {
+    let told = (tracked.dumps(), tracked.v(), tracked.w());
+    assert_eq!(rt;
+        (dump, told),
+        (
+            (sums(plain.counts), news_of(plain.news)),
+            (plain.number, plain.v, plain.w)
+        ),
+        "dump {}",
+        plain.number
+    );
+}
+
+/// The satellite of the signal, tracked from its first sample on.
+fn tracked(signal: &MadeSignal) -> Result<Tracked, Fail>
+    ensures { IfOk result (λ tracked. taken_of tracked ≡ 0) }
+{
+    Ok(Tracked::start(
+        &Settings::new(signal.rate, signal.offset, Format::Real2)?,
+        Prn::new(7).ok_or("a satellite")?,
+        Doppler::new(1_000).ok_or("a shift")?,
+        HalfChip::new(100).ok_or("a half chip")?,
+        0,
+    ))
+}
+
 // Each dump sets the steps of the segment after it. From dump 200 on they come by another law, and
 // dump 219 is the first that brings a lock.
 #[test]
@@ -43,33 +115,14 @@ fn tracked_as_the_reference(rt: HostRuntime) -> Result<(), Fail> {
     let mut bytes = [0; BYTES];
     assert_eq!(rt; { stream }.fill(&mut bytes), BYTES);
     let mut tracker = PlainTracker::follow(&signal);
-    let mut tracked = Tracked::start(
-        &Settings::new(signal.rate, signal.offset, Format::Real2)?,
-        Prn::new(7).ok_or("a satellite")?,
-        Doppler::new(1_000).ok_or("a shift")?,
-        HalfChip::new(100).ok_or("a half chip")?,
-        0,
-    );
+    let mut tracked = tracked(&signal)?;
     let mut book = CodeBook::new();
     let mut place = 0;
     for _ in 0..690 {
-        assert!(rt; place <= 599_000);
-        let run = unpack(Format::Real2, &bytes, place, 1_000);
-        assert_eq!(rt; run.len(), 1_000);
-        assert!(rt; tracked.dumps() < 1_000);
-        assert!(rt; place as u64 <= tracked.rests_until());
-        let all = PackedSamples::new(Format::Real2, &bytes);
-        let source = so_far(all, 0, place as u64 + 1_000)?;
-        let (count, dump) = tracked.take(&run, 0, &source, &mut book);
+        let (count, dump) = next(&mut tracked, &bytes, place, &mut book)?;
         place += count;
         let plain = plain_dump(&mut stream, &mut tracker, count)?;
-        assert_eq!(rt; dump.is_some(), plain.is_some());
-        if let (Some(dump), Some(plain)) = (dump, plain) {
-            assert_eq!(rt; dump.counts, sums(plain.counts), "dump {}", plain.number);
-            assert_eq!(rt; dump.lock, news_of(plain.news), "dump {}", plain.number);
-            let told = (tracked.dumps(), tracked.v(), tracked.w());
-            assert_eq!(rt; told, (plain.number, plain.v, plain.w));
-        }
+        assert_same(&rt, &tracked, dump, plain);
     }
     assert!(rt; tracked.is_locked());
     Ok(())

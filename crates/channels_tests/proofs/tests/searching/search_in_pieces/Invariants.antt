@@ -1,6 +1,6 @@
 use Rattle.std.proofs.Common.{◌≡◌, ◌<◌, ◌+◌}
 use Rattle.channels.specs.Searching.{start_of, due_of, to_due_of}
-use Rattle.channels_tests.proofs.tests.searching.one_cell_with_four_samples.Given as goal
+use Rattle.channels_tests.proofs.tests.searching.search_in_pieces.Given as goal
 
 abbrev pub invariant-loop : goal.invariant-loop
 invariant-loop g l =
