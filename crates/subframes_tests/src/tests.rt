@@ -19,24 +19,30 @@ const HANDOVERS: [u32; 5] = [0x84, 0x88, 0x8c, 0x90, 0x94];
 #[test]
 fn signed_fields(rt: HostRuntime) {
     let clock = subframe(&rt, 0x84, [0, 0, 0, 0, 0x80, 0, 0, 0]);
-    assert_eq!(rt; field(&clock, Field::Clock(ClockField::Tgd)), Some(-128));
+    assert_field(&rt, &clock, Field::Clock(ClockField::Tgd), Some(-128));
 
     let ephemeris = subframe(&rt, 0x88, [0, 0x80, 0, 0xff, 0xff_ffff, 0, 0, 0]);
-    assert_eq!(rt;
-        field(&ephemeris, Field::Eph2(Eph2Field::M0)),
-        Some(-2_147_483_648)
+    assert_field(
+        &rt,
+        &ephemeris,
+        Field::Eph2(Eph2Field::M0),
+        Some(-2_147_483_648),
     );
-    assert_eq!(rt;
-        field(&ephemeris, Field::Eph2(Eph2Field::E)),
-        Some(4_294_967_295)
+    assert_field(
+        &rt,
+        &ephemeris,
+        Field::Eph2(Eph2Field::E),
+        Some(4_294_967_295),
     );
 
     let almanac = subframe(&rt, 0x94, [0, 0, 0, 0, 0, 0, 0, 0x80_0004]);
-    assert_eq!(rt;
-        field(&almanac, Field::Almanac(AlmanacField::Af0)),
-        Some(-1_023)
+    assert_field(
+        &rt,
+        &almanac,
+        Field::Almanac(AlmanacField::Af0),
+        Some(-1_023),
     );
-    assert_eq!(rt; field(&almanac, Field::Almanac(AlmanacField::Af1)), Some(0));
+    assert_field(&rt, &almanac, Field::Almanac(AlmanacField::Af1), Some(0));
 }
 
 #[test]
@@ -68,35 +74,42 @@ fn incomplete_page(rt: HostRuntime) {
     let found = Subframe::from_words(words);
     let incomplete = found.expect(&rt, "a subframe");
     assert_eq!(rt; Page::read(&incomplete), None);
-    assert_eq!(rt; field(&incomplete, Field::Clock(ClockField::Tgd)), Some(0));
+    assert_field(&rt, &incomplete, Field::Clock(ClockField::Tgd), Some(0));
     // m0 has parts in words 4 and 5.
-    assert_eq!(rt; field(&incomplete, Field::Eph2(Eph2Field::M0)), None);
-    assert_eq!(rt; field(&incomplete, Field::Eph2(Eph2Field::Dn)), Some(0));
+    assert_field(&rt, &incomplete, Field::Eph2(Eph2Field::M0), None);
+    assert_field(&rt, &incomplete, Field::Eph2(Eph2Field::Dn), Some(0));
 }
 
 #[test]
 fn kinds_of_pages(rt: HostRuntime) {
     let kinds = [Some(Kind::Clock), Some(Kind::Eph2), Some(Kind::Eph3)];
     for (handover, expected) in HANDOVERS.iter().zip(kinds) {
-        assert_eq!(rt; kind(&rt, *handover, 0xff_0000), expected, "at {handover}");
+        assert_kind(&rt, *handover, 0xff_0000, expected);
     }
     for sv in 0..64u32 {
+        let [fourth, fifth] = kinds_by_sv(sv);
         for id in [0x00_0000, 0x40_0000, 0x80_0000, 0xc0_0000] {
-            let begun = id | (sv << 16);
-            let almanac = (1..=32).contains(&sv);
-            let fourth = match sv {
-                55 => Some(Kind::Message),
-                56 => Some(Kind::Utc),
-                _ => almanac.then_some(Kind::Almanac),
-            };
-            let fifth = match sv {
-                51 => Some(Kind::Health),
-                _ => almanac.then_some(Kind::Almanac),
-            };
-            assert_eq!(rt; kind(&rt, 0x90, begun), fourth, "at {sv}");
-            assert_eq!(rt; kind(&rt, 0x94, begun), fifth, "at {sv}");
+            assert_kind(&rt, 0x90, id | (sv << 16), fourth);
+            assert_kind(&rt, 0x94, id | (sv << 16), fifth);
         }
     }
+}
+
+/// The kinds of the pages of an SV ID in subframe 4 and in subframe 5.
+fn kinds_by_sv(sv: u32) -> [Option<Kind>; 2] {
+    match sv {
+        1..=32 => [Some(Kind::Almanac); 2],
+        51 => [None, Some(Kind::Health)],
+        55 => [Some(Kind::Message), None],
+        56 => [Some(Kind::Utc), None],
+        _ => [None; 2],
+    }
+}
+
+/// Asserts the kind of the page that begins with this word 3.
+fn assert_kind(rt: &impl Abort, handover: u32, begun: u32, expected: Option<Kind>) {
+    let found = kind(rt, handover, begun);
+    assert_eq!(rt; found, expected, "at {handover} with {begun}");
 }
 
 #[test]
@@ -124,7 +137,7 @@ fn values_by_name(rt: HostRuntime) {
         (Field::Clock(ClockField::Af0), None),
         (Field::Utc(UtcField::Sv), None),
     ] {
-        assert_eq!(rt; page.value(field), expected, "at {}", field.name());
+        assert_value(&rt, &page, field, expected);
     }
     let all = [1, 5, 0, 7, 0, 0, 0, 0, 0, 0, 0, -1_023, 0];
     assert_eq!(rt; page.values(), all.as_slice());
@@ -146,21 +159,40 @@ fn each_value_by_name(rt: HostRuntime) {
             25, 26, 27, 28,
         ]),
     ] {
-        for (field, expected) in page.kind().fields().iter().zip(1i64..) {
-            assert_eq!(rt; page.value(*field), Some(expected), "at {}", field.name());
-        }
-        assert_eq!(rt; page.values().len(), page.kind().fields().len());
+        assert_counts_up(&rt, &page);
     }
+}
+
+/// Asserts that each field of a page has the number of its place, from 1.
+fn assert_counts_up(rt: &impl Abort, page: &Page) {
+    let fields = page.kind().fields();
+    for (field, expected) in fields.iter().zip(1i64..) {
+        assert_value(rt, page, *field, Some(expected));
+    }
+    assert_eq!(rt; page.values().len(), fields.len());
+}
+
+/// Asserts the value that a page has by a field's name.
+fn assert_value(rt: &impl Abort, page: &Page, field: Field, expected: Option<i64>) {
+    assert_eq!(rt; page.value(field), expected, "at {}", field.name());
 }
 
 // The 31 names in the order of the lines: subframe 1, 2 and 3, each as its table has it.
 #[test]
 fn names_of_an_ephemeris(rt: HostRuntime) {
-    let entries = CLOCK.iter().chain(&EPH2).chain(&EPH3);
-    for (field, entry) in ephemeris_fields().iter().zip(entries) {
+    let fields = ephemeris_fields();
+    assert_eq!(rt; fields.len(), 31);
+    assert_names(&rt, &fields[..11], &CLOCK);
+    assert_names(&rt, &fields[11..22], &EPH2);
+    assert_names(&rt, &fields[22..], &EPH3);
+}
+
+/// Asserts that fields have the names of these entries.
+fn assert_names(rt: &impl Abort, fields: &[Field], entries: &[Entry]) {
+    assert_eq!(rt; fields.len(), entries.len());
+    for (field, entry) in fields.iter().zip(entries) {
         assert_eq!(rt; field.name(), entry.name);
     }
-    assert_eq!(rt; ephemeris_fields().len(), 31);
 }
 
 #[test]
@@ -178,22 +210,21 @@ fn message_characters(rt: HostRuntime) {
 /// Asserts that each field of a kind is as its table has it, in its order.
 fn assert_fields(rt: &impl Abort, kind: Kind, entries: &[Entry]) {
     let fields = kind.fields();
-    assert_eq!(rt; fields.len(), entries.len());
+    assert_names(rt, fields, entries);
     for (named, entry) in fields.iter().zip(entries) {
-        assert_eq!(rt; named.name(), entry.name);
         assert_eq!(rt; named.exponent(), entry.exponent, "at {}", entry.name);
         for handover in HANDOVERS {
             let ones = with_bits(rt, handover, entry.parts, true);
-            assert_eq!(rt;
-                field(&ones, *named),
-                Some(all_ones(entry)),
-                "at {}",
-                entry.name
-            );
+            assert_field(rt, &ones, *named, Some(all_ones(entry)));
             let zeros = with_bits(rt, handover, entry.parts, false);
-            assert_eq!(rt; field(&zeros, *named), Some(0), "at {}", entry.name);
+            assert_field(rt, &zeros, *named, Some(0));
         }
     }
+}
+
+/// Asserts what a subframe has at a field.
+fn assert_field(rt: &impl Abort, subframe: &Subframe, named: Field, expected: Option<i64>) {
+    assert_eq!(rt; field(subframe, named), expected, "at {}", named.name());
 }
 
 /// What a field with all its bits 1 is.
