@@ -3,6 +3,7 @@
 use ca_codes::{CodeBook, Prn};
 use oscillators::*;
 use sample_planes::Format;
+use std::process::Abort;
 use std::test::Fail;
 
 /// Steps with no phase gained, with the greatest phase gained, and with the chip or the sign turned
@@ -15,8 +16,11 @@ const CYCLE: u128 = 4_393_751_543_808;
 #[test]
 fn floor_steps(rt: HostRuntime) -> Result<(), Fail> {
     let settings = Settings::new(4_092_000, 0, Format::Real1)?;
-    assert_eq!(rt; settings.carrier_step(-65_536), 4_294_966_246);
-    assert_eq!(rt; settings.code_step(1540 * 65_536, 0), 1_073_742_873);
+    let steps = (
+        settings.carrier_step(-65_536),
+        settings.code_step(1540 * 65_536, 0),
+    );
+    assert_eq!(rt; steps, (4_294_966_246, 1_073_742_873));
     Ok(())
 }
 
@@ -26,8 +30,8 @@ fn floor_steps(rt: HostRuntime) -> Result<(), Fail> {
 #[test]
 fn code_step_below_zero(rt: HostRuntime) -> Result<(), Fail> {
     let settings = Settings::new(2_046_000, 0, Format::Real1)?;
-    assert_eq!(rt; settings.code_step(-1, 0), 2_147_483_647);
-    assert_eq!(rt; settings.code_step(0, 0), 2_147_483_648);
+    let steps = (settings.code_step(-1, 0), settings.code_step(0, 0));
+    assert_eq!(rt; steps, (2_147_483_647, 2_147_483_648));
     Ok(())
 }
 
@@ -51,6 +55,10 @@ fn stated_limits(rt: HostRuntime) {
             "at {rate}, {offset}"
         );
     }
+}
+
+#[test]
+fn limits_of_shifts(rt: HostRuntime) {
     for (hz, valid) in [
         (-16_001, false),
         (-16_000, true),
@@ -59,6 +67,10 @@ fn stated_limits(rt: HostRuntime) {
     ] {
         assert_eq!(rt; Doppler::new(hz).is_some(), valid, "at {hz} Hz");
     }
+}
+
+#[test]
+fn limits_of_half_chips(rt: HostRuntime) {
     for (half_chips, valid) in [(0, true), (2_045, true), (2_046, false)] {
         assert_eq!(rt;
             HalfChip::new(half_chips).is_some(),
@@ -70,33 +82,34 @@ fn stated_limits(rt: HostRuntime) {
 
 #[test]
 fn fault_texts(rt: HostRuntime) -> Result<(), Fail> {
-    assert_eq!(rt;
-        format!(in rt.alloc(); "{}", SettingsFault::Rate)?.as_str(),
-        "rate"
-    );
-    assert_eq!(rt;
-        format!(in rt.alloc(); "{}", SettingsFault::Offset)?.as_str(),
-        "offset"
-    );
+    for (fault, text) in [
+        (SettingsFault::Rate, "rate"),
+        (SettingsFault::Offset, "offset"),
+    ] {
+        assert_eq!(rt; format!(in rt.alloc(); "{fault}")?.as_str(), text);
+    }
     Ok(())
 }
 
 #[test]
 fn settings_are_kept(rt: HostRuntime) -> Result<(), Fail> {
     let settings = Settings::new(2_047_999, 500_000, Format::Real2)?;
-    assert_eq!(rt; settings.per_ms(), 2_047);
-    assert_eq!(rt; settings.format(), Format::Real2);
-    assert_eq!(rt; Doppler::new(-1_000).ok_or("a shift")?.get(), -1_000);
-    assert_eq!(rt; HalfChip::new(2_045).ok_or("a half chip")?.get(), 2_045);
+    let doppler = Doppler::new(-1_000).ok_or("a shift")?;
+    let half = HalfChip::new(2_045).ok_or("a half chip")?;
+    assert_eq!(rt;
+        (settings.per_ms(), settings.format()),
+        (2_047, Format::Real2)
+    );
+    assert_eq!(rt; (doppler.get(), half.get()), (-1_000, 2_045));
     Ok(())
 }
 
 #[test]
 fn numbers_become_shifts_and_half_chips(rt: HostRuntime) {
-    assert_eq!(rt; Doppler::try_from(-16_000).ok(), Doppler::new(-16_000));
-    assert_eq!(rt; Doppler::try_from(-16_001), Err(DopplerFault));
-    assert_eq!(rt; HalfChip::try_from(2_045).ok(), HalfChip::new(2_045));
-    assert_eq!(rt; HalfChip::try_from(2_046), Err(HalfChipFault));
+    let shifts = (Doppler::try_from(-16_000).ok(), Doppler::try_from(-16_001));
+    assert_eq!(rt; shifts, (Doppler::new(-16_000), Err(DopplerFault)));
+    let halves = (HalfChip::try_from(2_045).ok(), HalfChip::try_from(2_046));
+    assert_eq!(rt; halves, (HalfChip::new(2_045), Err(HalfChipFault)));
     assert!(rt; Doppler::new(-1) < Doppler::new(0));
     assert!(rt; HalfChip::new(2_044) < HalfChip::new(2_045));
 }
@@ -105,8 +118,8 @@ fn numbers_become_shifts_and_half_chips(rt: HostRuntime) {
 fn settings_tell_their_parts(rt: HostRuntime) -> Result<(), Fail> {
     let settings = Settings::new(4_092_000, -511_500, Format::Real2)?;
     let copy = settings;
-    assert_eq!(rt; (settings.rate(), settings.offset()), (4_092_000, -511_500));
-    assert_eq!(rt; settings.format(), Format::Real2);
+    let told = (settings.rate(), settings.offset(), settings.format());
+    assert_eq!(rt; told, (4_092_000, -511_500, Format::Real2));
     assert_eq!(rt; copy, settings);
     Ok(())
 }
@@ -172,6 +185,16 @@ fn sign(book: &mut CodeBook, prn: Prn, phase: u128) -> i8 {
     }
 }
 
+/// The signs of the early, the prompt and the late chip at a phase of any number of cycles.
+fn signs(book: &mut CodeBook, prn: Prn, phase: u128) -> (i8, i8, i8) {
+    let late = phase % CYCLE + CYCLE - 0x8000_0000;
+    (
+        sign(book, prn, phase % CYCLE + 0x8000_0000),
+        sign(book, prn, phase),
+        sign(book, prn, late),
+    )
+}
+
 #[test]
 fn code_views_at_every_half_chip_and_extreme_steps(rt: HostRuntime) -> Result<(), Fail> {
     let prn = Prn::new(19).ok_or("a satellite")?;
@@ -183,12 +206,9 @@ fn code_views_at_every_half_chip_and_extreme_steps(rt: HostRuntime) -> Result<()
             assert_eq!(rt; planes.len(), 130);
             for i in 0..130 {
                 let phase = half_chips as u128 * 0x8000_0000 + i as u128 * step as u128;
-                let early = sign(&mut book, prn, phase + 0x8000_0000);
-                let prompt = sign(&mut book, prn, phase);
-                let late = sign(&mut book, prn, phase + CYCLE - 0x8000_0000);
                 assert_eq!(rt;
                     (planes.early(i), planes.prompt(i), planes.late(i)),
-                    (early, prompt, late),
+                    signs(&mut book, prn, phase),
                     "at sample {i} from {half_chips} with step {step}"
                 );
             }
@@ -197,9 +217,15 @@ fn code_views_at_every_half_chip_and_extreme_steps(rt: HostRuntime) -> Result<()
     Ok(())
 }
 
-/// The mask of the chip at a phase of any number of cycles.
-fn mask(book: &mut CodeBook, prn: Prn, phase: u128) -> u8 {
-    if sign(book, prn, phase) < 0 { 255 } else { 0 }
+/// The masks of those chips.
+fn masks(book: &mut CodeBook, prn: Prn, phase: u128) -> (u8, u8, u8) {
+    let (early, prompt, late) = signs(book, prn, phase);
+    (mask(early), mask(prompt), mask(late))
+}
+
+/// The mask of a chip with this sign.
+fn mask(sign: i8) -> u8 {
+    if sign < 0 { 255 } else { 0 }
 }
 
 #[test]
@@ -219,11 +245,7 @@ fn chip_masks_at_extreme_steps(rt: HostRuntime) -> Result<(), Fail> {
                     let phase = half_chips as u128 * 0x8000_0000 + i as u128 * step as u128;
                     assert_eq!(rt;
                         (early[63 - j], prompt[63 - j], late[63 - j]),
-                        (
-                            mask(&mut book, prn, phase + 0x8000_0000),
-                            mask(&mut book, prn, phase),
-                            mask(&mut book, prn, phase + CYCLE - 0x8000_0000)
-                        ),
+                        masks(&mut book, prn, phase),
                         "at sample {i} from {half_chips} with step {step}"
                     );
                 }
@@ -236,24 +258,22 @@ fn chip_masks_at_extreme_steps(rt: HostRuntime) -> Result<(), Fail> {
 #[test]
 fn code_goes_round(rt: HostRuntime) -> Result<(), Fail> {
     let mut osc = CodeOsc::new(HalfChip::new(2_045).ok_or("a half chip")?, 0x7fff_ffff);
-    assert_eq!(rt; osc.phase(), 2_045 * 0x8000_0000);
     // Half a chip is left, and a step is 2^-32 chip less, so it takes two.
-    assert_eq!(rt; osc.to_wrap(), 2);
+    assert_eq!(rt; (osc.phase(), osc.to_wrap()), (2_045 * 0x8000_0000, 2));
     osc.advance(2);
-    assert_eq!(rt; osc.phase(), 0x7fff_fffe);
+    assert_phase(&rt, &osc, 0x7fff_fffe);
     osc.set_step(0x8000_0000);
     osc.jump(2_045);
-    assert_eq!(rt;
-        osc.phase(),
-        0x7fff_fffe + 1_022 * 0x1_0000_0000 + 0x8000_0000
-    );
-    assert_eq!(rt; osc.to_wrap(), 1);
+    let last = 0x7fff_fffe + 1_022 * 0x1_0000_0000 + 0x8000_0000;
+    assert_eq!(rt; (osc.phase(), osc.to_wrap()), (last, 1));
     osc.set_step(u32::MAX);
-    let phase = osc.phase() as u128;
     osc.jump(u64::MAX);
-    assert_eq!(rt;
-        osc.phase() as u128,
-        (phase + 0xffff_ffff_ffff_ffff * 0xffff_ffff) % CYCLE
-    );
+    let jump = 0xffff_ffff_ffff_ffff * 0xffff_ffff;
+    assert_phase(&rt, &osc, (u128::from(last) + jump) % CYCLE);
     Ok(())
+}
+
+/// Asserts the phase, in 2^-32 chip.
+fn assert_phase(rt: &impl Abort, osc: &CodeOsc, expected: u128) {
+    assert_eq!(rt; osc.phase() as u128, expected);
 }
