@@ -12,6 +12,7 @@ use ca_codes::{CodeBook, Prn};
 use made_signals::code_file;
 use oscillators::{HalfChip, Settings};
 use sample_planes::{Format, NumberedSamples, PackedSamples};
+use std::process::Abort;
 use std::test::Fail;
 
 /// What a search names that does so many cells at a call.
@@ -137,20 +138,25 @@ fn search_is_left_off_and_taken_up(rt: HostRuntime) -> Result<(), Fail> {
     let source = NumberedSamples::new(PackedSamples::new(Format::Real1, &bytes), 5);
     let mut book = CodeBook::new();
     let mut search = Search::new(plan, &settings, 7);
-    // 2,046 samples of the dwell and 4 for each of 2,046 cells.
-    assert_eq!(rt; (search.due(), search.done()), (10_237, 0));
+    assert_stands(&rt, &search, 0);
     search.advance(0, &source, &mut book);
-    assert_eq!(rt; search.done(), 0);
+    assert_stands(&rt, &search, 0);
     search.advance(7, &source, &mut book);
-    assert_eq!(rt; (search.done(), search.result()), (7, None));
+    assert_stands(&rt, &search, 7);
     search.advance(2_038, &source, &mut book);
-    assert_eq!(rt; (search.done(), search.result()), (2_045, None));
+    assert_stands(&rt, &search, 2_045);
     search.advance(u64::MAX, &source, &mut book);
+    assert_stands(&rt, &search, 2_046);
     let result = search.result();
-    assert!(rt; result.is_some());
-    assert_eq!(rt; search.done(), 2_046);
     search.advance(u64::MAX, &source, &mut book);
-    assert_eq!(rt; (search.due(), search.done()), (10_237, 2_046));
+    assert_stands(&rt, &search, 2_046);
     assert_eq!(rt; search.result(), result);
     Ok(())
+}
+
+/// Asserts how many of 2,046 cells are done, and that there is a result with the last alone. It is
+/// due after 2,046 samples of the dwell, from sample 7 on, and 4 for each cell.
+fn assert_stands(rt: &impl Abort, search: &Search, done: u64) {
+    let told = (search.due(), search.done(), search.result().is_some());
+    assert_eq!(rt; told, (10_237, done, done == 2_046));
 }
