@@ -10,6 +10,7 @@ use ca_codes::Prn;
 use client_commands::*;
 use oscillators::{Doppler, HalfChip};
 use slot_protocol::{Command, SlotNo};
+use std::process::Abort;
 
 /// An entry: its time, and a command or the number of a refusal.
 type Answer = (u64, Result<Command, u8>);
@@ -41,6 +42,11 @@ fn answers_with(share: u8, text: &[u8]) -> [Option<Answer>; 3]
         }
     }
     found
+}
+
+/// Asserts the first three entries of the script of a client with four slots.
+fn assert_answers(rt: &impl Abort, text: &[u8], expected: [Option<Answer>; 3]) {
+    assert_eq!(rt; answers(text), expected, "of {}", text.escape_ascii());
 }
 
 /// A command at its time.
@@ -131,99 +137,95 @@ fn slots_are_those_of_the_share(rt: HostRuntime) {
     }
 }
 
+/// Lines, their times and the numbers of their refusals.
+static REFUSED_LINES: [(&str, u64, u8); 34] = [
+    ("0 state 0\r", 0, 2),
+    ("00000000000000 state 0", 0, 3),
+    ("-0 state 0", 0, 3),
+    ("x", 0, 3),
+    ("1099511627777 state 0", 0, 3),
+    ("0 State 0", 0, 5),
+    ("0", 0, 5),
+    ("6 fly 0", 6, 5),
+    ("0 Track 0 1 0 0", 0, 5),
+    ("0 Acquire 0 1 0 0 1 20", 0, 5),
+    ("6 stop", 6, 6),
+    ("0 state 0 0", 0, 6),
+    ("0 track 0 1 0", 0, 6),
+    ("0 track 0 1 0 0 0", 0, 6),
+    ("0 hold 0 1 0 0 0", 0, 6),
+    ("0 state 00000000000000", 0, 7),
+    ("0 state --0", 0, 7),
+    ("6 stop z", 6, 7),
+    ("6 hold 0 z 0 0", 6, 7),
+    ("6 track 0 z 0 0", 6, 7),
+    ("6 track 0 1 - 0", 6, 7),
+    ("6 track 0 1 16000 2046x", 6, 7),
+    ("6 hold 4 z 0 0", 6, 8),
+    ("6 track 4 z 0 0", 6, 8),
+    ("0 hold 0 1 -16001 x", 0, 8),
+    ("0 hold 0 33 0 0", 0, 8),
+    ("0 hold 0 0 0 0", 0, 8),
+    ("0 hold 0 1 0 2046", 0, 8),
+    ("0 track 0 1 16001 x", 0, 8),
+    ("0 track 0 1 -16001 x", 0, 8),
+    ("0 track 0 33 0 0", 0, 8),
+    ("0 track 0 0 0 0", 0, 8),
+    ("0 track 0 1 0 2046", 0, 8),
+    ("0 counts 0 1000001", 0, 8),
+];
+
 #[test]
 fn a_line_is_refused_by_its_first_case(rt: HostRuntime) {
-    let rows = [
-        ("0 state 0\r", 0, 2),
-        ("00000000000000 state 0", 0, 3),
-        ("-0 state 0", 0, 3),
-        ("x", 0, 3),
-        ("1099511627777 state 0", 0, 3),
-        ("0 State 0", 0, 5),
-        ("0", 0, 5),
-        ("6 fly 0", 6, 5),
-        ("0 Track 0 1 0 0", 0, 5),
-        ("0 Acquire 0 1 0 0 1 20", 0, 5),
-        ("6 stop", 6, 6),
-        ("0 state 0 0", 0, 6),
-        ("0 track 0 1 0", 0, 6),
-        ("0 track 0 1 0 0 0", 0, 6),
-        ("0 hold 0 1 0 0 0", 0, 6),
-        ("0 state 00000000000000", 0, 7),
-        ("0 state --0", 0, 7),
-        ("6 stop z", 6, 7),
-        ("6 hold 0 z 0 0", 6, 7),
-        ("6 track 0 z 0 0", 6, 7),
-        ("6 track 0 1 - 0", 6, 7),
-        ("6 track 0 1 16000 2046x", 6, 7),
-        ("6 hold 4 z 0 0", 6, 8),
-        ("6 track 4 z 0 0", 6, 8),
-        ("0 hold 0 1 -16001 x", 0, 8),
-        ("0 hold 0 33 0 0", 0, 8),
-        ("0 hold 0 0 0 0", 0, 8),
-        ("0 hold 0 1 0 2046", 0, 8),
-        ("0 track 0 1 16001 x", 0, 8),
-        ("0 track 0 1 -16001 x", 0, 8),
-        ("0 track 0 33 0 0", 0, 8),
-        ("0 track 0 0 0 0", 0, 8),
-        ("0 track 0 1 0 2046", 0, 8),
-        ("0 counts 0 1000001", 0, 8),
-    ];
-    for (line, time, number) in rows {
-        assert_eq!(rt;
-            answers(line.as_bytes()),
-            [refused(time, number), None, None],
-            "at {line}"
-        );
+    for (line, time, number) in &REFUSED_LINES {
+        assert_answers(&rt, line.as_bytes(), [refused(*time, *number), None, None]);
     }
 }
 
+/// Searches at time 6, and the numbers of their refusals.
+static REFUSED_SEARCHES: [(&str, u8); 36] = [
+    ("6 acquire", 6),
+    ("6 acquire 0", 6),
+    ("6 acquire 0 1 0 0 1", 6),
+    ("6 acquire 0 1 0 0 1 20 0", 6),
+    ("6 acquire 0 1 0 0 1 20 0 0", 6),
+    ("6 acquire 4 z", 6),
+    ("6 acquire z 1 0 0 1 20", 7),
+    ("6 acquire 0 z 0 0 1 20", 7),
+    ("6 acquire 0 1 z 0 1 20", 7),
+    ("6 acquire 0 1 0 z 1 20", 7),
+    ("6 acquire 0 1 0 0 z 20", 7),
+    ("6 acquire 0 1 0 0 1 z", 7),
+    ("6 acquire 4 1 0 0 1 20", 8),
+    ("6 acquire -1 1 0 0 1 20", 8),
+    ("6 acquire 0 0 0 0 1 20", 8),
+    ("6 acquire 0 33 0 0 1 20", 8),
+    ("6 acquire 0 1 -6001 0 1 20", 8),
+    ("6 acquire 0 1 6001 0 1 20", 8),
+    ("6 acquire 0 1 9999999999999 0 1 20", 8),
+    ("6 acquire 0 1 0 -1 1 20", 8),
+    ("6 acquire 0 1 0 41 1 20", 8),
+    ("6 acquire 0 1 0 4294967296 1 20", 8),
+    ("6 acquire 0 1 0 0 0 20", 8),
+    ("6 acquire 0 1 0 0 11 20", 8),
+    ("6 acquire 0 1 0 0 1 0", 8),
+    ("6 acquire 0 1 0 0 1 1001", 8),
+    ("6 acquire 4 z 0 0 1 20", 8),
+    ("6 acquire z 0 0 0 1 20", 7),
+    ("6 acquire 0 0 z 0 1 20", 8),
+    ("6 acquire 0 z 6001 0 1 20", 7),
+    ("6 acquire 0 1 6001 z 1 20", 8),
+    ("6 acquire 0 1 z 41 1 20", 7),
+    ("6 acquire 0 1 0 41 z 20", 8),
+    ("6 acquire 0 1 0 z 0 20", 7),
+    ("6 acquire 0 1 0 0 0 z", 8),
+    ("6 acquire 0 1 0 0 z 0", 7),
+];
+
 #[test]
 fn a_search_is_refused_by_its_first_bad_word(rt: HostRuntime) {
-    let rows = [
-        ("6 acquire", 6),
-        ("6 acquire 0", 6),
-        ("6 acquire 0 1 0 0 1", 6),
-        ("6 acquire 0 1 0 0 1 20 0", 6),
-        ("6 acquire 0 1 0 0 1 20 0 0", 6),
-        ("6 acquire 4 z", 6),
-        ("6 acquire z 1 0 0 1 20", 7),
-        ("6 acquire 0 z 0 0 1 20", 7),
-        ("6 acquire 0 1 z 0 1 20", 7),
-        ("6 acquire 0 1 0 z 1 20", 7),
-        ("6 acquire 0 1 0 0 z 20", 7),
-        ("6 acquire 0 1 0 0 1 z", 7),
-        ("6 acquire 4 1 0 0 1 20", 8),
-        ("6 acquire -1 1 0 0 1 20", 8),
-        ("6 acquire 0 0 0 0 1 20", 8),
-        ("6 acquire 0 33 0 0 1 20", 8),
-        ("6 acquire 0 1 -6001 0 1 20", 8),
-        ("6 acquire 0 1 6001 0 1 20", 8),
-        ("6 acquire 0 1 9999999999999 0 1 20", 8),
-        ("6 acquire 0 1 0 -1 1 20", 8),
-        ("6 acquire 0 1 0 41 1 20", 8),
-        ("6 acquire 0 1 0 4294967296 1 20", 8),
-        ("6 acquire 0 1 0 0 0 20", 8),
-        ("6 acquire 0 1 0 0 11 20", 8),
-        ("6 acquire 0 1 0 0 1 0", 8),
-        ("6 acquire 0 1 0 0 1 1001", 8),
-        ("6 acquire 4 z 0 0 1 20", 8),
-        ("6 acquire z 0 0 0 1 20", 7),
-        ("6 acquire 0 0 z 0 1 20", 8),
-        ("6 acquire 0 z 6001 0 1 20", 7),
-        ("6 acquire 0 1 6001 z 1 20", 8),
-        ("6 acquire 0 1 z 41 1 20", 7),
-        ("6 acquire 0 1 0 41 z 20", 8),
-        ("6 acquire 0 1 0 z 0 20", 7),
-        ("6 acquire 0 1 0 0 0 z", 8),
-        ("6 acquire 0 1 0 0 z 0", 7),
-    ];
-    for (line, number) in rows {
-        assert_eq!(rt;
-            answers(line.as_bytes()),
-            [refused(6, number), None, None],
-            "at {line}"
-        );
+    for (line, number) in &REFUSED_SEARCHES {
+        assert_answers(&rt, line.as_bytes(), [refused(6, *number), None, None]);
     }
 }
 
@@ -265,50 +267,51 @@ fn a_line_asks_for_its_command(rt: HostRuntime) {
     ];
     for (line, time, command) in rows {
         assert!(rt; command.is_some(), "at {line}");
-        assert_eq!(rt;
-            answers(line.as_bytes()),
-            [asked(time, command), None, None],
-            "at {line}"
-        );
+        assert_answers(&rt, line.as_bytes(), [asked(time, command), None, None]);
     }
 }
 
 #[test]
 fn a_line_without_words_has_no_entry(rt: HostRuntime) {
     let spaces = [b' '; 81];
-    assert_eq!(rt; answers(&spaces), [refused(0, 1), None, None]);
-    assert_eq!(rt; answers(&spaces[..80]), [None, None, None]);
-    assert_eq!(rt; answers(b""), [None, None, None]);
-    assert_eq!(rt; answers(b"\n\n \n"), [None, None, None]);
+    assert_answers(&rt, &spaces, [refused(0, 1), None, None]);
+    assert_answers(&rt, &spaces[..80], [None; 3]);
+    assert_answers(&rt, b"", [None; 3]);
+    assert_answers(&rt, b"\n\n \n", [None; 3]);
 }
 
 #[test]
 fn times_go_on_from_line_to_line(rt: HostRuntime) {
     // A line refused by 4 stands at the time of the line before, and leaves it as it was.
-    assert_eq!(rt;
-        answers(b"5 hold 0 1 0 0\n4 stop 0\n5 stop 0"),
-        [asked(5, hold(0, 1, 0, 0)), refused(5, 4), asked(5, stop(0))]
+    assert_answers(
+        &rt,
+        b"5 hold 0 1 0 0\n4 stop 0\n5 stop 0",
+        [asked(5, hold(0, 1, 0, 0)), refused(5, 4), asked(5, stop(0))],
     );
-    assert_eq!(rt;
-        answers(b"5 track 0 1 0 0\n4 track 0 1 0 0\n5 track 1 1 0 0"),
+    assert_answers(
+        &rt,
+        b"5 track 0 1 0 0\n4 track 0 1 0 0\n5 track 1 1 0 0",
         [
             asked(5, track(0, 1, 0, 0)),
             refused(5, 4),
             asked(5, track(1, 1, 0, 0)),
-        ]
+        ],
     );
     // So does one refused by 3.
-    assert_eq!(rt;
-        answers(b"7 state 1\nx\n7 state 2\n"),
-        [asked(7, state(1)), refused(7, 3), asked(7, state(2))]
+    assert_answers(
+        &rt,
+        b"7 state 1\nx\n7 state 2\n",
+        [asked(7, state(1)), refused(7, 3), asked(7, state(2))],
     );
     // One refused by 5 to 8 moves the time on to its own.
-    assert_eq!(rt;
-        answers(b"1 state 1\n\n6 counts 0\n6 state 2"),
-        [asked(1, state(1)), refused(6, 6), asked(6, state(2))]
+    assert_answers(
+        &rt,
+        b"1 state 1\n\n6 counts 0\n6 state 2",
+        [asked(1, state(1)), refused(6, 6), asked(6, state(2))],
     );
-    assert_eq!(rt;
-        answers(b"6 fly 0\n5 stop 0"),
-        [refused(6, 5), refused(6, 4), None]
+    assert_answers(
+        &rt,
+        b"6 fly 0\n5 stop 0",
+        [refused(6, 5), refused(6, 4), None],
     );
 }
