@@ -23,6 +23,3 @@ mod news;
 
 pub use message::{MOST_BITS, Message};
 pub use news::MessageNews;
-
-#[cfg(test)]
-mod tests;

@@ -2,8 +2,8 @@
 
 use super::fixture::Pushed;
 use super::{HANDOVERS, TELEMETRY};
-use crate::MessageNews;
 use data_sets::{AlmanacSet, Report, Reports};
+use nav_message::MessageNews;
 use nav_parity::encode;
 use std::process::Abort;
 

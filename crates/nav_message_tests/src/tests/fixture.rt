@@ -3,8 +3,8 @@
 ghost use Rattle.std.specs.Prelude.{◌≤◌};
 ghost use Rattle.nav_message.specs.Standing.{bit_count};
 
-use crate::{MOST_BITS, Message, MessageNews};
 use frame_sync::Subframe;
+use nav_message::{MOST_BITS, Message, MessageNews};
 use std::process::Abort;
 
 /// A message, and how many prompt sums were pushed.

@@ -3,8 +3,8 @@
 
 use super::fixture::{Pushed, subframe};
 use super::{DATA, HANDOVERS, TELEMETRY, told, zero_data, zeros_behind};
-use crate::MessageNews;
 use frame_sync::Found;
+use nav_message::MessageNews;
 use std::process::Abort;
 
 /// What is reported with a subframe of these words that has no gap and no page.

@@ -1,9 +1,9 @@
 //! Messages that are pushed sum by sum. The words were worked out by the parity equations
 //! (IS-GPS-200, section 20.3.5), and what is expected by hand.
 
-use crate::MessageNews;
 use data_sets::{Report, Reports};
 use frame_sync::Found;
+use nav_message::MessageNews;
 
 mod almanacs;
 mod damage;
