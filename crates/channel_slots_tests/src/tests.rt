@@ -12,6 +12,7 @@ use channel_slots::*;
 use lane_correlator::Counts;
 use oscillators::{Doppler, HalfChip, Settings};
 use sample_planes::{Format, NumberedSamples, PackedSamples, unpack};
+use std::process::Abort;
 use std::test::Fail;
 
 mod banks;
@@ -71,66 +72,104 @@ fn acquire(prn: u8, threshold: u32) -> Result<Command, Fail>
     })
 }
 
+/// What a slot that follows nothing answers to what needs one that does.
+const IDLE: Answer = Answer::Refused(Refusal::Idle);
+
+/// What a slot that follows something answers to what would begin.
+const BUSY: Answer = Answer::Refused(Refusal::Busy);
+
+/// Sees that a slot answers so to commands at time 0.
+fn answers(rt: &impl Abort, slot: &mut Slot, settings: &Settings, rows: &[(Command, Answer)]) {
+    for &(command, answer) in rows {
+        assert_eq!(rt; slot.command(settings, 0, command), answer);
+    }
+}
+
+/// Sees that a slot follows nothing, and what it refuses then.
+fn is_idle(rt: &impl Abort, held: &mut Slot, settings: &Settings) -> Result<(), Fail> {
+    let slot = slot_zero()?;
+    let counts = Command::Counts { slot, n: 3 };
+    let stop = Command::Stop { slot };
+    let state = Command::State { slot };
+    let rows = [
+        (counts, IDLE),
+        (stop, IDLE),
+        (state, Answer::State(SlotState::Idle)),
+    ];
+    answers(rt, held, settings, &rows);
+    Ok(())
+}
+
+/// Sees that a slot which is busy refuses what would begin with a satellite, shows this state, and
+/// stops.
+fn is_busy(
+    rt: &impl Abort,
+    held: &mut Slot,
+    settings: &Settings,
+    prn: u8,
+    shown: SlotState,
+) -> Result<(), Fail> {
+    let slot = slot_zero()?;
+    let counts = Command::Counts { slot, n: 3 };
+    let stop = Command::Stop { slot };
+    let state = Command::State { slot };
+    let rows = [
+        (hold(prn, 0)?, BUSY),
+        (track(prn, 0)?, BUSY),
+        (acquire(prn, 10)?, BUSY),
+        (counts, Answer::Accepted),
+        (state, Answer::State(shown)),
+        (stop, Answer::Accepted),
+    ];
+    answers(rt, held, settings, &rows);
+    is_idle(rt, held, settings)
+}
+
 #[test]
 fn idle_and_busy_slots_answer(rt: HostRuntime) -> Result<(), Fail> {
     let settings = plain_settings()?;
-    let slot = slot_zero()?;
-    let counts = Command::Counts { slot, n: 3 };
-    let state = Command::State { slot };
-    let stop = Command::Stop { slot };
-    let mut held = Slot::new();
-    for (command, answer) in [
-        (counts, Answer::Refused(Refusal::Idle)),
-        (stop, Answer::Refused(Refusal::Idle)),
-        (state, Answer::State(SlotState::Idle)),
-        (hold(1, 0)?, Answer::Accepted),
-        (hold(2, 0)?, Answer::Refused(Refusal::Busy)),
-        (track(2, 0)?, Answer::Refused(Refusal::Busy)),
-        (counts, Answer::Accepted),
-        (
-            state,
-            Answer::State(SlotState::Hold {
-                prn: Prn::new(1).ok_or("a satellite")?,
-                dumps: 0,
-            }),
-        ),
-        (stop, Answer::Accepted),
-        (state, Answer::State(SlotState::Idle)),
-        (track(3, -1_000)?, Answer::Accepted),
-        (hold(1, 0)?, Answer::Refused(Refusal::Busy)),
-        (counts, Answer::Accepted),
-        (
-            state,
-            Answer::State(SlotState::Track {
-                prn: Prn::new(3).ok_or("a satellite")?,
-                dumps: 0,
-                v: -65_536_000,
-                w: 0,
-                phase: Phase::Unlocked,
-            }),
-        ),
-        (acquire(1, 10)?, Answer::Refused(Refusal::Busy)),
-        (stop, Answer::Accepted),
-        (stop, Answer::Refused(Refusal::Idle)),
-        (acquire(4, 10)?, Answer::Accepted),
-        (hold(4, 0)?, Answer::Refused(Refusal::Busy)),
-        (track(4, 0)?, Answer::Refused(Refusal::Busy)),
-        (acquire(4, 10)?, Answer::Refused(Refusal::Busy)),
-        (counts, Answer::Accepted),
-        (
-            state,
-            Answer::State(SlotState::Acquire {
-                prn: Prn::new(4).ok_or("a satellite")?,
-                done: 0,
-                cells: 2_046,
-            }),
-        ),
-        (stop, Answer::Accepted),
-        (state, Answer::State(SlotState::Idle)),
-    ] {
-        assert_eq!(rt; held.command(&settings, 0, command), answer);
-    }
-    Ok(())
+    let mut slot = Slot::new();
+    is_idle(&rt, &mut slot, &settings)?;
+    answers(
+        &rt,
+        &mut slot,
+        &settings,
+        &[(hold(1, 0)?, Answer::Accepted)],
+    );
+    let prn = Prn::new(1).ok_or("a satellite")?;
+    is_busy(
+        &rt,
+        &mut slot,
+        &settings,
+        2,
+        SlotState::Hold { prn, dumps: 0 },
+    )?;
+    answers(
+        &rt,
+        &mut slot,
+        &settings,
+        &[(track(3, -1_000)?, Answer::Accepted)],
+    );
+    let state = SlotState::Track {
+        prn: Prn::new(3).ok_or("a satellite")?,
+        dumps: 0,
+        v: -65_536_000,
+        w: 0,
+        phase: Phase::Unlocked,
+    };
+    is_busy(&rt, &mut slot, &settings, 1, state)?;
+    answers(
+        &rt,
+        &mut slot,
+        &settings,
+        &[(acquire(4, 10)?, Answer::Accepted)],
+    );
+    let state = SlotState::Acquire {
+        prn: Prn::new(4).ok_or("a satellite")?,
+        done: 0,
+        cells: 2_046,
+    };
+    is_busy(&rt, &mut slot, &settings, 4, state)
 }
 
 /// Sums in the order of a line of counts.
@@ -187,6 +226,24 @@ fn shown(news: Option<SlotNews>) -> Option<Counts> {
     }
 }
 
+/// Sees that it emits this at a time.
+fn tells(
+    rt: &impl Abort,
+    slot: &mut Slot,
+    time: u64,
+    len: usize,
+    count: usize,
+    wanted: Option<Counts>,
+) -> Result<(), Fail>
+    requires some { 0 < len }
+    requires sound { (reach : ℕ) × IsSound 0 time reach slot.old }
+    requires in_byte { time + len ≤ 8 }
+    ensures { IfOk result (λ _. (reach : ℕ) × IsSound 0 (time + count) reach slot.new) }
+{
+    assert_eq!(rt; told(slot, time, len, count)?, wanted);
+    Ok(())
+}
+
 // At two samples a chip the code begins half a chip before its end, so one sample ends the segment.
 // Chip 0 of satellite 1 is 1 and chip 1022 is 0, and the carrier's first pair is 2, 1: the early
 // chip, of the next period, has the sign -1, the others +1.
@@ -195,8 +252,7 @@ fn early_wraps(rt: HostRuntime) -> Result<(), Fail> {
     let settings = plain_settings()?;
     let mut slot = held(&settings, 1, 0)?;
     let counts = sums([-2, 1, 2, -1, 2, -1]);
-    assert_eq!(rt; told(&mut slot, 0, 8, 1)?, Some(counts));
-    Ok(())
+    tells(&rt, &mut slot, 0, 8, 1, Some(counts))
 }
 
 // A little slower than half a chip a sample, so the second sample ends the segment. Chip 0 of
@@ -207,15 +263,14 @@ fn sums_do_not_depend_on_the_cut(rt: HostRuntime) -> Result<(), Fail> {
     let settings = plain_settings()?;
     let counts = sums([-4, 0, 4, 0, 4, 0]);
     let mut whole = held(&settings, 7, -1_000)?;
-    assert_eq!(rt; told(&mut whole, 0, 8, 2)?, Some(counts));
+    tells(&rt, &mut whole, 0, 8, 2, Some(counts))?;
     let mut cut = held(&settings, 7, -1_000)?;
-    assert_eq!(rt; told(&mut cut, 0, 1, 1)?, None);
-    assert_eq!(rt; told(&mut cut, 1, 7, 1)?, Some(counts));
-    Ok(())
+    tells(&rt, &mut cut, 0, 1, 1, None)?;
+    tells(&rt, &mut cut, 1, 7, 1, Some(counts))
 }
 
 #[test]
 fn slots_are_0_to_7(rt: HostRuntime) {
-    assert_eq!(rt; SlotNo::new(7).map(|slot| slot.get()), Some(7));
-    assert_eq!(rt; SlotNo::new(8), None);
+    let last = SlotNo::new(7).map(|slot| slot.get());
+    assert_eq!(rt; (last, SlotNo::new(8)), (Some(7), None));
 }

@@ -3,6 +3,8 @@
 use super::{hold, plain_settings, slot_zero, sums};
 use channel_slots::{Bank, Command, Event, OpenFault, SlotEvent};
 use sample_planes::{Format, PackedSamples};
+use std::alloc::{Alloc, Global};
+use std::process::Abort;
 use std::test::Fail;
 
 // Samples from the ninth of two bytes on are those of the second byte.
@@ -26,36 +28,56 @@ fn a_feed_begins_anywhere(rt: HostRuntime) -> Result<(), Fail> {
     Ok(())
 }
 
-#[test]
-fn one_to_eight_clients(rt: HostRuntime) -> Result<(), Fail> {
-    let few: [&[u8]; 3] = [&[1], &[4; 8], &[8; 8]];
-    for shares in few {
-        let bank = Bank::open(rt.alloc(), plain_settings()?, shares)?;
-        assert_eq!(rt; bank.time(), 0);
-    }
-    let none_or_many: [&[u8]; 4] = [&[], &[4; 9], &[0; 9], &[8; 255]];
-    for shares in none_or_many {
-        let bank = Bank::open(rt.alloc(), plain_settings()?, shares);
-        assert_eq!(rt; bank.err(), Some(OpenFault::Clients));
+/// Sees that a bank with each of these shares opens at time 0, or how it fails to.
+fn open(
+    rt: &(impl Abort + Alloc<A = Global>),
+    rows: &[(&[u8], Result<u64, OpenFault>)],
+) -> Result<(), Fail> {
+    for &(shares, time) in rows {
+        let opened = Bank::open(rt.alloc(), plain_settings()?, shares);
+        assert_eq!(rt; opened.map(|bank| bank.time()), time);
     }
     Ok(())
 }
+
+static CLIENTS: [(&[u8], Result<u64, OpenFault>); 7] = [
+    (&[1], Ok(0)),
+    (&[4; 8], Ok(0)),
+    (&[8; 8], Ok(0)),
+    (&[], Err(OpenFault::Clients)),
+    (&[4; 9], Err(OpenFault::Clients)),
+    (&[0; 9], Err(OpenFault::Clients)),
+    (&[8; 255], Err(OpenFault::Clients)),
+];
+
+#[test]
+fn one_to_eight_clients(rt: HostRuntime) -> Result<(), Fail> {
+    open(&rt, &CLIENTS)
+}
+
+static REFUSED_SHARES: [(&[u8], Result<u64, OpenFault>); 5] = [
+    (&[0], Err(OpenFault::Share)),
+    (&[9], Err(OpenFault::Share)),
+    (&[255], Err(OpenFault::Share)),
+    (&[8, 1, 0], Err(OpenFault::Share)),
+    (&[1, 2, 3, 4, 5, 6, 7, 9], Err(OpenFault::Share)),
+];
 
 #[test]
 fn one_to_eight_slots(rt: HostRuntime) -> Result<(), Fail> {
-    let refused: [&[u8]; 5] = [&[0], &[9], &[255], &[8, 1, 0], &[1, 2, 3, 4, 5, 6, 7, 9]];
-    for shares in refused {
-        let bank = Bank::open(rt.alloc(), plain_settings()?, shares);
-        assert_eq!(rt; bank.err(), Some(OpenFault::Share));
-    }
-    Ok(())
+    open(&rt, &REFUSED_SHARES)
 }
+
+static TEXTS: [(OpenFault, &str); 3] = [
+    (OpenFault::NoMemory, "no memory"),
+    (OpenFault::Clients, "clients"),
+    (OpenFault::Share, "share"),
+];
 
 #[test]
 fn faults_have_texts(rt: HostRuntime) -> Result<(), Fail> {
-    let alloc = rt.alloc();
-    assert_eq!(rt; OpenFault::NoMemory.to_string(alloc)?.as_str(), "no memory");
-    assert_eq!(rt; OpenFault::Clients.to_string(alloc)?.as_str(), "clients");
-    assert_eq!(rt; OpenFault::Share.to_string(alloc)?.as_str(), "share");
+    for &(fault, text) in &TEXTS {
+        assert_eq!(rt; fault.to_string(rt.alloc())?.as_str(), text);
+    }
     Ok(())
 }

@@ -5,7 +5,7 @@ ghost use Rattle.channel_slots.specs.BankStates.{settings_of, shares_of};
 ghost use Rattle.definitions.specs.Samples.{real1};
 ghost use Rattle.sample_planes.specs.declared.planes.TheConstants.{MAX_SAMPLES};
 
-use super::{acquire, plain_settings, slot_zero};
+use super::{acquire, plain_settings};
 use acquisition::{Cell, Plan};
 use arrayvec::ArrayVec;
 use ca_codes::Prn;
@@ -13,7 +13,7 @@ use channel_slots::{Bank, Command, Event, SlotEvent, SlotNo};
 use made_signals::long_code_file;
 use oscillators::HalfChip;
 use sample_planes::{Format, PackedSamples};
-use std::alloc::Global;
+use std::alloc::{Alloc, Global};
 use std::process::Abort;
 use std::test::Fail;
 
@@ -81,11 +81,7 @@ fn hear(
     ensures shares { shares_of bank.new ≡ shares_of bank.old }
 {
     let told = feed_to(bank, recording, piece, until)?;
-    assert_eq!(rt;
-        told.as_slice(),
-        wanted,
-        "from {piece} at a time, by {until}"
-    );
+    assert_eq!(rt; told.as_slice(), wanted, "{piece} at a time");
     Ok(())
 }
 
@@ -138,12 +134,36 @@ fn due_in_turn(client: u8, slot: u8) -> u64 {
     10_226 + 4 * u64::from(client) + u64::from(slot)
 }
 
-/// Sees that each answer comes when it is due.
+/// Sees that all answers but that of client 1's slot 0 come when they are due.
 fn hear_in_turn(rt: &impl Abort, told: &[SlotEvent]) {
+    assert_eq!(rt; told.len(), 31);
     for event in told {
         assert_eq!(rt; event.time, due_in_turn(event.client, event.slot));
     }
 }
+
+/// A client, one of its slots, and how many cells its search has done.
+type Done = (u8, u8, Option<u64>);
+
+/// Sees how many cells the searches of these slots have done.
+fn have_done(rt: &impl Abort, bank: &Bank, rows: &[Done]) -> Result<(), Fail> {
+    for &(client, slot, cells) in rows {
+        let slot = SlotNo::new(slot).ok_or("a slot")?;
+        assert_eq!(rt; bank.cells_done(client, slot), cells);
+    }
+    Ok(())
+}
+
+/// At 10,000 the dwells of the second and of the last slot, which ended at 2,047 and at 2,077, have
+/// cells. There is no client 0 or 9, and no slot 7 of client 1.
+static DONE_AT_10_000: [Done; 6] = [
+    (1, 0, Some(0)),
+    (1, 1, Some(1_988)),
+    (8, 3, Some(1_980)),
+    (0, 3, None),
+    (9, 0, None),
+    (1, 7, None),
+];
 
 // Whatever 31 other slots search for, the dwell of client 1's slot 0 ends at 20,460, and one cell
 // is done with the fourth sample after it.
@@ -151,29 +171,17 @@ fn hear_in_turn(rt: &impl Abort, told: &[SlotEvent]) {
 fn cells_among_strangers(rt: HostRuntime) -> Result<(), Fail> {
     let zeros = [0; 2_558];
     let recording = PackedSamples::new(Format::Real1, &zeros);
-    let first = slot_zero()?;
-    let second = SlotNo::new(1).ok_or("a slot")?;
-    let last = SlotNo::new(3).ok_or("a slot")?;
     let mut bank = Bank::open(rt.alloc(), plain_settings()?, &[4; 8])?;
-    assert_eq!(rt; bank.cells_done(1, first), None);
+    have_done(&rt, &bank, &[(1, 0, None)])?;
     ask_in_turn(&mut bank, &recording)?;
-    assert_eq!(rt; bank.cells_done(8, last), Some(0));
-    // The dwells of the second and of the last slot end at 2,047 and at 2,077.
+    have_done(&rt, &bank, &[(8, 3, Some(0))])?;
     hear(&rt, &mut bank, &recording, 1_024, 10_000, &[])?;
-    assert_eq!(rt; bank.cells_done(1, first), Some(0));
-    assert_eq!(rt; bank.cells_done(1, second), Some(1_988));
-    assert_eq!(rt; bank.cells_done(8, last), Some(1_980));
-    assert_eq!(rt; bank.cells_done(0, last), None);
-    assert_eq!(rt; bank.cells_done(9, first), None);
-    assert_eq!(rt; bank.cells_done(1, SlotNo::new(7).ok_or("a slot")?), None);
+    have_done(&rt, &bank, &DONE_AT_10_000)?;
     let told = feed_to(&mut bank, &recording, 1_024, 20_463)?;
-    assert_eq!(rt; told.len(), 31);
     hear_in_turn(&rt, told.as_slice());
-    assert_eq!(rt; bank.cells_done(8, last), None);
-    assert_eq!(rt; bank.cells_done(1, first), Some(0));
+    have_done(&rt, &bank, &[(8, 3, None), (1, 0, Some(0))])?;
     hear(&rt, &mut bank, &recording, 1_024, 20_464, &[])?;
-    assert_eq!(rt; bank.cells_done(1, first), Some(1));
-    Ok(())
+    have_done(&rt, &bank, &[(1, 0, Some(1))])
 }
 
 /// The same samples after a number of others, fewer than a byte has.
@@ -194,35 +202,48 @@ fn behind(bytes: &[u8; 1_536], first: usize) -> [u8; 1_537]
     moved
 }
 
-/// Sees that a bank emits the same in pieces, wherever in a byte the recording begins.
-fn hear_from_each_place(rt: &impl Abort, alloc: Global, piece: usize) -> Result<(), Fail>
+/// Sees that a bank finds satellite 1 in a recording, which it takes in pieces.
+fn hear_from(
+    rt: &(impl Abort + Alloc<A = Global>),
+    recording: &PackedSamples,
+    piece: usize,
+) -> Result<(), Fail>
+    requires packing { recording.now.packing ≡ real1 }
+    requires some { 0 < piece }
+    requires short { piece ≤ MAX_SAMPLES }
+{
+    let named = told_at(10_232, found_at_two()?);
+    let mut bank = bank_of_one(rt.alloc())?;
+    hear(rt, &mut bank, recording, piece, 2, &[])?;
+    bank.command(1, acquire(1, 10)?);
+    hear(rt, &mut bank, recording, piece, 10_240, &[named])
+}
+
+/// Sees that it does so wherever in a byte the recording begins.
+fn hear_from_each_place(rt: &(impl Abort + Alloc<A = Global>), piece: usize) -> Result<(), Fail>
     requires some { 0 < piece }
     requires short { piece ≤ MAX_SAMPLES }
 {
     let bytes = long_code_file();
-    let named = told_at(10_232, found_at_two()?);
     for first in 0..8 {
         let moved = behind(&bytes, first);
         let recording = PackedSamples::new(Format::Real1, &moved).part(first, 10_240);
-        let mut bank = bank_of_one(alloc)?;
-        hear(rt, &mut bank, &recording, piece, 2, &[])?;
-        bank.command(1, acquire(1, 10)?);
-        hear(rt, &mut bank, &recording, piece, 10_240, &[named])?;
+        hear_from(rt, &recording, piece)?;
     }
     Ok(())
 }
 
 #[test]
 fn samples_one_by_one(rt: HostRuntime) -> Result<(), Fail> {
-    hear_from_each_place(&rt, rt.alloc(), 1)
+    hear_from_each_place(&rt, 1)
 }
 
 #[test]
 fn samples_by_threes(rt: HostRuntime) -> Result<(), Fail> {
-    hear_from_each_place(&rt, rt.alloc(), 3)
+    hear_from_each_place(&rt, 3)
 }
 
 #[test]
 fn samples_by_whole_runs(rt: HostRuntime) -> Result<(), Fail> {
-    hear_from_each_place(&rt, rt.alloc(), 1_024)
+    hear_from_each_place(&rt, 1_024)
 }
