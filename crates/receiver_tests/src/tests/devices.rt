@@ -1,7 +1,7 @@
 //! Readers and writers that fail.
 
 use super::{FIRST_COUNT, FIRST_COUNT_LINES, plain_settings, run_one, run_plain};
-use crate::tests::expected::{has_told, tells};
+use crate::tests::expected::{has_told, reads_and_flushes, tells};
 use crate::tests::fakes::{Giving, Holding, Zeros};
 use made_signals::code_file;
 use receiver::{RunFault, run};
@@ -22,8 +22,9 @@ fn fails(
     text: Option<&[u8]>,
 ) -> Result<(), Fail> {
     let answer = run_plain(rt.alloc(), &[FIRST_COUNT], reader, writer)?;
-    assert_eq!(rt; answer, Err(fault), "behind {behind}");
-    assert_eq!(rt; Some(writer.text()?.as_bytes()), text, "behind {behind}");
+    // With `behind` on both sides a mismatch shows it.
+    let told = (behind, answer, Some(writer.text()?.as_bytes()));
+    assert_eq!(rt; told, (behind, Err(fault), text));
     Ok(())
 }
 
@@ -42,8 +43,7 @@ fn reader_fails(
     let mut writer = Holding::whole();
     fails(rt, &mut reader, &mut writer, RunFault::Read, behind, text)?;
     let reads = if behind == 0 { 1 } else { 2 };
-    assert_eq!(rt; reader.reads, reads, "behind {behind}");
-    assert!(rt; writer.is_flushed);
+    reads_and_flushes(rt, reader.reads, &writer, reads);
     Ok(())
 }
 
@@ -168,18 +168,23 @@ fn failing_flush_of_nothing(rt: HostRuntime) -> Result<(), Fail> {
     Ok(())
 }
 
+/// Sees that a run over zeros without end ends with so many reads, as its writer fails.
+fn ends_endless_reading(
+    rt: &(impl Abort + Alloc<A = Global>),
+    script: &[u8],
+    reads: u64,
+) -> Result<(), Fail> {
+    let mut reader = Zeros::pieces(1);
+    let mut writer = Holding::faulty(usize::MAX, 3);
+    let settings = plain_settings()?;
+    let answer = run(rt.alloc(), settings, &[script], &mut reader, &mut writer);
+    assert_eq!(rt; (answer, reader.reads), (Err(RunFault::Write), reads));
+    Ok(())
+}
+
 // A line at 0 comes before the first read, one at 8 with the first byte.
 #[test]
 fn failing_writer_ends_endless_reading(rt: HostRuntime) -> Result<(), Fail> {
-    let at_start: &[u8] = b"0 state 0\n";
-    let behind_a_byte: &[u8] = b"8 state 0\n";
-    for (script, reads) in [(at_start, 0), (behind_a_byte, 1)] {
-        let mut reader = Zeros::pieces(1);
-        let mut writer = Holding::faulty(usize::MAX, 3);
-        let settings = plain_settings()?;
-        let answer = run(rt.alloc(), settings, &[script], &mut reader, &mut writer);
-        assert_eq!(rt; answer, Err(RunFault::Write));
-        assert_eq!(rt; reader.reads, reads);
-    }
-    Ok(())
+    ends_endless_reading(&rt, b"0 state 0\n", 0)?;
+    ends_endless_reading(&rt, b"8 state 0\n", 1)
 }

@@ -18,9 +18,36 @@ pub fn has_told(
     answer: Result<u64, RunFault>,
     text: &str,
 ) -> Result<(), Fail> {
-    assert_eq!(rt; answered, answer);
-    assert_eq!(rt; writer.text()?, text);
+    assert_eq!(rt; (answered, writer.text()?), (answer, text));
     Ok(())
+}
+
+/// Sees what a run answered.
+pub fn answers(rt: &impl Abort, answered: Result<u64, RunFault>, answer: Result<u64, RunFault>) {
+    assert_eq!(rt; answered, answer);
+}
+
+/// Sees how often a run read, wrote and flushed.
+pub fn asks(
+    rt: &impl Abort,
+    reader: &Giving,
+    writer: &Holding,
+    reads: u64,
+    writes: u64,
+    flushes: u64,
+) {
+    let asked = (reader.reads, writer.writes, writer.flushes);
+    assert_eq!(rt; asked, (reads, writes, flushes));
+}
+
+/// Sees that a run flushed what it wrote.
+pub fn is_flushed(rt: &impl Abort, writer: &Holding) {
+    assert!(rt; writer.is_flushed);
+}
+
+/// Sees how often a run read, and that it flushed what it wrote.
+pub fn reads_and_flushes(rt: &impl Abort, asked: u64, writer: &Holding, reads: u64) {
+    assert_eq!(rt; (asked, writer.is_flushed), (reads, true));
 }
 
 /// Sees that a run of scripts over plain settings answers and writes this.
@@ -52,11 +79,17 @@ pub fn tells_within(
     let mut writer = Holding::whole();
     let answered = run_one(rt.alloc(), script, limit, reader, &mut writer)?;
     has_told(rt, answered, &writer, answer, text)?;
-    assert!(rt; writer.is_flushed);
+    is_flushed(rt, &writer);
     Ok(reader.reads)
 }
 
-/// How a bank with these shares fails to open, where it does.
-pub fn open_fault(alloc: Global, shares: &[u8]) -> Result<Option<OpenFault>, Fail> {
-    Ok(Bank::open(alloc, plain_settings()?, shares).err())
+/// Sees that a bank with these shares fails so to open.
+pub fn refuses_to_open(
+    rt: &(impl Abort + Alloc<A = Global>),
+    shares: &[u8],
+    fault: OpenFault,
+) -> Result<(), Fail> {
+    let bank = Bank::open(rt.alloc(), plain_settings()?, shares);
+    assert_eq!(rt; bank.err(), Some(fault));
+    Ok(())
 }

@@ -1,7 +1,9 @@
 //! What a run takes at most: clients, samples, memory.
 
 use super::{FIRST_COUNT, plain_settings, run_plain};
-use crate::tests::expected::{has_told, open_fault, tells, tells_within};
+use crate::tests::expected::{
+    answers, asks, has_told, reads_and_flushes, refuses_to_open, tells, tells_within,
+};
 use crate::tests::fakes::{Giving, Holding, Zeros};
 use channel_slots::OpenFault;
 use made_signals::code_file;
@@ -22,14 +24,14 @@ fn refuses_clients(rt: &(impl Abort + Alloc<A = Global>), scripts: &[&[u8]]) -> 
         Err(RunFault::Clients),
         "",
     )?;
-    assert_eq!(rt; (reader.reads, writer.writes, writer.flushes), (0, 0, 0));
+    asks(rt, &reader, &writer, 0, 0, 0);
     Ok(())
 }
 
 #[test]
 fn stated_limits(rt: HostRuntime) -> Result<(), Fail> {
-    assert_eq!(rt; open_fault(rt.alloc(), &[])?, Some(OpenFault::Clients));
-    assert_eq!(rt; open_fault(rt.alloc(), &[4; 9])?, Some(OpenFault::Clients));
+    refuses_to_open(&rt, &[], OpenFault::Clients)?;
+    refuses_to_open(&rt, &[4; 9], OpenFault::Clients)?;
     refuses_clients(&rt, &[])?;
     refuses_clients(&rt, &[FIRST_COUNT; 9])
 }
@@ -83,8 +85,7 @@ fn reads_past_limit(
     let settings = plain_settings()?;
     let answer = run_to(rt.alloc(), settings, &[b""], 4096, &mut reader, &mut writer);
     has_told(rt, answer, &writer, Err(RunFault::TooLong), "")?;
-    assert_eq!(rt; reader.reads, reads);
-    assert!(rt; writer.is_flushed);
+    reads_and_flushes(rt, reader.reads, &writer, reads);
     Ok(())
 }
 
@@ -105,11 +106,11 @@ fn refused_memory_touches_no_device(rt: HostRuntime) -> Result<(), Fail> {
     let mut writer = Holding::whole();
     let answer = run_plain(rt.alloc(), &[FIRST_COUNT], &mut reader, &mut writer)?;
     if answer == Err(RunFault::NoMemory) {
-        assert_eq!(rt; (reader.reads, writer.writes, writer.flushes), (0, 0, 0));
+        asks(&rt, &reader, &writer, 0, 0, 0);
     } else {
         // A write before each of the two reads, and one with the end.
-        assert_eq!(rt; answer, Ok(2048));
-        assert_eq!(rt; (reader.reads, writer.writes, writer.flushes), (2, 3, 1));
+        answers(&rt, answer, Ok(2048));
+        asks(&rt, &reader, &writer, 2, 3, 1);
     }
     Ok(())
 }

@@ -1,7 +1,7 @@
 //! Runs of one client, and the texts of faults.
 
 use super::{FIRST_COUNT, FIRST_COUNT_LINES};
-use crate::tests::expected::tells;
+use crate::tests::expected::{asks, reads_and_flushes, tells};
 use crate::tests::fakes::{Giving, Holding};
 use made_signals::code_file;
 use receiver::{DeviceFault, RunFault};
@@ -22,8 +22,7 @@ fn reads_and_writes(
 ) -> Result<(), Fail> {
     let mut writer = Holding::faulty(bytes_a_write, usize::MAX);
     tells(rt, &[script], reader, &mut writer, Ok(samples), text)?;
-    assert_eq!(rt; reader.reads, reads);
-    assert!(rt; writer.is_flushed);
+    reads_and_flushes(rt, reader.reads, &writer, reads);
     Ok(())
 }
 
@@ -78,33 +77,30 @@ fn lines_are_written_before_the_next_read(rt: HostRuntime) -> Result<(), Fail> {
         1 2047 err 10\n\
         1 2048 end\n";
     tells(&rt, &[script], &mut reader, &mut writer, Ok(2_048), text)?;
-    assert_eq!(rt; (reader.reads, writer.writes), (257, 3));
-    assert_eq!(rt; writer.flushes, 1);
+    asks(&rt, &reader, &writer, 257, 3, 1);
     Ok(())
 }
 
-/// Sees that a fault has this text.
-fn has_text(
-    rt: &(impl Abort + Alloc<A = Global>),
-    fault: RunFault,
-    text: &str,
-) -> Result<(), Fail> {
-    assert_eq!(rt; fault.to_string(rt.alloc())?.as_str(), text);
+/// What a run says of each fault.
+static TEXTS: [(RunFault, &str); 6] = [
+    (RunFault::NoMemory, "no memory"),
+    (RunFault::Clients, "clients"),
+    (RunFault::Read, "read"),
+    (RunFault::Write, "write"),
+    (RunFault::TooLong, "too long"),
+    (RunFault::Share, "share"),
+];
+
+#[test]
+fn faults_have_texts(rt: HostRuntime) -> Result<(), Fail> {
+    for &(fault, text) in &TEXTS {
+        assert_eq!(rt; fault.to_string(rt.alloc())?.as_str(), text);
+    }
     Ok(())
 }
 
 #[test]
-fn faults_have_texts(rt: HostRuntime) -> Result<(), Fail> {
-    for (fault, text) in [
-        (RunFault::NoMemory, "no memory"),
-        (RunFault::Clients, "clients"),
-        (RunFault::Read, "read"),
-        (RunFault::Write, "write"),
-        (RunFault::TooLong, "too long"),
-        (RunFault::Share, "share"),
-    ] {
-        has_text(&rt, fault, text)?;
-    }
+fn device_fault_has_a_text(rt: HostRuntime) -> Result<(), Fail> {
     assert_eq!(rt; DeviceFault.to_string(rt.alloc())?.as_str(), "device");
     Ok(())
 }

@@ -1,7 +1,7 @@
 //! Clients with unequal shares of the slots.
 
 use super::{FIRST_COUNT, plain_settings};
-use crate::tests::expected::open_fault;
+use crate::tests::expected::{answers, asks, refuses_to_open};
 use crate::tests::fakes::{Giving, Holding};
 use channel_slots::{MOST_TIME, OpenFault};
 use receiver::{RunFault, run_shares};
@@ -30,27 +30,28 @@ fn refuses(
         &mut reader,
         &mut writer,
     );
-    assert_eq!(rt; answer, Err(fault));
-    assert_eq!(rt; (reader.reads, writer.writes, writer.flushes), (0, 0, 0));
+    answers(rt, answer, Err(fault));
+    asks(rt, &reader, &writer, 0, 0, 0);
     Ok(())
 }
+
+/// Numbers of scripts, shares, and how a run of them is refused.
+static REFUSED: [(usize, &[u8], RunFault); 8] = [
+    (0, &[], RunFault::Clients),
+    (0, &[4], RunFault::Clients),
+    (9, &[4; 9], RunFault::Clients),
+    (9, &[4], RunFault::Clients),
+    (2, &[4], RunFault::Share),
+    (1, &[4, 4], RunFault::Share),
+    (1, &[0], RunFault::Share),
+    (2, &[8, 9], RunFault::Share),
+];
 
 // The scripts are checked before the shares, and both before anything is read or written.
 #[test]
 fn share_faults(rt: HostRuntime) -> Result<(), Fail> {
-    let refused: [(usize, &[u8], RunFault); 8] = [
-        (0, &[], RunFault::Clients),
-        (0, &[4], RunFault::Clients),
-        (9, &[4; 9], RunFault::Clients),
-        (9, &[4], RunFault::Clients),
-        (2, &[4], RunFault::Share),
-        (1, &[4, 4], RunFault::Share),
-        (1, &[0], RunFault::Share),
-        (2, &[8, 9], RunFault::Share),
-    ];
-    for (clients, shares, fault) in refused {
+    for &(clients, shares, fault) in &REFUSED {
         refuses(&rt, clients, shares, fault)?;
     }
-    assert_eq!(rt; open_fault(rt.alloc(), &[4, 9])?, Some(OpenFault::Share));
-    Ok(())
+    refuses_to_open(&rt, &[4, 9], OpenFault::Share)
 }

@@ -1,11 +1,13 @@
 //! Readers and writers of std, each of which is asked once.
 
 use super::{FIRST_COUNT, FIRST_COUNT_LINES, plain_settings};
+use crate::tests::expected::{answers, has_told};
 use crate::tests::fakes::{Giving, Holding};
 use made_signals::code_file;
 use receiver::{Plain, RunFault, Sink, Source, run};
-use std::alloc::Global;
+use std::alloc::{Alloc, Global};
 use std::io::{self, Read, Write};
+use std::process::Abort;
 use std::test::Fail;
 
 /// Is interrupted at its first read, and at its end with the second.
@@ -104,10 +106,10 @@ fn run_into(alloc: Global, room: &mut [u8]) -> Result<Result<u64, RunFault>, Fai
 #[test]
 fn std_devices_run(rt: HostRuntime) -> Result<(), Fail> {
     let mut room = [0u8; 100];
-    assert_eq!(rt; run_into(rt.alloc(), &mut room)?, Ok(2048));
+    answers(&rt, run_into(rt.alloc(), &mut room)?, Ok(2048));
     let text = FIRST_COUNT_LINES.as_bytes();
-    assert_eq!(rt; room.get(..text.len()), Some(text));
-    assert_eq!(rt; room.get(text.len()), Some(&0));
+    let written = (room.get(..text.len()), room.get(text.len()));
+    assert_eq!(rt; written, (Some(text), Some(&0)));
     Ok(())
 }
 
@@ -117,9 +119,24 @@ fn interrupted_reader(rt: HostRuntime) -> Result<(), Fail> {
     let mut reader = Plain::new(&mut inner);
     let mut writer = Holding::whole();
     let answer = run_over(rt.alloc(), b"0 state 0", &mut reader, &mut writer)?;
-    assert_eq!(rt; answer, Err(RunFault::Read));
-    assert_eq!(rt; writer.text()?, "1 0 state 0 idle\n");
+    let text = "1 0 state 0 idle\n";
+    has_told(&rt, answer, &writer, Err(RunFault::Read), text)?;
     assert_eq!(rt; inner.reads, 1);
+    Ok(())
+}
+
+/// Sees that a run whose writer is interrupted fails after so many writes and flushes.
+fn fails_interrupted(
+    rt: &(impl Abort + Alloc<A = Global>),
+    inner: &mut InterruptedWriter,
+    writes: u64,
+    flushes: u64,
+) -> Result<(), Fail> {
+    let mut reader = Giving::whole(&[0]);
+    let mut writer = Plain::new(&mut *inner);
+    let answer = run_over(rt.alloc(), b"0 state 0", &mut reader, &mut writer)?;
+    let seen = (answer, inner.writes, inner.flushes);
+    assert_eq!(rt; seen, (Err(RunFault::Write), writes, flushes));
     Ok(())
 }
 
@@ -127,15 +144,8 @@ fn interrupted_reader(rt: HostRuntime) -> Result<(), Fail> {
 // idle` and `1 8 end`.
 #[test]
 fn interrupted_writer(rt: HostRuntime) -> Result<(), Fail> {
-    for (at_write, at_flush, writes, flushes) in [(true, false, 1, 0), (false, true, 2, 1)] {
-        let mut inner = InterruptedWriter::new(at_write, at_flush);
-        let mut reader = Giving::whole(&[0]);
-        let mut writer = Plain::new(&mut inner);
-        let answer = run_over(rt.alloc(), b"0 state 0", &mut reader, &mut writer)?;
-        assert_eq!(rt; answer, Err(RunFault::Write));
-        assert_eq!(rt; (inner.writes, inner.flushes), (writes, flushes));
-    }
-    Ok(())
+    fails_interrupted(&rt, &mut InterruptedWriter::new(true, false), 1, 0)?;
+    fails_interrupted(&rt, &mut InterruptedWriter::new(false, true), 2, 1)
 }
 
 // The reader fails after 100 bytes. But the first line is written before the first read, and the
@@ -147,11 +157,15 @@ fn writer_takes_nothing(rt: HostRuntime) -> Result<(), Fail> {
     let mut inner = IdleWriter { writes: 0 };
     let mut writer = Plain::new(&mut inner);
     let answer = run_over(rt.alloc(), FIRST_COUNT, &mut reader, &mut writer)?;
-    assert_eq!(rt; answer, Err(RunFault::Write));
-    assert_eq!(rt; inner.writes, 1);
-    // A slice that is full takes nothing, either.
+    assert_eq!(rt; (answer, inner.writes), (Err(RunFault::Write), 1));
+    Ok(())
+}
+
+// A slice that is full takes nothing, either.
+#[test]
+fn full_slice_takes_nothing(rt: HostRuntime) -> Result<(), Fail> {
     let mut room = [b'?'; 4];
-    assert_eq!(rt; run_into(rt.alloc(), &mut room[..0])?, Err(RunFault::Write));
-    assert_eq!(rt; room, [b'?'; 4]);
+    let answer = run_into(rt.alloc(), &mut room[..0])?;
+    assert_eq!(rt; (answer, room), (Err(RunFault::Write), [b'?'; 4]));
     Ok(())
 }
