@@ -100,12 +100,13 @@ fn is_idle(rt: &impl Abort, held: &mut Slot, settings: &Settings) -> Result<(), 
     Ok(())
 }
 
-/// Sees that a slot which is busy refuses what would begin with a satellite, shows this state, and
-/// stops.
+/// Sees that an idle slot takes a command, then refuses what would begin with a satellite, shows
+/// this state, and stops.
 fn is_busy(
     rt: &impl Abort,
     held: &mut Slot,
     settings: &Settings,
+    begin: Command,
     prn: u8,
     shown: SlotState,
 ) -> Result<(), Fail> {
@@ -114,6 +115,7 @@ fn is_busy(
     let stop = Command::Stop { slot };
     let state = Command::State { slot };
     let rows = [
+        (begin, Answer::Accepted),
         (hold(prn, 0)?, BUSY),
         (track(prn, 0)?, BUSY),
         (acquire(prn, 10)?, BUSY),
@@ -125,51 +127,50 @@ fn is_busy(
     is_idle(rt, held, settings)
 }
 
-#[test]
-fn idle_and_busy_slots_answer(rt: HostRuntime) -> Result<(), Fail> {
-    let settings = plain_settings()?;
-    let mut slot = Slot::new();
-    is_idle(&rt, &mut slot, &settings)?;
-    answers(
-        &rt,
-        &mut slot,
-        &settings,
-        &[(hold(1, 0)?, Answer::Accepted)],
-    );
-    let prn = Prn::new(1).ok_or("a satellite")?;
-    is_busy(
-        &rt,
-        &mut slot,
-        &settings,
-        2,
-        SlotState::Hold { prn, dumps: 0 },
-    )?;
-    answers(
-        &rt,
-        &mut slot,
-        &settings,
-        &[(track(3, -1_000)?, Answer::Accepted)],
-    );
-    let state = SlotState::Track {
+/// The state of a slot that tracks satellite 3 from -1,000 Hz, before its first dump.
+fn tracks_three() -> Result<SlotState, Fail> {
+    Ok(SlotState::Track {
         prn: Prn::new(3).ok_or("a satellite")?,
         dumps: 0,
         v: -65_536_000,
         w: 0,
         phase: Phase::Unlocked,
-    };
-    is_busy(&rt, &mut slot, &settings, 1, state)?;
-    answers(
-        &rt,
-        &mut slot,
-        &settings,
-        &[(acquire(4, 10)?, Answer::Accepted)],
-    );
-    let state = SlotState::Acquire {
+    })
+}
+
+/// The state of a slot that searches for satellite 4 over one bin, before its first cell.
+fn acquires_four() -> Result<SlotState, Fail> {
+    Ok(SlotState::Acquire {
         prn: Prn::new(4).ok_or("a satellite")?,
         done: 0,
         cells: 2_046,
-    };
-    is_busy(&rt, &mut slot, &settings, 4, state)
+    })
+}
+
+#[test]
+fn idle_and_busy_slots_answer(rt: HostRuntime) -> Result<(), Fail> {
+    let settings = plain_settings()?;
+    let mut slot = Slot::new();
+    is_idle(&rt, &mut slot, &settings)?;
+    let prn = Prn::new(1).ok_or("a satellite")?;
+    let state = SlotState::Hold { prn, dumps: 0 };
+    is_busy(&rt, &mut slot, &settings, hold(1, 0)?, 2, state)?;
+    is_busy(
+        &rt,
+        &mut slot,
+        &settings,
+        track(3, -1_000)?,
+        1,
+        tracks_three()?,
+    )?;
+    is_busy(
+        &rt,
+        &mut slot,
+        &settings,
+        acquire(4, 10)?,
+        4,
+        acquires_four()?,
+    )
 }
 
 /// Sums in the order of a line of counts.
@@ -184,17 +185,23 @@ fn sums([ie, qe, ip, qp, il, ql]: [i32; 6]) -> Counts {
     }
 }
 
+/// The first slot is to show one dump.
+fn one_count() -> Result<Command, Fail>
+    ensures { IfOk result (λ command. slot_of command ≡ 0) }
+{
+    Ok(Command::Counts {
+        slot: slot_zero()?,
+        n: 1,
+    })
+}
+
 /// A slot that began to hold before the first sample, with counts asked for.
 fn held(settings: &Settings, prn: u8, doppler: i32) -> Result<Slot, Fail>
     ensures { IfOk result (λ slot. (reach : ℕ) × IsSound 0 0 reach slot) }
 {
     let mut slot = Slot::new();
     slot.command(settings, 0, hold(prn, doppler)?);
-    let counts = Command::Counts {
-        slot: slot_zero()?,
-        n: 1,
-    };
-    slot.command(settings, 0, counts);
+    slot.command(settings, 0, one_count()?);
     Ok(slot)
 }
 

@@ -1,22 +1,31 @@
 //! The slots of several clients over one stream.
 
-use super::{hold, plain_settings, slot_zero, sums};
-use channel_slots::{Bank, Command, Event, OpenFault, SlotEvent};
+ghost use Rattle.std.specs.Prelude.{◌≡◌, IfOk};
+ghost use Rattle.channel_slots.specs.BankStates.{settings_of, time_of};
+ghost use Rattle.definitions.specs.Samples.{real1};
+
+use super::{hold, one_count, plain_settings, sums};
+use channel_slots::{Bank, Event, OpenFault, SlotEvent};
 use sample_planes::{Format, PackedSamples};
 use std::alloc::{Alloc, Global};
 use std::process::Abort;
 use std::test::Fail;
 
+/// A bank of which one slot is to hold satellite 1, and to show its first dump.
+fn bank_that_holds(alloc: Global) -> Result<Bank, Fail>
+    ensures packing { IfOk result (λ bank. (settings_of bank).packing ≡ real1) }
+    ensures time { IfOk result (λ bank. time_of bank ≡ 0) }
+{
+    let mut bank = Bank::open(alloc, plain_settings()?, &[4])?;
+    bank.command(1, hold(1, 0)?);
+    bank.command(1, one_count()?);
+    Ok(bank)
+}
+
 // Samples from the ninth of two bytes on are those of the second byte.
 #[test]
 fn a_feed_begins_anywhere(rt: HostRuntime) -> Result<(), Fail> {
-    let mut bank = Bank::open(rt.alloc(), plain_settings()?, &[4])?;
-    let counts = Command::Counts {
-        slot: slot_zero()?,
-        n: 1,
-    };
-    bank.command(1, hold(1, 0)?);
-    bank.command(1, counts);
+    let mut bank = bank_that_holds(rt.alloc())?;
     let events = bank.feed(&PackedSamples::new(Format::Real1, &[255, 127]).part(8, 1));
     let told = [SlotEvent {
         client: 1,

@@ -148,8 +148,9 @@ type Done = (u8, u8, Option<u64>);
 /// Sees how many cells the searches of these slots have done.
 fn have_done(rt: &impl Abort, bank: &Bank, rows: &[Done]) -> Result<(), Fail> {
     for &(client, slot, cells) in rows {
-        let slot = SlotNo::new(slot).ok_or("a slot")?;
-        assert_eq!(rt; bank.cells_done(client, slot), cells);
+        let place = SlotNo::new(slot).ok_or("a slot")?;
+        let done = bank.cells_done(client, place);
+        assert_eq!(rt; (client, slot, done), (client, slot, cells));
     }
     Ok(())
 }
@@ -219,6 +220,22 @@ fn hear_from(
     hear(rt, &mut bank, recording, piece, 10_240, &[named])
 }
 
+/// Sees that it does so where the recording begins at this sample of a byte.
+fn hear_from_place(
+    rt: &(impl Abort + Alloc<A = Global>),
+    bytes: &[u8; 1_536],
+    first: usize,
+    piece: usize,
+) -> Result<(), Fail>
+    requires place { first < 8 }
+    requires some { 0 < piece }
+    requires short { piece ≤ MAX_SAMPLES }
+{
+    let moved = behind(bytes, first);
+    let recording = PackedSamples::new(Format::Real1, &moved).part(first, 10_240);
+    hear_from(rt, &recording, piece)
+}
+
 /// Sees that it does so wherever in a byte the recording begins.
 fn hear_from_each_place(rt: &(impl Abort + Alloc<A = Global>), piece: usize) -> Result<(), Fail>
     requires some { 0 < piece }
@@ -226,9 +243,7 @@ fn hear_from_each_place(rt: &(impl Abort + Alloc<A = Global>), piece: usize) -> 
 {
     let bytes = long_code_file();
     for first in 0..8 {
-        let moved = behind(&bytes, first);
-        let recording = PackedSamples::new(Format::Real1, &moved).part(first, 10_240);
-        hear_from(rt, &recording, piece)?;
+        hear_from_place(rt, &bytes, first, piece)?;
     }
     Ok(())
 }
