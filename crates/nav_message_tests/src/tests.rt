@@ -4,6 +4,7 @@
 use data_sets::{Report, Reports};
 use frame_sync::Found;
 use nav_message::MessageNews;
+use std::process::Abort;
 
 mod almanacs;
 mod damage;
@@ -26,13 +27,7 @@ const DATA: [u32; 5] = [0x8b_0000, 0x84, 0x8a, 0x8f, 0x94];
 fn edge_of_alternating_bits(rt: HostRuntime) {
     let mut pushed = Pushed::new();
     for k in 0..1000u32 {
-        assert_eq!(rt; pushed.has_edge(), k > 320, "push {k}");
-        let expected = if k == 320 {
-            MessageNews::Edge
-        } else {
-            MessageNews::Nothing
-        };
-        assert_eq!(rt; pushed.push(&rt, k / 20 % 2 == 1), expected, "push {k}");
+        pushed.push_alternating(&rt, k);
     }
 }
 
@@ -40,87 +35,52 @@ fn edge_of_alternating_bits(rt: HostRuntime) {
 // Neither makes a report: subframe 1 waits for the two others of its set.
 #[test]
 fn gap_between_subframes(rt: HostRuntime) {
-    let mut pushed = Pushed::with_edge(&rt);
-    assert_eq!(rt; pushed.push_bit(&rt, false), MessageNews::Nothing);
-    let sent = zeros_behind(HANDOVERS[0]);
-    let subframe = subframe(&rt, zero_data(DATA[1]));
-    let first = told(
-        Found {
-            subframe,
-            gap: None,
-        },
-        None,
-    );
-    assert_eq!(rt; pushed.push_words(&rt, &sent), first);
-    for _ in 0..5 {
-        assert_eq!(rt; pushed.push_bit(&rt, false), MessageNews::Nothing);
-    }
-    let second = told(
-        Found {
-            subframe,
-            gap: Some(5),
-        },
-        None,
-    );
-    assert_eq!(rt; pushed.push_words(&rt, &sent), second);
+    let mut pushed = Pushed::behind_two_zeros(&rt);
+    assert_zeros(&rt, &mut pushed, (HANDOVERS[0], DATA[1]), None, None);
+    pushed.push_zeros(&rt, 5);
+    assert_zeros(&rt, &mut pushed, (HANDOVERS[0], DATA[1]), Some(5), None);
 }
 
 // Subframes 1, 2 and 3 of zeros, one after the other, are of one issue. The third makes their set
 // reported. The same three again make no set.
 #[test]
 fn set_with_the_third_subframe(rt: HostRuntime) {
-    let mut pushed = Pushed::with_edge(&rt);
-    assert_eq!(rt; pushed.push_bit(&rt, false), MessageNews::Nothing);
-    let set = Some(Report::Eph([0; 31]));
-    for report in [set, None] {
-        for (k, expected) in [None, None, report].iter().enumerate() {
-            let subframe = subframe(&rt, zero_data(DATA[k + 1]));
-            let expected = told(
-                Found {
-                    subframe,
-                    gap: None,
-                },
-                *expected,
-            );
-            let sent = zeros_behind(HANDOVERS[k]);
-            assert_eq!(rt; pushed.push_words(&rt, &sent), expected, "{k}");
+    let mut pushed = Pushed::behind_two_zeros(&rt);
+    for set in [Some(Report::Eph([0; 31])), None] {
+        for (k, page) in [None, None, set].iter().enumerate() {
+            assert_zeros(&rt, &mut pushed, (HANDOVERS[k], DATA[k + 1]), None, *page);
         }
     }
 }
 
-// A subframe 5 with the almanac of satellite 5 for time of applicability 7. With its parity, each
-// second word from word 5 on is sent inverted. Each time it comes it is reported.
+/// The words of a subframe 5, as they are sent. With its parity, each second word from word 5 on is
+/// sent inverted.
+static ALMANAC: [u32; 10] = [
+    TELEMETRY,
+    HANDOVERS[3],
+    0x1140_000e,
+    0x01c0_0009,
+    0x3fff_ffd6,
+    0x29,
+    0x3fff_ffd6,
+    0x29,
+    0x3fff_ffd6,
+    0x8c,
+];
+
+// A subframe 5 with the almanac of satellite 5 for time of applicability 7. Each time it comes it
+// is reported.
 #[test]
 fn almanac_page(rt: HostRuntime) {
-    let mut pushed = Pushed::with_edge(&rt);
-    assert_eq!(rt; pushed.push_bit(&rt, false), MessageNews::Nothing);
-    let sent = [
-        TELEMETRY,
-        HANDOVERS[3],
-        0x1140_000e,
-        0x01c0_0009,
-        0x3fff_ffd6,
-        0x29,
-        0x3fff_ffd6,
-        0x29,
-        0x3fff_ffd6,
-        0x8c,
-    ];
+    let mut pushed = Pushed::behind_two_zeros(&rt);
     let mut words = zero_data(DATA[4]);
     words[2] = Some(0x45_0000);
     words[3] = Some(0x07_0000);
     words[9] = Some(2);
-    let report = Some(Report::Alm([1, 5, 0, 7, 0, 0, 0, 0, 0, 0, 0, 0, 0]));
-    let subframe = subframe(&rt, words);
+    let report = Report::Alm([1, 5, 0, 7, 0, 0, 0, 0, 0, 0, 0, 0, 0]);
+    let expected = told(&rt, words, None, Some(report));
     for _ in 0..2 {
-        let expected = told(
-            Found {
-                subframe,
-                gap: None,
-            },
-            report,
-        );
-        assert_eq!(rt; pushed.push_words(&rt, &sent), expected);
+        pushed.assert_words(&rt, &ALMANAC, &expected);
     }
 }
 
@@ -128,29 +88,29 @@ fn almanac_page(rt: HostRuntime) {
 // of three waits for the whole subframe 3.
 #[test]
 fn damaged_word(rt: HostRuntime) {
-    let mut pushed = Pushed::with_edge(&rt);
-    assert_eq!(rt; pushed.push_bit(&rt, false), MessageNews::Nothing);
+    let mut pushed = Pushed::behind_two_zeros(&rt);
     let _ = pushed.push_words(&rt, &zeros_behind(HANDOVERS[0]));
     let _ = pushed.push_words(&rt, &zeros_behind(HANDOVERS[1]));
     let mut sent = zeros_behind(HANDOVERS[2]);
     sent[6] = 1 << 20;
     let mut words = zero_data(DATA[3]);
     words[6] = None;
-    let subframe = subframe(&rt, words);
-    let damaged = told(
-        Found {
-            subframe,
-            gap: None,
-        },
-        None,
-    );
-    assert_eq!(rt; pushed.push_words(&rt, &sent), damaged);
-    let news = pushed.push_words(&rt, &zeros_behind(HANDOVERS[2]));
-    let MessageNews::Frame { reports, .. } = news else {
-        panic!(&rt; "no subframe");
-    };
-    assert_eq!(rt; reports.page, Some(Report::Eph([0; 31])));
-    assert_eq!(rt; reports.set, None);
+    pushed.assert_words(&rt, &sent, &told(&rt, words, None, None));
+    let set = Some(Report::Eph([0; 31]));
+    assert_zeros(&rt, &mut pushed, (HANDOVERS[2], DATA[3]), None, set);
+}
+
+/// Pushes a subframe of zeros behind a handover word, of which the data are given too, and asserts
+/// the gap and the page that it makes reported.
+fn assert_zeros(
+    rt: &impl Abort,
+    pushed: &mut Pushed,
+    (handover, data): (u32, u32),
+    gap: Option<u64>,
+    page: Option<Report>,
+) {
+    let expected = told(rt, zero_data(data), gap, page);
+    pushed.assert_words(rt, &zeros_behind(handover), &expected);
 }
 
 /// The telemetry word, this handover word and eight words of zeros, as they are sent.
@@ -166,8 +126,18 @@ fn zero_data(handover: u32) -> [Option<u32>; 10] {
     words
 }
 
-/// What is reported with a subframe whose page makes this reported, and no set of almanacs.
-fn told(found: Found, page: Option<Report>) -> MessageNews {
+/// What is reported with a subframe of these words and its gap, whose page makes this reported, and
+/// no set of almanacs.
+fn told(
+    rt: &impl Abort,
+    words: [Option<u32>; 10],
+    gap: Option<u64>,
+    page: Option<Report>,
+) -> MessageNews {
+    let found = Found {
+        subframe: subframe(rt, words),
+        gap,
+    };
     MessageNews::Frame {
         found,
         reports: Reports { page, set: None },

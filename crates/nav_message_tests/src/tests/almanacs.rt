@@ -50,20 +50,26 @@ fn behind(source: u32, before: u32) -> u32 {
     encode(source & 0xff_ffff, (before % 4) as u8)
 }
 
-/// What an almanac's subframe makes reported.
-fn reports(rt: &impl Abort, pushed: &mut Pushed, almanac: Almanac) -> Reports {
-    match pushed.push_words(rt, &almanac.words()) {
+/// Pushes an almanac's subframe, and asserts that it is reported, with this set.
+fn assert_reports(rt: &impl Abort, pushed: &mut Pushed, almanac: Almanac, set: Option<AlmanacSet>) {
+    let told = match pushed.push_words(rt, &almanac.words()) {
         MessageNews::Frame { reports, .. } => reports,
         _ => panic!(rt; "no subframe"),
-    }
+    };
+    let page = Some(almanac.report());
+    assert_eq!(rt;
+        told,
+        Reports { page, set },
+        "satellite {}",
+        almanac.satellite
+    );
 }
 
 // The set comes with the last of the 32, where all are for one time, and again where a value of it
 // has changed. Each almanac is reported, too.
 #[test]
 fn almanac_set(rt: HostRuntime) {
-    let mut pushed = Pushed::with_edge(&rt);
-    assert_eq!(rt; pushed.push_bit(&rt, false), MessageNews::Nothing);
+    let mut pushed = Pushed::behind_two_zeros(&rt);
     let first = AlmanacSet {
         toa: 5,
         health: [0; 32],
@@ -74,12 +80,8 @@ fn almanac_set(rt: HostRuntime) {
             toa: 5,
             health: 0,
         };
-        let expected = Reports {
-            page: Some(almanac.report()),
-            set: if satellite == 32 { Some(first) } else { None },
-        };
-        let told = reports(&rt, &mut pushed, almanac);
-        assert_eq!(rt; told, expected, "satellite {satellite}");
+        let set = if satellite == 32 { Some(first) } else { None };
+        assert_reports(&rt, &mut pushed, almanac, set);
     }
     let mut second = first;
     second.health[2] = 1;
@@ -89,14 +91,6 @@ fn almanac_set(rt: HostRuntime) {
             toa,
             health,
         };
-        let expected = Reports {
-            page: Some(almanac.report()),
-            set,
-        };
-        assert_eq!(rt;
-            reports(&rt, &mut pushed, almanac),
-            expected,
-            "{toa} {health}"
-        );
+        assert_reports(&rt, &mut pushed, almanac, set);
     }
 }

@@ -24,35 +24,41 @@ impl Pushed {
         }
     }
 
-    /// A message whose edge is found, and whose bit 0 is 0. Its sums were 20 times +1, 20 times -1
-    /// and so on up to push 320, the sixteenth change, and then 20 times +1.
-    pub fn with_edge(rt: &impl Abort) -> Pushed {
+    /// A message whose edge is found, and to which two bits 0 were pushed. Its sums were 20 times
+    /// +1, 20 times -1 and so on up to push 320, the sixteenth change, and then 40 times +1.
+    pub fn behind_two_zeros(rt: &impl Abort) -> Pushed {
         let mut pushed = Pushed::new();
         for k in 0..340u32 {
-            let news = pushed.push(rt, k / 20 % 2 == 1);
-            assert_eq!(rt; news == MessageNews::Edge, k == 320, "push {k}");
+            pushed.push_alternating(rt, k);
         }
+        pushed.push_zeros(rt, 1);
         pushed
     }
 
-    /// Whether the edge is found.
-    pub fn has_edge(&self) -> bool {
-        self.message.has_edge()
+    /// Pushes sum k of 20 times +1, 20 times -1 and so on, to a message that has those before it.
+    /// Push 320 reports the edge, and no other reports anything.
+    pub fn push_alternating(&mut self, rt: &impl Abort, k: u32) {
+        let has_edge = self.message.has_edge();
+        let news = self.push(rt, k / 20 % 2 == 1);
+        let expected = if k == 320 {
+            MessageNews::Edge
+        } else {
+            MessageNews::Nothing
+        };
+        assert_eq!(rt; (has_edge, news), (k > 320, expected), "push {k}");
     }
 
-    /// Pushes +1, or -1.
-    pub fn push(&mut self, rt: &impl Abort, is_negative: bool) -> MessageNews {
-        assert!(rt; self.pushes < MOST_BITS);
-        self.pushes += 1;
-        self.message.push(if is_negative { -1 } else { 1 })
-    }
-
-    /// Pushes the 20 sums of a bit, of which only the last may make something reported.
-    pub fn push_bit(&mut self, rt: &impl Abort, bit: bool) -> MessageNews {
-        for _ in 0..19 {
-            assert_eq!(rt; self.push(rt, bit), MessageNews::Nothing);
+    /// Pushes bits 0, which report nothing.
+    pub fn push_zeros(&mut self, rt: &impl Abort, count: u32) {
+        for k in 0..count {
+            assert_eq!(rt; self.push_bit(rt, false), MessageNews::Nothing, "bit {k}");
         }
-        self.push(rt, bit)
+    }
+
+    /// Pushes words, and asserts what the last of their bits makes reported.
+    pub fn assert_words(&mut self, rt: &impl Abort, words: &[u32; 10], expected: &MessageNews) {
+        let news = self.push_words(rt, words);
+        assert_eq!(rt; news, *expected, "after {} sums", self.pushes);
     }
 
     /// Pushes the bits of words of 30, the highest first. Only the last of them may make something
@@ -64,6 +70,21 @@ impl Pushed {
             last = self.push_bit(rt, words[k / 30] >> (29 - k % 30) & 1 == 1);
         }
         last
+    }
+
+    /// Pushes the 20 sums of a bit, of which only the last may make something reported.
+    fn push_bit(&mut self, rt: &impl Abort, bit: bool) -> MessageNews {
+        for _ in 0..19 {
+            assert_eq!(rt; self.push(rt, bit), MessageNews::Nothing);
+        }
+        self.push(rt, bit)
+    }
+
+    /// Pushes +1, or -1.
+    fn push(&mut self, rt: &impl Abort, is_negative: bool) -> MessageNews {
+        assert!(rt; self.pushes < MOST_BITS);
+        self.pushes += 1;
+        self.message.push(if is_negative { -1 } else { 1 })
     }
 }
 
