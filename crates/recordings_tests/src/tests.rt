@@ -8,6 +8,7 @@ mod measures;
 use recordings::{Choice, Kind, MOST_PIECE, Packer, Recipe};
 use sample_planes::Format;
 use std::alloc::{AllocError, Global};
+use std::process::Abort;
 use std::test::Fail;
 
 /// Every kind.
@@ -141,6 +142,25 @@ fn in_pieces(alloc: Global, recipe: Recipe, bytes: &[u8], size: usize) -> Result
     Ok(all)
 }
 
+/// Asserts that a recording packed in pieces of a size is as it is packed value by value, where a
+/// choice can be had.
+fn assert_packed_plainly(
+    rt: &impl Abort,
+    alloc: Global,
+    choice: &Choice,
+    bytes: &[u8],
+    size: usize,
+) -> Result<(), Fail>
+    requires { size ≤ 65536 }
+{
+    if let Ok(recipe) = choice.recipe() {
+        let written = in_pieces(alloc, recipe, bytes, size)?;
+        let wanted = plainly(alloc, choice, bytes)?;
+        assert_eq!(rt; written.as_slice(), wanted.as_slice());
+    }
+    Ok(())
+}
+
 // A hundred thousand values of each kind of bytes, and more of those of bits.
 #[test]
 fn every_kind_and_cut(rt: HostRuntime) -> Result<(), Fail> {
@@ -149,11 +169,7 @@ fn every_kind_and_cut(rt: HostRuntime) -> Result<(), Fail> {
         for format in &FORMATS {
             for is_paired in [false, true] {
                 let choice = choice(*kind, is_paired, *format);
-                if let Ok(recipe) = choice.recipe() {
-                    let whole = in_pieces(rt.alloc(), recipe, &bytes, MOST_PIECE)?;
-                    let wanted = plainly(rt.alloc(), &choice, &bytes)?;
-                    assert_eq!(rt; whole.as_slice(), wanted.as_slice());
-                }
+                assert_packed_plainly(&rt, rt.alloc(), &choice, &bytes, MOST_PIECE)?;
             }
         }
     }
@@ -165,12 +181,8 @@ fn pieces_of_every_size(rt: HostRuntime) -> Result<(), Fail> {
     let bytes = noise(rt.alloc(), 3001)?;
     for kind in &KINDS {
         let choice = choice(*kind, true, Format::Iq1);
-        if let Ok(recipe) = choice.recipe() {
-            let wanted = plainly(rt.alloc(), &choice, &bytes)?;
-            for size in [1, 7, 64, 1000, MOST_PIECE] {
-                let written = in_pieces(rt.alloc(), recipe, &bytes, size)?;
-                assert_eq!(rt; written.as_slice(), wanted.as_slice());
-            }
+        for size in [1, 7, 64, 1000, MOST_PIECE] {
+            assert_packed_plainly(&rt, rt.alloc(), &choice, &bytes, size)?;
         }
     }
     Ok(())

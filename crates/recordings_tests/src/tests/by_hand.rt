@@ -4,14 +4,23 @@ use crate::tests::{choice, in_pieces};
 use recordings::{Choice, ChoiceFault, Kind, PackFault, Packer, Window};
 use sample_planes::Format;
 use std::alloc::Global;
+use std::process::Abort;
 use std::test::Fail;
 
-/// What is written of a recording as a choice asks.
-fn byte_of(alloc: Global, choice: &Choice, bytes: &[u8]) -> Result<Vec<u8>, Fail> {
-    match choice.recipe() {
-        Ok(recipe) => in_pieces(alloc, recipe, bytes, 64),
-        Err(_) => Ok(Vec::new(alloc)),
-    }
+/// Asserts what is written of a recording as a choice asks.
+fn assert_packed(
+    rt: &impl Abort,
+    alloc: Global,
+    choice: &Choice,
+    bytes: &[u8],
+    expected: &[u8],
+) -> Result<(), Fail> {
+    let written = match choice.recipe() {
+        Ok(recipe) => in_pieces(alloc, recipe, bytes, 64)?,
+        Err(_) => Vec::new(alloc),
+    };
+    assert_eq!(rt; written.as_slice(), expected);
+    Ok(())
 }
 
 // Signs and sizes were worked out by hand: 11 is below the centre and far from it, 10 below and
@@ -20,31 +29,16 @@ fn byte_of(alloc: Global, choice: &Choice, bytes: &[u8]) -> Result<Vec<u8>, Fail
 fn ends_of_ranges(rt: HostRuntime) -> Result<(), Fail> {
     let unsigned = choice(Kind::U8, false, Format::Real2);
     let near = [85, 84, 170, 171];
-    assert_eq!(rt;
-        byte_of(rt.alloc(), &unsigned, &[0, 127, 128, 255])?.as_slice(),
-        [0xe1].as_slice()
-    );
-    assert_eq!(rt;
-        byte_of(rt.alloc(), &unsigned, &near)?.as_slice(),
-        [0xb1].as_slice()
-    );
+    assert_packed(&rt, rt.alloc(), &unsigned, &[0, 127, 128, 255], &[0xe1])?;
+    assert_packed(&rt, rt.alloc(), &unsigned, &near, &[0xb1])?;
     let signed = choice(Kind::I8, false, Format::Real2);
-    assert_eq!(rt;
-        byte_of(rt.alloc(), &signed, &[0x80, 0xfb, 0xfc, 0x7f])?.as_slice(),
-        [0xe1].as_slice()
-    );
+    assert_packed(&rt, rt.alloc(), &signed, &[0x80, 0xfb, 0xfc, 0x7f], &[0xe1])?;
     let wide = choice(Kind::I16, false, Format::Real2);
     let ends = [0x00, 0x80, 0xf3, 0x01, 0xf4, 0x01, 0xff, 0x7f];
-    assert_eq!(rt;
-        byte_of(rt.alloc(), &wide, &ends)?.as_slice(),
-        [0xe1].as_slice()
-    );
+    assert_packed(&rt, rt.alloc(), &wide, &ends, &[0xe1])?;
     let turned = choice(Kind::I16Be, false, Format::Real2);
     let ends = [0x80, 0x00, 0x01, 0xf3, 0x01, 0xf4, 0x7f, 0xff];
-    assert_eq!(rt;
-        byte_of(rt.alloc(), &turned, &ends)?.as_slice(),
-        [0xe1].as_slice()
-    );
+    assert_packed(&rt, rt.alloc(), &turned, &ends, &[0xe1])?;
     Ok(())
 }
 
@@ -54,63 +48,55 @@ fn parts_by_options(rt: HostRuntime) -> Result<(), Fail> {
     let pairs = [1, 0xfe, 0xfd, 4, 1, 0xfe, 0xfd, 4];
     let mut asked = choice(Kind::I8, true, Format::Iq1);
     (asked.centre, asked.centre_q) = (0, 0);
-    assert_eq!(rt;
-        byte_of(rt.alloc(), &asked, &pairs)?.as_slice(),
-        [0x66].as_slice()
-    );
+    assert_packed(&rt, rt.alloc(), &asked, &pairs, &[0x66])?;
     asked.is_conjugate = true;
-    assert_eq!(rt;
-        byte_of(rt.alloc(), &asked, &pairs)?.as_slice(),
-        [0x33].as_slice()
-    );
+    assert_packed(&rt, rt.alloc(), &asked, &pairs, &[0x33])?;
     asked.is_swapped = true;
-    assert_eq!(rt;
-        byte_of(rt.alloc(), &asked, &pairs)?.as_slice(),
-        [0xcc].as_slice()
-    );
+    assert_packed(&rt, rt.alloc(), &asked, &pairs, &[0xcc])?;
     asked.is_conjugate = false;
     asked.centre = 9;
-    assert_eq!(rt;
-        byte_of(rt.alloc(), &asked, &pairs)?.as_slice(),
-        [0xbb].as_slice()
-    );
+    assert_packed(&rt, rt.alloc(), &asked, &pairs, &[0xbb])?;
     let mut part = choice(Kind::I8, true, Format::Real2);
     (part.centre, part.centre_q, part.threshold) = (0, 0, 4);
-    assert_eq!(rt;
-        byte_of(rt.alloc(), &part, &pairs)?.as_slice(),
-        [0x33].as_slice()
-    );
+    assert_packed(&rt, rt.alloc(), &part, &pairs, &[0x33])?;
     part.takes_quadrature = true;
-    assert_eq!(rt;
-        byte_of(rt.alloc(), &part, &pairs)?.as_slice(),
-        [0x99].as_slice()
-    );
+    assert_packed(&rt, rt.alloc(), &part, &pairs, &[0x99])?;
     Ok(())
+}
+
+/// Asserts why a choice can't be had.
+fn assert_fault(rt: &impl Abort, choice: &Choice, expected: ChoiceFault) {
+    assert_eq!(rt; choice.recipe().err(), Some(expected));
 }
 
 #[test]
 fn what_cannot_be_had(rt: HostRuntime) {
     let real = choice(Kind::I8, false, Format::Iq1);
-    assert_eq!(rt; real.recipe().err(), Some(ChoiceFault::Pairs));
+    assert_fault(&rt, &real, ChoiceFault::Pairs);
     let mut turned = choice(Kind::I8, false, Format::Real1);
     turned.is_conjugate = true;
-    assert_eq!(rt; turned.recipe().err(), Some(ChoiceFault::Pairs));
+    assert_fault(&rt, &turned, ChoiceFault::Pairs);
     let signs = choice(Kind::Bits1Low, true, Format::Iq2);
-    assert_eq!(rt; signs.recipe().err(), Some(ChoiceFault::Sizes));
+    assert_fault(&rt, &signs, ChoiceFault::Sizes);
     let mut both = choice(Kind::I8, true, Format::Iq1);
     both.takes_quadrature = true;
-    assert_eq!(rt; both.recipe().err(), Some(ChoiceFault::Part));
+    assert_fault(&rt, &both, ChoiceFault::Part);
 }
 
 #[test]
 fn a_stretch_of_pieces(rt: HostRuntime) {
     let mut window = Window::new(3, 4);
-    assert_eq!(rt; window.part(&[0, 1]), [].as_slice());
-    assert_eq!(rt; window.part(&[2, 3, 4]), [3, 4].as_slice());
+    assert_part(&rt, &mut window, &[0, 1], &[]);
+    assert_part(&rt, &mut window, &[2, 3, 4], &[3, 4]);
     assert!(rt; !window.is_over());
-    assert_eq!(rt; window.part(&[5, 6, 7]), [5, 6].as_slice());
+    assert_part(&rt, &mut window, &[5, 6, 7], &[5, 6]);
     assert!(rt; window.is_over());
-    assert_eq!(rt; window.part(&[8]), [].as_slice());
+    assert_part(&rt, &mut window, &[8], &[]);
+}
+
+/// Asserts what a window takes of a piece.
+fn assert_part(rt: &impl Abort, window: &mut Window, piece: &[u8], expected: &[u8]) {
+    assert_eq!(rt; window.part(piece), expected);
 }
 
 #[test]
@@ -147,10 +133,7 @@ fn floats(rt: HostRuntime) -> Result<(), Fail> {
     }
     let mut asked = choice(Kind::F32, false, Format::Real2);
     asked.threshold = 0x3f00_0000;
-    assert_eq!(rt;
-        byte_of(rt.alloc(), &asked, &bytes)?.as_slice(),
-        [0xe1, 0x0e].as_slice()
-    );
+    assert_packed(&rt, rt.alloc(), &asked, &bytes, &[0xe1, 0x0e])?;
     Ok(())
 }
 
