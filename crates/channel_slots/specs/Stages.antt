@@ -48,6 +48,14 @@ rests_until (Searching s) = 0
 rests_until (Holding h) = held.rests_until h
 rests_until (Tracking t) = tracked.rests_until t
 
+-- whether it emits nothing with the samples up to so many of the recording: one that is idle emits
+-- nothing, and of one that searches it isn't known here
+abbrev pub is_quiet_until : Stage → ℕ → Bool
+is_quiet_until Idle time = true
+is_quiet_until (Searching s) time = false
+is_quiet_until (Holding h) time = nat_lt time (held.next_dump h)
+is_quiet_until (Tracking t) time = nat_lt time (tracked.next_dump t)
+
 -- how many events may come in a run of samples after so many: those of a dump, and the answer of an
 -- acquisition before it
 abbrev pub chance : ℕ → Stage → ℕ

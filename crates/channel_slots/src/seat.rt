@@ -142,12 +142,42 @@ impl Seat {
         ensures { SeatGoes run.now time (S.from source.now) (S.held source.now) self.old self.new
             events.old.items events.new.items }
     {
-        let len = run.len();
-        if time + len as u64 <= self.slot.rests_until() {
+        let end = time + run.len() as u64;
+        if end <= self.slot.rests_until() {
             return;
         }
+        if self.slot.is_quiet_until(end) {
+            self.slot.pass(run, 0, source, book);
+            return;
+        }
+        self.run_with_events(run, source, book, time, events);
+    }
+
+    /// Does what `run` does, where something may be emitted. It stays a call, since it makes room
+    /// for all that can come with a sample.
+    #[inline(never)]
+    fn run_with_events<S: SampleSource>(
+        &mut self,
+        run: &Planes,
+        source: &S,
+        book: &mut CodeBook,
+        time: u64,
+        events: &mut ArrayVec<SlotEvent, RUN_EVENTS>,
+    )
+        requires room { time + length run.now ≤ MOST_TIME }
+        requires sound { (reach : ℕ) × IsSound (S.from source.now) time reach self.old.slot }
+        requires to { time + length run.now ≡ S.to source.now }
+        requires fits { array_vec_len events.old + 2 * SLOT_EVENTS ≤ RUN_EVENTS }
+        ensures { SeatGoes run.now time (S.from source.now) (S.held source.now) self.old self.new
+            events.old.items events.new.items }
+    {
+        let len = run.len();
         let mut done = 0;
         while done < len {
+            if self.slot.is_quiet_until(time + len as u64) {
+                self.slot.pass(run, done, source, book);
+                return;
+            }
             let (count, news) = self.slot.take(run, done, source, book);
             done += count;
             if let Some(news) = news {

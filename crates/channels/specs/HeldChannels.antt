@@ -27,6 +27,10 @@ taken_of h = segments.taken_of h.follower
 abbrev pub rests_until : Held → ℕ
 rests_until h = segments.rests_until h.follower
 
+-- with how many samples of the recording the next dump comes
+abbrev pub next_dump : Held → ℕ
+next_dump h = segments.ends_of h.follower
+
 -- how many dumps may come in a run of samples after so many
 abbrev pub chance : ℕ → Held → ℕ
 chance time h = segments.chance time h.follower

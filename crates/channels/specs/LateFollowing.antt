@@ -1,5 +1,5 @@
 -- What a lazy follower stands for: a channel over the samples so far, some of which may wait.
-use Rattle.std.specs.Prelude.{◌≡◌, ◌≤◌, ℕ, List, ◌++◌, length, nat_eq, if◌then◌else◌}
+use Rattle.std.specs.Prelude.{◌≡◌, ◌≤◌, ◌+◌, ℕ, List, ◌++◌, length, nat_eq, if◌then◌else◌}
 use Rattle.definitions.specs.Samples.{Sample}
 use Rattle.definitions.specs.Oscillators.{Settings}
 use Rattle.definitions.specs.Segments.{Channel}
@@ -18,6 +18,10 @@ taken_of l = l.taken
 -- up to how many samples may come while it takes none
 abbrev pub rests_until : LazyFollower → ℕ
 rests_until l = l.rests_until
+
+-- with how many samples of the recording its segment ends
+abbrev pub ends_of : LazyFollower → ℕ
+ends_of l = l.taken + segments.to_end_of l.follower
 
 -- which satellite it is
 abbrev pub prn_of : LazyFollower → ℕ

@@ -30,6 +30,10 @@ taken_of t = segments.taken_of t.follower
 abbrev pub rests_until : Tracked → ℕ
 rests_until t = segments.rests_until t.follower
 
+-- with how many samples of the recording the next dump comes
+abbrev pub next_dump : Tracked → ℕ
+next_dump t = segments.ends_of t.follower
+
 -- how many dumps may come in a run of samples after so many
 abbrev pub chance : ℕ → Tracked → ℕ
 chance time t = segments.chance time t.follower

@@ -33,7 +33,7 @@ pub struct LazyFollower {
 }
 
 impl LazyFollower {
-    ghost use Rattle.std.specs.Prelude.{ℕ, List, ◌++◌, length, IfSome, unsigned_abs};
+    ghost use Rattle.std.specs.Prelude.{ℕ, List, ◌++◌, length, IfSome, IsNone, unsigned_abs, nat_lt};
     ghost use Rattle.definitions.specs.Samples.{Sample};
     ghost use Rattle.definitions.specs.Oscillators.{Settings as DefinedSettings};
     ghost use Rattle.definitions.specs.Segments.{Channel, counts_of, progress};
@@ -43,7 +43,7 @@ impl LazyFollower {
     ghost use Rattle.tracking_loops.specs.declared.limits.TheConstants.{MOST_SUM};
     ghost use Rattle.channels.specs.Following as segments;
     ghost use Rattle.channels.specs.Following.{Opens, Goes};
-    ghost use Rattle.channels.specs.LateFollowing.{Follows, follower_of, taken_of};
+    ghost use Rattle.channels.specs.LateFollowing.{Follows, follower_of, taken_of, ends_of};
     ghost use Rattle.channels.specs.LateFollowing.{rests_until, prn_of, chance};
     ghost use Rattle.channels.specs.Parts.{part, IsAsFar};
 
@@ -82,6 +82,13 @@ impl LazyFollower {
         self.rests_until
     }
 
+    /// Whether the segment stays open with the samples up to number `time` of the recording.
+    pub fn is_open_until(&self, time: u64) -> bool
+        ensures { result ≡ nat_lt time (ends_of self.now) }
+    {
+        time.saturating_sub(self.taken) < self.follower.to_end()
+    }
+
     /// Takes the samples that wait and then those of a run, from sample `from` on, up to the end of
     /// the segment or of the run. It answers how many of the run these are, and the segment's sums
     /// if it ends with the last of them. The source holds the samples of the recording from the
@@ -105,6 +112,7 @@ impl LazyFollower {
             → Follows settings channel xs self.old
             → Goes settings channel xs (part run.now from result.0) result.1
             (follower_of self.new) }
+        ensures open { S.to source.now < ends_of self.old → IsNone result.1 }
         ensures taken { taken_of self.new + (length run.now - from)
             ≡ S.to source.now + result.0 }
         ensures chance { IfSome result.1 (λ _. chance (taken_of self.new) self.new + 1
@@ -133,6 +141,7 @@ impl LazyFollower {
             → AreSamplesOf xs (S.from source.now) (length xs) (S.held source.now)
             → Follows settings channel xs self.old
             → segments.Follows settings channel xs (follower_of self.new) }
+        ensures ends { time + to_end_of (follower_of self.new) ≡ ends_of self.old }
     {
         let waiting = source.planes(self.taken, (time - self.taken) as usize);
         self.follower.take(&waiting, 0, book);

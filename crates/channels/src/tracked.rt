@@ -30,7 +30,7 @@ pub struct Tracked {
 }
 
 impl Tracked {
-    ghost use Rattle.std.specs.Prelude.{ℕ, List, ◌++◌, length, IfSome, None};
+    ghost use Rattle.std.specs.Prelude.{ℕ, List, ◌++◌, length, IfSome, None, nat_lt};
     ghost use Rattle.definitions.specs.Samples.{Sample};
     ghost use Rattle.definitions.specs.Oscillators.{Settings as DefinedSettings};
     ghost use Rattle.definitions.specs.Segments.{Channel, progress, first_progress};
@@ -40,7 +40,7 @@ impl Tracked {
     ghost use Rattle.channels.specs.LateFollowing.{Follows};
     ghost use Rattle.channels.specs.TrackedChannels.{Tracks, Takes, IsSteeredFrom};
     ghost use Rattle.channels.specs.TrackedChannels.{dumps_of, chance, counts_so_far};
-    ghost use Rattle.channels.specs.TrackedChannels.{taken_of, rests_until};
+    ghost use Rattle.channels.specs.TrackedChannels.{taken_of, rests_until, next_dump};
     ghost use Rattle.sample_planes.specs.Sources.{AreSamplesOf};
     ghost use Rattle.definitions.specs.BitEdge.{has_edge};
     ghost use Rattle.definitions.specs.Events.{pushes_of};
@@ -174,6 +174,13 @@ impl Tracked {
         self.follower.rests_until()
     }
 
+    /// Whether no dump comes with the samples up to number `time` of the recording.
+    pub fn is_quiet_until(&self, time: u64) -> bool
+        ensures { result ≡ nat_lt time (next_dump self.now) }
+    {
+        self.follower.is_open_until(time)
+    }
+
     /// Takes the samples that wait and those of a run, from sample `from` on, up to the next dump
     /// or the end of the run. It answers how many of the run these are, and the dump if it comes
     /// with the last of them. The source holds the samples of the recording from the first that
@@ -217,5 +224,33 @@ impl Tracked {
             message,
         };
         (count, Some(dump))
+    }
+
+    /// Takes the samples that wait and those of a run, from sample `from` on, where no dump comes
+    /// with them. The source holds the samples of the recording from the first that waits on to the
+    /// end of the run. The book is any book of codes.
+    pub fn pass<S: SampleSource>(
+        &mut self,
+        run: &Planes,
+        from: usize,
+        source: &S,
+        book: &mut CodeBook,
+    )
+        requires some { from < length run.now }
+        requires early { S.to source.now ≤ MOST_TAKEN }
+        requires held { S.from source.now ≤ taken_of self.old }
+        requires begun { taken_of self.old + (length run.now - from) ≤ S.to source.now }
+        requires rests { S.to source.now - (length run.now - from) ≤ rests_until self.old }
+        requires quiet { S.to source.now < next_dump self.old }
+        ensures takes { (settings : DefinedSettings) (channel : Channel) (xs : List Sample)
+            → length xs + (length run.now - from) ≡ S.to source.now
+            → AreSamplesOf xs (S.from source.now) (length xs) (S.held source.now)
+            → Tracks settings channel xs self.old
+            → Takes settings channel xs (part run.now from (length run.now - from)) self.new
+            None }
+        ensures dumps { dumps_of self.new ≡ dumps_of self.old }
+        ensures taken { taken_of self.new ≡ S.to source.now }
+    {
+        self.follower.take(run, from, source, book);
     }
 }

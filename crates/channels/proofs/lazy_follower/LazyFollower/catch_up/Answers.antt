@@ -52,4 +52,17 @@ returns g c = record {
       stays-open settings channel s.taken (part run 0 c.take.result.0) c.take.result.1
       c.take.new.self none (c.take.ensures.goes settings channel s.taken s.follows) in
       rw (all, waiting, ← s.all) at stays.follows;
+  ends =
+      let old = c.args.self.now in
+      let run : List Sample = c.planes-waiting.result in
+      let wait = many _ old.taken _ run c.planes-waiting.ensures in
+      let none : IsNone c.take.result.1 =
+      c.take.ensures.open (omega (arith, wait, c.requires.rests, old.stays_open)) in
+      omega (
+        arith,
+        c.take.ensures.left none,
+        c.take.ensures.as_far.whole none,
+        wait,
+        c.requires.some,
+      );
 }

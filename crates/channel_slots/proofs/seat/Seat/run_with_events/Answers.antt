@@ -1,0 +1,214 @@
+use Rattle.std.proofs.Common.{◌≡◌, ◌≤◌, ◌<◌, ◌+◌, ◌-◌, arith, ℕ, List, [], length, take, refl, sym, ap}
+use Rattle.std.proofs.Common.{◌∙◌, length-append}
+use Rattle.std.proofs.lemmas.List.{length-take-le, length-map, take_all}
+use Rattle.channels.proofs.PartLemmas.{part-length}
+use Rattle.definitions.specs.Samples.{Sample}
+use Rattle.channels.specs.Parts.{part}
+use Rattle.channel_slots.specs.Banks.{event_of}
+use Rattle.slot_protocol.specs.Events.{time_in}
+use Rattle.channel_slots.specs.NewsEvents.{events_with}
+use Rattle.channel_slots.specs.Slots.{chances}
+use Rattle.channel_slots.specs.declared.slot.TheConstants.{SLOT_EVENTS}
+use Rattle.channel_slots.proofs.OrderLemmas.{put_all-length}
+use Rattle.channel_slots.proofs.SeatLemmas.{seated}
+use Rattle.channel_slots.proofs.PutLemmas.{puts-none}
+use Rattle.channel_slots.proofs.TakenLemmas.{taken-length}
+use Rattle.channel_slots.proofs.TellingLemmas.{goes-begin, goes-on, one-chance}
+use Rattle.channel_slots.proofs.seat.Seat.run_with_events.Goals as goal
+
+pub loop-done-init : goal.loop-done-init
+loop-done-init g c = record {
+  within = omega arith;
+  room = λ some. omega (arith, one-chance (c.args.time + 0) c.args.self.now.slot);
+  goes = goes-begin c.args.time c.args.self.now c.args.events.now.items _ _;
+}
+
+pub take-count-requires-clause-sound : goal.take-count-requires-clause-sound
+take-count-requires-clause-sound g c =
+    let run : List Sample = c.args.run.now in
+    let done : ℕ = c.loop-done.done in
+    let so_far : length (take done run) ≡ done =
+    length-take-le done run
+    (omega (arith, c.len-len.ensures.count, c.loop-done.invariant.within)) in
+    let now : g.S.SampleSource.to c.args.source.now - (length run - done)
+    ≡ c.args.time + length (take done run) =
+    omega (
+      arith,
+      so_far,
+      c.requires.to,
+      c.len-len.ensures.count,
+      c.loop-done.invariant.within,
+    ) in
+    (c.requires.sound.0, rw now (c.loop-done.invariant.goes.sound _ _ c.requires.sound.1))
+
+pub loop-done-preserved-in-Some : goal.loop-done-preserved-in-Some
+loop-done-preserved-in-Some g c =
+    let run : List Sample = c.args.run.now in
+    let done : ℕ = c.loop-done.done in
+    let took = c.take-count in
+    let news = c.in-Some.news in
+    let zs : List Sample = part run done took.result.0 in
+    let is : took.result.0 ≡ length zs =
+    sym (taken-length run done took.result.0 took.result.1
+    (omega (arith, c.loop-done-test.true, c.len-len.ensures.count)) took.ensures.as_far) in
+    let here : ℕ = c.args.time + (done + took.result.0) in
+    let now : g.S.SampleSource.to c.args.source.now - (length run - done) ≡ c.args.time + done =
+    omega (arith, c.requires.to, c.len-len.ensures.count, c.loop-done-test.true) in
+    let later : c.args.time + done + took.result.0 ≡ here = omega arith in
+    let before : here - length zs ≡ c.args.time + done = omega (arith, is) in
+    let many : length c.put_news.new.events.items
+    ≡ length c.loop-done.events.items + length (events_with news) =
+    ap length c.put_news.ensures
+    ∙ put_all-length time_in c.loop-done.events.items _
+    ∙ ap (λ (n : ℕ). length c.loop-done.events.items + n)
+    (length-map (events_with news) (event_of c.loop-done.self here)) in
+    let room : length c.put_news.new.events.items + chances here took.new.self
+    ≤ length c.args.events.now.items + SLOT_EVENTS =
+    omega (
+      arith,
+      many,
+      rw (c.in-Some.is, now, later) at took.ensures.chances,
+      c.loop-done.invariant.room c.loop-done-test.true,
+    ) in
+    record {
+      within = omega (
+        arith,
+        took.ensures.as_far.within,
+        c.len-len.ensures.count,
+        c.loop-done-test.true,
+      );
+      room = λ more. room;
+      goes = goes-on run done took.result.0 c.args.time _ _ c.args.self.now c.loop-done.self _
+          c.args.events.now.items c.loop-done.events.items c.put_news.new.events.items
+          took.ensures.as_far.some
+          (omega (
+            arith,
+            took.ensures.as_far.within,
+            c.len-len.ensures.count,
+            c.loop-done-test.true,
+          ))
+          c.loop-done.invariant.goes
+          (record {
+            events = _;
+            steps = seated zs here _ _ c.loop-done.self _ (events_with news) refl refl
+                (λ from reach sound.
+                rw (now, later) at (took.ensures.sound from reach) (rw before at sound))
+                (λ settings xs commands whole samples s.
+                rw c.in-Some.is at took.ensures.tells settings xs commands
+                (omega (
+                  arith,
+                  whole,
+                  length-append xs zs,
+                  is,
+                  now,
+                  c.loop-done-test.true,
+                  c.len-len.ensures.count,
+                  c.requires.to,
+                )) samples s);
+            added = c.put_news.ensures;
+          })
+          (omega (arith, room));
+    }
+
+pub loop-done-preserved : goal.loop-done-preserved
+loop-done-preserved g c =
+    let run : List Sample = c.args.run.now in
+    let done : ℕ = c.loop-done.done in
+    let took = c.take-count in
+    let zs : List Sample = part run done took.result.0 in
+    let is : took.result.0 ≡ length zs =
+    sym (taken-length run done took.result.0 took.result.1
+    (omega (arith, c.loop-done-test.true, c.len-len.ensures.count)) took.ensures.as_far) in
+    let here : ℕ = c.args.time + (done + took.result.0) in
+    let now : g.S.SampleSource.to c.args.source.now - (length run - done) ≡ c.args.time + done =
+    omega (arith, c.requires.to, c.len-len.ensures.count, c.loop-done-test.true) in
+    let later : c.args.time + done + took.result.0 ≡ here = omega arith in
+    let before : here - length zs ≡ c.args.time + done = omega (arith, is) in
+    let whole : took.result.0 ≡ length run - done =
+    took.ensures.as_far.whole (rw c.in_default.is refl) in
+    record {
+      within = omega (
+        arith,
+        took.ensures.as_far.within,
+        c.len-len.ensures.count,
+        c.loop-done-test.true,
+      );
+      room = λ more. absurd (omega (arith, more, whole, c.len-len.ensures.count));
+      goes = goes-on run done took.result.0 c.args.time _ _ c.args.self.now c.loop-done.self _
+          c.args.events.now.items c.loop-done.events.items c.loop-done.events.items
+          took.ensures.as_far.some
+          (omega (
+            arith,
+            took.ensures.as_far.within,
+            c.len-len.ensures.count,
+            c.loop-done-test.true,
+          ))
+          c.loop-done.invariant.goes
+          (record {
+            events = [];
+            steps = seated zs here _ _ c.loop-done.self _ [] refl refl
+                (λ from reach sound.
+                rw (now, later) at (took.ensures.sound from reach) (rw before at sound))
+                (λ settings xs commands all samples s.
+                rw c.in_default.is at took.ensures.tells settings xs commands
+                (omega (
+                  arith,
+                  all,
+                  length-append xs zs,
+                  is,
+                  now,
+                  c.loop-done-test.true,
+                  c.len-len.ensures.count,
+                  c.requires.to,
+                )) samples s);
+            added = puts-none c.loop-done.self here _;
+          })
+          (omega (arith, c.loop-done.invariant.room c.loop-done-test.true));
+    }
+
+pub pass-requires-clause-sound : goal.pass-requires-clause-sound
+pass-requires-clause-sound g c =
+    let run : List Sample = c.args.run.now in
+    let done : ℕ = c.loop-done.done in
+    let so_far : length (take done run) ≡ done =
+    length-take-le done run
+    (omega (arith, c.len-len.ensures.count, c.loop-done.invariant.within)) in
+    let now : g.S.SampleSource.to c.args.source.now - (length run - done)
+    ≡ c.args.time + length (take done run) =
+    omega (
+      arith,
+      so_far,
+      c.requires.to,
+      c.len-len.ensures.count,
+      c.loop-done.invariant.within,
+    ) in
+    (c.requires.sound.0, rw now (c.loop-done.invariant.goes.sound _ _ c.requires.sound.1))
+
+pub returns-then-is_quiet_until : goal.returns-then-is_quiet_until
+returns-then-is_quiet_until g c =
+    let run : List Sample = c.args.run.now in
+    let done : ℕ = c.loop-done.done in
+    let left : ℕ = length run - done in
+    let zs : List Sample = part run done left in
+    let within : done < length run = omega (arith, c.loop-done-test.true, c.len-len.ensures.count) in
+    let is : length zs ≡ left = part-length run done left (omega (arith, within)) in
+    let here : ℕ = c.args.time + (done + left) in
+    let now : g.S.SampleSource.to c.args.source.now - left ≡ c.args.time + done =
+    omega (arith, c.requires.to, within) in
+    let then : g.S.SampleSource.to c.args.source.now ≡ here = omega (arith, c.requires.to, within) in
+    let before : here - length zs ≡ c.args.time + done = omega (arith, is) in
+    let whole : take (done + left) run ≡ run = take_all (done + left) run (omega (arith, within)) in
+    rw whole at (goes-on run done left c.args.time _ _ c.args.self.now c.loop-done.self _
+    c.args.events.now.items c.loop-done.events.items c.loop-done.events.items
+    (omega (arith, within)) (omega (arith, within)) c.loop-done.invariant.goes
+    (record {
+      events = [];
+      steps = seated zs here _ _ c.loop-done.self _ [] refl refl
+          (λ from reach sound.
+          rw (now, then) at (c.pass.ensures.sound from reach) (rw before at sound))
+          (λ settings xs commands there samples s.
+          c.pass.ensures.emits settings xs commands
+          (omega (arith, there, length-append xs zs, is, c.requires.to, within)) samples s);
+      added = puts-none c.loop-done.self here _;
+    })
+    (omega (arith, c.loop-done.invariant.room c.loop-done-test.true)))
