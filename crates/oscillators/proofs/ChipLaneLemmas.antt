@@ -45,7 +45,7 @@ first_not_after step k h = mul-le-mul {n₁ = 48 - 16 * (k / 16)} {m₁ = step} 
 -- the number of a lane's chip after the first one of its sixteen
 pub number_is : (part v w : ℕ) → part < 4294967296 → v ≤ w → w ≤ 63 * 4294967295
     → w ≤ v + 15 * 4294967295
-    → ((part + w) / 2147483648 % 256 / 2 + (256 - (part + v) / 2147483648 % 256 / 2)) % 256
+    → ((part + w) / 1073741824 % 256 / 4 + (256 - (part + v) / 1073741824 % 256 / 4)) % 256
     ≡ (part + w) / 4294967296 - (part + v) / 4294967296
 number_is part v w small from few near = omega arith
 
@@ -53,24 +53,24 @@ pub number_below : (part v w : ℕ) → v ≤ w → w ≤ v + 15 * 4294967295
     → (part + w) / 4294967296 - (part + v) / 4294967296 < 16
 number_below part v w from near = omega arith
 
--- the lanes of half chips, of chips, and of how far these are above the last ones
-pub number_of_lane : (part step : ℕ) (half chips above : List ℕ) → part < 4294967296
+-- the lanes of quarters of chips, of chips, and of how far these are above the last ones
+pub number_of_lane : (part step : ℕ) (quarters chips above : List ℕ) → part < 4294967296
     → step < 2 ^ 32
-    → ((k : ℕ) → k < 64 → get_or half k 0 ≡ (part + way step k) / 2147483648 % 256)
-    → ((k : ℕ) → k < 64 → get_or chips k 0 ≡ get_or half k 0 / 2)
+    → ((k : ℕ) → k < 64 → get_or quarters k 0 ≡ (part + way step k) / 1073741824 % 256)
+    → ((k : ℕ) → k < 64 → get_or chips k 0 ≡ get_or quarters k 0 / 4)
     → ((k : ℕ) → k < 64 → get_or above k 0
     ≡ (get_or chips k 0 + (256 - get_or chips (last_of_sixteen k) 0)) % 256)
     → (k : ℕ) → k < 64 → get_or above k 0
     ≡ (part + way step k) / 4294967296 - (part + way_to_first step k) / 4294967296
-number_of_lane part step half chips above small short halves wholes aboves k h =
+number_of_lane part step quarters chips above small short quarter_is wholes aboves k h =
     let last : last_of_sixteen k < 64 = omega arith in
     let place : 63 - last_of_sixteen k ≡ 48 - 16 * (k / 16) = omega arith in
     aboves k h
     ∙ rw (
       wholes k h,
       wholes (last_of_sixteen k) last,
-      halves k h,
-      halves (last_of_sixteen k) last,
+      quarter_is k h,
+      quarter_is (last_of_sixteen k) last,
       place,
     ) (number_is part (way_to_first step k) (way step k) small (first_not_after step k h)
     (way_is_short step k short) (way_from_first step k h short))
@@ -103,7 +103,7 @@ chip_before_there : (here v w : ℕ) → here < 4393751543808 → v ≤ w → w 
 chip_before_there here v w below from few = omega arith
 
 half_there : (here w : ℕ) → w ≤ 63 * 4294967295
-    → bit_at ((here % 4294967296 + w) / 2147483648 % 256) 0
+    → bit_at ((here % 4294967296 + w) / 1073741824 % 256) 1
     ≡ (here + w) % 4393751543808 % 4294967296 / 2147483648
 half_there here w few = omega arith
 
@@ -128,7 +128,7 @@ chip_before_found prn phase here v w is from few =
 
 -- whether a sample lies in the second half of its chip
 pub half_found : (phase here w : ℕ) → here ≡ phase % (1023 * 2 ^ 32) → w ≤ 63 * 4294967295
-    → bit_at ((here % 4294967296 + w) / 2147483648 % 256) 0
+    → bit_at ((here % 4294967296 + w) / 1073741824 % 256) 1
     ≡ (phase + w) % (1023 * 2 ^ 32) % 2 ^ 32 / 2 ^ 31
 half_found phase here w is few = half_there here w few
     ∙ rw is (ap (λ (p : ℕ). p % 2 ^ 32 / 2 ^ 31) (phase_there phase w))

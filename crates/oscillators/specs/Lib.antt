@@ -1,5 +1,6 @@
 pub mod Views
 pub mod Limits
+pub mod Halves
 pub mod Strides
 pub mod Signs
 pub mod Eighths

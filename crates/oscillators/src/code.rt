@@ -17,7 +17,7 @@ ghost use Rattle.ca_codes.specs.declared.book.TheConstants.{CODE_CHIPS};
 ghost use Rattle.oscillators.specs.declared.strides.TheConstants.{HALF_CHIP};
 
 use crate::half_chip::HalfChip;
-use crate::strides::{HALF_CHIP, Strides, halves};
+use crate::strides::{HALF_CHIP, QUARTER_CHIP, Strides, quarters};
 use bit_planes::{Plane, SECOND_BIT, TOP_BIT, above_last_of_sixteen, bit_of_each, mask_of_each};
 use ca_codes::{CODE_CHIPS, CodeBook, Prn, look_up};
 use std::marker::Model;
@@ -44,13 +44,13 @@ impl Model for CodeOsc {
     ghost use Rattle.definitions.specs.Oscillators.{code_cycle};
     ghost use Rattle.oscillators.specs.Views.{Oscillation};
     ghost use Rattle.oscillators.specs.Strides.{IsStrides};
-    ghost use Rattle.oscillators.specs.declared.strides.TheConstants.{HALF_CHIP};
+    ghost use Rattle.oscillators.specs.declared.strides.TheConstants.{QUARTER_CHIP};
 
     ghost Value = { Oscillation };
 
     ghost view = { λ o. record { phase = o.phase; step = o.step } };
 
-    ghost invariant = { λ o. (o.phase < code_cycle) × IsStrides o.step HALF_CHIP o.strides };
+    ghost invariant = { λ o. (o.phase < code_cycle) × IsStrides o.step QUARTER_CHIP o.strides };
 }
 
 impl CodeOsc {
@@ -62,7 +62,7 @@ impl CodeOsc {
         CodeOsc {
             phase: start.get() as u64 * HALF_CHIP as u64,
             step,
-            strides: Strides::new(step, HALF_CHIP),
+            strides: Strides::new(step, QUARTER_CHIP),
         }
     }
 
@@ -80,7 +80,7 @@ impl CodeOsc {
         ensures { self.new ≡ record self.old { step = step } }
     {
         self.step = step;
-        self.strides = Strides::new(step, HALF_CHIP);
+        self.strides = Strides::new(step, QUARTER_CHIP);
     }
 
     /// The least number of samples, at least 1, that brings the phase to the end of the cycle or
@@ -171,7 +171,7 @@ impl CodeOsc {
     {
         let step = self.step as u64;
         let ahead = in_cycle(self.phase + HALF_CHIP as u64);
-        let half_chips = self.strides.cells((ahead % CHIP) as u32, HALF_CHIP);
+        let quarter_chips = self.strides.cells((ahead % CHIP) as u32, QUARTER_CHIP);
         // The chip at the first of each sixteen samples, the last sixteen of them in lanes 0 to 15.
         let first = [
             chip_number(ahead + 48 * step),
@@ -182,12 +182,12 @@ impl CodeOsc {
         let chips = look_up(
             book.table(prn),
             first,
-            above_last_of_sixteen(halves(half_chips)),
+            above_last_of_sixteen(quarters(quarter_chips)),
         );
         let early = mask_of_each(chips, TOP_BIT);
         // The late chip is the one before the early one.
         let late = mask_of_each(chips, SECOND_BIT);
-        let second_half = mask_of_each(half_chips, 0);
+        let second_half = mask_of_each(quarter_chips, 1);
         self.phase = in_cycle(self.phase + 64 * step);
         ChipLanes {
             early,

@@ -17,6 +17,7 @@
 #![tactic(auto)]
 
 mod carrier;
+mod carries;
 mod code;
 mod doppler;
 mod half_chip;

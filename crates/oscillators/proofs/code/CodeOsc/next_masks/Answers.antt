@@ -20,9 +20,9 @@ look_up-chips-requires-clause-below c k h =
     let part : ℕ = c.in_cycle-ahead.result % 4294967296 in
     let number : get_or c.above_last_of_sixteen.result k 0
     ≡ (part + way step k) / 4294967296 - (part + way_to_first step k) / 4294967296 =
-    number_of_lane part step c.cells-half_chips.result c.halves.result
+    number_of_lane part step c.cells-quarter_chips.result c.quarters.result
     c.above_last_of_sixteen.result (omega arith) short
-    (c.cells-half_chips.ensures.cells step short c.self.invariant.1) c.halves.ensures.halves
+    (c.cells-quarter_chips.ensures.cells step short c.self.invariant.1) c.quarters.ensures.quarters
     c.above_last_of_sixteen.ensures.lanes k h in
     rw number (number_below part (way_to_first step k) (way step k) (first_not_after step k h)
     (way_from_first step k h short))
@@ -40,13 +40,13 @@ returns-clause-masks c =
     let ahead_is : ahead ≡ (phase + 2 ^ 31) % (1023 * 2 ^ 32) = rw phase_is at
     c.in_cycle-ahead.ensures in
     let part : ℕ = ahead % 4294967296 in
-    let half : (k : ℕ) → k < 64 → get_or c.cells-half_chips.result k 0
-    ≡ (part + way step k) / 2147483648 % 256 = rw step_is at
-    (c.cells-half_chips.ensures.cells c.self.inside.step inside c.self.invariant.1) in
+    let quarter : (k : ℕ) → k < 64 → get_or c.cells-quarter_chips.result k 0
+    ≡ (part + way step k) / 1073741824 % 256 = rw step_is at
+    (c.cells-quarter_chips.ensures.cells c.self.inside.step inside c.self.invariant.1) in
     let number : (k : ℕ) → k < 64 → get_or c.above_last_of_sixteen.result k 0
     ≡ (part + way step k) / 4294967296 - (part + way_to_first step k) / 4294967296 =
-    number_of_lane part step c.cells-half_chips.result c.halves.result
-    c.above_last_of_sixteen.result (omega arith) short half c.halves.ensures.halves
+    number_of_lane part step c.cells-quarter_chips.result c.quarters.result
+    c.above_last_of_sixteen.result (omega arith) short quarter c.quarters.ensures.quarters
     c.above_last_of_sixteen.ensures.lanes in
     let first : (k : ℕ) → k < 64 → get_or (c.chip_number.result ∷ c.chip_number-2.result
     ∷ c.chip_number-3.result ∷ c.chip_number-4.result ∷ []) (k / 16) 0
@@ -86,7 +86,7 @@ returns-clause-masks c =
     let below : k < 64 = omega arith in
     let place : 63 - k ≡ j = omega arith in
     c.mask_of_each-second_half.ensures.masks k below
-    ∙ ap (λ (n : ℕ). 255 * n) (ap (λ (n : ℕ). bit_at n 0) (half k below)
+    ∙ ap (λ (n : ℕ). 255 * n) (ap (λ (n : ℕ). bit_at n 1) (quarter k below)
     ∙ half_found (phase + 2 ^ 31) ahead (way step k) ahead_is (way_is_short step k short)
     ∙ ap (λ (n : ℕ). code_phase_after (phase + 2 ^ 31) step n % 2 ^ 32 / 2 ^ 31) place)
     in
