@@ -19,8 +19,6 @@
 mod lanes;
 mod plane;
 mod spread;
-#[cfg(test)]
-mod tests;
 mod word_lanes;
 
 pub use lanes::{LANES, SECOND_BIT, TOP_BIT, pick_bytes};

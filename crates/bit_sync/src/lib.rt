@@ -22,6 +22,3 @@ mod edge_search;
 
 pub use bit_sum::MOST_PUSH;
 pub use bit_sync::{BitNews, BitSync};
-
-#[cfg(test)]
-mod tests;

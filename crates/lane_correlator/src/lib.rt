@@ -25,8 +25,6 @@
 mod chip_sums;
 mod counts;
 mod tally;
-#[cfg(test)]
-mod tests;
 mod wiped;
 mod with_replica;
 

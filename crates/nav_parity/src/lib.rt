@@ -15,8 +15,6 @@
 
 mod laws;
 mod parity;
-#[cfg(test)]
-mod tests;
 
 pub use laws::{
     check_of_encode, encode_of_check, inversion_is_harmless, three_errors_are_detected,

@@ -17,7 +17,5 @@
 mod history;
 mod ring_bytes;
 mod shifted_bytes;
-#[cfg(test)]
-mod tests;
 
 pub use history::{MOST_TAKEN, SampleHistory};

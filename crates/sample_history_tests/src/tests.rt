@@ -1,6 +1,6 @@
 //! Streams whose bits are computed place by place, taken in pieces of many kinds.
 
-use crate::{MOST_TAKEN, SampleHistory};
+use sample_history::{MOST_TAKEN, SampleHistory};
 use sample_planes::{Format, PackedSamples, SampleSource};
 use std::alloc::AllocError;
 

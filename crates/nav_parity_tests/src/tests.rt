@@ -4,7 +4,7 @@ ghost use Rattle.std.specs.Prelude.{◌≡◌, ◌<◌, Some, IfSome};
 ghost use Rattle.nav_parity.specs.declared.parity.TheConstants.{WORD_LIMIT, DATA_LIMIT};
 ghost use Rattle.nav_parity.specs.declared.parity.TheConstants.{PRIOR_LIMIT};
 
-use super::{DATA_LIMIT, PRIOR_LIMIT, WORD_LIMIT, check, encode};
+use nav_parity::{DATA_LIMIT, PRIOR_LIMIT, WORD_LIMIT, check, encode};
 
 // A telemetry word after 00, and a hand-over word after 10.
 const TELEMETRY: u32 = 0x22c0_0012;

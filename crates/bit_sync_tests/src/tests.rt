@@ -1,6 +1,6 @@
 //! Pushes by hand: where the edge is, what resets the search, and what a bit is.
 
-use crate::{BitNews, BitSync};
+use bit_sync::{BitNews, BitSync};
 
 // One push that goes on with a sign: +1, or -1 where it is below zero.
 fn push_sign(sync: &mut BitSync, is_negative: bool) -> BitNews {
