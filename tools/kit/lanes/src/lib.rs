@@ -27,10 +27,10 @@ pub type u8x64 = Lanes<u8, 4>;
 pub type u32x16 = Lanes<u32, 1>;
 
 #[allow(non_camel_case_types)]
-pub type u32x64 = Lanes<u32, 4>;
+pub type u16x64 = Lanes<u16, 4>;
 
 #[allow(non_camel_case_types)]
-pub type i32x64 = Lanes<i32, 4>;
+pub type i16x64 = Lanes<i16, 4>;
 
 /// Yes (255) or no (0) for each of `P` times sixteen lanes.
 #[derive(Clone, Copy, Debug)]
@@ -118,6 +118,13 @@ impl<T: Copy> Lanes<T, 4> {
         first(self.0.as_flattened())
     }
 
+    /// The lanes at these positions.
+    #[inline(always)]
+    pub fn swizzle(self, positions: [usize; 64]) -> Self {
+        let all = self.0.as_flattened();
+        Lanes(parts(|p| from_fn(|k| all[positions[16 * p + k]])))
+    }
+
     /// `LEN` lanes from lane `START` on. They are 32, and begin with a sixteen; `std::simd` takes
     /// others too, and no source of this workspace has any.
     #[inline(always)]
@@ -155,7 +162,9 @@ pub trait Number: Copy {
     }
 }
 
-impl Number for u32 {}
+impl Number for u16 {}
+
+impl Number for i16 {}
 
 impl Number for u8 {
     #[inline(always)]
@@ -168,7 +177,7 @@ impl Number for u8 {
     }
 }
 
-impl<const P: usize> Lanes<i32, P> {
+impl<const P: usize> Lanes<i16, P> {
     #[inline(always)]
     pub fn simd_gt(self, other: Self) -> Choice<P> {
         let lane = |p: usize, k: usize| if self.0[p][k] > other.0[p][k] { 255 } else { 0 };
@@ -221,16 +230,16 @@ impl As<u8> for u16 {
     }
 }
 
-impl As<u32> for i32 {
+impl As<u16> for i16 {
     #[inline(always)]
-    fn of<const P: usize>(lanes: [[u32; 16]; P]) -> [[i32; 16]; P] {
-        parts(|p| lanes[p].map(|lane| lane as i32))
+    fn of<const P: usize>(lanes: [[u16; 16]; P]) -> [[i16; 16]; P] {
+        parts(|p| lanes[p].map(|lane| lane as i16))
     }
 }
 
-impl As<u32> for u8 {
+impl As<u16> for u8 {
     #[inline(always)]
-    fn of<const P: usize>(lanes: [[u32; 16]; P]) -> [[u8; 16]; P] {
+    fn of<const P: usize>(lanes: [[u16; 16]; P]) -> [[u8; 16]; P] {
         parts(|p| lanes[p].map(|lane| lane as u8))
     }
 }
@@ -242,6 +251,16 @@ impl<const P: usize> Add for Lanes<u32, P> {
     #[inline(always)]
     fn add(self, other: Self) -> Self {
         Lanes(parts(|p| from_fn(|k| self.0[p][k].wrapping_add(other.0[p][k]))))
+    }
+}
+
+impl<const P: usize> Sub for Lanes<i16, P> {
+    type Output = Self;
+
+    /// Differences wrap.
+    #[inline(always)]
+    fn sub(self, other: Self) -> Self {
+        Lanes(parts(|p| from_fn(|k| self.0[p][k].wrapping_sub(other.0[p][k]))))
     }
 }
 

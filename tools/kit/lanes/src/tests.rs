@@ -1,6 +1,6 @@
 //! Each operation against the same one on single numbers, lane by lane.
 
-use crate::{Lanes, i32x64, processor, u8x16, u8x32, u8x64, u32x16, u32x64};
+use crate::{Lanes, i16x64, processor, u8x16, u8x32, u8x64, u16x64, u32x16};
 use core::array::from_fn;
 
 /// Calls a check with 100,000 pairs of 64 pseudorandom bytes.
@@ -100,12 +100,18 @@ fn sums_and_shifts() {
 fn words() {
     over_bytes(|a, b| {
         let wide = |k: usize| u32::from_le_bytes([a[k], b[k], a[63 - k], b[63 - k]]);
-        let limit = i32::from_le_bytes([b[0], a[1], b[2], a[3]]);
-        let words = u32x64::from_array::<64>(from_fn(wide));
-        let is_below = i32x64::splat(limit).simd_gt(words.cast::<i32>());
-        let chosen = is_below.select(words, u32x64::splat(7)).cast::<u8>();
-        let want = from_fn(|k| if (wide(k) as i32) < limit { a[k] } else { 7 });
+        let limit = i16::from_le_bytes([b[0], a[1]]);
+        let halves: [u16; 64] = from_fn(|k| wide(k) as u16);
+        let words = u16x64::from_array(halves);
+        let is_below = i16x64::splat(limit).simd_gt(words.cast::<i16>());
+        let chosen = is_below.select(words, u16x64::splat(7)).cast::<u8>();
+        let want = from_fn(|k| if (halves[k] as i16) < limit { a[k] } else { 7 });
         assert_eq!(chosen.to_array(), want);
+        let differences = words.cast::<i16>() - i16x64::splat(limit);
+        let want = halves.map(|half| (half as i32 - limit as i32) as i16);
+        assert_eq!(differences.to_array(), want);
+        let turned = words.swizzle(from_fn(|k| 63 - k));
+        assert_eq!(turned.to_array(), from_fn(|k| halves[63 - k]));
         let sums = u32x16::from_array::<16>(from_fn(wide)) + u32x16::splat(limit as u32);
         let want: [u32; 16] = from_fn(|k| (wide(k) as u64 + limit as u32 as u64) as u32);
         assert_eq!(sums.to_array(), want);
