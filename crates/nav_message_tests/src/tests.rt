@@ -100,7 +100,7 @@ fn damaged_word(rt: HostRuntime) {
     assert_zeros(&rt, &mut pushed, (HANDOVERS[2], DATA[3]), None, set);
 }
 
-/// Pushes a subframe of zeros behind a handover word, of which the data are given too, and asserts
+/// Pushes a subframe of zeros after a handover word, of which the data are given too, and asserts
 /// the gap and the page that it makes reported.
 fn assert_zeros(
     rt: &impl Abort,

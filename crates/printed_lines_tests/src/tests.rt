@@ -63,8 +63,8 @@ fn numbers_of_events(rt: HostRuntime) {
     assert_event(&rt, Event::Gap(u64::MAX), GAP_LINE);
 }
 
-/// A satellite, and what is told of its best cell: whether it was found, the bin, the half chip and
-/// the power.
+/// A satellite, and what is reported of its best cell: whether it was found, the bin, the half chip
+/// and the power.
 type Sought = (u8, bool, i32, u16, u64);
 
 // The code of satellite 1, recorded with no noise, is named at its third half chip. Where all

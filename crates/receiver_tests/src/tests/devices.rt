@@ -22,7 +22,7 @@ fn fails(
     text: Option<&[u8]>,
 ) -> Result<(), Fail> {
     let answer = run_plain(rt.alloc(), &[FIRST_COUNT], reader, writer)?;
-    // With `behind` on both sides a mismatch shows it.
+    // The number stands on both sides, so that a mismatch shows it.
     let told = (behind, answer, Some(writer.text()?.as_bytes()));
     assert_eq!(rt; told, (behind, Err(fault), text));
     Ok(())
