@@ -113,7 +113,8 @@ pub quiet-some : (from time more reach : ℕ) (stage : Stage) → time + more �
     → stages.IsSound from time reach stage → stages.is_quiet_until stage (time + more) ≡ true
     → stages.rests_until stage < time + more → 0 < more
 quiet-some from time more reach Idle early sound quiet wakes = absurd (omega (arith, early, wakes))
-quiet-some from time more reach (Searching a) early sound quiet wakes = absurd (true≢false (sym quiet))
+quiet-some from time more reach (Searching a) early sound quiet wakes =
+    absurd (true≢false (sym quiet))
 quiet-some from time more reach (Holding h) early sound quiet wakes =
     omega (arith, sound.waits, wakes)
 quiet-some from time more reach (Tracking t) early sound quiet wakes =

@@ -33,7 +33,8 @@ pub struct LazyFollower {
 }
 
 impl LazyFollower {
-    ghost use Rattle.std.specs.Prelude.{ℕ, List, ◌++◌, length, IfSome, IsNone, unsigned_abs, nat_lt};
+    ghost use Rattle.std.specs.Prelude.{ℕ, List, ◌++◌, length, IfSome, IsNone};
+    ghost use Rattle.std.specs.Prelude.{unsigned_abs, nat_lt};
     ghost use Rattle.definitions.specs.Samples.{Sample};
     ghost use Rattle.definitions.specs.Oscillators.{Settings as DefinedSettings};
     ghost use Rattle.definitions.specs.Segments.{Channel, counts_of, progress};

@@ -1,5 +1,6 @@
 -- Which lanes have less room than a part, by halves of both.
-use Rattle.std.proofs.Common.{◌≡◌, ℕ, zero, suc, ◌+◌, ◌-◌, ◌*◌, ◌/◌, ◌%◌, ◌<◌, ◌≤◌, List, map, length}
+use Rattle.std.proofs.Common.{◌≡◌, ℕ, zero, suc, ◌+◌, ◌-◌, ◌*◌, ◌/◌, ◌%◌, ◌<◌, ◌≤◌, List, map}
+use Rattle.std.proofs.Common.{length}
 use Rattle.std.proofs.Common.{get_or, refl, sym, ◌∙◌, arith, Bool, true, false, inl, inr, replicate}
 use Rattle.std.proofs.Common.{w16, to_z}
 use Rattle.std.specs.Prelude.{cond, ltb, ◌⊎◌}

@@ -4,6 +4,7 @@ ghost use Rattle.std.specs.Prelude.{◌≡◌, ◌<◌, ◌≤◌, ◌+◌, ◌^
 ghost use Rattle.definitions.specs.Acquisition.{due_time};
 ghost use Rattle.channels.specs.Searching.{start_of, due_of, to_due_of};
 ghost use Rattle.channels.specs.TrackedChannels.{taken_of};
+ghost use Rattle.sample_planes.specs.declared.planes.TheConstants.{MAX_SAMPLES};
 
 use super::so_far;
 use acquisition::{Cell, Plan};
@@ -34,7 +35,7 @@ fn search_in_pieces(
     book: &mut CodeBook,
 ) -> (Searched, u64, Option<Cell>)
     requires some { 0 < piece }
-    requires short { piece ≤ 1024 }
+    requires short { piece ≤ MAX_SAMPLES }
     requires due { due_time settings.now plan 2 ≡ 10232 }
     requires from { source.now.first ≡ 0 }
     requires to { 11264 ≤ length source.now.samples }
@@ -61,10 +62,10 @@ fn next(
     end: u64,
     book: &mut CodeBook,
 ) -> Result<(usize, Option<Dump>), Fail>
-    requires begun { taken_of tracked.old + 1024 ≡ end }
+    requires begun { taken_of tracked.old + MAX_SAMPLES ≡ end }
     requires from { 11256 ≤ end }
     requires early { end < 2 ^ 32 }
-    ensures taken { IfOk result (λ next. taken_of tracked.new + 1024 ≡ end + next.0) }
+    ensures taken { IfOk result (λ next. taken_of tracked.new + MAX_SAMPLES ≡ end + next.0) }
 {
     if tracked.dumps() != 0 || tracked.rests_until() < end - 1_024 {
         return Err(Fail::new("no run can be taken"));

@@ -1,6 +1,6 @@
-use Rattle.std.proofs.Common.{◌≡◌, ◌≤◌, ◌<◌, ◌+◌, ◌-◌, arith, ℕ, List, [], length, take, refl, sym, ap}
-use Rattle.std.proofs.Common.{◌∙◌, length-append}
-use Rattle.std.proofs.lemmas.List.{length-take-le, length-map, take_all}
+use Rattle.std.proofs.Common.{◌≡◌, ◌≤◌, ◌<◌, ◌+◌, ◌-◌, arith, ℕ, List, [], length, take, refl, sym}
+use Rattle.std.proofs.Common.{ap, ◌∙◌, length-append}
+use Rattle.std.proofs.lemmas.List.{length-map, take_all}
 use Rattle.channels.proofs.PartLemmas.{part-length}
 use Rattle.definitions.specs.Samples.{Sample}
 use Rattle.channels.specs.Parts.{part}
@@ -12,7 +12,7 @@ use Rattle.channel_slots.specs.declared.slot.TheConstants.{SLOT_EVENTS}
 use Rattle.channel_slots.proofs.OrderLemmas.{put_all-length}
 use Rattle.channel_slots.proofs.SeatLemmas.{seated}
 use Rattle.channel_slots.proofs.PutLemmas.{puts-none}
-use Rattle.channel_slots.proofs.TakenLemmas.{taken-length}
+use Rattle.channel_slots.proofs.TakenLemmas.{taken-length, time-there}
 use Rattle.channel_slots.proofs.TellingLemmas.{goes-begin, goes-on, one-chance}
 use Rattle.channel_slots.proofs.seat.Seat.run_with_events.Goals as goal
 
@@ -25,20 +25,11 @@ loop-done-init g c = record {
 
 pub take-count-requires-clause-sound : goal.take-count-requires-clause-sound
 take-count-requires-clause-sound g c =
-    let run : List Sample = c.args.run.now in
-    let done : ℕ = c.loop-done.done in
-    let so_far : length (take done run) ≡ done =
-    length-take-le done run
-    (omega (arith, c.len-len.ensures.count, c.loop-done.invariant.within)) in
-    let now : g.S.SampleSource.to c.args.source.now - (length run - done)
-    ≡ c.args.time + length (take done run) =
-    omega (
-      arith,
-      so_far,
-      c.requires.to,
-      c.len-len.ensures.count,
-      c.loop-done.invariant.within,
-    ) in
+    let within : c.loop-done.done ≤ length c.args.run.now =
+    omega (arith, c.len-len.ensures.count, c.loop-done.invariant.within) in
+    let now =
+    time-there c.args.run.now c.loop-done.done c.args.time
+    (g.S.SampleSource.to c.args.source.now) within c.requires.to in
     (c.requires.sound.0, rw now (c.loop-done.invariant.goes.sound _ _ c.requires.sound.1))
 
 pub loop-done-preserved-in-Some : goal.loop-done-preserved-in-Some
@@ -168,20 +159,11 @@ loop-done-preserved g c =
 
 pub pass-requires-clause-sound : goal.pass-requires-clause-sound
 pass-requires-clause-sound g c =
-    let run : List Sample = c.args.run.now in
-    let done : ℕ = c.loop-done.done in
-    let so_far : length (take done run) ≡ done =
-    length-take-le done run
-    (omega (arith, c.len-len.ensures.count, c.loop-done.invariant.within)) in
-    let now : g.S.SampleSource.to c.args.source.now - (length run - done)
-    ≡ c.args.time + length (take done run) =
-    omega (
-      arith,
-      so_far,
-      c.requires.to,
-      c.len-len.ensures.count,
-      c.loop-done.invariant.within,
-    ) in
+    let within : c.loop-done.done ≤ length c.args.run.now =
+    omega (arith, c.len-len.ensures.count, c.loop-done.invariant.within) in
+    let now =
+    time-there c.args.run.now c.loop-done.done c.args.time
+    (g.S.SampleSource.to c.args.source.now) within c.requires.to in
     (c.requires.sound.0, rw now (c.loop-done.invariant.goes.sound _ _ c.requires.sound.1))
 
 pub returns-then-is_quiet_until : goal.returns-then-is_quiet_until
@@ -190,12 +172,14 @@ returns-then-is_quiet_until g c =
     let done : ℕ = c.loop-done.done in
     let left : ℕ = length run - done in
     let zs : List Sample = part run done left in
-    let within : done < length run = omega (arith, c.loop-done-test.true, c.len-len.ensures.count) in
+    let within : done < length run =
+    omega (arith, c.loop-done-test.true, c.len-len.ensures.count) in
     let is : length zs ≡ left = part-length run done left (omega (arith, within)) in
     let here : ℕ = c.args.time + (done + left) in
     let now : g.S.SampleSource.to c.args.source.now - left ≡ c.args.time + done =
     omega (arith, c.requires.to, within) in
-    let then : g.S.SampleSource.to c.args.source.now ≡ here = omega (arith, c.requires.to, within) in
+    let then : g.S.SampleSource.to c.args.source.now ≡ here =
+    omega (arith, c.requires.to, within) in
     let before : here - length zs ≡ c.args.time + done = omega (arith, is) in
     let whole : take (done + left) run ≡ run = take_all (done + left) run (omega (arith, within)) in
     rw whole at (goes-on run done left c.args.time _ _ c.args.self.now c.loop-done.self _

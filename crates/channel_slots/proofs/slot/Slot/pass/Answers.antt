@@ -1,28 +1,24 @@
-use Rattle.std.proofs.Common.{◌<◌, ◌-◌, ◌++◌, List, length, refl, ap, arith, false, true}
+use Rattle.std.proofs.Common.{◌<◌, ◌-◌, List, length, refl, ap, false}
 use Rattle.std.specs.Prelude.{None}
 use Rattle.definitions.specs.Samples.{Sample}
 use Rattle.channels.specs.Parts.{part}
-use Rattle.channels.proofs.PartLemmas.{part-some}
 use Rattle.channel_slots.specs.Stages.{is_idle}
 use Rattle.channel_slots.proofs.SlotLemmas.{idle-tells, tells}
 use Rattle.channel_slots.proofs.StageLemmas.{held-takes, tracked-takes}
+use Rattle.channel_slots.proofs.TakenLemmas.{rest-some}
 use Rattle.channel_slots.proofs.TellingLemmas.{earlier}
 use Rattle.channel_slots.proofs.slot.Slot.pass.Goals as goal
 
 pub returns-in-Idle-clause-emits : goal.returns-in-Idle-clause-emits
 returns-in-Idle-clause-emits g c settings xs commands now samples s =
     let ys : List Sample = part c.args.run.now c.args.from (length c.args.run.now - c.args.from) in
-    let more : 0 < length ys =
-    part-some c.args.run.now c.args.from (length c.args.run.now - c.args.from)
-    (omega (arith, c.requires.some)) (omega (arith, c.requires.some)) in
+    let more : 0 < length ys = rest-some c.args.run.now c.args.from c.requires.some in
     idle-tells settings xs commands c.args.self.now s ys more (ap is_idle c.in-Idle.is)
 
 pub returns-in-Holding-clause-emits : goal.returns-in-Holding-clause-emits
 returns-in-Holding-clause-emits g c settings xs commands now samples s =
     let ys : List Sample = part c.args.run.now c.args.from (length c.args.run.now - c.args.from) in
-    let more : 0 < length ys =
-    part-some c.args.run.now c.args.from (length c.args.run.now - c.args.from)
-    (omega (arith, c.requires.some)) (omega (arith, c.requires.some)) in
+    let more : 0 < length ys = rest-some c.args.run.now c.args.from c.requires.some in
     tells settings xs commands c.args.self.now s ys more (ap is_idle c.in-Holding.is) _ None
     (λ life follows.
     let h = rw c.in-Holding.is at follows in
@@ -33,9 +29,7 @@ returns-in-Holding-clause-emits g c settings xs commands now samples s =
 pub returns-in-Tracking-clause-emits : goal.returns-in-Tracking-clause-emits
 returns-in-Tracking-clause-emits g c settings xs commands now samples s =
     let ys : List Sample = part c.args.run.now c.args.from (length c.args.run.now - c.args.from) in
-    let more : 0 < length ys =
-    part-some c.args.run.now c.args.from (length c.args.run.now - c.args.from)
-    (omega (arith, c.requires.some)) (omega (arith, c.requires.some)) in
+    let more : 0 < length ys = rest-some c.args.run.now c.args.from c.requires.some in
     tells settings xs commands c.args.self.now s ys more (ap is_idle c.in-Tracking.is) _ None
     (λ life follows.
     let t = rw c.in-Tracking.is at follows in

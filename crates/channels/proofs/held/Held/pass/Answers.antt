@@ -10,7 +10,8 @@ pub returns-clause-takes : goal.returns-clause-takes
 returns-clause-takes g c settings channel xs now samples s =
     let took = c.take in
     let none : IsNone took.result.1 = took.ensures.open c.requires.quiet in
-    let whole : took.result.0 ≡ length c.args.run.now - c.args.from = took.ensures.as_far.whole none in
+    let whole : took.result.0 ≡ length c.args.run.now - c.args.from =
+    took.ensures.as_far.whole none in
     rw (← whole) (takes-on settings channel xs (part c.args.run.now c.args.from took.result.0)
     c.args.self.now _ s
     (stays-open settings channel xs _ took.result.1 _ none

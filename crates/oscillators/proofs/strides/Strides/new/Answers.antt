@@ -13,8 +13,8 @@ invariant_of-result c =
     record {
       lanes = (i.whole_long, refl, refl);
       high = λ k h.
-          high_below c.loop-k.high c.loop-k.low (room c.args.step c.args.cell) i.high_long i.low_long
-          (λ j below. i.high j (all j below)) (λ j below. i.low j (all j below)) k h
+          high_below c.loop-k.high c.loop-k.low (room c.args.step c.args.cell) i.high_long
+          i.low_long (λ j below. i.high j (all j below)) (λ j below. i.low j (all j below)) k h
           (room_below c.args.cell ((63 - place k) * c.args.step) c.requires);
       low = λ k h.
           low_below c.loop-k.high c.loop-k.low (room c.args.step c.args.cell) i.high_long i.low_long
@@ -28,6 +28,6 @@ returns c =
     record {
       whole = λ k h. i.whole k (all k h);
       room = λ k h.
-          numbers_are c.loop-k.high c.loop-k.low (room c.args.step c.args.cell) i.high_long i.low_long
-          (λ j below. i.high j (all j below)) (λ j below. i.low j (all j below)) k h;
+          numbers_are c.loop-k.high c.loop-k.low (room c.args.step c.args.cell) i.high_long
+          i.low_long (λ j below. i.high j (all j below)) (λ j below. i.low j (all j below)) k h;
     }
