@@ -1,12 +1,13 @@
 -- Sums in lanes of bytes.
-use Rattle.std.proofs.Common.{◌≡◌, ℕ, zero, suc, ◌+◌, ◌-◌, ◌%◌, ◌<◌, ◌≤◌, refl, sym, ap}
+use Rattle.std.proofs.Common.{◌≡◌, ℕ, zero, suc, ◌+◌, ◌-◌, ◌*◌, ◌%◌, ◌<◌, ◌≤◌, refl, sym, ap}
 use Rattle.std.proofs.Common.{◌∙◌}
-use Rattle.std.proofs.Common.{arith, inl, inr, List, length, get_or, w8, Fits, replicate}
-use Rattle.std.proofs.lemmas.List.{get_or-replicate}
+use Rattle.std.proofs.Common.{arith, inl, inr, List, length, get_or, w8, Fits}
 use Rattle.std.proofs.Math.ListN.{get_or-eq_default}
 use Rattle.std.proofs.lemmas.Bool.{cases_lt}
-use Rattle.std.specs.Prelude.{ℤ, pos, ◌+ℤ◌, ◌*ℤ◌, unsigned_abs, bit_xor, bit_and, ◌⊎◌}
-use Rattle.std.specs.Int.Bits.{xor_zero_r, xor_add_and}
+use Rattle.std.specs.Prelude.{ℤ, pos, ◌+ℤ◌, ◌*ℤ◌, unsigned_abs, bit_and, ◌⊎◌}
+use Rattle.std.specs.Int.Bits.{and_zero_r}
+use Rattle.std.proofs.Math.Nat.{mod-add-mod}
+use Rattle.std.proofs.Math.Path.{ap₂}
 use Rattle.std.specs.Simd.Lanes.{zip2, Each1}
 use Rattle.std.proofs.lemmas.Int.{ints}
 use Rattle.std.proofs.lemmas.Nat.{and_mask}
@@ -17,33 +18,43 @@ use Rattle.lane_correlator.specs.Bytes.{signed_byte, mask_sign, lane_of, sum_of_
 
 -- ---- one lane
 
--- a byte and its complement
-pub turned_byte : (v : ℕ) → v < 256 → bit_xor v 255 ≡ 255 - v
-turned_byte v h =
-    let low : bit_and v 255 ≡ v % 256 = and_mask v 8 in
-    omega (arith, xor_add_and v 255, low)
+-- two products come into a lane of all, and those with a chip of -1 into a lane of turned ones
+module _ (a t v w n m : ℕ) (ht : t < 256) (room : n + 2 * m ≤ 127)
+    (low : unsigned_abs (signed_byte (a + 2 * (256 - t))) ≤ n)
+    (sv : unsigned_abs (signed_byte v) ≤ m) (sw : unsigned_abs (signed_byte w) ≤ m) where
+  neither : signed_byte ((a + v + w) % 256 + 2 * (256 - (t + 0 + 0) % 256))
+      ≡ (signed_byte (a + 2 * (256 - t)) +ℤ signed_byte v *ℤ pos 1) +ℤ signed_byte w *ℤ pos 1
+  neither = omega (arith, ints, low, sv, sw)
 
-pub lane_added : (s b v mask n m : ℕ) → b < 256 → v < 256 → n + m ≤ 127
-    → unsigned_abs (signed_byte (s + (256 - b))) ≤ n → unsigned_abs (signed_byte v) ≤ m
-    → (mask ≡ 0) ⊎ (mask ≡ 255)
-    → signed_byte ((s + bit_xor v mask) % 256 + (256 - (b + mask) % 256))
-    ≡ signed_byte (s + (256 - b)) +ℤ signed_byte v *ℤ mask_sign mask
-lane_added s b v mask n m hb hv room low small either = elim either [
-  | inl e ↦ rw (e, xor_zero_r v) (plus s b v n m hb hv room low small)
-  | inr e ↦ rw (e, turned_byte v hv) (minus s b v n m hb hv room low small)
-]
-  where
-    plus : (s b v n m : ℕ) → b < 256 → v < 256 → n + m ≤ 127
-        → unsigned_abs (signed_byte (s + (256 - b))) ≤ n → unsigned_abs (signed_byte v) ≤ m
-        → signed_byte ((s + v) % 256 + (256 - (b + 0) % 256))
-        ≡ signed_byte (s + (256 - b)) +ℤ signed_byte v *ℤ pos 1
-    plus s b v n m hb hv room low small = omega (arith, ints, low, small)
+  second : signed_byte ((a + v + w) % 256 + 2 * (256 - (t + 0 + w % 256) % 256))
+      ≡ (signed_byte (a + 2 * (256 - t)) +ℤ signed_byte v *ℤ pos 1)
+      +ℤ signed_byte w *ℤ mask_sign 255
+  second = omega (arith, ints, low, sv, sw)
 
-    minus : (s b v n m : ℕ) → b < 256 → v < 256 → n + m ≤ 127
-        → unsigned_abs (signed_byte (s + (256 - b))) ≤ n → unsigned_abs (signed_byte v) ≤ m
-        → signed_byte ((s + (255 - v)) % 256 + (256 - (b + 255) % 256))
-        ≡ signed_byte (s + (256 - b)) +ℤ signed_byte v *ℤ mask_sign 255
-    minus s b v n m hb hv room low small = omega (arith, ints, low, small)
+  first : signed_byte ((a + v + w) % 256 + 2 * (256 - (t + v % 256 + 0) % 256))
+      ≡ (signed_byte (a + 2 * (256 - t)) +ℤ signed_byte v *ℤ mask_sign 255)
+      +ℤ signed_byte w *ℤ pos 1
+  first = omega (arith, ints, low, sv, sw)
+
+  both : signed_byte ((a + v + w) % 256 + 2 * (256 - (t + v % 256 + w % 256) % 256))
+      ≡ (signed_byte (a + 2 * (256 - t)) +ℤ signed_byte v *ℤ mask_sign 255)
+      +ℤ signed_byte w *ℤ mask_sign 255
+  both = omega (arith, ints, low, sv, sw)
+
+  pub lane_grown : (p q : ℕ) → (p ≡ 0) ⊎ (p ≡ 255) → (q ≡ 0) ⊎ (q ≡ 255)
+      → signed_byte ((a + v + w) % 256 + 2 * (256 - (t + bit_and v p + bit_and w q) % 256))
+      ≡ (signed_byte (a + 2 * (256 - t)) +ℤ signed_byte v *ℤ mask_sign p)
+      +ℤ signed_byte w *ℤ mask_sign q
+  lane_grown p q is_p is_q = elim is_p [
+    | inl e ↦ elim is_q [
+      | inl f ↦ rw (e, f, and_zero_r v, and_zero_r w) neither
+      | inr f ↦ rw (e, f, and_zero_r v, and_mask w 8) second
+    ]
+    | inr e ↦ elim is_q [
+      | inl f ↦ rw (e, f, and_mask v 8, and_zero_r w) first
+      | inr f ↦ rw (e, f, and_mask v 8, and_mask w 8) both
+    ]
+  ]
 
 -- a product with a sign is as great
 pub signed_size : (z : ℤ) (mask m : ℕ) → (mask ≡ 0) ⊎ (mask ≡ 255) → unsigned_abs z ≤ m
@@ -92,11 +103,8 @@ bytes_of xs fits k = elim (cases_lt k (length xs)) [
   | inr past ↦ rw (get_or-eq_default xs 0 past) (omega arith)
 ]
 
-pub xor_long : (xs ys : List ℕ) → length xs ≡ 32 → length ys ≡ 32
-    → length (zip2 bit_xor xs ys) ≡ 32
-xor_long xs ys hx hy = length-zip2 bit_xor xs ys (hx ∙ sym hy) ∙ hx
-
-pub sum_long : (xs ys : List ℕ) → length xs ≡ 32 → length ys ≡ 32
+-- lanes of a half, with those of both halves of a word more
+sum_long : (xs ys : List ℕ) → length xs ≡ 32 → length ys ≡ 32
     → length (zip2 (λ (a b : ℕ). (a + b) % 256) xs ys) ≡ 32
 sum_long xs ys hx hy = length-zip2 (λ (a b : ℕ). (a + b) % 256) xs ys (hx ∙ sym hy) ∙ hx
 
@@ -105,36 +113,41 @@ sum_lane : (xs ys : List ℕ) (k : ℕ) → length xs ≡ 32 → length ys ≡ 3
 sum_lane xs ys k hx hy h = get_or-zip2 (λ (a b : ℕ). (a + b) % 256) xs ys k 0 0 0
     (omega (arith, hx)) (omega (arith, hy))
 
-pub sum_below : (xs ys : List ℕ) (k : ℕ) → length xs ≡ 32 → length ys ≡ 32 → k < 32
-    → get_or (zip2 (λ (a b : ℕ). (a + b) % 256) xs ys) k 0 < 256
-sum_below xs ys k hx hy h = rw (sum_lane xs ys k hx hy h) (omega arith)
+abbrev pub both_added : List ℕ → List ℕ → List ℕ → List ℕ
+both_added sums low high =
+    zip2 (λ (a b : ℕ). (a + b) % 256) (zip2 (λ (a b : ℕ). (a + b) % 256) sums low) high
 
-pub lane_added_in : (sums beyond lanes masks : List ℕ) (k n m : ℕ) → length sums ≡ 32
-    → length beyond ≡ 32 → length lanes ≡ 32 → length masks ≡ 32 → k < 32
-    → get_or beyond k 0 < 256 → get_or lanes k 0 < 256 → n + m ≤ 127
-    → unsigned_abs (lane_of sums beyond k) ≤ n → unsigned_abs (signed_byte (get_or lanes k 0)) ≤ m
-    → (get_or masks k 0 ≡ 0) ⊎ (get_or masks k 0 ≡ 255)
-    → lane_of (zip2 (λ (a b : ℕ). (a + b) % 256) sums (zip2 bit_xor lanes masks))
-    (zip2 (λ (a b : ℕ). (a + b) % 256) beyond masks) k
-    ≡ lane_of sums beyond k +ℤ signed_byte (get_or lanes k 0) *ℤ mask_sign (get_or masks k 0)
-lane_added_in sums beyond lanes masks k n m hs hb hl hm h fb fl room low small either =
-    rw (
-      sum_lane sums (zip2 bit_xor lanes masks) k hs (xor_long lanes masks hl hm) h,
-      sum_lane beyond masks k hb hm h,
-      get_or-zip2 bit_xor lanes masks k 0 0 0 (omega (arith, hl)) (omega (arith, hm)),
-    )
-    (lane_added (get_or sums k 0) (get_or beyond k 0) (get_or lanes k 0) (get_or masks k 0) n m fb
-    fl
-    room low small either)
+module _ (sums low high : List ℕ) (hs : length sums ≡ 32) (hl : length low ≡ 32)
+    (hh : length high ≡ 32) where
+  pub both_long : length (both_added sums low high) ≡ 32
+  both_long = sum_long (zip2 (λ (a b : ℕ). (a + b) % 256) sums low) high (sum_long sums low hs hl) hh
+
+  both_lane : (k : ℕ) → k < 32 → get_or (both_added sums low high) k 0
+      ≡ (get_or sums k 0 + get_or low k 0 + get_or high k 0) % 256
+  both_lane k h =
+      sum_lane (zip2 (λ (a b : ℕ). (a + b) % 256) sums low) high k (sum_long sums low hs hl) hh h
+      ∙ ap (λ (n : ℕ). (n + get_or high k 0) % 256) (sum_lane sums low k hs hl h)
+      ∙ mod-add-mod (get_or sums k 0 + get_or low k 0) 256 (get_or high k 0)
+
+  pub both_below : (k : ℕ) → k < 32 → get_or (both_added sums low high) k 0 < 256
+  both_below k h = rw (both_lane k h) (omega arith)
+
+  pub word_lane : (all : List ℕ) → ((k : ℕ) → k < 32 → get_or low k 0 ≡ get_or all k 0)
+      → ((k : ℕ) → k < 32 → get_or high k 0 ≡ get_or all (32 + k) 0) → (k : ℕ) → k < 32
+      → get_or (both_added sums low high) k 0
+      ≡ (get_or sums k 0 + get_or all k 0 + get_or all (32 + k) 0) % 256
+  word_lane all of_low of_high k h = both_lane k h
+      ∙ ap₂ (λ (a b : ℕ). (get_or sums k 0 + a + b) % 256) (of_low k h) (of_high k h)
 
 -- ---- sums over no samples
 
-zero_lane : (k : ℕ) → k < 32 → lane_of (replicate 32 0) (replicate 32 0) k ≡ pos 0
-zero_lane k h = rw (get_or-replicate {A = ℕ} 32 k 0 0 h) refl
-
-pub none_low : (k : ℕ) → k < 32 → unsigned_abs (lane_of (replicate 32 0) (replicate 32 0) k) ≤ 0
-none_low k h = rw (zero_lane k h) (omega arith)
-
-pub none_of_lanes : sum_of_lanes (replicate 32 0) (replicate 32 0) ≡ pos 0
+pub none_of_lanes : (all turned : List ℕ) → ((k : ℕ) → k < 32 → get_or all k 0 ≡ 0)
+    → ((k : ℕ) → k < 32 → get_or turned k 0 ≡ 0) → sum_of_lanes all turned ≡ pos 0
 unfolding sum_of_lanes
-none_of_lanes = total-zero (lane_of (replicate 32 0) (replicate 32 0)) 32 zero_lane
+none_of_lanes all turned none nil = total-zero (lane_of all turned) 32 (λ k h.
+    rw (none k h, nil k h) refl)
+
+pub none_low : (all turned : List ℕ) → ((k : ℕ) → k < 32 → get_or all k 0 ≡ 0)
+    → ((k : ℕ) → k < 32 → get_or turned k 0 ≡ 0) → (n k : ℕ) → k < 32
+    → unsigned_abs (lane_of all turned k) ≤ n
+none_low all turned none nil n k h = rw (none k h, nil k h) (omega arith)

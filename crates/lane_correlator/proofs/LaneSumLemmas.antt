@@ -1,5 +1,5 @@
 -- The sum of all lanes, as it is computed.
-use Rattle.std.proofs.Common.{◌≡◌, ℕ, suc, ◌+◌, ◌-◌, ◌%◌, ◌<◌, ◌≤◌, refl, sym, ap}
+use Rattle.std.proofs.Common.{◌≡◌, ℕ, suc, ◌+◌, ◌-◌, ◌*◌, ◌%◌, ◌<◌, ◌≤◌, refl, sym, ap}
 use Rattle.std.proofs.Common.{◌∙◌}
 use Rattle.std.proofs.Common.{arith, ◌^◌, List, [], ◌∷◌, length, get_or, map, replicate, w32, to_z}
 use Rattle.std.proofs.Common.{of_z}
@@ -53,78 +53,88 @@ less a b = (a + (256 - b)) % 256
 abbrev pub add : ℕ → ℕ → ℕ
 add a b = (a + b) % 256
 
+-- less twice what turned products make
+abbrev pub twice : List ℕ → List ℕ → List ℕ
+twice all turned = zip2 less (zip2 less all turned) turned
+
 abbrev pub lanes : List ℕ → List ℕ → List ℕ
-lanes sums beyond = map (λ (n : ℕ). n) (zip2 add (zip2 less sums beyond) (replicate 32 128))
+lanes all_lanes turned = map (λ (n : ℕ). n) (zip2 add (twice all_lanes turned) (replicate 32 128))
 
 abbrev pub all : List ℕ → List ℕ → ℕ
-all sums beyond = fold_l (λ (s x : ℕ). (s + x) % 65536) 0 (lanes sums beyond)
+all all_lanes turned = fold_l (λ (s x : ℕ). (s + x) % 65536) 0 (lanes all_lanes turned)
 
-module _ (sums beyond : List ℕ) (hs : length sums ≡ 32) (hb : length beyond ≡ 32) where
-  less_long : length (zip2 less sums beyond) ≡ 32
-  less_long = length-zip2 less sums beyond (hs ∙ sym hb) ∙ hs
+module _ (all_lanes turned : List ℕ) (hs : length all_lanes ≡ 32) (hb : length turned ≡ 32) where
+  once_long : length (zip2 less all_lanes turned) ≡ 32
+  once_long = length-zip2 less all_lanes turned (hs ∙ sym hb) ∙ hs
 
-  all_long : length (zip2 add (zip2 less sums beyond) (replicate 32 128)) ≡ 32
-  all_long = length-zip2 add (zip2 less sums beyond) (replicate 32 128) less_long ∙ less_long
+  less_long : length (twice all_lanes turned) ≡ 32
+  less_long = length-zip2 less (zip2 less all_lanes turned) turned (once_long ∙ sym hb) ∙ once_long
 
-  lanes_long : length (lanes sums beyond) ≡ 32
-  lanes_long = length-map (zip2 add (zip2 less sums beyond) (replicate 32 128)) (λ (n : ℕ). n)
+  all_long : length (zip2 add (twice all_lanes turned) (replicate 32 128)) ≡ 32
+  all_long = length-zip2 add (twice all_lanes turned) (replicate 32 128) less_long ∙ less_long
+
+  lanes_long : length (lanes all_lanes turned) ≡ 32
+  lanes_long = length-map (zip2 add (twice all_lanes turned) (replicate 32 128)) (λ (n : ℕ). n)
       ∙ all_long
 
-  lane_is : (k : ℕ) → k < 32 → pos (get_or (lanes sums beyond) k 0) ≡ lane_of sums beyond k
+  lane_is : (k : ℕ) → k < 32 → pos (get_or (lanes all_lanes turned) k 0) ≡ lane_of all_lanes turned k
       +ℤ pos 128
   lane_is k h =
-      let there : get_or (lanes sums beyond) k 0
-      ≡ ((get_or sums k 0 + (256 - get_or beyond k 0)) % 256 + 128) % 256 =
-      get_or-map (λ (n : ℕ). n) (zip2 add (zip2 less sums beyond) (replicate 32 128)) k 0 0
+      let there : get_or (lanes all_lanes turned) k 0
+      ≡ (((get_or all_lanes k 0 + (256 - get_or turned k 0)) % 256 + (256 - get_or turned k 0)) % 256
+      + 128) % 256 =
+      get_or-map (λ (n : ℕ). n) (zip2 add (twice all_lanes turned) (replicate 32 128)) k 0 0
       (omega (arith, all_long))
-      ∙ get_or-zip2 add (zip2 less sums beyond) (replicate 32 128) k 0 0 0
+      ∙ get_or-zip2 add (twice all_lanes turned) (replicate 32 128) k 0 0 0
       (omega (arith, less_long)) h
       ∙ rw (
-        get_or-zip2 less sums beyond k 0 0 0 (omega (arith, hs)) (omega (arith, hb)),
+        get_or-zip2 less (zip2 less all_lanes turned) turned k 0 0 0 (omega (arith, once_long))
+            (omega (arith, hb)),
+        get_or-zip2 less all_lanes turned k 0 0 0 (omega (arith, hs)) (omega (arith, hb)),
         get_or-replicate {A = ℕ} 32 k 128 0 h,
       )
       refl
       in
-      rw there (shifted (get_or sums k 0) (get_or beyond k 0))
+      rw there (shifted (get_or all_lanes k 0) (get_or turned k 0))
     where
-      shifted : (s b : ℕ) → pos (((s + (256 - b)) % 256 + 128) % 256) ≡ signed_byte (s + (256 - b))
-          +ℤ pos 128
+      shifted : (s b : ℕ) → pos ((((s + (256 - b)) % 256 + (256 - b)) % 256 + 128) % 256)
+          ≡ signed_byte (s + 2 * (256 - b)) +ℤ pos 128
       shifted s b = omega (arith, ints)
 
-  total_is : pos (sum_l (lanes sums beyond)) ≡ sum_of_lanes sums beyond +ℤ pos 4096
+  total_is : pos (sum_l (lanes all_lanes turned)) ≡ sum_of_lanes all_lanes turned +ℤ pos 4096
   unfolding sum_of_lanes
   total_is =
-      sum_is_total (lanes sums beyond)
-      ∙ ap (total (λ k. pos (get_or (lanes sums beyond) k 0))) lanes_long
-      ∙ total-same (λ k. pos (get_or (lanes sums beyond) k 0))
-      (λ k. lane_of sums beyond k +ℤ pos 128) 32 lane_is
-      ∙ total-sum (lane_of sums beyond) (λ k. pos 128) 32
-      ∙ ap (λ (z : ℤ). total (lane_of sums beyond) 32 +ℤ z) fixed
+      sum_is_total (lanes all_lanes turned)
+      ∙ ap (total (λ k. pos (get_or (lanes all_lanes turned) k 0))) lanes_long
+      ∙ total-same (λ k. pos (get_or (lanes all_lanes turned) k 0))
+      (λ k. lane_of all_lanes turned k +ℤ pos 128) 32 lane_is
+      ∙ total-sum (lane_of all_lanes turned) (λ k. pos 128) 32
+      ∙ ap (λ (z : ℤ). total (lane_of all_lanes turned) 32 +ℤ z) fixed
 
-  pub small : unsigned_abs (sum_of_lanes sums beyond) ≤ 4096
+  pub small : unsigned_abs (sum_of_lanes all_lanes turned) ≤ 4096
   unfolding sum_of_lanes
   small = omega (
     arith,
     total-bound
-        (lane_of sums beyond) 128 32 (λ k h. each (get_or sums k 0) (get_or beyond k 0)),
+        (lane_of all_lanes turned) 128 32 (λ k h. each (get_or all_lanes k 0) (get_or turned k 0)),
   )
     where
-      each : (s b : ℕ) → unsigned_abs (signed_byte (s + (256 - b))) ≤ 128
+      each : (s b : ℕ) → unsigned_abs (signed_byte (s + 2 * (256 - b))) ≤ 128
       each s b = omega (arith, ints)
 
-  few : sum_l (lanes sums beyond) ≤ 8192
+  few : sum_l (lanes all_lanes turned) ≤ 8192
   few = omega (arith, ints, total_is, small)
 
-  pub folded : fold_l (λ (s x : ℕ). (s + x) % 65536) 0 (lanes sums beyond)
-      ≡ sum_l (lanes sums beyond)
-  folded = fold_wraps 0 (lanes sums beyond) (omega (arith, few)) ∙ omega arith
+  pub folded : fold_l (λ (s x : ℕ). (s + x) % 65536) 0 (lanes all_lanes turned)
+      ≡ sum_l (lanes all_lanes turned)
+  folded = fold_wraps 0 (lanes all_lanes turned) (omega (arith, few)) ∙ omega arith
 
-  pub folded_few : fold_l (λ (s x : ℕ). (s + x) % 65536) 0 (lanes sums beyond) ≤ 8192
+  pub folded_few : fold_l (λ (s x : ℕ). (s + x) % 65536) 0 (lanes all_lanes turned) ≤ 8192
   folded_few = rw folded few
 
-  pub value : pos (fold_l (λ (s x : ℕ). (s + x) % 65536) 0 (lanes sums beyond)) -ℤ pos 4096
-      ≡ sum_of_lanes sums beyond
-  value = rw folded (moved (sum_l (lanes sums beyond)) (sum_of_lanes sums beyond) total_is)
+  pub value : pos (fold_l (λ (s x : ℕ). (s + x) % 65536) 0 (lanes all_lanes turned)) -ℤ pos 4096
+      ≡ sum_of_lanes all_lanes turned
+  value = rw folded (moved (sum_l (lanes all_lanes turned)) (sum_of_lanes all_lanes turned) total_is)
     where
       moved : (n : ℕ) (t : ℤ) → pos n ≡ t +ℤ pos 4096 → pos n -ℤ pos 4096 ≡ t
       moved n t is = omega (arith, ints, is)

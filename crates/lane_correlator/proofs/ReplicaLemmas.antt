@@ -1,5 +1,5 @@
 -- Sums with a replica that is moved to the beginning of a word, and the replica of lanes.
-use Rattle.std.proofs.Common.{List, ◌≡◌, ℕ, ◌+◌, ◌-◌, ◌*◌, ◌/◌, ◌%◌, ◌<◌, ◌≤◌, refl, sym, get_or}
+use Rattle.std.proofs.Common.{List, ◌≡◌, ℕ, ◌+◌, ◌-◌, ◌*◌, ◌/◌, ◌%◌, ◌^◌, ◌<◌, ◌≤◌, refl, sym, get_or}
 use Rattle.std.proofs.Common.{ap, ◌∙◌, arith}
 use Rattle.std.specs.Prelude.{ℤ, pos, ◌*ℤ◌}
 use Rattle.definitions.specs.Samples.{Sample}
@@ -8,6 +8,7 @@ use Rattle.definitions.specs.Oscillators.{early_sign, prompt_sign, late_sign, co
 use Rattle.definitions.specs.Correlation.{Replica, Phases, replica_of, six_sums, in_phase_sum}
 use Rattle.definitions.specs.Correlation.{quadrature_sum, wiped_in_phase, wiped_quadrature}
 use Rattle.definitions.proofs.SumsLemmas.{total-same}
+use Rattle.bit_planes.specs.ByteLanes.{place_in}
 use Rattle.oscillators.specs.declared.code.ChipLanes.{ChipLanes}
 use Rattle.oscillators.specs.Lanes.{AreEighthLanes, AreChipLanes}
 use Rattle.oscillators.proofs.PlaneLemmas.{carrier_behind, code_behind}
@@ -35,15 +36,19 @@ pub lanes_of_placed : (prn : ℕ) (p : Phases) (first w carrier_at code_at : ℕ
     → AreOf (placed prn p (64 * first)) (64 * w) eighths chips
 unfolding placed
 lanes_of_placed prn p first w carrier_at code_at eighths chips h at at' is are = record {
-  cos = λ j l. sym (ap (λ (e : ℕ). get_or cosines e (pos 0)) (is.eighths j l)
+  cos = λ j l. sym (ap (λ (e : ℕ). get_or cosines e (pos 0)) (of_cycle j l)
       ∙ ap cosine (on_carrier j));
-  sin = λ j l. sym (ap (λ (e : ℕ). get_or sines e (pos 0)) (is.eighths j l)
+  sin = λ j l. sym (ap (λ (e : ℕ). get_or sines e (pos 0)) (of_cycle j l)
       ∙ ap sine (on_carrier j));
   early = λ j l. ap (early_sign prn) (sym (on_code j)) ∙ (are.early j l).value;
   prompt = λ j l. ap (prompt_sign prn) (sym (on_code j)) ∙ (are.prompt j l).value;
   late = λ j l. ap (late_sign prn) (sym (on_code j)) ∙ (are.late j l).value;
 }
   where
+    of_cycle : (j : ℕ) → j < 64
+        → place_in eighths j % 8 ≡ carrier_phase_after carrier_at p.carrier_step j / 2 ^ 29
+    of_cycle j l = omega (arith, is.eighths j l)
+
     place : (j : ℕ) → 64 * (w - first) + j ≡ 64 * w + j - 64 * first
     place j = omega arith
 
@@ -54,6 +59,13 @@ lanes_of_placed prn p first w carrier_at code_at eighths chips h at at' is are =
     on_code : (j : ℕ) → code_phase_after code_at p.code_step j ≡ code_phase_after p.code p.code_step
         (64 * w + j - 64 * first)
     on_code j = at' j ∙ ap (code_phase_after p.code p.code_step) (place j)
+
+-- its eighths are below 8
+pub eighths_below : (phase step : ℕ) (eighths : List ℕ) → AreEighthLanes phase step eighths
+    → (k : ℕ) → k < 64 → get_or eighths k 0 < 8
+eighths_below phase step eighths is k h =
+    let place : 63 - (63 - k) ≡ k = omega arith in
+    rw (← place) (rw (is.eighths (63 - k) (omega arith)) (omega arith))
 
 -- its chips are masks
 pub masks_of_chips : (prn phase step : ℕ) (chips : ChipLanes) → AreChipLanes prn phase step chips

@@ -1,16 +1,22 @@
 -- A word more in the lanes of a tally.
-use Rattle.std.proofs.Common.{◌≡◌, ℕ, ◌+◌, ◌*◌, ◌≤◌, ◌∙◌, refl, arith, List}
-use Rattle.std.specs.Prelude.{ℤ, pos, ◌+ℤ◌}
+use Rattle.std.proofs.Common.{◌≡◌, ℕ, ◌+◌, ◌*◌, ◌≤◌, ◌<◌, ◌∙◌, refl, arith, List}
+use Rattle.std.specs.Prelude.{ℤ, pos, ◌+ℤ◌, bit_and, slice_index, length}
 use Rattle.std.proofs.lemmas.Int.{ints}
 use Rattle.definitions.specs.Correlation.{Counts as DefinedCounts, sum_of_counts}
 use Rattle.oscillators.specs.declared.code.ChipLanes.{ChipLanes}
 use Rattle.lane_correlator.specs.Bytes.{AreAtMost, AreMasks}
-use Rattle.lane_correlator.specs.ByteSums.{IsAdded, AreLow, in_phase_of, quadrature_of}
+use Rattle.lane_correlator.specs.Bytes.{signed_total}
+use Rattle.lane_correlator.specs.ByteSums.{HasLanes}
+use Rattle.lane_correlator.specs.LaneTotals.{AreAdded, AreNone, AreLow, in_phase_of, quadrature_of}
 use Rattle.lane_correlator.specs.Chips.{lanes_in, AreMasksOfChips}
 use Rattle.lane_correlator.specs.Tallies.{word_sums, HasRoom}
 use Rattle.lane_correlator.specs.declared.tally.Tally.{Tally}
-use Rattle.lane_correlator.specs.declared.chip_sums.ChipSums.{ChipSums}
+use Rattle.lane_correlator.specs.declared.lane_sums.LaneSums.{LaneSums}
 use Rattle.lane_correlator.specs.declared.wiped.Wiped.{Wiped}
+use Rattle.lane_correlator.proofs.ByteLemmas.{none_of_lanes, none_low}
+use Rattle.lane_correlator.proofs.HalfLemmas.{word_added, word_low}
+use Rattle.oscillators.specs.Lanes.{HasAllLanes}
+use Rattle.std.specs.Simd.Lanes.{zip2}
 
 joined : (a b c : ℤ) → a +ℤ (b +ℤ c) ≡ (a +ℤ b) +ℤ c
 joined a b c = omega (arith, ints)
@@ -18,67 +24,103 @@ joined a b c = omega (arith, ints)
 nothing : (a : ℤ) → a +ℤ pos 0 ≡ a
 nothing a = omega (arith, ints)
 
+-- the products of a word with one kind of chips are added to both sums, and no lane is more than n
+-- in size then
+pub record IsAdded (n : ℕ) (i q masks : List ℕ) (a t a1 t1 : LaneSums) : Type 0 where
+  pub in_phase : in_phase_of a1 t1 ≡ in_phase_of a t +ℤ signed_total i masks
+  pub quadrature : quadrature_of a1 t1 ≡ quadrature_of a t +ℤ signed_total q masks
+  pub low : AreLow n a1 t1
+
+-- the lanes of a sum are bytes
+pub record AreBytes (s : LaneSums) : Type 0 where
+  pub in_phase : (k : ℕ) → k < 32 → slice_index s.i k < 256
+  pub quadrature : (k : ℕ) → k < 32 → slice_index s.q k < 256
+
+-- one kind of chips
+kind_added : (n m : ℕ) (p : Wiped) (masks : List ℕ) (a t a1 t1 : LaneSums) → HasLanes p
+    → length masks ≡ 64 → AreBytes t → n + 2 * m ≤ 127 → AreLow n a t → AreAtMost m p.i → AreAtMost m p.q
+    → AreMasks masks → AreAdded p.i p.q a a1
+    → AreAdded (zip2 bit_and p.i masks) (zip2 bit_and p.q masks) t t1
+    → IsAdded (n + 2 * m) p.i p.q masks a t a1 t1
+kind_added n m p masks a t a1 t1 long lm bytes room low si sq are all turned = record {
+  in_phase = word_added p.i masks a.i t.i a1.i t1.i n m long.in_phase lm bytes.in_phase room
+      low.in_phase si are all.in_phase turned.in_phase;
+  quadrature = word_added p.q masks a.q t.q a1.q t1.q n m long.quadrature lm bytes.quadrature
+      room low.quadrature sq are all.quadrature turned.quadrature;
+  low = record {
+    in_phase = word_low p.i masks a.i t.i a1.i t1.i n m long.in_phase lm bytes.in_phase room
+        low.in_phase si are all.in_phase turned.in_phase;
+    quadrature = word_low p.q masks a.q t.q a1.q t1.q n m long.quadrature lm bytes.quadrature
+        room low.quadrature sq are all.quadrature turned.quadrature;
+  };
+}
+
 -- three kinds of chips
-pub lanes_added : (n : ℕ) (p : Wiped) (chips : ChipLanes) (e f g e1 f1 g1 : ChipSums)
-    (counts : DefinedCounts) → IsAdded n p.i p.q chips.early e e1
-    → IsAdded n p.i p.q chips.prompt f f1 → IsAdded n p.i p.q chips.late g g1
-    → sum_of_counts counts (lanes_in e1 f1 g1)
-    ≡ sum_of_counts (sum_of_counts counts (lanes_in e f g)) (word_sums p chips)
-lanes_added n p chips e f g e1 f1 g1 counts early prompt late = rw (
+pub lanes_added : (n : ℕ) (p : Wiped) (chips : ChipLanes) (a e f g a1 e1 f1 g1 : LaneSums)
+    (counts : DefinedCounts) → IsAdded n p.i p.q chips.early a e a1 e1
+    → IsAdded n p.i p.q chips.prompt a f a1 f1 → IsAdded n p.i p.q chips.late a g a1 g1
+    → sum_of_counts counts (lanes_in a1 e1 f1 g1)
+    ≡ sum_of_counts (sum_of_counts counts (lanes_in a e f g)) (word_sums p chips)
+lanes_added n p chips a e f g a1 e1 f1 g1 counts early prompt late = rw (
   early.in_phase,
   early.quadrature,
   prompt.in_phase,
   prompt.quadrature,
   late.in_phase,
   late.quadrature,
-  joined counts.ie (in_phase_of e),
-  joined counts.qe (quadrature_of e),
-  joined counts.ip (in_phase_of f),
-  joined counts.qp (quadrature_of f),
-  joined counts.il (in_phase_of g),
-  joined counts.ql (quadrature_of g),
+  joined counts.ie (in_phase_of a e),
+  joined counts.qe (quadrature_of a e),
+  joined counts.ip (in_phase_of a f),
+  joined counts.qp (quadrature_of a f),
+  joined counts.il (in_phase_of a g),
+  joined counts.ql (quadrature_of a g),
 ) refl
 
--- what `ChipSums::add` promises
-abbrev pub Adds : List ℕ → List ℕ → List ℕ → ChipSums → ChipSums → Type 0
-Adds i q chips s t = (n m : ℕ) → n + 2 * m ≤ 127 → AreLow n s → AreAtMost m i → AreAtMost m q
-    → AreMasks chips → IsAdded (n + 2 * m) i q chips s t
+pub record AreAllAdded (most : ℕ) (t : Tally) (p : Wiped) (chips : ChipLanes)
+    (a e f g : LaneSums) : Type 0 where
+  pub early : IsAdded (t.filled + 2 * most) p.i p.q chips.early t.all t.early a e
+  pub prompt : IsAdded (t.filled + 2 * most) p.i p.q chips.prompt t.all t.prompt a f
+  pub late : IsAdded (t.filled + 2 * most) p.i p.q chips.late t.all t.late a g
 
-pub record AreAllAdded (most : ℕ) (t : Tally) (p : Wiped) (chips : ChipLanes) (e f g : ChipSums)
-    : Type 0 where
-  pub early : IsAdded (t.filled + 2 * most) p.i p.q chips.early t.early e
-  pub prompt : IsAdded (t.filled + 2 * most) p.i p.q chips.prompt t.prompt f
-  pub late : IsAdded (t.filled + 2 * most) p.i p.q chips.late t.late g
+-- what `LaneSums::add` promises of the products that masks leave
+abbrev pub AddsMasked : Wiped → List ℕ → LaneSums → LaneSums → Type 0
+AddsMasked p masks s t = AreAdded (zip2 bit_and p.i masks) (zip2 bit_and p.q masks) s t
 
-pub all_added : (most : ℕ) (t : Tally) (p : Wiped) (chips : ChipLanes) (e f g : ChipSums)
-    → HasRoom most t → AreAtMost most p.i → AreAtMost most p.q → AreMasksOfChips chips
-    → Adds p.i p.q chips.early t.early e → Adds p.i p.q chips.prompt t.prompt f
-    → Adds p.i p.q chips.late t.late g → AreAllAdded most t p chips e f g
-all_added most t p chips e f g room small_i small_q masks early prompt late = record {
-  early = early t.filled most room.filled room.early small_i small_q masks.early;
-  prompt = prompt t.filled most room.filled room.prompt small_i small_q masks.prompt;
-  late = late t.filled most room.filled room.late small_i small_q masks.late;
+bytes_in : (s : LaneSums) → AreBytes s
+bytes_in s = record { in_phase = s.bytes_i; quadrature = s.bytes_q }
+
+pub all_added : (most : ℕ) (t : Tally) (p : Wiped) (chips : ChipLanes) (a e f g : LaneSums)
+    → HasLanes p → HasAllLanes chips → HasRoom most t → AreAtMost most p.i
+    → AreAtMost most p.q → AreMasksOfChips chips → AreAdded p.i p.q t.all a
+    → AddsMasked p chips.early t.early e → AddsMasked p chips.prompt t.prompt f
+    → AddsMasked p chips.late t.late g → AreAllAdded most t p chips a e f g
+all_added most t p chips a e f g long lanes room si sq masks all early prompt late = record {
+  early = kind_added t.filled most p chips.early t.all t.early a e long lanes.early
+      (bytes_in t.early) room.filled room.early si sq masks.early all early;
+  prompt = kind_added t.filled most p chips.prompt t.all t.prompt a f long lanes.prompt
+      (bytes_in t.prompt) room.filled room.prompt si sq masks.prompt all prompt;
+  late = kind_added t.filled most p chips.late t.all t.late a g long lanes.late
+      (bytes_in t.late) room.filled room.late si sq masks.late all late;
 }
 
-pub sums_added : (most : ℕ) (t : Tally) (p : Wiped) (chips : ChipLanes) (e f g : ChipSums)
-    (counts : DefinedCounts) → AreAllAdded most t p chips e f g
-    → sum_of_counts counts (lanes_in e f g)
-    ≡ sum_of_counts (sum_of_counts counts (lanes_in t.early t.prompt t.late)) (word_sums p chips)
-sums_added most t p chips e f g counts a = lanes_added (t.filled + 2 * most) p chips t.early
-    t.prompt t.late e f g counts a.early a.prompt a.late
+pub sums_added : (most : ℕ) (t : Tally) (p : Wiped) (chips : ChipLanes) (a e f g : LaneSums)
+    (counts : DefinedCounts) → AreAllAdded most t p chips a e f g
+    → sum_of_counts counts (lanes_in a e f g)
+    ≡ sum_of_counts (sum_of_counts counts (lanes_in t.all t.early t.prompt t.late))
+    (word_sums p chips)
+sums_added most t p chips a e f g counts are = lanes_added (t.filled + 2 * most) p chips t.all
+    t.early t.prompt t.late a e f g counts are.early are.prompt are.late
 
 -- lanes with nothing in them
-pub emptied : (counts : DefinedCounts) (e f g : ChipSums) → in_phase_of e ≡ pos 0
-    → quadrature_of e ≡ pos 0 → in_phase_of f ≡ pos 0 → quadrature_of f ≡ pos 0
-    → in_phase_of g ≡ pos 0 → quadrature_of g ≡ pos 0
-    → sum_of_counts counts (lanes_in e f g) ≡ counts
-emptied counts e f g ie qe ip qp il ql = rw (
-  ie,
-  qe,
-  ip,
-  qp,
-  il,
-  ql,
+pub emptied : (counts : DefinedCounts) (a e f g : LaneSums) → AreNone a → AreNone e → AreNone f
+    → AreNone g → sum_of_counts counts (lanes_in a e f g) ≡ counts
+emptied counts a e f g all early prompt late = rw (
+  none_of_lanes a.i e.i all.in_phase early.in_phase,
+  none_of_lanes a.q e.q all.quadrature early.quadrature,
+  none_of_lanes a.i f.i all.in_phase prompt.in_phase,
+  none_of_lanes a.q f.q all.quadrature prompt.quadrature,
+  none_of_lanes a.i g.i all.in_phase late.in_phase,
+  none_of_lanes a.q g.q all.quadrature late.quadrature,
   nothing counts.ie,
   nothing counts.qe,
   nothing counts.ip,
@@ -87,11 +129,15 @@ emptied counts e f g ie qe ip qp il ql = rw (
   nothing counts.ql,
 ) refl
 
+pub low_none : (n : ℕ) (a t : LaneSums) → AreNone a → AreNone t → AreLow n a t
+low_none n a t all turned = record {
+  in_phase = none_low a.i t.i all.in_phase turned.in_phase n;
+  quadrature = none_low a.q t.q all.quadrature turned.quadrature n;
+}
+
 -- the sums of full lanes go into counts, and the lanes are empty then
-pub emptied_into : (before lanes after all : DefinedCounts) (e f g : ChipSums)
-    → in_phase_of e ≡ pos 0 → quadrature_of e ≡ pos 0 → in_phase_of f ≡ pos 0
-    → quadrature_of f ≡ pos 0 → in_phase_of g ≡ pos 0 → quadrature_of g ≡ pos 0
-    → after ≡ sum_of_counts before lanes → sum_of_counts before lanes ≡ all
-    → sum_of_counts after (lanes_in e f g) ≡ all
-emptied_into before lanes after all e f g ie qe ip qp il ql is word =
-    emptied after e f g ie qe ip qp il ql ∙ is ∙ word
+pub emptied_into : (before lanes after all : DefinedCounts) (a e f g : LaneSums) → AreNone a
+    → AreNone e → AreNone f → AreNone g → after ≡ sum_of_counts before lanes
+    → sum_of_counts before lanes ≡ all → sum_of_counts after (lanes_in a e f g) ≡ all
+emptied_into before lanes after all a e f g na ne nf ng is word =
+    emptied after a e f g na ne nf ng ∙ is ∙ word

@@ -21,6 +21,16 @@ pub record IsTurned (eighths codes at : List ℕ) : Type 0 where
   pub turned : (k : ℕ) → k < 64 → get_or at k 0 ≡ bit_xor (get_or eighths k 0 % 8) (get_or codes k
       0)
 
+-- eighths below 8 are those of a cycle
+pub turned_in_cycle : (eighths codes at : List ℕ) → ((k : ℕ) → k < 64 → get_or eighths k 0 < 8)
+    → ((k : ℕ) → k < 64 → get_or at k 0 ≡ bit_xor (get_or eighths k 0) (get_or codes k 0))
+    → IsTurned eighths codes at
+turned_in_cycle eighths codes at cycle is = record {
+  turned = λ k h.
+      let same : get_or eighths k 0 ≡ get_or eighths k 0 % 8 = omega (arith, cycle k h) in
+      is k h ∙ ap (λ (e : ℕ). bit_xor e (get_or codes k 0)) same;
+}
+
 abbrev pub AreLow : List ℕ → Type 0
 AreLow lanes = (k : ℕ) → k < 64 → unsigned_abs (signed_byte (get_or lanes k 0)) ≤ 6
 

@@ -67,9 +67,10 @@ unfoldable pub signed_total : List ℕ → List ℕ → ℤ
 signed_total lanes masks =
     total (λ j. signed_byte (place_in lanes j) *ℤ mask_sign (place_in masks j)) 64
 
--- a lane of a sum, less what masks added to it beyond
+-- a lane of a sum with signs: what all products make of it, less twice those whose sign is -1
 abbrev pub lane_of : List ℕ → List ℕ → ℕ → ℤ
-lane_of sums beyond k = signed_byte (slice_index sums k + (256 - slice_index beyond k))
+lane_of all turned k =
+    signed_byte (slice_index all k + 2 * (256 - slice_index turned k))
 
 unfoldable pub sum_of_lanes : List ℕ → List ℕ → ℤ
-sum_of_lanes sums beyond = total (lane_of sums beyond) 32
+sum_of_lanes all turned = total (lane_of all turned) 32

@@ -4,14 +4,14 @@ use Rattle.definitions.specs.Correlation.{Counts, sum_of_counts}
 use Rattle.oscillators.specs.declared.code.ChipLanes.{ChipLanes}
 use Rattle.lane_correlator.specs.Bytes.{signed_total}
 use Rattle.lane_correlator.specs.Counting.{counts_in, AreWithin}
-use Rattle.lane_correlator.specs.ByteSums.{AreLow}
+use Rattle.lane_correlator.specs.LaneTotals.{AreLow}
 use Rattle.lane_correlator.specs.Chips.{lanes_in}
 use Rattle.lane_correlator.specs.declared.tally.Tally.{Tally}
 use Rattle.lane_correlator.specs.declared.wiped.Wiped.{Wiped}
 
 -- the sums of the words before, and those of the lanes
 abbrev pub tally_in : Tally → Counts
-tally_in t = sum_of_counts (counts_in t.counts) (lanes_in t.early t.prompt t.late)
+tally_in t = sum_of_counts (counts_in t.counts) (lanes_in t.all t.early t.prompt t.late)
 
 -- the sums of the words before are n at most in size
 abbrev pub AreFew : ℕ → Tally → Type 0
@@ -32,6 +32,6 @@ word_sums p chips = record {
 -- size
 pub record HasRoom (most : ℕ) (t : Tally) : Type 0 where
   pub filled : t.filled + 2 * most ≤ 127
-  pub early : AreLow t.filled t.early
-  pub prompt : AreLow t.filled t.prompt
-  pub late : AreLow t.filled t.late
+  pub early : AreLow t.filled t.all t.early
+  pub prompt : AreLow t.filled t.all t.prompt
+  pub late : AreLow t.filled t.all t.late

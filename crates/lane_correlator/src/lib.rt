@@ -22,8 +22,8 @@
 //!     let counts = replica_sums(&run, 0, run.len(), &carrier, &code, &mut CodeBook::new(), prn);
 #![tactic(auto)]
 
-mod chip_sums;
 mod counts;
+mod lane_sums;
 mod tally;
 mod wiped;
 mod with_replica;

@@ -7,11 +7,11 @@ ghost use Rattle.lane_correlator.specs.Bytes.{AreAtMost};
 ghost use Rattle.lane_correlator.specs.ByteSums.{HasLanes};
 ghost use Rattle.lane_correlator.specs.Chips.{AreMasksOfChips, lanes_in};
 ghost use Rattle.lane_correlator.specs.Counting.{counts_in, AreWithin};
-ghost use Rattle.lane_correlator.specs.declared.chip_sums.TheConstants.{MOST_OF_LANES};
+ghost use Rattle.lane_correlator.specs.declared.lane_sums.TheConstants.{MOST_OF_LANES};
 ghost use Rattle.lane_correlator.specs.declared.tally.TheConstants.{MOST_COUNTS, MOST_OF_LANE};
 
-use crate::chip_sums::ChipSums;
 use crate::counts::Counts;
+use crate::lane_sums::LaneSums;
 use crate::wiped::Wiped;
 use oscillators::ChipLanes;
 
@@ -23,12 +23,19 @@ pub(crate) const MOST_COUNTS: u32 = 1_000_000;
 
 /// Six sums while they are added up: in lanes of bytes, and those that lanes had before they were
 /// emptied.
+///
+/// A sum with chips is that of all products, less twice those whose chips are -1.
 #[derive(Clone, Copy, Debug)]
 pub(crate) struct Tally {
-    early: ChipSums,
-    prompt: ChipSums,
-    late: ChipSums,
-    /// The most that a lane can have come to.
+    /// All products.
+    all: LaneSums,
+    /// Those whose early chips are -1.
+    early: LaneSums,
+    /// Those whose prompt chips are -1.
+    prompt: LaneSums,
+    /// Those whose late chips are -1.
+    late: LaneSums,
+    /// The most that a lane of a sum with chips can have come to.
     filled: u32,
     /// The sums of the words that were in the lanes before.
     counts: Counts,
@@ -45,9 +52,10 @@ impl Tally {
         ensures room { (most : ℕ) → 2 * most ≤ MOST_OF_LANE → HasRoom most result }
     {
         Tally {
-            early: ChipSums::none(),
-            prompt: ChipSums::none(),
-            late: ChipSums::none(),
+            all: LaneSums::none(),
+            early: LaneSums::none(),
+            prompt: LaneSums::none(),
+            late: LaneSums::none(),
             filled: 0,
             counts: Counts::NONE,
         }
@@ -69,13 +77,17 @@ impl Tally {
         ensures few { (n : ℕ) → AreFew n self → AreFew (n + MOST_OF_LANES) result }
         ensures room { HasRoom most result }
     {
-        let early = self.early.add(wiped.i, wiped.q, chips.early);
-        let prompt = self.prompt.add(wiped.i, wiped.q, chips.prompt);
-        let late = self.late.add(wiped.i, wiped.q, chips.late);
+        let all = self.all.add(wiped.i, wiped.q);
+        let early = self.early.add(wiped.i & chips.early, wiped.q & chips.early);
+        let prompt = self
+            .prompt
+            .add(wiped.i & chips.prompt, wiped.q & chips.prompt);
+        let late = self.late.add(wiped.i & chips.late, wiped.q & chips.late);
         let filled = self.filled + 2 * most;
         let has_room = filled + 2 * most <= MOST_OF_LANE;
         if has_room {
             Tally {
+                all,
                 early,
                 prompt,
                 late,
@@ -83,11 +95,12 @@ impl Tally {
                 counts: self.counts,
             }
         } else {
-            let counts = self.counts.add(&counts_of(&early, &prompt, &late));
+            let counts = self.counts.add(&counts_of(&all, &early, &prompt, &late));
             Tally {
-                early: ChipSums::none(),
-                prompt: ChipSums::none(),
-                late: ChipSums::none(),
+                all: LaneSums::none(),
+                early: LaneSums::none(),
+                prompt: LaneSums::none(),
+                late: LaneSums::none(),
                 filled: 0,
                 counts,
             }
@@ -100,22 +113,22 @@ impl Tally {
         requires { AreFew MOST_COUNTS self.now }
         ensures { counts_in result ≡ tally_in self.now }
     {
-        self.counts
-            .add(&counts_of(&self.early, &self.prompt, &self.late))
+        let lanes = counts_of(&self.all, &self.early, &self.prompt, &self.late);
+        self.counts.add(&lanes)
     }
 }
 
 /// The sums that lanes have.
-fn counts_of(early: &ChipSums, prompt: &ChipSums, late: &ChipSums) -> Counts
-    ensures sums { counts_in result ≡ lanes_in early.now prompt.now late.now }
+fn counts_of(all: &LaneSums, early: &LaneSums, prompt: &LaneSums, late: &LaneSums) -> Counts
+    ensures sums { counts_in result ≡ lanes_in all.now early.now prompt.now late.now }
     ensures small { AreWithin MOST_OF_LANES (counts_in result) }
 {
     Counts {
-        ie: early.in_phase(),
-        qe: early.quadrature(),
-        ip: prompt.in_phase(),
-        qp: prompt.quadrature(),
-        il: late.in_phase(),
-        ql: late.quadrature(),
+        ie: all.in_phase(early),
+        qe: all.quadrature(early),
+        ip: all.in_phase(prompt),
+        qp: all.quadrature(prompt),
+        il: all.in_phase(late),
+        ql: all.quadrature(late),
     }
 }

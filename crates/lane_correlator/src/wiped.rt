@@ -64,11 +64,11 @@ impl Wiped {
     ghost use Rattle.lane_correlator.specs.Bytes.{IsWithin};
 
     /// Samples times the conjugate of a carrier, by the codes of their parts and the eighths of a
-    /// cycle that the carrier lies in, whose numbers count modulo 8. Real samples have no codes in
-    /// quadrature.
+    /// cycle that the carrier lies in, 0 to 7. Real samples have no codes in quadrature.
     #[inline(always)]
     pub(crate) fn new(eighths: u8x64, codes: u8x64, codes_q: Option<[u8; WORD_PLACES]>) -> Wiped
         requires eighths { length eighths ≡ WORD_PLACES }
+        requires cycle { (k : ℕ) → k < WORD_PLACES → slice_index eighths k < 8 }
         requires codes { AreNibbles codes }
         requires codes_q { IfSome codes_q AreNibbles }
         ensures long { HasLanes result }
@@ -101,7 +101,7 @@ impl Wiped {
         ensures in_phase { IsWithin first end self.i result.i }
         ensures quadrature { IsWithin first end self.q result.q }
     {
-        if first == 0 && end == WORD_PLACES {
+        if end - first == WORD_PLACES {
             return self;
         }
         let inside = mask_of_places(first, end);
@@ -116,12 +116,13 @@ impl Wiped {
 /// sample above them.
 fn turned(eighths: u8x64, codes: u8x64) -> u8x64
     requires eighths { length eighths ≡ WORD_PLACES }
+    requires cycle { (k : ℕ) → k < WORD_PLACES → slice_index eighths k < 8 }
     requires codes { AreNibbles codes }
     ensures few { AreNibbles result }
     ensures turned { (k : ℕ) → k < WORD_PLACES → slice_index result k
-        ≡ bit_xor (slice_index eighths k % 8) (slice_index codes k) }
+        ≡ bit_xor (slice_index eighths k) (slice_index codes k) }
 {
-    (eighths & u8x64::splat(7)) ^ codes
+    eighths ^ codes
 }
 
 /// Entries of a table of products, by the numbers of lanes. The table stands four times.

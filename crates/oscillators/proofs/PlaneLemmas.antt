@@ -67,20 +67,6 @@ carrier_turned phase step =
     let way : step * 64 ≡ 64 * step = omega arith in
     add-mod-mod phase (step * 64) (2 ^ 32) ∙ ap (λ (n : ℕ). (phase + n) % 2 ^ 32) way
 
--- the lane that counts eighths, modulo 8
-pub eighth_of_lane : (n : ℕ) → n / 536870912 % 256 % 8 ≡ n % 4294967296 / 536870912
-eighth_of_lane n = omega arith
-
--- the bits of an eighth are those of a lane
-pub half_bit : (lane eighth : ℕ) → lane % 8 ≡ eighth → bit_at lane 2 ≡ bit_at eighth 2
-half_bit lane eighth e = omega arith
-
-pub quarter_bit : (lane eighth : ℕ) → lane % 8 ≡ eighth → bit_at lane 1 ≡ bit_at eighth 1
-quarter_bit lane eighth e = omega arith
-
-pub eighth_bit : (lane eighth : ℕ) → lane % 8 ≡ eighth → bit_at lane 0 ≡ bit_at eighth 0
-eighth_bit lane eighth e = omega arith
-
 -- cosine and sine by the bits of an eighth
 pub cosine_by_bits : (p : ℕ) → p < 2 ^ 32 → signed (cos_sign_in (p / 2 ^ 29))
     (1 - sin_size_in (p / 2 ^ 29)) ≡ cosine p

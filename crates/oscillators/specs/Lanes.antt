@@ -6,10 +6,10 @@ use Rattle.bit_planes.specs.ByteLanes.{place_in}
 use Rattle.oscillators.specs.CarrierWords.{eighth_after}
 use Rattle.oscillators.specs.declared.code.ChipLanes.{ChipLanes}
 
--- the numbers of the eighths of a cycle from a phase on, modulo 8
+-- the numbers of the eighths of a cycle from a phase on
 pub record AreEighthLanes (phase step : ℕ) (lanes : List ℕ) : Type 0 where
   pub long : length lanes ≡ 64
-  pub eighths : (j : ℕ) → j < 64 → place_in lanes j % 8 ≡ eighth_after phase step j
+  pub eighths : (j : ℕ) → j < 64 → place_in lanes j ≡ eighth_after phase step j
 
 -- a mask for a sign: 0 for +1, and 255 for -1
 pub record IsMask (sign : ℤ) (mask : ℕ) : Type 0 where

@@ -1,6 +1,7 @@
 pub mod Views
 pub mod Limits
 pub mod Halves
+pub mod Ways
 pub mod Strides
 pub mod Signs
 pub mod Eighths

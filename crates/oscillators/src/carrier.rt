@@ -11,7 +11,7 @@ ghost use Rattle.oscillators.specs.CarrierWords.{AreEighths};
 ghost use Rattle.oscillators.specs.Lanes.{AreEighthLanes};
 ghost use Rattle.bit_planes.specs.declared.plane.TheConstants.{PLACES, WORD_PLACES};
 
-use crate::strides::{EIGHTH, Strides};
+use crate::carrier_strides::CarrierStrides;
 use bit_planes::{Plane, bit_of_each};
 use std::marker::Model;
 use std::simd::prelude::*;
@@ -23,19 +23,18 @@ use std::simd::prelude::*;
 pub struct CarrierOsc {
     phase: u32,
     step: u32,
-    strides: Strides,
+    strides: CarrierStrides,
 }
 
 impl Model for CarrierOsc {
     ghost use Rattle.oscillators.specs.Views.{Oscillation};
-    ghost use Rattle.oscillators.specs.Strides.{IsStrides};
-    ghost use Rattle.oscillators.specs.declared.strides.TheConstants.{EIGHTH};
+    ghost use Rattle.oscillators.specs.Strides.{IsCarrierStrides};
 
     ghost Value = { Oscillation };
 
     ghost view = { λ o. record { phase = o.phase; step = o.step } };
 
-    ghost invariant = { λ o. IsStrides o.step EIGHTH o.strides };
+    ghost invariant = { λ o. IsCarrierStrides o.step o.strides };
 }
 
 impl CarrierOsc {
@@ -47,7 +46,7 @@ impl CarrierOsc {
         CarrierOsc {
             phase: 0,
             step,
-            strides: Strides::new(step, EIGHTH),
+            strides: CarrierStrides::new(step),
         }
     }
 
@@ -79,12 +78,11 @@ impl CarrierOsc {
         ensures { self.new ≡ record self.old { step = step } }
     {
         self.step = step;
-        self.strides = Strides::new(step, EIGHTH);
+        self.strides = CarrierStrides::new(step);
     }
 
     /// The eighths of a cycle in which this sample and the 63 that follow lie, by their numbers, 0
-    /// to 7. Lane k stands for sample 63 - k. Only the low three bits of a lane count. The
-    /// oscillator goes on by 64 samples.
+    /// to 7. Lane k stands for sample 63 - k. The oscillator goes on by 64 samples.
     #[inline(always)]
     pub fn next_eighths(&mut self) -> u8x64
         ensures eighths { AreEighthLanes self.old.phase self.old.step result }
@@ -92,7 +90,7 @@ impl CarrierOsc {
           phase = carrier_phase_after self.old.phase self.old.step WORD_PLACES;
         } }
     {
-        let eighths = self.strides.cells(self.phase, EIGHTH);
+        let eighths = self.strides.eighths(self.phase);
         self.phase = self.phase.wrapping_add(self.step.wrapping_mul(64));
         eighths
     }

@@ -1,15 +1,18 @@
-//! Which of 64 lanes have less room than a part.
+//! What 64 lanes carry out of their lower halves.
 
-ghost use Rattle.std.specs.Prelude.{◌≡◌, ◌<◌, ◌^◌, ℕ, length, slice_index, cond, ltb};
+ghost use Rattle.std.specs.Prelude.{◌≡◌, ◌≤◌, ◌<◌, ℕ, length, slice_index, cond, ltb};
 ghost use Rattle.bit_planes.specs.declared.plane.TheConstants.{WORD_PLACES};
-ghost use Rattle.oscillators.specs.Halves.{number_in};
+ghost use Rattle.oscillators.specs.Halves.{signed_half, AreRooms};
 ghost use Rattle.oscillators.specs.declared.carries.TheConstants.{HALF};
 
 use bit_planes::WORD_PLACES;
 use std::simd::prelude::*;
 
-/// What both halves of a number below 2^30 are below: each has fifteen bits.
-pub(crate) const HALF: u32 = 1 << 15;
+/// What both halves of a number of 32 bits are below.
+pub(crate) const HALF: u32 = 1 << 16;
+
+/// What a half is lessened by in its lane, so that halves are compared with their signs.
+const MIDDLE: i32 = 1 << 15;
 
 /// Where the halves of each lane's number stand. AVX2 packs lanes of sixteen bits to bytes eight at
 /// a time, from two vectors in turn. So these come out in order.
@@ -19,25 +22,25 @@ pub(crate) const ORDER: [usize; WORD_PLACES] = [
     42, 43, 44, 45, 46, 47, 56, 57, 58, 59, 60, 61, 62, 63,
 ];
 
-/// 1 in each lane whose room is less than a part, by halves of both. What the lower halves carry is
-/// taken from the upper ones of the room.
-pub(crate) fn carries(part: u32, high: u16x64, low: u16x64) -> u8x64
-    requires part { part < 2 ^ 30 }
-    requires long_high { length high ≡ WORD_PLACES }
-    requires long_low { length low ≡ WORD_PLACES }
-    requires high { (k : ℕ) → k < WORD_PLACES → slice_index high k < HALF }
-    requires low { (k : ℕ) → k < WORD_PLACES → slice_index low k < HALF }
-    ensures long { length result ≡ WORD_PLACES }
-    ensures carried { (k : ℕ) → k < WORD_PLACES
-        → slice_index result k ≡ cond (ltb (number_in high low k) part) 1 0 }
+/// A half as it stands in a lane: less 2^15.
+pub(crate) fn signed_half(half: u32) -> i16
+    requires { half < HALF }
+    ensures { result ≡ signed_half half }
 {
-    let carried = i16x64::splat((part % HALF) as i16)
-        .simd_gt(low.cast::<i16>())
-        .select(i16x64::splat(1), i16x64::splat(0));
-    let left = high.cast::<i16>() - carried;
-    i16x64::splat((part / HALF) as i16)
-        .simd_gt(left)
+    (half as i32 - MIDDLE) as i16
+}
+
+/// 1 in each lane whose room is less than a lower half, and 0 in the others. The rooms are halves
+/// too.
+pub(crate) fn carries(low: u32, rooms: i16x64) -> u16x64
+    requires low { low < HALF }
+    requires rooms { length rooms ≡ WORD_PLACES }
+    ensures long { length result ≡ WORD_PLACES }
+    ensures few { (k : ℕ) → k < WORD_PLACES → slice_index result k ≤ 1 }
+    ensures carried { (room : ℕ → ℕ) → AreRooms room rooms → (k : ℕ) → k < WORD_PLACES
+        → slice_index result k ≡ cond (ltb (room k) low) 1 0 }
+{
+    i16x64::splat(signed_half(low))
+        .simd_gt(rooms)
         .select(u16x64::splat(1), u16x64::splat(0))
-        .cast::<u8>()
-        .swizzle(ORDER)
 }

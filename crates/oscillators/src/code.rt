@@ -1,7 +1,7 @@
 //! The oscillator at the rate of the code.
 
 ghost use Rattle.std.specs.Prelude.{◌≡◌, ◌+◌, ◌-◌, ◌*◌, ◌/◌, ◌%◌, ◌<◌, ◌≤◌, ◌^◌, ℕ, ℤ, List};
-ghost use Rattle.std.specs.Prelude.{pos};
+ghost use Rattle.std.specs.Prelude.{pos, nat_le};
 ghost use Rattle.std.specs.Prelude.{map, take, length, get_or, unsigned_abs, All};
 ghost use Rattle.std.specs.List.{range_with_len};
 ghost use Rattle.definitions.specs.Oscillators.{code_cycle, code_phase_after, early_sign};
@@ -14,12 +14,14 @@ ghost use Rattle.oscillators.specs.ChipWords.{AreChipBits, AreChipMasks};
 ghost use Rattle.oscillators.specs.Lanes.{AreChipLanes, HasAllLanes};
 ghost use Rattle.bit_planes.specs.declared.plane.TheConstants.{PLACES, WORD_PLACES};
 ghost use Rattle.ca_codes.specs.declared.book.TheConstants.{CODE_CHIPS};
-ghost use Rattle.oscillators.specs.declared.strides.TheConstants.{HALF_CHIP};
+ghost use Rattle.ca_codes.specs.Filled.{IsTable};
+ghost use Rattle.oscillators.specs.declared.code.TheConstants.{MOST_WINDOW_STEP};
+ghost use Rattle.oscillators.specs.declared.code_strides.TheConstants.{HALF_CHIP};
 
+use crate::code_strides::{CodeStrides, HALF_CHIP};
 use crate::half_chip::HalfChip;
-use crate::strides::{HALF_CHIP, QUARTER_CHIP, Strides, quarters};
-use bit_planes::{Plane, SECOND_BIT, TOP_BIT, above_last_of_sixteen, bit_of_each, mask_of_each};
-use ca_codes::{CODE_CHIPS, CodeBook, Prn, look_up};
+use bit_planes::{Plane, SECOND_BIT, TOP_BIT, WORD_PLACES, bit_of_each, mask_of_each};
+use ca_codes::{CODE_CHIPS, CodeBook, Prn, TABLE, look_up};
 use std::marker::Model;
 use std::simd::prelude::*;
 
@@ -29,6 +31,10 @@ const CODE_CYCLE: u64 = (CODE_CHIPS as u64) << 32;
 /// A chip, in 2^-32 chip.
 const CHIP: u64 = 1 << 32;
 
+/// The greatest step with which no sixteen samples take more than sixteen chips, wherever their
+/// window begins, in 2^-32 chip: 14/15 of a chip.
+pub const MOST_WINDOW_STEP: u32 = 0xeeee_eeee;
+
 /// An oscillator at the code's rate. Its phase is in 2^-32 chip, from 0 to below the cycle of
 /// 1,023 * 2^32 (IS-GPS-200, section 3.3.2.3: the code has 1,023 chips); its step is what a sample
 /// adds to it. The fixed-point form is this project's own.
@@ -36,21 +42,20 @@ const CHIP: u64 = 1 << 32;
 pub struct CodeOsc {
     phase: u64,
     step: u32,
-    strides: Strides,
+    strides: CodeStrides,
 }
 
 impl Model for CodeOsc {
     ghost use Rattle.std.specs.Prelude.{◌<◌};
     ghost use Rattle.definitions.specs.Oscillators.{code_cycle};
     ghost use Rattle.oscillators.specs.Views.{Oscillation};
-    ghost use Rattle.oscillators.specs.Strides.{IsStrides};
-    ghost use Rattle.oscillators.specs.declared.strides.TheConstants.{QUARTER_CHIP};
+    ghost use Rattle.oscillators.specs.Strides.{IsCodeStrides};
 
     ghost Value = { Oscillation };
 
     ghost view = { λ o. record { phase = o.phase; step = o.step } };
 
-    ghost invariant = { λ o. (o.phase < code_cycle) × IsStrides o.step QUARTER_CHIP o.strides };
+    ghost invariant = { λ o. (o.phase < code_cycle) × IsCodeStrides o.step o.strides };
 }
 
 impl CodeOsc {
@@ -62,7 +67,7 @@ impl CodeOsc {
         CodeOsc {
             phase: start.get() as u64 * HALF_CHIP as u64,
             step,
-            strides: Strides::new(step, QUARTER_CHIP),
+            strides: CodeStrides::new(step),
         }
     }
 
@@ -80,7 +85,7 @@ impl CodeOsc {
         ensures { self.new ≡ record self.old { step = step } }
     {
         self.step = step;
-        self.strides = Strides::new(step, QUARTER_CHIP);
+        self.strides = CodeStrides::new(step);
     }
 
     /// The least number of samples, at least 1, that brings the phase to the end of the cycle or
@@ -129,29 +134,53 @@ impl CodeOsc {
         }
     }
 
+    /// Whether the step is at most `MOST_WINDOW_STEP`, as that of each recording is. Then
+    /// `next_lanes_by_windows` gives the masks of chips too, in less time.
+    pub fn has_windows(&self) -> bool
+        ensures { result ≡ nat_le self.now.step MOST_WINDOW_STEP }
+    {
+        self.step <= MOST_WINDOW_STEP
+    }
+
     /// Masks of the chips of a satellite at this sample and the 63 that follow: at the phase
-    /// (prompt), half a chip ahead of it (early) and half a chip behind it (late). The oscillator
-    /// goes on by 64 samples, and the book stands for the codes as before.
-    #[inline(always)]
-    pub fn next_lanes(&mut self, book: &mut CodeBook, prn: Prn) -> ChipLanes
-        ensures chips { AreChipLanes prn self.old.phase self.old.step result }
+    /// (prompt), half a chip ahead of it (early) and half a chip behind it (late). The table is one
+    /// that `CodeBook::table` gives. The oscillator goes on by 64 samples.
+    pub fn next_lanes(&mut self, table: &[u8; TABLE]) -> ChipLanes
+        ensures chips { (prn : ℕ) → IsTable prn table.now
+            → AreChipLanes prn self.old.phase self.old.step result }
         ensures long { HasAllLanes result }
         ensures moved { self.new ≡ record self.old {
           phase = code_phase_after self.old.phase self.old.step WORD_PLACES;
         } }
     {
-        self.next_masks(book, prn)
+        self.next_masks(table)
     }
 
-    /// The chips as bits of words. The oscillator goes on by 64 samples.
+    /// What `next_lanes` gives, in less time: sixteen samples take at most sixteen chips each time.
     #[inline(always)]
-    fn next_chips(&mut self, book: &mut CodeBook, prn: Prn) -> ChipWord
-        ensures word { AreChipBits prn self.old.phase self.old.step result }
+    pub fn next_lanes_by_windows(&mut self, table: &[u8; TABLE]) -> ChipLanes
+        requires { self.old.step ≤ MOST_WINDOW_STEP }
+        ensures chips { (prn : ℕ) → IsTable prn table.now
+            → AreChipLanes prn self.old.phase self.old.step result }
+        ensures long { HasAllLanes result }
         ensures moved { self.new ≡ record self.old {
           phase = code_phase_after self.old.phase self.old.step WORD_PLACES;
         } }
     {
-        let masks = self.next_masks(book, prn);
+        let masks = self.masks_by_windows(table);
+        self.phase = in_cycle(self.phase + 64 * self.step as u64);
+        masks
+    }
+
+    /// The chips as bits of words. The oscillator goes on by 64 samples.
+    fn next_chips(&mut self, table: &[u8; TABLE]) -> ChipWord
+        ensures word { (prn : ℕ) → IsTable prn table.now
+            → AreChipBits prn self.old.phase self.old.step result }
+        ensures moved { self.new ≡ record self.old {
+          phase = code_phase_after self.old.phase self.old.step WORD_PLACES;
+        } }
+    {
+        let masks = self.next_masks(table);
         ChipWord {
             early: bit_of_each(masks.early, TOP_BIT),
             prompt: bit_of_each(masks.prompt, TOP_BIT),
@@ -161,34 +190,40 @@ impl CodeOsc {
 
     /// Does what `next_lanes` does. Contracts see the masks by the chips here, and by their signs
     /// there.
-    #[inline(always)]
-    fn next_masks(&mut self, book: &mut CodeBook, prn: Prn) -> ChipLanes
-        ensures masks { AreChipMasks prn self.old.phase self.old.step result }
+    fn next_masks(&mut self, table: &[u8; TABLE]) -> ChipLanes
+        ensures masks { (prn : ℕ) → IsTable prn table.now
+            → AreChipMasks prn self.old.phase self.old.step result }
         ensures long { HasAllLanes result }
         ensures moved { self.new ≡ record self.old {
           phase = code_phase_after self.old.phase self.old.step WORD_PLACES;
         } }
     {
-        let step = self.step as u64;
+        let masks = if self.step <= MOST_WINDOW_STEP {
+            self.masks_by_windows(table)
+        } else {
+            self.masks_by_samples(table)
+        };
+        self.phase = in_cycle(self.phase + 64 * self.step as u64);
+        masks
+    }
+
+    /// The masks of this sample and the 63 that follow, sixteen of them by a window of sixteen
+    /// chips each.
+    #[inline(always)]
+    fn masks_by_windows(&self, table: &[u8; TABLE]) -> ChipLanes
+        requires { self.now.step ≤ MOST_WINDOW_STEP }
+        ensures masks { (prn : ℕ) → IsTable prn table.now
+            → AreChipMasks prn self.now.phase self.now.step result }
+        ensures long { HasAllLanes result }
+    {
         let ahead = in_cycle(self.phase + HALF_CHIP as u64);
-        let quarter_chips = self.strides.cells((ahead % CHIP) as u32, QUARTER_CHIP);
-        // The chip at the first of each sixteen samples, the last sixteen of them in lanes 0 to 15.
-        let first = [
-            chip_number(ahead + 48 * step),
-            chip_number(ahead + 32 * step),
-            chip_number(ahead + 16 * step),
-            chip_number(ahead),
-        ];
-        let chips = look_up(
-            book.table(prn),
-            first,
-            above_last_of_sixteen(quarters(quarter_chips)),
-        );
+        let cells = self.strides.cells((ahead % CHIP) as u32);
+        let windows = self.strides.windows(chip_number(ahead));
+        let chips = look_up(table, windows, cells & u8x64::splat(15));
         let early = mask_of_each(chips, TOP_BIT);
         // The late chip is the one before the early one.
         let late = mask_of_each(chips, SECOND_BIT);
-        let second_half = mask_of_each(quarter_chips, 1);
-        self.phase = in_cycle(self.phase + 64 * step);
+        let second_half = mask_of_each(cells, TOP_BIT);
         ChipLanes {
             early,
             // The prompt phase lies half a chip before the early one. Where the early phase is in
@@ -196,6 +231,32 @@ impl CodeOsc {
             // it, the late one.
             prompt: late ^ ((early ^ late) & second_half),
             late,
+        }
+    }
+
+    /// The masks of this sample and the 63 that follow, one after another, for steps so long that
+    /// sixteen samples can take more than sixteen chips. No rate of a recording has such a step.
+    #[cold]
+    #[inline(never)]
+    fn masks_by_samples(&self, table: &[u8; TABLE]) -> ChipLanes
+        ensures masks { (prn : ℕ) → IsTable prn table.now
+            → AreChipMasks prn self.now.phase self.now.step result }
+        ensures long { HasAllLanes result }
+    {
+        let mut early = [0; WORD_PLACES];
+        let mut prompt = [0; WORD_PLACES];
+        let mut late = [0; WORD_PLACES];
+        for k in 0..WORD_PLACES {
+            let here = in_cycle(self.phase + (63 - k as u64) * self.step as u64);
+            let chips = table[chip_number(in_cycle(here + HALF_CHIP as u64))];
+            early[k] = 255 * (chips >> 7);
+            prompt[k] = 255 * (table[chip_number(here)] >> 7);
+            late[k] = 255 * (chips >> 6 & 1);
+        }
+        ChipLanes {
+            early: u8x64::from_array(early),
+            prompt: u8x64::from_array(prompt),
+            late: u8x64::from_array(late),
         }
     }
 
@@ -216,12 +277,13 @@ impl CodeOsc {
         ensures late { result.late ≡ map (λ j. late_sign prn
             (code_phase_after self.now.phase self.now.step j)) (range_with_len 0 n) }
     {
+        let table = book.table(prn);
         let mut here = self.earlier(0);
         let mut early = Plane::new();
         let mut prompt = Plane::new();
         let mut late = Plane::new();
         for w in 0..(n + 63) / 64 {
-            let word = here.next_chips(book, prn);
+            let word = here.next_chips(table);
             early.set_word(w, word.early);
             prompt.set_word(w, word.prompt);
             late.set_word(w, word.late);

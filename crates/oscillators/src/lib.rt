@@ -17,19 +17,20 @@
 #![tactic(auto)]
 
 mod carrier;
+mod carrier_strides;
 mod carries;
 mod code;
+mod code_strides;
 mod doppler;
 mod half_chip;
 mod settings;
-mod strides;
 
 pub use carrier::{CarrierOsc, CarrierPlanes};
-pub use code::{ChipLanes, CodeOsc, CodePlanes};
+pub use code::{ChipLanes, CodeOsc, CodePlanes, MOST_WINDOW_STEP};
+pub use code_strides::HALF_CHIP;
 pub use doppler::{Doppler, DopplerFault, MOST_DOPPLER};
 pub use half_chip::{HalfChip, HalfChipFault, LAST_HALF_CHIP};
 pub use settings::{
     LEAST_CODE_STEP, LEAST_PER_MS, LEAST_RATE, MOST_CODE_STEP, MOST_CORRECTION, MOST_PER_MS,
     MOST_RATE, MOST_SHIFT, Settings, SettingsFault,
 };
-pub use strides::HALF_CHIP;

@@ -6,9 +6,16 @@ use sample_planes::Format;
 use std::process::Abort;
 use std::test::Fail;
 
-/// Steps with no phase gained, with the greatest phase gained, and with the chip or the sign turned
-/// at each sample.
-const EXTREME_STEPS: [u32; 4] = [0, 1, 1 << 31, u32::MAX];
+/// Steps with no phase gained, with the greatest phase gained, with the chip or the sign turned at
+/// each sample, and on both sides of the greatest step with which chips have windows.
+const EXTREME_STEPS: [u32; 6] = [
+    0,
+    1,
+    1 << 31,
+    MOST_WINDOW_STEP,
+    MOST_WINDOW_STEP + 1,
+    u32::MAX,
+];
 
 /// The code's cycle, 1,023 chips of 2^32.
 const CYCLE: u128 = 4_393_751_543_808;
@@ -167,7 +174,7 @@ fn eighths_at_extreme_steps(rt: HostRuntime) {
                 let i = 64 * w + j;
                 let phase = (3 * 0x9000_0001 + i as u128 * step as u128) % 0x1_0000_0000;
                 assert_eq!(rt;
-                    (lanes[63 - j] % 8) as u128,
+                    lanes[63 - j] as u128,
                     phase / 0x2000_0000,
                     "at sample {i} with step {step}"
                 );
@@ -236,23 +243,54 @@ fn chip_masks_at_extreme_steps(rt: HostRuntime) -> Result<(), Fail> {
         for step in EXTREME_STEPS {
             let mut osc = CodeOsc::new(HalfChip::new(half_chips).ok_or("a half chip")?, step);
             for w in 0..2 {
-                let lanes = osc.next_lanes(&mut book, prn);
-                let early = lanes.early.to_array();
-                let prompt = lanes.prompt.to_array();
-                let late = lanes.late.to_array();
-                for j in 0..64 {
-                    let i = 64 * w + j;
-                    let phase = half_chips as u128 * 0x8000_0000 + i as u128 * step as u128;
-                    assert_eq!(rt;
-                        (early[63 - j], prompt[63 - j], late[63 - j]),
-                        masks(&mut book, prn, phase),
-                        "at sample {i} from {half_chips} with step {step}"
-                    );
-                }
+                let lanes = osc.next_lanes(book.table(prn));
+                let first = half_chips as u128 * 0x8000_0000 + 64 * w * step as u128;
+                assert_masks(&rt, &mut book, &lanes, first, step);
             }
         }
     }
     Ok(())
+}
+
+#[test]
+fn chip_masks_by_windows(rt: HostRuntime) -> Result<(), Fail> {
+    let prn = Prn::new(19).ok_or("a satellite")?;
+    let mut book = CodeBook::new();
+    for half_chips in [0u16, 1, 1_023, 2_045] {
+        for step in EXTREME_STEPS {
+            let mut osc = CodeOsc::new(HalfChip::new(half_chips).ok_or("a half chip")?, step);
+            assert_eq!(rt; osc.has_windows(), step <= 0xeeee_eeee, "with step {step}");
+            if osc.has_windows() {
+                let lanes = osc.next_lanes_by_windows(book.table(prn));
+                assert_masks(
+                    &rt,
+                    &mut book,
+                    &lanes,
+                    half_chips as u128 * 0x8000_0000,
+                    step,
+                );
+            }
+        }
+    }
+    Ok(())
+}
+
+/// The masks of 64 samples of satellite 19, the first of them at a phase, are those of its chips.
+fn assert_masks(rt: &impl Abort, book: &mut CodeBook, lanes: &ChipLanes, first: u128, step: u32) {
+    let Some(prn) = Prn::new(19) else {
+        return;
+    };
+    let early = lanes.early.to_array();
+    let prompt = lanes.prompt.to_array();
+    let late = lanes.late.to_array();
+    for j in 0..64 {
+        let phase = first % CYCLE + j as u128 * step as u128;
+        assert_eq!(rt;
+            (early[63 - j], prompt[63 - j], late[63 - j]),
+            masks(book, prn, phase),
+            "at sample {j} from phase {first} with step {step}"
+        );
+    }
 }
 
 #[test]

@@ -1,12 +1,13 @@
-use Rattle.oscillators.proofs.StrideLemmas.{one_or_none}
-use Rattle.oscillators.proofs.CarryLemmas.{carried_lane}
-use Rattle.std.proofs.Common.{rules}
+use Rattle.oscillators.proofs.CarryLemmas.{carried_long, carried_lane, carried_few}
 use Rattle.oscillators.proofs.carries.carries.Goals as goal
 
-pub overflow_cast-result-2 : goal.overflow_cast-result-2
-overflow_cast-result-2 c = one_or_none _ (search rules) (search rules) _ 64
+pub returns-clause-long : goal.returns-clause-long
+returns-clause-long c = carried_long _ c.args.rooms c.requires.rooms
 
 pub returns-clause-carried : goal.returns-clause-carried
-returns-clause-carried c k h =
-    carried_lane c.args.part c.args.high c.args.low k c.requires.long_high c.requires.long_low h
-    c.requires.part c.requires.high c.requires.low
+returns-clause-carried c room are k h =
+    carried_lane c.args.low c.signed_half.result c.args.rooms room k c.signed_half.ensures
+    c.requires.low c.requires.rooms are h
+
+pub returns-clause-few : goal.returns-clause-few
+returns-clause-few c k h = carried_few _ c.args.rooms k c.requires.rooms h

@@ -1,7 +1,7 @@
 use Rattle.std.proofs.Common.{◌≡◌, ◌*◌, ◌+◌, ◌-◌, ◌<◌, ◌/◌, ◌%◌, ◌^◌, ℕ, get_or, refl, ap, ◌∙◌}
-use Rattle.std.proofs.Common.{arith, rules}
+use Rattle.std.proofs.Common.{arith}
 use Rattle.oscillators.specs.Views.{Oscillation}
-use Rattle.oscillators.proofs.PlaneLemmas.{carrier_turned, eighth_of_lane}
+use Rattle.oscillators.proofs.PlaneLemmas.{carrier_turned}
 use Rattle.oscillators.proofs.carrier.CarrierOsc.next_eighths.Goals as goal
 
 pub returns-clause-eighths : goal.returns-clause-eighths
@@ -10,16 +10,13 @@ returns-clause-eighths c =
     let step : ℕ = c.args.self.now.step in
     let phase_is : c.self.inside.phase ≡ phase = ap (λ (v : Oscillation). v.phase) c.self.view_is in
     let step_is : c.self.inside.step ≡ step = ap (λ (v : Oscillation). v.step) c.self.view_is in
-    let short : c.self.inside.step < 2 ^ 32 = search (rules, c.self.ranges) in
-    let lane : (j : ℕ) → j < 64 → get_or c.cells-eighths.result (63 - j) 0
-    ≡ (phase + j * step) / 536870912 % 256 = λ j h.
-    let place : 63 - (63 - j) ≡ j = omega arith in
-    c.cells-eighths.ensures.cells c.self.inside.step short c.self.invariant (63 - j) (omega arith)
-    ∙ rw (place, phase_is, step_is) refl
-    in
     record {
-      long = c.cells-eighths.ensures.long;
-      eighths = λ j h. ap (λ (n : ℕ). n % 8) (lane j h) ∙ eighth_of_lane (phase + j * step);
+      long = c.eighths-eighths.ensures.long;
+      eighths = λ j h.
+          let place : 63 - (63 - j) ≡ j = omega arith in
+          c.eighths-eighths.ensures.eighths c.self.inside.step c.self.invariant (63 - j)
+          (omega arith)
+          ∙ rw (place, phase_is, step_is) refl;
     }
 
 pub returns-clause-moved : goal.returns-clause-moved

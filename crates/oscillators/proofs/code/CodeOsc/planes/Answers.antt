@@ -16,7 +16,7 @@ loop-w-preserved c =
     let w : ℕ = c.loop-w.w in
     let here : ℕ = c.loop-w.here.phase in
     let next : 64 * w + 64 ≡ 64 * (w + 1) = omega arith in
-    let word = c.next_chips-word.ensures.word in
+    let word = (c.next_chips-word.ensures.word c.args.prn c.table-table.ensures) in
     let moved = c.next_chips-word.ensures.moved in
     let behind : (j : ℕ) → code_phase_after here c.loop-w.here.step j
     ≡ code_phase_after phase step (64 * w + j) = λ j.

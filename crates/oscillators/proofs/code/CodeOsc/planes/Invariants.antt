@@ -8,10 +8,10 @@ abbrev pub invariant-loop-w : goal.invariant-loop-w
 invariant-loop-w l = record {
   phase : l.here.phase ≡ code_phase_after l.self.phase l.self.step (64 * l.w);
   step : l.here.step ≡ l.self.step;
-  early : IsDrawn (λ i. chip l.prn (code_phase_after (l.self.phase + 2 ^ 31) l.self.step i / 2 ^
+  early : IsDrawn (λ i. chip l.fn.prn (code_phase_after (l.self.phase + 2 ^ 31) l.self.step i / 2 ^
       32)) (64 * l.w) l.early;
-  prompt : IsDrawn (λ i. chip l.prn (code_phase_after l.self.phase l.self.step i / 2 ^ 32))
+  prompt : IsDrawn (λ i. chip l.fn.prn (code_phase_after l.self.phase l.self.step i / 2 ^ 32))
       (64 * l.w) l.prompt;
-  late : IsDrawn (λ i. chip l.prn (code_phase_after (l.self.phase + 2 ^ 31) l.self.step i / 2 ^ 32 +
+  late : IsDrawn (λ i. chip l.fn.prn (code_phase_after (l.self.phase + 2 ^ 31) l.self.step i / 2 ^ 32 +
       1022)) (64 * l.w) l.late;
 }
