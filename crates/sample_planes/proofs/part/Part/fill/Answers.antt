@@ -21,7 +21,8 @@ loop-group-preserved c =
     let g : ℕ = c.loop-group.group in
     let next : 16 * (g + 1) ≡ 16 * g + 16 = omega arith in
     record {
-      coded = rw next (c.put_codes.ensures (λ i. code_in sizes near (width * (c.args.start + i) + c.args.at))
+      coded = rw next (c.put_codes.ensures
+          (λ i. code_in sizes near (width * (c.args.start + i) + c.args.at))
           c.loop-group.invariant.coded
           (λ r h. c.sixteen_codes-sixteen.ensures.codes c.args.at c.args.start width
           c.new-sign.ensures.layout (c.new-sign.ensures.width ∙ c.width-width.ensures)
