@@ -253,12 +253,13 @@ fn add_idle(seats: &mut Vec<Seat>, client: u8, share: u8) -> Result<(), AllocErr
 
 /// Each slot in turn takes a run, and inserts its events by time. All of them rest up to
 /// `rests_until` samples of the recording: where the run ends by then, none takes it. It answers up
-/// to how many samples they rest from then on.
+/// to how many samples they rest from then on. The planes are room for the run, whatever they hold.
 pub fn run_all<S: SampleSource>(
     seats: &mut [Seat],
     run: &PackedSamples,
     source: &S,
     book: &mut CodeBook,
+    planes: &mut Planes,
     time: u64,
     rests_until: u64,
     events: &mut ArrayVec<SlotEvent, RUN_EVENTS>,
@@ -277,7 +278,8 @@ pub fn run_all<S: SampleSource>(
     if time + run.len() as u64 <= rests_until {
         return rests_until;
     }
-    run_each(seats, &run.unpack(), source, book, time, events)
+    run.unpack_into(planes);
+    run_each(seats, planes, source, book, time, events)
 }
 
 /// Each slot in turn takes a run, and inserts its events by time. It answers up to how many samples

@@ -13,8 +13,8 @@ use Rattle.definitions.specs.Lines.{as_bytes}
 use Rattle.receiver.specs.Printed.{LinesAreRight}
 use Rattle.receiver.specs.Texts.{AppendsPart, WroteUpTo}
 use Rattle.definitions.specs.Receiver.{answer_lines}
-use Rattle.receiver.specs.Sessions.{StandsFor}
-use Rattle.receiver.specs.Outputs.{Adds, promised}
+use Rattle.receiver.specs.Sessions.{StandsFor, Gives}
+use Rattle.receiver.specs.Outputs.{Adds, Puts, promised}
 use Rattle.receiver.specs.declared.output.Output.{Output}
 use Rattle.receiver.specs.declared.devices.Source.{Ghosts as Source}
 use Rattle.receiver.specs.declared.devices.Sink.{Ghosts as Sink}
@@ -53,6 +53,13 @@ devices_once_sent source sink reader out = record {
   contents = promised sink out;
   write_failed = sink.has_failed out.writer.now;
 }
+
+-- whatever a session stood for, it gave the first of the lines that wait, and that was put out
+pub record PutsNext {A E : Type 0} (old new : Session) (before after : Option (List ℕ))
+    (result : Result A E) : Type 0 where
+  pub line : List ℕ
+  pub gives : Gives old line new
+  pub puts : Puts before after line result
 
 -- the samples of what was read, up to a limit
 abbrev pub samples_read : Settings → ℕ → List ℕ → List Sample

@@ -1,13 +1,12 @@
 -- Codes of the parts of samples.
 use Rattle.std.proofs.Common.{◌≡◌, ◌≢◌, ℕ, ◌+◌, ◌-◌, ◌*◌, ◌/◌, ◌%◌, ◌<◌, ◌≤◌, List, length, get_or}
-use Rattle.std.proofs.Common.{refl, sym, ap, ◌∙◌, arith, take, drop, replicate, Bool, true, false}
+use Rattle.std.proofs.Common.{refl, sym, ap, ◌∙◌, arith, take, drop, Bool, true, false}
 use Rattle.std.proofs.Common.{inl, inr}
 use Rattle.std.specs.Prelude.{ℤ, slice_index}
 use Rattle.std.specs.Simd.Lanes.{zip2, put_chunk, chunk}
 use Rattle.std.proofs.lemmas.Simd.{get_or-zip2, get_or-chunk, length-chunk, get_or-put_chunk_below}
 use Rattle.std.proofs.lemmas.Simd.{get_or-put_chunk_at, get_or-put_chunk_above, length-put_chunk}
 use Rattle.std.proofs.lemmas.Nat.Bits.{bit_at-lt}
-use Rattle.std.proofs.lemmas.List.{get_or-replicate}
 use Rattle.std.proofs.lemmas.Bool.{cases_lt}
 use Rattle.definitions.specs.Samples.{bit_in}
 use Rattle.sample_planes.specs.Signs.{part_of, part_in}
@@ -102,7 +101,12 @@ pub put_coded : (codes xs : List ℕ) (g : ℕ) (f : ℕ → ℕ) → g < 64 →
     → IsCoded f (16 * g) codes → ((r : ℕ) → r < 16 → get_or xs (15 - r) 0 ≡ f (16 * g + r))
     → IsCoded f (16 * g + 16) (put_chunk (64 * (g / 4) + 48 - 16 * (g % 4)) codes xs)
 put_coded codes xs g f few long old lanes =
-    record { long = length-put_chunk s codes xs ∙ old.long; coded = coded; clear = clear }
+    record {
+      long = length-put_chunk s codes xs ∙ old.long;
+      coded = coded;
+      few = rest_few;
+      fourth = rest_fourth;
+    }
   where
     s : ℕ
     s = 64 * (g / 4) + 48 - 16 * (g % 4)
@@ -141,10 +145,15 @@ put_coded codes xs g f few long old lanes =
           rw place at (inside (i - 16 * g) (omega arith))
     ]
 
-    clear : (i : ℕ) → 16 * g + 16 ≤ i → i < 1024
-        → get_or (put_chunk s codes xs) (lane_of i) 0 ≡ 0
-    clear i h room = other i room (λ e. absurd (omega (arith, e)))
-        ∙ old.clear i (omega arith) room
+    rest_few : (i : ℕ) → 16 * g + 16 ≤ i → i < 1024
+        → get_or (put_chunk s codes xs) (lane_of i) 0 < 16
+    rest_few i h room = rw (other i room (λ e. absurd (omega (arith, e))))
+        (old.few i (omega arith) room)
+
+    rest_fourth : (i : ℕ) → 16 * g + 16 ≤ i → i < 1024
+        → get_or (put_chunk s codes xs) (lane_of i) 0 % 4 ≡ 0
+    rest_fourth i h room = rw (other i room (λ e. absurd (omega (arith, e))))
+        (old.fourth i (omega arith) room)
 
 -- what holds of the code of each sample holds of each place
 pub each_place : (P : ℕ → Type 0) (codes : List ℕ)
@@ -154,7 +163,7 @@ each_place P codes h k room =
     let back : lane_of (lane_of k) ≡ k = omega arith in
     rw back at (h (lane_of k) (omega arith))
 
--- the codes of n samples, all others being 0, are codes
+-- the codes of n samples, all others having some code, are codes
 pub record AreSmall (codes : List ℕ) : Type 0 where
   pub few : (k : ℕ) → k < 1024 → get_or codes k 0 < 16
   pub fourth : (k : ℕ) → k < 1024 → get_or codes k 0 % 4 ≡ 0
@@ -165,21 +174,24 @@ are_small sizes bytes start width at n codes is = record {
   few = each_place (λ (code : ℕ). code < 16) codes (λ i room. elim (cases_lt i n) [
     | inl before ↦ rw (is.coded i before room)
         (is_code_in sizes bytes (width * (start + i) + at)).few
-    | inr from ↦ rw (is.clear i from room) (omega arith)
+    | inr from ↦ is.few i from room
   ]);
   fourth = each_place (λ (code : ℕ). code % 4 ≡ 0) codes (λ i room. elim (cases_lt i n) [
     | inl before ↦ rw (is.coded i before room)
         (is_code_in sizes bytes (width * (start + i) + at)).fourth
-    | inr from ↦ rw (is.clear i from room) refl
+    | inr from ↦ is.fourth i from room
   ]);
 }
 
--- none yet
-pub none_coded : (f : ℕ → ℕ) → IsCoded f 0 (replicate 1024 0)
-none_coded f = record {
-  long = refl;
+-- none of a run yet
+pub none_coded : (f : ℕ → ℕ) (codes : List ℕ) → length codes ≡ 1024
+    → ((k : ℕ) → k < 1024 → get_or codes k 0 < 16)
+    → ((k : ℕ) → k < 1024 → get_or codes k 0 % 4 ≡ 0) → IsCoded f 0 codes
+none_coded f codes long few fourth = record {
+  long = long;
   coded = λ i h room. absurd (omega arith);
-  clear = λ i h room. get_or-replicate {A = ℕ} 1024 (lane_of i) 0 0 (omega arith);
+  few = λ i h room. few (lane_of i) (omega arith);
+  fourth = λ i h room. fourth (lane_of i) (omega arith);
 }
 
 -- 64 codes of a part

@@ -13,8 +13,9 @@ unfoldable pub code_in : Bool → List ℕ → ℕ → ℕ
 code_in false bytes place = bit_in bytes place * 4
 code_in true bytes place = bit_in bytes place * 4 + bit_in bytes (place + 1) * 8
 
--- the first n samples have the codes f, and all others 0
+-- the first n samples have the codes f, and all others have some code
 pub record IsCoded (f : ℕ → ℕ) (n : ℕ) (codes : List ℕ) : Type 0 where
   pub long : length codes ≡ 1024
   pub coded : (i : ℕ) → i < n → i < 1024 → slice_index codes (lane_of i) ≡ f i
-  pub clear : (i : ℕ) → n ≤ i → i < 1024 → slice_index codes (lane_of i) ≡ 0
+  pub few : (i : ℕ) → n ≤ i → i < 1024 → slice_index codes (lane_of i) < 16
+  pub fourth : (i : ℕ) → n ≤ i → i < 1024 → slice_index codes (lane_of i) % 4 ≡ 0

@@ -128,4 +128,13 @@ impl<'a> PackedSamples<'a> {
     {
         unpack(self.format, self.bytes, self.first, self.len)
     }
+
+    /// Unpacks them all, at most `MAX_SAMPLES`, into planes that are kept: whatever these held
+    /// before, they hold just the samples, and nothing of their size is moved.
+    pub fn unpack_into(&self, planes: &mut Planes)
+        requires { length self.now.samples ≤ MAX_SAMPLES }
+        ensures { planes.new ≡ self.now.samples }
+    {
+        planes.fill(self.format, self.bytes, self.first, self.len);
+    }
 }

@@ -36,8 +36,16 @@ impl Part {
     ghost use Rattle.sample_planes.specs.Signs.{part_of, part_at, part_in};
     ghost use Rattle.sample_planes.specs.Codes.{IsCode};
 
-    /// That which begins at bit `at` of each of `len` samples, from sample `start` of a byte on.
-    pub(crate) fn unpack(format: Format, near: &[u8], at: usize, start: usize, len: usize) -> Part
+    /// That of samples which are not known yet.
+    pub(crate) fn new() -> Part {
+        Part {
+            codes: [0; MAX_SAMPLES],
+        }
+    }
+
+    /// Makes it that which begins at bit `at` of each of `len` samples, from sample `start` of a
+    /// byte on. Codes past the last group of these are kept, so that nothing has to be cleared.
+    pub(crate) fn fill(&mut self, format: Format, near: &[u8], at: usize, start: usize, len: usize)
         requires at { at < width_of (packing_of format) }
         requires size { has_sizes (packing_of format) ≡ true
             → at + 1 < width_of (packing_of format) }
@@ -45,19 +53,17 @@ impl Part {
         requires short { len ≤ MAX_SAMPLES }
         requires long { NEAR_BYTES ≤ length near.now }
         ensures parts { (i : ℕ) → i < len
-            → part_at result i ≡ part_in (has_sizes (packing_of format)) near.now (width_of
+            → part_at self.new i ≡ part_in (has_sizes (packing_of format)) near.now (width_of
             (packing_of format) * (start + i) + at) }
     {
         let width = format.width();
         let has_sizes = format.has_sizes();
         let sign = Layout::new(width, at, start);
         let size = Layout::new(width, size_place(format, at), start);
-        let mut codes = [0; MAX_SAMPLES];
         for group in 0..(len + 15) / 16 {
             let sixteen = sixteen_codes(&sign, &size, has_sizes, near, group);
-            put_codes(&mut codes, group, sixteen);
+            put_codes(&mut self.codes, group, sixteen);
         }
-        Part { codes }
     }
 
     /// The part of sample `i`: 1 or -1, and of two bits also 3 or -3.

@@ -19,39 +19,40 @@ loop-due-init g c = record {
 }
 
 pub loop-due-preserved : goal.loop-due-preserved
-loop-due-preserved g c = let s = g.W.Sink in let i = c.loop-due.invariant in record {
-  format = c.answer.ensures.packing ∙ c.in-Some.ensures.packing ∙ i.format;
-  time = c.answer.ensures.time ∙ c.in-Some.ensures.time ∙ i.time;
-  wrote = wrote-then s c.args.out.now c.loop-due.out c.put.new.self _ i.wrote
-      c.in_ok-put.ensures.writes;
-  answered =
-      λ settings clients xs waiting stands. answered-more settings clients xs waiting
-      (promised s c.args.out.now) (promised s c.loop-due.out) (promised s c.put.new.self)
-      c.loop-due.session c.answer.new.self c.deref.result.now
-      (rw c.deref.ensures.0
-      (c.answer.ensures.gives c.loop-due.session c.in-Some.ensures.some)) c.in_ok-put.ensures.puts
-      (i.answered settings clients xs waiting stands);
-}
+loop-due-preserved g c =
+    let s = g.W.Sink in
+    let i = c.loop-due.invariant in
+    let put = c.in_ok-put_answer.ensures.puts c.loop-due.session c.in-Some.ensures.some in
+    record {
+      format = c.in_ok-put_answer.ensures.packing ∙ c.in-Some.ensures.packing ∙ i.format;
+      time = c.in_ok-put_answer.ensures.time ∙ c.in-Some.ensures.time ∙ i.time;
+      wrote = wrote-then s c.args.out.now c.loop-due.out c.put_answer.new.out _ i.wrote
+          c.in_ok-put_answer.ensures.writes;
+      answered = λ settings clients xs waiting stands. answered-more settings clients xs waiting
+          (promised s c.args.out.now) (promised s c.loop-due.out) (promised s c.put_answer.new.out)
+          c.loop-due.session c.put_answer.new.session put.line put.gives put.puts
+          (i.answered settings clients xs waiting stands);
+    }
 
-pub returns-in_err-put-clause-adds : goal.returns-in_err-put-clause-adds
-returns-in_err-put-clause-adds g c settings clients xs waiting stands =
+pub returns-in_err-put_answer-clause-adds : goal.returns-in_err-put_answer-clause-adds
+returns-in_err-put_answer-clause-adds g c settings clients xs waiting stands =
     let s = g.W.Sink in
     let a = promised s c.args.out.now in
     let b = promised s c.loop-due.out in
-    let d = promised s c.put.new.self in (
+    let d = promised s c.put_answer.new.out in
+    let put = c.in_err-put_answer.ensures.puts c.loop-due.session c.in-Some.ensures.some in (
       adds-err a d (as_bytes waiting) c.from_residual.result c.from_residual.ensures.0
-          (answered-part settings clients xs waiting a b d c.loop-due.session c.answer.new.self
-          c.deref.result.now (rw c.deref.ensures.0
-          (c.answer.ensures.gives c.loop-due.session c.in-Some.ensures.some))
-          (kept-part b d _ c.in_err-put.ensures.puts)
+          (answered-part settings clients xs waiting a b d c.loop-due.session
+          c.put_answer.new.session put.line put.gives (kept-part b d _ put.puts)
           (c.loop-due.invariant.answered settings clients xs waiting stands)),
       IfOk-from_err c.from_residual.result _ c.from_residual.ensures.0,
     )
 
-pub returns-in_err-put-clause-writes : goal.returns-in_err-put-clause-writes
-returns-in_err-put-clause-writes g c =
-    writes-broke g.W.Sink c.args.out.now c.loop-due.out c.put.new.self _ c.from_residual.result
-    c.loop-due.invariant.wrote c.in_err-put.ensures.writes c.from_residual.ensures.0
+pub returns-in_err-put_answer-clause-writes : goal.returns-in_err-put_answer-clause-writes
+returns-in_err-put_answer-clause-writes g c =
+    writes-broke g.W.Sink c.args.out.now c.loop-due.out c.put_answer.new.out _
+    c.from_residual.result c.loop-due.invariant.wrote c.in_err-put_answer.ensures.writes
+    c.from_residual.ensures.0
 
 pub returns-clause-adds : goal.returns-clause-adds
 unfolding as_bytes

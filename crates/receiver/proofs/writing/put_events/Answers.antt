@@ -19,30 +19,31 @@ pub loop-event-preserved : goal.loop-event-preserved
 loop-event-preserved g c =
     let events = c.args.events.now in
     let i = c.loop-event.event-index in
-    let line = c.deref.ensures.0 ∙ c.event_line.ensures
-    ∙ ap (λ (event : SlotEvent). ended_line (line_of event)) c.event-item.is in
-    put-more g.W.Sink c.args.out.now c.loop-event.out c.put.new.self _ (left-after events i)
-    c.deref.result.now (left-after events (i + 1)) _ c.loop-event.invariant
+    let line = ap (λ (event : SlotEvent). ended_line (line_of event)) c.event-item.is in
+    put-more g.W.Sink c.args.out.now c.loop-event.out c.put_event.new.out _ (left-after events i)
+    (ended_line (line_of c.event-item.result)) (left-after events (i + 1)) _
+    c.loop-event.invariant
     (events-next events i c.event-item.result c.loop-event-test.true
     ∙ ap (λ l. l ++ left-after events (i + 1)) (sym line))
-    c.in_ok-put.ensures.puts c.in_ok-put.ensures.writes
+    c.in_ok-put_event.ensures.puts c.in_ok-put_event.ensures.writes
 
-pub returns-in_err-put-clause-adds : goal.returns-in_err-put-clause-adds
-returns-in_err-put-clause-adds g c =
+pub returns-in_err-put_event-clause-adds : goal.returns-in_err-put_event-clause-adds
+returns-in_err-put_event-clause-adds g c =
     let events = c.args.events.now in
     let i = c.loop-event.event-index in
-    let line = c.deref.ensures.0 ∙ c.event_line.ensures
-    ∙ ap (λ (event : SlotEvent). ended_line (line_of event)) c.event-item.is in
-    put-broke g.W.Sink c.args.out.now c.loop-event.out c.put.new.self _ (left-after events i)
-    c.deref.result.now (left-after events (i + 1)) c.from_residual.result c.loop-event.invariant
+    let line = ap (λ (event : SlotEvent). ended_line (line_of event)) c.event-item.is in
+    put-broke g.W.Sink c.args.out.now c.loop-event.out c.put_event.new.out _
+    (left-after events i) (ended_line (line_of c.event-item.result)) (left-after events (i + 1))
+    c.from_residual.result c.loop-event.invariant
     (events-next events i c.event-item.result c.loop-event-test.true
     ∙ ap (λ l. l ++ left-after events (i + 1)) (sym line))
-    c.in_err-put.ensures.puts c.from_residual.ensures.0
+    c.in_err-put_event.ensures.puts c.from_residual.ensures.0
 
-pub returns-in_err-put-clause-writes : goal.returns-in_err-put-clause-writes
-returns-in_err-put-clause-writes g c =
-    writes-broke g.W.Sink c.args.out.now c.loop-event.out c.put.new.self _ c.from_residual.result
-    c.loop-event.invariant.wrote c.in_err-put.ensures.writes c.from_residual.ensures.0
+pub returns-in_err-put_event-clause-writes : goal.returns-in_err-put_event-clause-writes
+returns-in_err-put_event-clause-writes g c =
+    writes-broke g.W.Sink c.args.out.now c.loop-event.out c.put_event.new.out _
+    c.from_residual.result c.loop-event.invariant.wrote c.in_err-put_event.ensures.writes
+    c.from_residual.ensures.0
 
 pub returns-clause-adds : goal.returns-clause-adds
 returns-clause-adds g c =

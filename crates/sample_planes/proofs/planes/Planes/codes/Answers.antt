@@ -16,7 +16,8 @@ returns c = record {
         (part_at c.self.inside.in_phase (64 * c.args.w + j))
         (slice_index c.codes.result (63 - j))
         (ap (λ (x : Sample). x.in_phase)
-        (read_run (sample_in c.self.inside.in_phase c.self.inside.quadrature) c.self.inside.len
+        (read_run (sample_in c.self.inside.in_phase c.self.inside.is_complex
+        c.self.inside.quadrature) c.self.inside.len
         (64 * c.args.w + j) c.args.self.now c.self.view_is inside))
         (c.codes.ensures.codes j below);
   };

@@ -1,0 +1,7 @@
+use Rattle.std.proofs.Common.{arith}
+use Rattle.sample_planes.specs.Signs.{AreOneBit}
+use Rattle.sample_planes.proofs.planes.Planes.new.Goals as goal
+
+pub invariant_of-result : goal.invariant_of-result
+unfolding AreOneBit
+invariant_of-result c = (omega arith, λ none i inside. absurd (omega (arith, inside)))
