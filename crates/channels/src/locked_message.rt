@@ -33,8 +33,8 @@ impl LockedMessage {
     }
 
     /// Takes the sums of the next dump, each at most `MOST_SUM` in size, and whether the loops are
-    /// locked with it. It gives the message's news.
-    pub fn take(&mut self, counts: &Counts, is_locked: bool) -> MessageNews
+    /// locked with it. The message's news replace `news`.
+    pub fn take(&mut self, counts: &Counts, is_locked: bool, news: &mut MessageNews)
         requires small { AreWithin MOST_SUM (counts_in counts.now) }
         requires room { bit_count self.old < MOST_BITS }
         ensures counted { bit_count self.new ≤ bit_count self.old + 1 }
@@ -43,20 +43,21 @@ impl LockedMessage {
             → StandsFor (dumps ++ counts_in counts.now ∷ []) self.new }
         ensures news { (dumps : List DefinedCounts) → StandsFor dumps self.old
             → lock.is_locked (dumps ++ counts_in counts.now ∷ []) ≡ is_locked
-            → events_in result ≡ push_events (pushes_of (dumps ++ counts_in counts.now ∷ [])) }
+            → events_in news.new ≡ push_events (pushes_of (dumps ++ counts_in counts.now ∷ [])) }
     {
         if !is_locked {
             // Some 8 KB are only written where a message ends.
             if self.message.is_some() {
                 self.message = None;
             }
-            return MessageNews::Nothing;
+            news.clear();
+            return;
         }
         match &mut self.message {
-            Some(message) => message.push(counts.ip),
+            Some(message) => message.push(counts.ip, news),
             None => {
                 self.message = Some(Message::new());
-                MessageNews::Nothing
+                news.clear();
             }
         }
     }

@@ -10,7 +10,8 @@ fits {z = z} h = fits_signed_from_abs w32 z (omega (arith, h))
 
 pub returns-then-not-is_locked-clause-news : goal.returns-then-not-is_locked-clause-news
 returns-then-not-is_locked-clause-news c dumps h now =
-    sym (ap push_events (none-now dumps _ (now ∙ c.if-not-is_locked.true)) ∙ tells-nothing)
+    rw c.clear.ensures
+    (sym (ap push_events (none-now dumps _ (now ∙ c.if-not-is_locked.true)) ∙ tells-nothing))
 
 -- the sum that is pushed is that of the counts
 pub returns-in-Some-clause-stands : goal.returns-in-Some-clause-stands
@@ -35,4 +36,5 @@ returns-in-None-clause-stands c dumps h now = (
 
 pub returns-in-None-clause-news : goal.returns-in-None-clause-news
 returns-in-None-clause-news c dumps h now =
-    sym (ap push_events (none-before dumps _ (rw c.in-None.is at h)) ∙ tells-nothing)
+    rw c.clear-in-None.ensures
+    (sym (ap push_events (none-before dumps _ (rw c.in-None.is at h)) ∙ tells-nothing))
