@@ -40,13 +40,16 @@ message_events messages.Nothing = []
 message_events messages.Edge = events.Bits ∷ []
 message_events (messages.Frame found reports) = frame_events found reports
 
--- what an acquisition names; of a dump, which is in the room for it, its sums, a change of the lock,
--- and what the message brings
-abbrev pub events_with : SlotNews → Dump → List Event
-events_with (slot_news.Acquired prn cell) dump = events.Acquired prn cell ∷ []
-events_with (slot_news.Dump is_shown) dump =
+-- of a dump its sums, if they are printed, a change of the lock, and what the message brings
+abbrev pub dump_events : Bool → Dump → List Event
+dump_events is_shown dump =
     count_events is_shown dump.counts
     ++ (lock_events dump.lock ++ message_events dump.message)
+
+-- what an acquisition names, or what is emitted with a dump, which is in the room for it
+abbrev pub events_with : SlotNews → Dump → List Event
+events_with (slot_news.Acquired prn cell) dump = events.Acquired prn cell ∷ []
+events_with (slot_news.Dump is_shown) dump = dump_events is_shown dump
 
 -- all that is emitted, if anything is
 abbrev pub events_of : Option SlotNews → Dump → List Event

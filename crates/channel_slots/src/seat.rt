@@ -1,6 +1,6 @@
 //! The seats of a bank: the slots of all clients, each with whose it is.
 
-ghost use Rattle.std.specs.Prelude.{◌≡◌, ◌≤◌, ◌<◌, ◌+◌, ◌*◌, ◌^◌, ℕ, length, [], IfOk, OnOk};
+ghost use Rattle.std.specs.Prelude.{◌≡◌, ◌≤◌, ◌<◌, ◌+◌, ◌*◌, ◌^◌, ℕ, length, [], IfOk, OnOk, true};
 ghost use Rattle.std.specs.List.{AllByRecursion};
 ghost use Rattle.definitions.specs.Oscillators.{Settings as DefinedSettings};
 ghost use Rattle.definitions.specs.Banks.{layout};
@@ -20,7 +20,7 @@ ghost use Rattle.slot_protocol.specs.declared.command.TheConstants.{MOST_SLOTS};
 ghost use Rattle.channel_slots.specs.declared.seat.TheConstants.{MOST_CLIENTS, RUN_EVENTS};
 ghost use Rattle.channel_slots.specs.declared.seat.TheConstants.{FRAME_EVENTS};
 ghost use Rattle.channel_slots.specs.NewsEvents.{if_any, count_events, lock_events, frame_events};
-ghost use Rattle.channel_slots.specs.NewsEvents.{message_events, events_with};
+ghost use Rattle.channel_slots.specs.NewsEvents.{message_events, dump_events, events_with};
 ghost use Rattle.channel_slots.specs.declared.slot.TheConstants.{SLOT_EVENTS};
 
 use crate::bank::MOST_TIME;
@@ -114,11 +114,29 @@ impl Seat {
                 self.put(Event::Acquired { prn, cell }, time, events);
             }
             SlotNews::Dump { is_shown } => {
-                self.put_counts(is_shown, &dump.counts, time, events);
-                self.put_lock(dump.lock, time, events);
-                self.put_message(&dump.message, time, events);
+                if !is_silent(is_shown, dump) {
+                    self.put_dump(is_shown, dump, time, events);
+                }
             }
         }
+    }
+
+    /// Inserts what is emitted with a dump. It stays a call, as `put` does.
+    #[inline(never)]
+    fn put_dump(
+        &self,
+        is_shown: bool,
+        dump: &Dump,
+        time: u64,
+        events: &mut ArrayVec<SlotEvent, RUN_EVENTS>,
+    )
+        requires { array_vec_len events.old + DUMP_EVENTS ≤ RUN_EVENTS }
+        ensures { PutsIn self.now time (dump_events is_shown dump.now) events.old.items
+            events.new.items }
+    {
+        self.put_counts(is_shown, &dump.counts, time, events);
+        self.put_lock(dump.lock, time, events);
+        self.put_message(&dump.message, time, events);
     }
 
     /// Inserts the sums of a dump, if they are to be printed.
@@ -253,6 +271,19 @@ impl Seat {
                 self.put_news(news, &dump, time + done as u64, events);
             }
         }
+    }
+}
+
+/// Whether nothing is emitted with a dump.
+fn is_silent(is_shown: bool, dump: &Dump) -> bool
+    ensures { result ≡ true → dump_events is_shown dump.now ≡ [] }
+{
+    if is_shown {
+        return false;
+    }
+    match dump.lock {
+        News::Nothing => matches!(dump.message, MessageNews::Nothing),
+        News::Lock | News::Unlock | News::Lost => false,
     }
 }
 

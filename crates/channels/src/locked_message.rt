@@ -1,6 +1,6 @@
 //! The message of a satellite, from lock to lock.
 
-ghost use Rattle.std.specs.Prelude.{◌≡◌, ◌≤◌, ◌<◌, ◌+◌, List, [], ◌∷◌, ◌++◌};
+ghost use Rattle.std.specs.Prelude.{◌≡◌, ◌≤◌, ◌<◌, ◌+◌, List, [], ◌∷◌, ◌++◌, true};
 ghost use Rattle.definitions.specs.BitEdge.{has_edge};
 ghost use Rattle.definitions.specs.Correlation.{Counts as DefinedCounts};
 ghost use Rattle.definitions.specs.Events.{pushes_of, push_events};
@@ -56,10 +56,22 @@ impl LockedMessage {
         match &mut self.message {
             Some(message) => message.push(counts.ip, news),
             None => {
-                self.message = Some(Message::new());
+                self.begin();
                 news.clear();
             }
         }
+    }
+
+    /// Begins a message with a lock. It isn't inlined, since a message is large and this comes
+    /// rarely.
+    #[cold]
+    #[inline(never)]
+    fn begin(&mut self)
+        ensures stands { (dumps : List DefinedCounts) → lock.is_locked dumps ≡ true
+            → pushes_of dumps ≡ [] → StandsFor dumps self.new }
+        ensures none { bit_count self.new ≡ 0 }
+    {
+        self.message = Some(Message::new());
     }
 
     /// Says whether the edge of the message's bits is found.

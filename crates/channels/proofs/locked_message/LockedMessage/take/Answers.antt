@@ -29,10 +29,9 @@ returns-in-Some-clause-news c dumps h now =
     rw (pushed dumps _ held.0 locked) (rw ip at c.push.ensures.news _ held.1)
 
 pub returns-in-None-clause-stands : goal.returns-in-None-clause-stands
-returns-in-None-clause-stands c dumps h now = (
-  now ∙ c.if-not-is_locked.false,
-  rw (none-before dumps _ (rw c.in-None.is at h)) c.new.ensures.stands,
-)
+returns-in-None-clause-stands c dumps h now =
+    c.begin.ensures.stands _ (now ∙ c.if-not-is_locked.false)
+    (none-before dumps _ (rw c.in-None.is at h))
 
 pub returns-in-None-clause-news : goal.returns-in-None-clause-news
 returns-in-None-clause-news c dumps h now =
