@@ -63,8 +63,8 @@ impl Seat {
     ghost use Rattle.std.specs.Prelude.{List, [], ◌∷◌, ◌++◌, length};
     ghost use Rattle.channel_slots.specs.Banks.{SeatGoes, PutsIn};
 
-    /// Inserts an event of the seat's slot. It stays a call, since events are large and most samples
-    /// bring none.
+    /// Inserts an event of the seat's slot. It stays a call, since events are large and most
+    /// samples bring none.
     #[inline(never)]
     fn put(&self, event: Event, time: u64, events: &mut ArrayVec<SlotEvent, RUN_EVENTS>)
         requires { array_vec_len events.old < RUN_EVENTS }
@@ -191,8 +191,8 @@ impl Seat {
         }
     }
 
-    /// Inserts a subframe, with the gap before it and what its page makes reported. It stays a call,
-    /// as `put` does.
+    /// Inserts a subframe, with the gap before it and what its page makes reported. It stays a
+    /// call, as `put` does.
     #[inline(never)]
     fn put_frame(
         &self,

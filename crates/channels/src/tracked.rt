@@ -209,7 +209,8 @@ impl Tracked {
             → Tracks settings channel xs self.old
             → Takes settings channel xs (part run.now from result.0) self.new
             (dump_if result.1 dump.new) }
-        ensures dumps { dumps_of self.new ≡ dumps_of self.old + how_many (dump_if result.1 dump.new) }
+        ensures dumps { dumps_of self.new
+            ≡ dumps_of self.old + how_many (dump_if result.1 dump.new) }
         ensures taken { taken_of self.new + (length run.now - from)
             ≡ S.to source.now + result.0 }
         ensures chance { result.1 ≡ true → chance (taken_of self.new) self.new + 1

@@ -155,7 +155,8 @@ returns-else-not-is_dump-clause-chances g c =
     let now : taken_of took.new.self ≡ before + took.result.0 =
     omega (arith, took.ensures.taken, c.requires.to) in
     let is_shown : Bool = nat_lt 0 c.args.self.now.unprinted in
-    rw (c.in-Tracking.is, c.note_dump-in-Tracking.ensures.stage, c.note_dump-in-Tracking.ensures.news)
+    let noted = c.note_dump-in-Tracking.ensures in
+    rw (c.in-Tracking.is, noted.stage, noted.news)
     (omega (
       arith,
       few-events (Dump is_shown) took.new.dump,
