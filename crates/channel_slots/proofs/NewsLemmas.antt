@@ -61,7 +61,7 @@ messages-are (messages.Frame found reports) =
 
 -- all that comes with a dump
 pub all-are : (d : Dump) (is_shown : Bool)
-    → map event_in (events_with (slot_news.Dump d is_shown))
+    → map event_in (events_with (slot_news.Dump is_shown) d)
     ≡ when is_shown (count (counts_in d.counts)) ++ steered_events_in d
 all-are d is_shown =
     map-append event_in (count_events is_shown d.counts)
@@ -107,10 +107,10 @@ few-counts true c = omega arith
 few-counts false c = omega arith
 
 -- six at most
-pub few-events : (news : SlotNews) → length (events_with news) ≤ 6
-few-events (slot_news.Acquired prn cell) = omega arith
-few-events (slot_news.Dump d is_shown) =
-    let parts : length (events_with (slot_news.Dump d is_shown))
+pub few-events : (news : SlotNews) (d : Dump) → length (events_with news d) ≤ 6
+few-events (slot_news.Acquired prn cell) d = omega arith
+few-events (slot_news.Dump is_shown) d =
+    let parts : length (events_with (slot_news.Dump is_shown) d)
     ≡ length (count_events is_shown d.counts) + (length (lock_events d.lock)
     + length (message_events d.message)) =
     length-append (count_events is_shown d.counts) _

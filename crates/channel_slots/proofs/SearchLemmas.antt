@@ -29,9 +29,8 @@ use Rattle.channels.specs.Searching.{Searches, Answers}
 use Rattle.channels.specs.TrackedChannels.{Tracks, counts_so_far}
 use Rattle.channel_slots.specs.declared.stage.Stage.{Stage}
 use Rattle.channel_slots.specs.declared.stage.Stage.TheVariants.{Idle, Searching, Holding, Tracking}
-use Rattle.channel_slots.specs.declared.slot_news.SlotNews.TheVariants as news
 use Rattle.channel_slots.specs.Stages.{IsSearched, IsSettled, Follows}
-use Rattle.channel_slots.proofs.TakesLemmas.{Takes}
+use Rattle.channel_slots.proofs.TakesLemmas.{Takes, Acquired}
 
 -- samples from a later one on
 pub from-later : (xs : List Sample) (first begun to : ℕ) (held : ℕ → Sample) → first ≤ begun
@@ -169,7 +168,7 @@ module _ (settings : Settings) (xs : List Sample) (life : Life) (a : Searched)
       given found = rw (s.start, come, ← found-is, found) refl
 
       answers : (stage : Stage) → Follows settings (xs ++ ys) life stage
-          → Takes settings xs ys life stage (Some (news.Acquired prn cell))
+          → Takes settings xs ys life stage (Some (Acquired prn cell))
       answers stage follows = record {
         inside = λ j first below. quiet (omega (arith, answer.0)) j below;
         on = stays-on (omega (arith, answer.0));
@@ -184,7 +183,7 @@ module _ (settings : Settings) (xs : List Sample) (life : Life) (a : Searched)
       found : (t : Tracked)
           → Tracks settings (found_channel settings s.plan life.begun (cell_in cell)) (xs ++ ys) t
           → cell.found ≡ true
-          → Takes settings xs ys life (Tracking t) (Some (news.Acquired prn cell))
+          → Takes settings xs ys life (Tracking t) (Some (Acquired prn cell))
       found t tracks here = answers (Tracking t) (record {
         channel = found_channel settings s.plan life.begun named;
         steered = rw s.start refl;
@@ -197,13 +196,13 @@ module _ (settings : Settings) (xs : List Sample) (life : Life) (a : Searched)
 
       -- where nothing was, the life is over
       not-found : cell.found ≡ false
-          → Takes settings xs ys life Idle (Some (news.Acquired prn cell))
+          → Takes settings xs ys life Idle (Some (Acquired prn cell))
       not-found none = answers Idle (over none)
 
       pub settled : (b : Searched) → Searches settings s.plan life.begun (xs ++ ys) b
           → searched.to_due_of b ≡ 0 → (stage : Stage)
           → IsSettled cell b (length (xs ++ ys)) stage
-          → Takes settings xs ys life stage (Some (news.Acquired prn cell))
+          → Takes settings xs ys life stage (Some (Acquired prn cell))
       settled b searches due Idle is = not-found is
       settled b searches due (Searching other) is = absurd is
       settled b searches due (Holding h) is = absurd is

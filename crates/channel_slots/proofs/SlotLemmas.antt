@@ -20,17 +20,18 @@ use Rattle.definitions.proofs.LifeLemmas.{unprinted-all}
 use Rattle.lane_correlator.specs.Counting.{counts_in}
 use Rattle.definitions.proofs.EndLemmas.{is_over-append}
 use Rattle.channels.specs.Dumps.{steered_events_in}
-use Rattle.channel_slots.specs.declared.slot_news.SlotNews.{SlotNews}
 use Rattle.channel_slots.specs.declared.slot.Slot.{Slot}
-use Rattle.channel_slots.specs.declared.slot_news.SlotNews.TheVariants.{Acquired, Dump}
 use Rattle.slot_protocol.specs.Events.{event_in}
-use Rattle.channel_slots.specs.NewsEvents.{events_of}
+use Rattle.channel_slots.specs.NewsEvents.{events_with}
+use Rattle.channel_slots.specs.declared.slot_news.SlotNews.TheVariants as slot_news
+use Rattle.slot_protocol.specs.declared.event.Event.{Event}
+use Rattle.slot_protocol.specs.declared.event.Event.TheVariants as events
 use Rattle.channel_slots.specs.Stages.{Follows}
 use Rattle.channel_slots.specs.Slots.{StandsFor, Emits, IsOn, HasLife, is_idle}
 use Rattle.channel_slots.proofs.NewsLemmas.{all-are}
 use Rattle.channel_slots.proofs.QuietLemmas.{on-now, over-now}
 use Rattle.channel_slots.proofs.StageLemmas.{dumps-by-now, follows-wanting, is-on, is-past}
-use Rattle.channel_slots.proofs.TakesLemmas.{Brings, Takes}
+use Rattle.channel_slots.proofs.TakesLemmas.{Brings, Takes, Told, Acquired, Dumped}
 
 -- ---- commands that have come by now
 pub HaveCome : ℕ → List TimedRequest → Type 0
@@ -98,11 +99,17 @@ all-to-print settings xs life slot follows on from left =
     (subst (λ n. AllByRecursion (λ (d : DefinedDump). d.time ≤ n) (dumps_of_life settings xs life))
     (sym from) (dumps-by-now settings xs life slot.stage follows on)))
 
+-- the events of what is told
+abbrev pub events_told : Option Told → List Event
+events_told None = []
+events_told (Some (Acquired prn cell)) = events.Acquired prn cell ∷ []
+events_told (Some (Dumped d is_shown)) = events_with (slot_news.Dump is_shown) d
+
 -- what is left to print after samples that bring news
-abbrev pub Prints : ℕ → ℕ → Option SlotNews → Type 0
+abbrev pub Prints : ℕ → ℕ → Option Told → Type 0
 Prints before after None = after ≡ before
 Prints before after (Some (Acquired prn cell)) = after ≡ before
-Prints before after (Some (Dump d is_shown)) =
+Prints before after (Some (Dumped d is_shown)) =
     (is_shown ≡ nat_lt 0 before) × (after ≡ before - 1)
 
 module _ (settings : Settings) (xs : List Sample) (commands : List TimedRequest) (slot : Slot)
@@ -247,7 +254,7 @@ module _ (settings : Settings) (xs : List Sample) (commands : List TimedRequest)
     }
 
     -- what the stage brings is what the slot emits
-    module _ (e : is_idle slot ≡ false) (new : Slot) (news : Option SlotNews)
+    module _ (e : is_idle slot ≡ false) (new : Slot) (news : Option Told)
         (takes : (life : Life) → Follows settings xs life slot.stage
         → Takes settings xs ys life new.stage news)
         (printed : Prints slot.unprinted new.unprinted news) where
@@ -274,24 +281,24 @@ module _ (settings : Settings) (xs : List Sample) (commands : List TimedRequest)
           (rw (front-take j ys (omega (arith, b))) (took.on (j - 1) (omega (arith, b))))
           ∙ took.inside j first b
 
-      emitted : (o : Option SlotNews) → Brings settings xs ys own.life o
+      emitted : (o : Option Told) → Brings settings xs ys own.life o
           → Prints slot.unprinted new.unprinted o
-          → map event_in (events_of o) ≡ life_events settings (xs ++ ys) (Some own.life)
+          → map event_in (events_told o) ≡ life_events settings (xs ++ ys) (Some own.life)
       emitted None brings left = sym brings.1
       emitted (Some (Acquired prn cell)) brings left = sym brings.1
-      emitted (Some (Dump d is_shown)) brings left =
+      emitted (Some (Dumped d is_shown)) brings left =
           all-are d is_shown
           ∙ ap (λ b. when b (count (counts_in d.counts)) ++ steered_events_in d)
           (left.0 ∙ ap (nat_lt 0) own.left) ∙ sym brings.1
 
-      left-after : (o : Option SlotNews) → Brings settings xs ys own.life o
+      left-after : (o : Option Told) → Brings settings xs ys own.life o
           → Prints slot.unprinted new.unprinted o → new.unprinted
           ≡ unprinted_count own.life (dumps_of_life settings (xs ++ ys) own.life)
       left-after None brings left =
           left ∙ own.left ∙ ap (unprinted_count own.life) (sym brings.0)
       left-after (Some (Acquired prn cell)) brings left =
           left ∙ own.left ∙ ap (unprinted_count own.life) (sym brings.0)
-      left-after (Some (Dump d is_shown)) brings left =
+      left-after (Some (Dumped d is_shown)) brings left =
           let now : DefinedDump =
           record { time = length (xs ++ ys); counts = counts_in d.counts } in
           left.1 ∙ ap (λ n. n - 1) own.left
@@ -299,7 +306,7 @@ module _ (settings : Settings) (xs : List Sample) (commands : List TimedRequest)
           (omega (arith, own.asked, both, some)))
           ∙ ap (unprinted_count own.life) (sym brings.0)
 
-      pub tells : Emits settings xs ys commands new (events_of news)
+      pub tells : Emits settings xs ys commands new (events_told news)
       unfolding front_of
       tells = record {
         inside = quiet;

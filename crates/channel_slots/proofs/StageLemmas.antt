@@ -30,10 +30,8 @@ use Rattle.channels.proofs.LateLemmas.{begun as channel-begun}
 use Rattle.channels.proofs.LockedLemmas.{edge-locked}
 use Rattle.channel_slots.specs.declared.stage.Stage.{Stage}
 use Rattle.channel_slots.specs.declared.stage.Stage.TheVariants.{Idle, Searching, Holding, Tracking}
-use Rattle.channel_slots.specs.declared.slot_news.SlotNews.{SlotNews}
-use Rattle.channel_slots.specs.declared.slot_news.SlotNews.TheVariants as slot_news
 use Rattle.channel_slots.specs.Stages.{IsHeld, IsTracked, Follows, is_idle, after_dump}
-use Rattle.channel_slots.proofs.TakesLemmas.{Takes, Brings}
+use Rattle.channel_slots.proofs.TakesLemmas.{Takes, Brings, Told, Dumped}
 use Rattle.channel_slots.proofs.SearchLemmas.{none-yet, searched-dumps, searched-is-on}
 use Rattle.channel_slots.proofs.TrackLemmas.{own, more, tracked-dumps, tracked-by-now, tracked-on}
 use Rattle.channel_slots.proofs.TrackLemmas.{quiet-dumps, quiet-on, quiet-events, goes-on}
@@ -147,13 +145,13 @@ starts-tracked settings xs life t prn doppler half_chip begun start tracks = rec
 }
 
 -- a dump as news of its slot
-abbrev pub held_news : Bool → Option Counts → Option SlotNews
+abbrev pub held_news : Bool → Option Counts → Option Told
 held_news is_shown None = None
-held_news is_shown (Some c) = Some (slot_news.Dump (plain_dump c) is_shown)
+held_news is_shown (Some c) = Some (Dumped (plain_dump c) is_shown)
 
-abbrev pub dump_news : Bool → Option Dump → Option SlotNews
+abbrev pub dump_news : Bool → Option Dump → Option Told
 dump_news is_shown None = None
-dump_news is_shown (Some d) = Some (slot_news.Dump d is_shown)
+dump_news is_shown (Some d) = Some (Dumped d is_shown)
 
 -- what is followed after a dump, if there is one
 abbrev pub stage_after : Option Dump → Stage → Stage

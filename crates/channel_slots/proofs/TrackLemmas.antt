@@ -28,9 +28,8 @@ use Rattle.channels.proofs.LateLemmas.{begun as channel-begun}
 use Rattle.channels.specs.Dumps.{is_loss}
 use Rattle.channels.specs.TrackedChannels as tracked
 use Rattle.channels.specs.TrackedChannels.{counts_so_far}
-use Rattle.channel_slots.specs.declared.slot_news.SlotNews.TheVariants as slot_news
 use Rattle.channel_slots.specs.Stages.{IsTracked}
-use Rattle.channel_slots.proofs.TakesLemmas.{Brings}
+use Rattle.channel_slots.proofs.TakesLemmas.{Brings, Dumped}
 use Rattle.channel_slots.proofs.SteeredLemmas.{GoesOn, steered-on}
 use Rattle.channel_slots.proofs.QuietLemmas.{no-dump-now, dump-now, front-pushed}
 
@@ -205,7 +204,7 @@ module _ (settings : Settings) (xs : List Sample) (life : Life) (t : Tracked)
           ∙ ap is_some (lost-here now)
 
       pub tracked-brings : (is_shown : Bool)
-          → Brings settings xs ys life (Some (slot_news.Dump d is_shown))
+          → Brings settings xs ys life (Some (Dumped d is_shown))
       tracked-brings is_shown =
           let all : dumps_of_life settings (xs ++ ys) life
           ≡ dumps_of_life settings xs life ++ now ∷ [] =

@@ -8,6 +8,7 @@ use Rattle.frame_sync.specs.declared.sync.Found.{Found}
 use Rattle.data_sets.specs.declared.reports.Reports.{Reports}
 use Rattle.nav_message.specs.declared.news.MessageNews.{MessageNews}
 use Rattle.nav_message.specs.declared.news.MessageNews.TheVariants as messages
+use Rattle.channels.specs.declared.dump.Dump.{Dump}
 use Rattle.slot_protocol.specs.declared.event.Event.{Event}
 use Rattle.slot_protocol.specs.declared.event.Event.TheVariants as events
 use Rattle.channel_slots.specs.declared.slot_news.SlotNews.{SlotNews}
@@ -39,14 +40,18 @@ message_events messages.Nothing = []
 message_events messages.Edge = events.Bits ∷ []
 message_events (messages.Frame found reports) = frame_events found reports
 
--- what an acquisition names; of a dump its sums, a change of the lock, and what the message brings
-abbrev pub events_with : SlotNews → List Event
-events_with (slot_news.Acquired prn cell) = events.Acquired prn cell ∷ []
-events_with (slot_news.Dump dump is_shown) =
+-- of a dump its sums, if they are printed, a change of the lock, and what the message brings
+abbrev pub dump_events : Bool → Dump → List Event
+dump_events is_shown dump =
     count_events is_shown dump.counts
     ++ (lock_events dump.lock ++ message_events dump.message)
 
+-- what an acquisition names, or what is emitted with a dump, which is in the room for it
+abbrev pub events_with : SlotNews → Dump → List Event
+events_with (slot_news.Acquired prn cell) dump = events.Acquired prn cell ∷ []
+events_with (slot_news.Dump is_shown) dump = dump_events is_shown dump
+
 -- all that is emitted, if anything is
-abbrev pub events_of : Option SlotNews → List Event
-events_of None = []
-events_of (Some news) = events_with news
+abbrev pub events_of : Option SlotNews → Dump → List Event
+events_of None dump = []
+events_of (Some news) dump = events_with news dump

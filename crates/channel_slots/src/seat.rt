@@ -1,6 +1,6 @@
 //! The seats of a bank: the slots of all clients, each with whose it is.
 
-ghost use Rattle.std.specs.Prelude.{◌≡◌, ◌≤◌, ◌<◌, ◌+◌, ◌*◌, ◌^◌, ℕ, length, [], IfOk, OnOk};
+ghost use Rattle.std.specs.Prelude.{◌≡◌, ◌≤◌, ◌<◌, ◌+◌, ◌*◌, ◌^◌, ℕ, length, [], IfOk, OnOk, true};
 ghost use Rattle.std.specs.List.{AllByRecursion};
 ghost use Rattle.definitions.specs.Oscillators.{Settings as DefinedSettings};
 ghost use Rattle.definitions.specs.Banks.{layout};
@@ -20,7 +20,7 @@ ghost use Rattle.slot_protocol.specs.declared.command.TheConstants.{MOST_SLOTS};
 ghost use Rattle.channel_slots.specs.declared.seat.TheConstants.{MOST_CLIENTS, RUN_EVENTS};
 ghost use Rattle.channel_slots.specs.declared.seat.TheConstants.{FRAME_EVENTS};
 ghost use Rattle.channel_slots.specs.NewsEvents.{if_any, count_events, lock_events, frame_events};
-ghost use Rattle.channel_slots.specs.NewsEvents.{events_with};
+ghost use Rattle.channel_slots.specs.NewsEvents.{message_events, dump_events, events_with};
 ghost use Rattle.channel_slots.specs.declared.slot.TheConstants.{SLOT_EVENTS};
 
 use crate::bank::MOST_TIME;
@@ -29,6 +29,7 @@ use crate::slot_news::{DUMP_EVENTS, SlotNews};
 use crate::timeline::put_in_time;
 use arrayvec::ArrayVec;
 use ca_codes::CodeBook;
+use channels::Dump;
 use data_sets::Reports;
 use frame_sync::Found;
 use lane_correlator::Counts;
@@ -62,15 +63,14 @@ impl Seat {
     ghost use Rattle.std.specs.Prelude.{List, [], ◌∷◌, ◌++◌, length};
     ghost use Rattle.channel_slots.specs.Banks.{SeatGoes, PutsIn};
 
-    /// Inserts an event of the seat's slot, if there is one.
-    fn put(&self, event: Option<Event>, time: u64, events: &mut ArrayVec<SlotEvent, RUN_EVENTS>)
+    /// Inserts an event of the seat's slot. It stays a call, since events are large and most
+    /// samples bring none.
+    #[inline(never)]
+    fn put(&self, event: Event, time: u64, events: &mut ArrayVec<SlotEvent, RUN_EVENTS>)
         requires { array_vec_len events.old < RUN_EVENTS }
-        ensures puts { PutsIn self.now time (if_any event) events.old.items events.new.items }
+        ensures puts { PutsIn self.now time (event ∷ []) events.old.items events.new.items }
         ensures one { array_vec_len events.new ≤ array_vec_len events.old + 1 }
     {
-        let Some(event) = event else {
-            return;
-        };
         let told = SlotEvent {
             client: self.client,
             slot: self.number,
@@ -80,34 +80,120 @@ impl Seat {
         put_in_time(events, told);
     }
 
-    /// Inserts all that comes with a sample.
-    fn put_news(&self, news: &SlotNews, time: u64, events: &mut ArrayVec<SlotEvent, RUN_EVENTS>)
+    /// Inserts an event of the seat's slot, if there is one.
+    fn put_if_any(
+        &self,
+        event: Option<Event>,
+        time: u64,
+        events: &mut ArrayVec<SlotEvent, RUN_EVENTS>,
+    )
+        requires { array_vec_len events.old < RUN_EVENTS }
+        ensures puts { PutsIn self.now time (if_any event) events.old.items events.new.items }
+        ensures one { array_vec_len events.new ≤ array_vec_len events.old + 1 }
+    {
+        if let Some(event) = event {
+            self.put(event, time, events);
+        }
+    }
+
+    /// Inserts all that comes with a sample. Of most dumps nothing is emitted: then no event is
+    /// made, since an event is large.
+    fn put_news(
+        &self,
+        news: SlotNews,
+        dump: &Dump,
+        time: u64,
+        events: &mut ArrayVec<SlotEvent, RUN_EVENTS>,
+    )
         requires { array_vec_len events.old + DUMP_EVENTS ≤ RUN_EVENTS }
-        ensures { PutsIn self.now time (events_with news.now) events.old.items events.new.items }
+        ensures { PutsIn self.now time (events_with news dump.now) events.old.items
+            events.new.items }
     {
         match news {
             SlotNews::Acquired { prn, cell } => {
-                let event = Event::Acquired {
-                    prn: *prn,
-                    cell: *cell,
-                };
-                self.put(Some(event), time, events);
+                self.put(Event::Acquired { prn, cell }, time, events);
             }
-            SlotNews::Dump { dump, is_shown } => {
-                self.put(count_event(*is_shown, dump.counts), time, events);
-                self.put(lock_event(dump.lock), time, events);
-                match &dump.message {
-                    MessageNews::Nothing => {}
-                    MessageNews::Edge => self.put(Some(Event::Bits), time, events),
-                    MessageNews::Frame { found, reports } => {
-                        self.put_frame(found, reports, time, events);
-                    }
+            SlotNews::Dump { is_shown } => {
+                if !is_silent(is_shown, dump) {
+                    self.put_dump(is_shown, dump, time, events);
                 }
             }
         }
     }
 
-    /// Inserts a subframe, with the gap before it and what its page makes reported.
+    /// Inserts what is emitted with a dump. It stays a call, as `put` does.
+    #[inline(never)]
+    fn put_dump(
+        &self,
+        is_shown: bool,
+        dump: &Dump,
+        time: u64,
+        events: &mut ArrayVec<SlotEvent, RUN_EVENTS>,
+    )
+        requires { array_vec_len events.old + DUMP_EVENTS ≤ RUN_EVENTS }
+        ensures { PutsIn self.now time (dump_events is_shown dump.now) events.old.items
+            events.new.items }
+    {
+        self.put_counts(is_shown, &dump.counts, time, events);
+        self.put_lock(dump.lock, time, events);
+        self.put_message(&dump.message, time, events);
+    }
+
+    /// Inserts the sums of a dump, if they are to be printed.
+    fn put_counts(
+        &self,
+        is_shown: bool,
+        counts: &Counts,
+        time: u64,
+        events: &mut ArrayVec<SlotEvent, RUN_EVENTS>,
+    )
+        requires { array_vec_len events.old < RUN_EVENTS }
+        ensures puts { PutsIn self.now time (count_events is_shown counts.now) events.old.items
+            events.new.items }
+        ensures one { array_vec_len events.new ≤ array_vec_len events.old + 1 }
+    {
+        if is_shown {
+            self.put(Event::Count(*counts), time, events);
+        }
+    }
+
+    /// Inserts a change of the lock.
+    fn put_lock(&self, lock: News, time: u64, events: &mut ArrayVec<SlotEvent, RUN_EVENTS>)
+        requires { array_vec_len events.old < RUN_EVENTS }
+        ensures puts { PutsIn self.now time (lock_events lock) events.old.items events.new.items }
+        ensures one { array_vec_len events.new ≤ array_vec_len events.old + 1 }
+    {
+        match lock {
+            News::Nothing => {}
+            News::Lock => self.put(Event::Lock, time, events),
+            News::Unlock => self.put(Event::Unlock, time, events),
+            News::Lost => self.put(Event::Lost, time, events),
+        }
+    }
+
+    /// Inserts what the message reports.
+    fn put_message(
+        &self,
+        message: &MessageNews,
+        time: u64,
+        events: &mut ArrayVec<SlotEvent, RUN_EVENTS>,
+    )
+        requires { array_vec_len events.old + FRAME_EVENTS ≤ RUN_EVENTS }
+        ensures { PutsIn self.now time (message_events message.now) events.old.items
+            events.new.items }
+    {
+        match message {
+            MessageNews::Nothing => {}
+            MessageNews::Edge => self.put(Event::Bits, time, events),
+            MessageNews::Frame { found, reports } => {
+                self.put_frame(found, reports, time, events);
+            }
+        }
+    }
+
+    /// Inserts a subframe, with the gap before it and what its page makes reported. It stays a
+    /// call, as `put` does.
+    #[inline(never)]
     fn put_frame(
         &self,
         found: &Found,
@@ -119,10 +205,10 @@ impl Seat {
         ensures { PutsIn self.now time (frame_events found.now reports.now) events.old.items
             events.new.items }
     {
-        self.put(found.gap.map(Event::Gap), time, events);
-        self.put(Some(Event::Sub(found.subframe)), time, events);
-        self.put(reports.page.map(Event::Page), time, events);
-        self.put(reports.set.map(Event::Almanacs), time, events);
+        self.put_if_any(found.gap.map(Event::Gap), time, events);
+        self.put(Event::Sub(found.subframe), time, events);
+        self.put_if_any(reports.page.map(Event::Page), time, events);
+        self.put_if_any(reports.set.map(Event::Almanacs), time, events);
     }
 
     /// Takes a run of samples, and inserts its events by time. Where the slot rests to the end of
@@ -172,41 +258,32 @@ impl Seat {
             events.old.items events.new.items }
     {
         let len = run.len();
+        let mut dump = Dump::plain(Counts::NONE);
         let mut done = 0;
         while done < len {
             if self.slot.is_quiet_until(time + len as u64) {
                 self.slot.pass(run, done, source, book);
                 return;
             }
-            let (count, news) = self.slot.take(run, done, source, book);
+            let (count, news) = self.slot.take(run, done, source, book, &mut dump);
             done += count;
             if let Some(news) = news {
-                self.put_news(&news, time + done as u64, events);
+                self.put_news(news, &dump, time + done as u64, events);
             }
         }
     }
 }
 
-/// The sums of a dump, if they are to be printed.
-fn count_event(is_shown: bool, counts: Counts) -> Option<Event>
-    ensures { if_any result ≡ count_events is_shown counts }
+/// Whether nothing is emitted with a dump.
+fn is_silent(is_shown: bool, dump: &Dump) -> bool
+    ensures { result ≡ true → dump_events is_shown dump.now ≡ [] }
 {
     if is_shown {
-        Some(Event::Count(counts))
-    } else {
-        None
+        return false;
     }
-}
-
-/// What a slot emits of the lock.
-fn lock_event(lock: News) -> Option<Event>
-    ensures { if_any result ≡ lock_events lock }
-{
-    match lock {
-        News::Nothing => None,
-        News::Lock => Some(Event::Lock),
-        News::Unlock => Some(Event::Unlock),
-        News::Lost => Some(Event::Lost),
+    match dump.lock {
+        News::Nothing => matches!(dump.message, MessageNews::Nothing),
+        News::Lock | News::Unlock | News::Lost => false,
     }
 }
 

@@ -123,14 +123,16 @@ impl Slot {
 
     /// Takes the samples that wait and those of a run, from sample `from` on, up to the slot's next
     /// event or the end of the run. It answers how many of the run these are, and what comes with
-    /// the last of them. The source holds the samples of the recording to the end of the run, from
-    /// the first one on that a search looks at or that waits. The book is any book of codes.
+    /// the last of them: where that is a dump it replaces `dump`. The source holds the samples of
+    /// the recording to the end of the run, from the first one on that a search looks at or that
+    /// waits. The book is any book of codes.
     pub fn take<S: SampleSource>(
         &mut self,
         run: &Planes,
         from: usize,
         source: &S,
         book: &mut CodeBook,
+        dump: &mut Dump,
     ) -> (usize, Option<SlotNews>)
         requires some { from < length run.now }
         requires to { length run.now - from ≤ S.to source.now }
@@ -145,10 +147,10 @@ impl Slot {
             (length (xs ++ part run.now from result.0)) (S.held source.now)
             → StandsFor settings xs commands self.old
             → Emits settings xs (part run.now from result.0) commands self.new
-            (events_of result.1) }
+            (events_of result.1 dump.new) }
         ensures chances { IfSome result.1 (λ news.
             chances (S.to source.now - (length run.now - from) + result.0) self.new
-            + length (events_with news)
+            + length (events_with news dump.new)
             ≤ chances (S.to source.now - (length run.now - from)) self.old) }
         ensures sound { (first reach : ℕ)
             → IsSound first (S.to source.now - (length run.now - from)) reach self.old
@@ -171,31 +173,32 @@ impl Slot {
                 let Some(counts) = counts else {
                     return (count, None);
                 };
-                (count, Some(self.dump(Dump::plain(counts))))
+                dump.set_plain(counts);
+                (count, Some(self.note_dump(News::Nothing)))
             }
             Stage::Tracking(tracked) => {
-                let (count, dump) = tracked.take(run, from, source, book);
-                let Some(dump) = dump else {
+                let (count, is_dump) = tracked.take(run, from, source, book, dump);
+                if !is_dump {
                     return (count, None);
-                };
-                (count, Some(self.dump(dump)))
+                }
+                (count, Some(self.note_dump(dump.lock)))
             }
         }
     }
 
     /// What a dump of the slot's satellite is for its client: while dumps are to be printed it is
     /// one of them, and where the signal is lost with it the slot is idle from here on.
-    fn dump(&mut self, dump: Dump) -> SlotNews
-        ensures news { result ≡ news.Dump dump (nat_lt 0 self.old.unprinted) }
+    fn note_dump(&mut self, lock: News) -> SlotNews
+        ensures news { result ≡ news.Dump (nat_lt 0 self.old.unprinted) }
         ensures left { self.new.unprinted ≡ self.old.unprinted - 1 }
-        ensures stage { self.new.stage ≡ after_dump dump.lock self.old.stage }
+        ensures stage { self.new.stage ≡ after_dump lock self.old.stage }
     {
         let is_shown = self.unprinted > 0;
         self.unprinted = self.unprinted.saturating_sub(1);
-        if matches!(dump.lock, News::Lost) {
+        if matches!(lock, News::Lost) {
             self.stage = Stage::Idle;
         }
-        SlotNews::Dump { dump, is_shown }
+        SlotNews::Dump { is_shown }
     }
 
     /// The number of cells that the search has done, if the slot searches.

@@ -9,6 +9,7 @@ ghost use Rattle.slot_protocol.specs.Commands.{slot_of};
 use acquisition::Plan;
 use ca_codes::{CodeBook, Prn};
 use channel_slots::*;
+use channels::Dump;
 use lane_correlator::Counts;
 use oscillators::{Doppler, HalfChip, Settings};
 use sample_planes::{Format, NumberedSamples, PackedSamples, unpack};
@@ -218,17 +219,18 @@ fn told(slot: &mut Slot, time: u64, len: usize, count: usize) -> Result<Option<C
     }
     let packed = PackedSamples::new(Format::Real1, &[0]).part(0, time as usize + len);
     let source = NumberedSamples::new(packed, 0);
-    let (taken, news) = slot.take(&samples, 0, &source, &mut CodeBook::new());
+    let mut dump = Dump::plain(Counts::NONE);
+    let (taken, news) = slot.take(&samples, 0, &source, &mut CodeBook::new(), &mut dump);
     if taken != count {
         return Err(Fail::new("the next event is elsewhere"));
     }
-    Ok(shown(news))
+    Ok(shown(news, &dump))
 }
 
 /// The sums of a dump that are to be printed.
-fn shown(news: Option<SlotNews>) -> Option<Counts> {
+fn shown(news: Option<SlotNews>, dump: &Dump) -> Option<Counts> {
     match news {
-        Some(SlotNews::Dump { dump, is_shown }) if is_shown => Some(dump.counts),
+        Some(SlotNews::Dump { is_shown }) if is_shown => Some(dump.counts),
         _ => None,
     }
 }

@@ -29,4 +29,13 @@ impl Dump {
             message: MessageNews::Nothing,
         }
     }
+
+    /// Becomes the dump that `plain` gives. It is large, so only what differs is written.
+    pub fn set_plain(&mut self, counts: Counts)
+        ensures { self.new ≡ plain_dump counts }
+    {
+        self.counts = counts;
+        self.lock = News::Nothing;
+        self.message.clear();
+    }
 }

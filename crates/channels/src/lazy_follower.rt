@@ -130,7 +130,9 @@ impl LazyFollower {
         (count, counts)
     }
 
-    /// Takes the samples that wait, up to so many of the recording.
+    /// Takes the samples that wait, up to so many of the recording. It stays a call, since it makes
+    /// room for them.
+    #[inline(never)]
     fn catch_up<S: SampleSource>(&mut self, time: u64, source: &S, book: &mut CodeBook)
         requires early { time ≤ MOST_TAKEN }
         requires some { taken_of self.old < time }

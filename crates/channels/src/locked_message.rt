@@ -1,6 +1,6 @@
 //! The message of a satellite, from lock to lock.
 
-ghost use Rattle.std.specs.Prelude.{◌≡◌, ◌≤◌, ◌<◌, ◌+◌, List, [], ◌∷◌, ◌++◌};
+ghost use Rattle.std.specs.Prelude.{◌≡◌, ◌≤◌, ◌<◌, ◌+◌, List, [], ◌∷◌, ◌++◌, true};
 ghost use Rattle.definitions.specs.BitEdge.{has_edge};
 ghost use Rattle.definitions.specs.Correlation.{Counts as DefinedCounts};
 ghost use Rattle.definitions.specs.Events.{pushes_of, push_events};
@@ -33,8 +33,8 @@ impl LockedMessage {
     }
 
     /// Takes the sums of the next dump, each at most `MOST_SUM` in size, and whether the loops are
-    /// locked with it. It gives the message's news.
-    pub fn take(&mut self, counts: &Counts, is_locked: bool) -> MessageNews
+    /// locked with it. The message's news replace `news`.
+    pub fn take(&mut self, counts: &Counts, is_locked: bool, news: &mut MessageNews)
         requires small { AreWithin MOST_SUM (counts_in counts.now) }
         requires room { bit_count self.old < MOST_BITS }
         ensures counted { bit_count self.new ≤ bit_count self.old + 1 }
@@ -43,22 +43,35 @@ impl LockedMessage {
             → StandsFor (dumps ++ counts_in counts.now ∷ []) self.new }
         ensures news { (dumps : List DefinedCounts) → StandsFor dumps self.old
             → lock.is_locked (dumps ++ counts_in counts.now ∷ []) ≡ is_locked
-            → events_in result ≡ push_events (pushes_of (dumps ++ counts_in counts.now ∷ [])) }
+            → events_in news.new ≡ push_events (pushes_of (dumps ++ counts_in counts.now ∷ [])) }
     {
         if !is_locked {
             // Some 8 KB are only written where a message ends.
             if self.message.is_some() {
                 self.message = None;
             }
-            return MessageNews::Nothing;
+            news.clear();
+            return;
         }
         match &mut self.message {
-            Some(message) => message.push(counts.ip),
+            Some(message) => message.push(counts.ip, news),
             None => {
-                self.message = Some(Message::new());
-                MessageNews::Nothing
+                self.begin();
+                news.clear();
             }
         }
+    }
+
+    /// Begins a message with a lock. It isn't inlined, since a message is large and this comes
+    /// rarely.
+    #[cold]
+    #[inline(never)]
+    fn begin(&mut self)
+        ensures stands { (dumps : List DefinedCounts) → lock.is_locked dumps ≡ true
+            → pushes_of dumps ≡ [] → StandsFor dumps self.new }
+        ensures none { bit_count self.new ≡ 0 }
+    {
+        self.message = Some(Message::new());
     }
 
     /// Says whether the edge of the message's bits is found.

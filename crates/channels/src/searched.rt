@@ -82,7 +82,8 @@ impl Searched {
     /// Goes on by `most` samples, or to the time at which its answer is due if that is sooner, over
     /// a source that holds the samples from its first on to the last of these. It answers how many
     /// these are, and the cell that the acquisition names if that is due with the last of them. The
-    /// book is any book of codes.
+    /// book is any book of codes. It stays a call, since it has rooms for many samples.
+    #[inline(never)]
     pub fn take<S: SampleSource>(
         &mut self,
         most: usize,

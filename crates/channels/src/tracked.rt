@@ -30,7 +30,7 @@ pub struct Tracked {
 }
 
 impl Tracked {
-    ghost use Rattle.std.specs.Prelude.{ℕ, List, ◌++◌, length, IfSome, None, nat_lt};
+    ghost use Rattle.std.specs.Prelude.{ℕ, List, ◌++◌, length, None, nat_lt, true, false};
     ghost use Rattle.definitions.specs.Samples.{Sample};
     ghost use Rattle.definitions.specs.Oscillators.{Settings as DefinedSettings};
     ghost use Rattle.definitions.specs.Segments.{Channel, progress, first_progress};
@@ -46,6 +46,7 @@ impl Tracked {
     ghost use Rattle.definitions.specs.Events.{pushes_of};
     ghost use Rattle.definitions.specs.Lock.{is_locked};
     ghost use Rattle.channels.specs.Parts.{part, IsAsFar};
+    ghost use Rattle.channels.specs.Dumps.{dump_if};
 
     /// Begins at the next sample, which is number `time`, with the code at a half chip of its cycle
     /// and the carrier at 0, and at this Doppler shift; `time` is at most `MOST_TAKEN`.
@@ -182,48 +183,50 @@ impl Tracked {
     }
 
     /// Takes the samples that wait and those of a run, from sample `from` on, up to the next dump
-    /// or the end of the run. It answers how many of the run these are, and the dump if it comes
-    /// with the last of them. The source holds the samples of the recording from the first that
-    /// waits on to the end of the run. The book is any book of codes.
+    /// or the end of the run. It answers how many of the run these are, and whether a dump comes
+    /// with the last of them. If so, this dump replaces `dump`, and else that stays as it was. The
+    /// source holds the samples of the recording from the first that waits on to the end of the
+    /// run. The book is any book of codes.
     pub fn take<S: SampleSource>(
         &mut self,
         run: &Planes,
         from: usize,
         source: &S,
         book: &mut CodeBook,
-    ) -> (usize, Option<Dump>)
+        dump: &mut Dump,
+    ) -> (usize, bool)
         requires some { from < length run.now }
         requires early { S.to source.now ≤ MOST_TAKEN }
         requires held { S.from source.now ≤ taken_of self.old }
         requires begun { taken_of self.old + (length run.now - from) ≤ S.to source.now }
         requires rests { S.to source.now - (length run.now - from) ≤ rests_until self.old }
         requires few { dumps_of self.old < MOST_STEERED_DUMPS }
-        ensures as_far { IsAsFar (length run.now - from) result.0 result.1 }
+        ensures kept { result.1 ≡ false → dump.new ≡ dump.old }
+        ensures as_far { IsAsFar (length run.now - from) result.0 (dump_if result.1 dump.new) }
         ensures takes { (settings : DefinedSettings) (channel : Channel) (xs : List Sample)
             → length xs + (length run.now - from) ≡ S.to source.now
             → AreSamplesOf xs (S.from source.now) (length xs) (S.held source.now)
             → Tracks settings channel xs self.old
-            → Takes settings channel xs (part run.now from result.0) self.new result.1 }
-        ensures dumps { dumps_of self.new ≡ dumps_of self.old + how_many result.1 }
+            → Takes settings channel xs (part run.now from result.0) self.new
+            (dump_if result.1 dump.new) }
+        ensures dumps { dumps_of self.new
+            ≡ dumps_of self.old + how_many (dump_if result.1 dump.new) }
         ensures taken { taken_of self.new + (length run.now - from)
             ≡ S.to source.now + result.0 }
-        ensures chance { IfSome result.1 (λ _. chance (taken_of self.new) self.new + 1
-            ≤ chance (S.to source.now - (length run.now - from)) self.old) }
+        ensures chance { result.1 ≡ true → chance (taken_of self.new) self.new + 1
+            ≤ chance (S.to source.now - (length run.now - from)) self.old }
     {
         let (count, counts) = self.follower.take(run, from, source, book);
         let Some(counts) = counts else {
-            return (count, None);
+            return (count, false);
         };
-        let lock = self.loops.take(counts);
+        dump.counts = counts;
+        dump.lock = self.loops.take(counts);
         self.follower
             .steer(&self.settings, self.loops.v(), self.loops.w());
-        let message = self.message.take(&counts, self.loops.locked());
-        let dump = Dump {
-            counts,
-            lock,
-            message,
-        };
-        (count, Some(dump))
+        self.message
+            .take(&counts, self.loops.locked(), &mut dump.message);
+        (count, true)
     }
 
     /// Takes the samples that wait and those of a run, from sample `from` on, where no dump comes

@@ -7,13 +7,14 @@
 //!     use nav_message::{Message, MessageNews};
 //!
 //!     // The prompt sums of dumps since the lock.
-//!     let mut message = Message::new();
+//!     let (mut message, mut news) = (Message::new(), MessageNews::Nothing);
 //!     let (mut edges, mut pages) = (0, 0);
 //!     for ip in [900, 870, 910, -880, -905] {
-//!         match message.push(ip) {
+//!         message.push(ip, &mut news);
+//!         match &news {
 //!             MessageNews::Nothing => {}
 //!             MessageNews::Edge => edges += 1,
-//!             MessageNews::Frame { found, reports } => pages += u32::from(reports.page.is_some()),
+//!             MessageNews::Frame { reports, .. } => pages += u32::from(reports.page.is_some()),
 //!         }
 //!     }
 #![tactic(auto)]

@@ -43,44 +43,48 @@ impl Message {
     }
 
     /// Takes the prompt sum in phase of the next dump, at most `MOST_PUSH` of `bit_sync` in size.
-    /// Gives what it reports: nothing, the edge of the bits, or a subframe with the gap before it
-    /// and what its page makes reported. A bit is 20 dumps (IS-GPS-200, section 3.2.2), and a
-    /// subframe 300 bits (section 20.3.2). A message takes up to [`MOST_BITS`] bits. A push brings
-    /// one at most.
-    pub fn push(&mut self, ip: i32) -> MessageNews
+    /// What it reports replaces `news`: nothing, the edge of the bits, or a subframe with the gap
+    /// before it and what its page makes reported. A bit is 20 dumps (IS-GPS-200, section 3.2.2),
+    /// and a subframe 300 bits (section 20.3.2). A message takes up to [`MOST_BITS`] bits. A push
+    /// brings one at most. What is reported is large and comes rarely, so the caller keeps the room
+    /// for it.
+    pub fn push(&mut self, ip: i32, news: &mut MessageNews)
         requires small { unsigned_abs ip ≤ MOST_PUSH }
         requires room { bit_count self.old < MOST_BITS }
         ensures counted { bit_count self.new ≤ bit_count self.old + 1 }
         ensures stands { (pushes : List ℤ) → StandsFor pushes self.old
             → StandsFor (pushes ++ ip ∷ []) self.new }
         ensures news { (pushes : List ℤ) → StandsFor pushes self.old
-            → events_in result ≡ push_events (pushes ++ ip ∷ []) }
+            → events_in news.new ≡ push_events (pushes ++ ip ∷ []) }
     {
         match self.bits.push(ip) {
-            BitNews::Nothing => MessageNews::Nothing,
-            BitNews::Edge => MessageNews::Edge,
-            BitNews::Bit(bit) => self.take_bit(bit),
+            BitNews::Nothing => news.clear(),
+            BitNews::Edge => *news = MessageNews::Edge,
+            BitNews::Bit(bit) => self.take_bit(bit, news),
         }
     }
 
-    /// Takes the next bit, and gives what it makes reported.
-    fn take_bit(&mut self, bit: bool) -> MessageNews
+    /// Takes the next bit, and what it makes reported replaces `news`. It stays a call, since most
+    /// pushes bring no bit.
+    #[inline(never)]
+    fn take_bit(&mut self, bit: bool, news: &mut MessageNews)
         requires room { bit_count self.old < MOST_BITS }
         ensures counted { bit_count self.new ≡ bit_count self.old + 1 }
         ensures same_edge { self.new.bits ≡ self.old.bits }
         ensures read { (bits : List Bool) → HasRead bits self.old
             → HasRead (bits ++ bit ∷ []) self.new }
         ensures news { (bits : List Bool) → HasRead bits self.old
-            → events_in result ≡ bit_events (bits ++ bit ∷ []) (found_by (bits ++ bit ∷ [])) }
+            → events_in news.new ≡ bit_events (bits ++ bit ∷ []) (found_by (bits ++ bit ∷ [])) }
     {
         let Some(found) = self.frames.push(bit) else {
-            return MessageNews::Nothing;
+            news.clear();
+            return;
         };
         let reports = match Page::read(&found.subframe) {
             Some(page) => self.sets.take(&page),
             None => Reports::NONE,
         };
-        MessageNews::Frame { found, reports }
+        *news = MessageNews::Frame { found, reports };
     }
 
     /// Says whether the edge of the bits is found.

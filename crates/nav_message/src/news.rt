@@ -1,5 +1,7 @@
 //! What a push makes a message report.
 
+ghost use Rattle.std.specs.Prelude.{◌≡◌};
+
 use data_sets::Reports;
 use frame_sync::Found;
 
@@ -17,4 +19,17 @@ pub enum MessageNews {
         /// What the subframe's page makes reported.
         reports: Reports,
     },
+}
+
+impl MessageNews {
+    ghost use Rattle.nav_message.specs.declared.news.MessageNews.TheVariants as messages;
+
+    /// Makes it report nothing. It is large, so it's written only where it reports something.
+    pub fn clear(&mut self)
+        ensures { self.new ≡ messages.Nothing }
+    {
+        if !matches!(self, MessageNews::Nothing) {
+            *self = MessageNews::Nothing;
+        }
+    }
 }

@@ -44,7 +44,9 @@ impl Reading {
             ip: if is_negative { -1 } else { 1 },
             ..Counts::NONE
         };
-        self.message.take(&counts, is_locked)
+        let mut news = MessageNews::Nothing;
+        self.message.take(&counts, is_locked, &mut news);
+        news
     }
 
     /// Takes such a dump, which brings no news.

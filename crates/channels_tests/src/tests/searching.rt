@@ -10,6 +10,7 @@ use super::so_far;
 use acquisition::{Cell, Plan};
 use ca_codes::{CodeBook, Prn};
 use channels::{Dump, Searched, Tracked};
+use lane_correlator::Counts;
 use made_signals::code_file;
 use oscillators::{HalfChip, Settings};
 use sample_planes::{Format, NumberedSamples, PackedSamples, unpack};
@@ -75,7 +76,9 @@ fn next(
         return Err(Fail::new("samples are missing"));
     }
     let source = so_far(PackedSamples::new(Format::Real1, bytes), 10_232, end)?;
-    Ok(tracked.take(&run, 0, &source, book))
+    let mut dump = Dump::plain(Counts::NONE);
+    let (count, is_dump) = tracked.take(&run, 0, &source, book, &mut dump);
+    Ok((count, is_dump.then_some(dump)))
 }
 
 /// Asserts that a satellite tracked from sample 10,232 on comes to a dump with sample 12,275.

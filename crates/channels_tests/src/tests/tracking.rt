@@ -5,7 +5,7 @@ ghost use Rattle.channels.specs.TrackedChannels.{taken_of};
 
 use super::{so_far, sums};
 use ca_codes::{CodeBook, Prn};
-use channels::Tracked;
+use channels::{Dump, Tracked};
 use lane_correlator::Counts;
 use made_signals::{MadeSignal, PlainDump, PlainNews, PlainTracker, SampleStream};
 use oscillators::{Doppler, HalfChip, Settings};
@@ -60,11 +60,9 @@ fn next(
     }
     let all = PackedSamples::new(Format::Real2, bytes);
     let source = so_far(all, 0, place as u64 + 1_000)?;
-    let (count, dump) = tracked.take(&run, 0, &source, book);
-    let Some(dump) = dump else {
-        return Ok((count, None));
-    };
-    Ok((count, Some((dump.counts, dump.lock))))
+    let mut dump = Dump::plain(Counts::NONE);
+    let (count, is_dump) = tracked.take(&run, 0, &source, book, &mut dump);
+    Ok((count, is_dump.then_some((dump.counts, dump.lock))))
 }
 
 /// Asserts that both came to a dump, or neither did.

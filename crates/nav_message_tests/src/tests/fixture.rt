@@ -84,7 +84,10 @@ impl Pushed {
     fn push(&mut self, rt: &impl Abort, is_negative: bool) -> MessageNews {
         assert!(rt; self.pushes < MOST_BITS);
         self.pushes += 1;
-        self.message.push(if is_negative { -1 } else { 1 })
+        let mut news = MessageNews::Nothing;
+        self.message
+            .push(if is_negative { -1 } else { 1 }, &mut news);
+        news
     }
 }
 

@@ -1,16 +1,12 @@
 use Rattle.std.proofs.Common.{arith, length, ap, ◌∙◌}
 use Rattle.slot_protocol.specs.Events.{time_in}
 use Rattle.channel_slots.proofs.OrderLemmas.{put_in-length}
-use Rattle.channel_slots.proofs.PutLemmas.{puts-none, puts-one}
+use Rattle.channel_slots.proofs.PutLemmas.{puts-one}
 use Rattle.channel_slots.proofs.seat.Seat.put.Goals as goal
-
-pub returns-in_default-clause-puts : goal.returns-in_default-clause-puts
-returns-in_default-clause-puts c = rw c.in_default.is (puts-none c.args.self.now c.args.time _)
 
 pub returns-clause-puts : goal.returns-clause-puts
 returns-clause-puts c =
-    rw c.in-Some.is (puts-one c.args.self.now c.args.time c.in-Some.event _ _
-    c.put_in_time.ensures)
+    puts-one c.args.self.now c.args.time c.args.event _ _ c.put_in_time.ensures
 
 pub returns-clause-one : goal.returns-clause-one
 returns-clause-one c =

@@ -48,11 +48,11 @@ loop-done-preserved-in-Some g c =
     let later : c.args.time + done + took.result.0 ≡ here = omega arith in
     let before : here - length zs ≡ c.args.time + done = omega (arith, is) in
     let many : length c.put_news.new.events.items
-    ≡ length c.loop-done.events.items + length (events_with news) =
+    ≡ length c.loop-done.events.items + length (events_with news took.new.dump) =
     ap length c.put_news.ensures
     ∙ put_all-length time_in c.loop-done.events.items _
     ∙ ap (λ (n : ℕ). length c.loop-done.events.items + n)
-    (length-map (events_with news) (event_of c.loop-done.self here)) in
+    (length-map (events_with news took.new.dump) (event_of c.loop-done.self here)) in
     let room : length c.put_news.new.events.items + chances here took.new.self
     ≤ length c.args.events.now.items + SLOT_EVENTS =
     omega (
@@ -81,7 +81,7 @@ loop-done-preserved-in-Some g c =
           c.loop-done.invariant.goes
           (record {
             events = _;
-            steps = seated zs here _ _ c.loop-done.self _ (events_with news) refl refl
+            steps = seated zs here _ _ c.loop-done.self _ (events_with news took.new.dump) refl refl
                 (λ from reach sound.
                 rw (now, later) at (took.ensures.sound from reach) (rw before at sound))
                 (λ settings xs commands whole samples s.

@@ -9,7 +9,8 @@ use Rattle.channels.specs.TrackedChannels as tracked
 use Rattle.channels.specs.TrackedChannels.{taken_of}
 use Rattle.channels.proofs.PartLemmas.{part-some}
 use Rattle.channel_slots.specs.Stages.{is_idle, IsSettled}
-use Rattle.channel_slots.specs.declared.slot_news.SlotNews.TheVariants.{Acquired, Dump}
+use Rattle.channel_slots.specs.declared.slot_news.SlotNews.TheVariants.{Dump}
+use Rattle.channel_slots.proofs.TakesLemmas.{Acquired, Dumped}
 use Rattle.channel_slots.proofs.SearchLemmas.{from-later, searches-on, settled}
 use Rattle.channel_slots.proofs.SlotLemmas.{idle-tells, tells}
 use Rattle.channel_slots.proofs.StageLemmas.{held-takes, tracked-takes}
@@ -96,17 +97,17 @@ returns-in_default-counts-clause-tells g c settings xs commands now samples s =
     (earlier xs ys _ _ samples) h.holds)))
     refl
 
-pub returns-in_default-dump-clause-tells : goal.returns-in_default-dump-clause-tells
-returns-in_default-dump-clause-tells g c settings xs commands now samples s =
+pub returns-then-not-is_dump-clause-tells : goal.returns-then-not-is_dump-clause-tells
+returns-then-not-is_dump-clause-tells g c settings xs commands now samples s =
     let took = c.take-count-in-Tracking in
     let ys : List Sample = part c.args.run.now c.args.from took.result.0 in
-    let more = taken-some c.args.run.now c.args.from took.result.0 took.result.1
+    let more = taken-some c.args.run.now c.args.from took.result.0 _
     c.requires.some took.ensures.as_far in
     tells settings xs commands c.args.self.now s ys more (ap is_idle c.in-Tracking.is) _ None
     (λ life follows.
     let t = rw c.in-Tracking.is at follows in
     tracked-takes settings xs life c.in-Tracking.tracked t ys more false None _
-    (rw c.in_default-dump.is at (took.ensures.takes settings _ xs now
+    (rw c.if-not-is_dump.true at (took.ensures.takes settings _ xs now
     (earlier xs ys _ _ samples) t.tracks)))
     refl
 
@@ -117,48 +118,49 @@ returns-in-Some-counts-clause-tells g c settings xs commands now samples s =
     let more = taken-some c.args.run.now c.args.from took.result.0 took.result.1
     c.requires.some took.ensures.as_far in
     let is_shown : Bool = nat_lt 0 c.args.self.now.unprinted in
-    rw (c.dump.ensures.news, c.plain.ensures)
+    rw (c.note_dump.ensures.news, c.set_plain.ensures)
     (tells settings xs commands c.args.self.now s ys more (ap is_idle c.in-Holding.is)
-    c.dump.new.self (Some (Dump (plain_dump c.in-Some-counts.counts) is_shown))
+    c.note_dump.new.self (Some (Dumped (plain_dump c.in-Some-counts.counts) is_shown))
     (λ life follows.
     let h = rw c.in-Holding.is at follows in
-    rw (c.dump.ensures.stage, c.plain.ensures)
+    rw c.note_dump.ensures.stage
     (held-takes settings xs ys life c.in-Holding.held h more is_shown (Some _) _
     (rw c.in-Some-counts.is at (took.ensures.takes settings _ xs now
     (earlier xs ys _ _ samples) h.holds))))
-    (refl, c.dump.ensures.left))
+    (refl, c.note_dump.ensures.left))
 
-pub returns-in-Some-dump-clause-tells : goal.returns-in-Some-dump-clause-tells
-returns-in-Some-dump-clause-tells g c settings xs commands now samples s =
+pub returns-else-not-is_dump-clause-tells : goal.returns-else-not-is_dump-clause-tells
+returns-else-not-is_dump-clause-tells g c settings xs commands now samples s =
     let took = c.take-count-in-Tracking in
     let ys : List Sample = part c.args.run.now c.args.from took.result.0 in
-    let more = taken-some c.args.run.now c.args.from took.result.0 took.result.1
+    let more = taken-some c.args.run.now c.args.from took.result.0 _
     c.requires.some took.ensures.as_far in
     let is_shown : Bool = nat_lt 0 c.args.self.now.unprinted in
-    rw c.dump-in-Tracking.ensures.news
+    rw c.note_dump-in-Tracking.ensures.news
     (tells settings xs commands c.args.self.now s ys more (ap is_idle c.in-Tracking.is)
-    c.dump-in-Tracking.new.self (Some (Dump c.in-Some-dump.dump is_shown))
+    c.note_dump-in-Tracking.new.self (Some (Dumped took.new.dump is_shown))
     (λ life follows.
     let t = rw c.in-Tracking.is at follows in
-    rw c.dump-in-Tracking.ensures.stage
+    rw c.note_dump-in-Tracking.ensures.stage
     (tracked-takes settings xs life c.in-Tracking.tracked t ys more is_shown (Some _) _
-    (rw c.in-Some-dump.is at (took.ensures.takes settings _ xs now
+    (rw c.if-not-is_dump.false at (took.ensures.takes settings _ xs now
     (earlier xs ys _ _ samples) t.tracks))))
-    (refl, c.dump-in-Tracking.ensures.left))
+    (refl, c.note_dump-in-Tracking.ensures.left))
 
-pub returns-in-Some-dump-clause-chances : goal.returns-in-Some-dump-clause-chances
-returns-in-Some-dump-clause-chances g c =
+pub returns-else-not-is_dump-clause-chances : goal.returns-else-not-is_dump-clause-chances
+returns-else-not-is_dump-clause-chances g c =
     let took = c.take-count-in-Tracking in
     let before : ℕ =
     g.S.SampleSource.to c.args.source.now - (length c.args.run.now - c.args.from) in
     let now : taken_of took.new.self ≡ before + took.result.0 =
     omega (arith, took.ensures.taken, c.requires.to) in
     let is_shown : Bool = nat_lt 0 c.args.self.now.unprinted in
-    rw (c.in-Tracking.is, c.dump-in-Tracking.ensures.stage, c.dump-in-Tracking.ensures.news)
+    let noted = c.note_dump-in-Tracking.ensures in
+    rw (c.in-Tracking.is, noted.stage, noted.news)
     (omega (
       arith,
-      few-events (Dump c.in-Some-dump.dump is_shown),
-      dump-chance (before + took.result.0) c.in-Some-dump.dump.lock took.new.self,
-      rw c.in-Some-dump.is at took.ensures.chance,
+      few-events (Dump is_shown) took.new.dump,
+      dump-chance (before + took.result.0) took.new.dump.lock took.new.self,
+      took.ensures.chance c.if-not-is_dump.false,
       ap (λ (n : ℕ). tracked.chance n took.new.self) now,
     ))

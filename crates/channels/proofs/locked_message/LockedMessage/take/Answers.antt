@@ -10,7 +10,8 @@ fits {z = z} h = fits_signed_from_abs w32 z (omega (arith, h))
 
 pub returns-then-not-is_locked-clause-news : goal.returns-then-not-is_locked-clause-news
 returns-then-not-is_locked-clause-news c dumps h now =
-    sym (ap push_events (none-now dumps _ (now ∙ c.if-not-is_locked.true)) ∙ tells-nothing)
+    rw c.clear.ensures
+    (sym (ap push_events (none-now dumps _ (now ∙ c.if-not-is_locked.true)) ∙ tells-nothing))
 
 -- the sum that is pushed is that of the counts
 pub returns-in-Some-clause-stands : goal.returns-in-Some-clause-stands
@@ -28,11 +29,11 @@ returns-in-Some-clause-news c dumps h now =
     rw (pushed dumps _ held.0 locked) (rw ip at c.push.ensures.news _ held.1)
 
 pub returns-in-None-clause-stands : goal.returns-in-None-clause-stands
-returns-in-None-clause-stands c dumps h now = (
-  now ∙ c.if-not-is_locked.false,
-  rw (none-before dumps _ (rw c.in-None.is at h)) c.new.ensures.stands,
-)
+returns-in-None-clause-stands c dumps h now =
+    c.begin.ensures.stands _ (now ∙ c.if-not-is_locked.false)
+    (none-before dumps _ (rw c.in-None.is at h))
 
 pub returns-in-None-clause-news : goal.returns-in-None-clause-news
 returns-in-None-clause-news c dumps h now =
-    sym (ap push_events (none-before dumps _ (rw c.in-None.is at h)) ∙ tells-nothing)
+    rw c.clear-in-None.ensures
+    (sym (ap push_events (none-before dumps _ (rw c.in-None.is at h)) ∙ tells-nothing))

@@ -30,10 +30,10 @@ returns-clause-takes g c settings channel xs now samples s =
     (rw (v, w) at c.steer.ensures.follows)
     (rw c.steer.ensures.taken (part-taken xs c.args.run.now c.args.from took.result.0 _ _
     (omega (arith, took.ensures.as_far.within, c.requires.some)) now took.ensures.taken))
-    c.take-lock.ensures.stands c.take-lock.ensures.news c.v.ensures.is c.w.ensures.is
-    c.take-message.ensures.stands c.take-message.ensures.news c.locked.ensures
+    c.take-dump.ensures.stands c.take-dump.ensures.news c.v.ensures.is c.w.ensures.is
+    c.take.ensures.stands c.take.ensures.news c.locked.ensures
 
 pub returns-clause-chance : goal.returns-clause-chance
-returns-clause-chance g c =
+returns-clause-chance g c came =
     rw (c.steer.ensures.chance _, c.steer.ensures.taken)
     (rw c.in-Some.is at c.take-count.ensures.chance)

@@ -6,7 +6,7 @@ use Rattle.nav_message.proofs.message.Message.push.Goals as goal
 pub returns-in-Nothing-clause-news : goal.returns-in-Nothing-clause-news
 returns-in-Nothing-clause-news c pushes h =
     let tells = rw (to_z-of_z c.ranges.ip) at (c.in-Nothing.ensures.tells pushes h.bits) in
-    sym (nothing-told pushes c.args.ip tells.0 tells.1)
+    rw c.clear.ensures (sym (nothing-told pushes c.args.ip tells.0 tells.1))
 
 pub returns-in-Edge-clause-news : goal.returns-in-Edge-clause-news
 returns-in-Edge-clause-news c pushes h =
