@@ -254,6 +254,26 @@ impl<const P: usize> Add for Lanes<u32, P> {
     }
 }
 
+impl<const P: usize> Add for Lanes<u16, P> {
+    type Output = Self;
+
+    /// Sums wrap.
+    #[inline(always)]
+    fn add(self, other: Self) -> Self {
+        Lanes(parts(|p| from_fn(|k| self.0[p][k].wrapping_add(other.0[p][k]))))
+    }
+}
+
+impl<const P: usize> Shr for Lanes<u16, P> {
+    type Output = Self;
+
+    /// Each lane is shifted by as many places as the other's, below 16.
+    #[inline(always)]
+    fn shr(self, places: Self) -> Self {
+        Lanes(parts(|p| from_fn(|k| self.0[p][k] >> places.0[p][k])))
+    }
+}
+
 impl<const P: usize> Sub for Lanes<i16, P> {
     type Output = Self;
 

@@ -110,6 +110,12 @@ fn words() {
         let differences = words.cast::<i16>() - i16x64::splat(limit);
         let want = halves.map(|half| (half as i32 - limit as i32) as i16);
         assert_eq!(differences.to_array(), want);
+        let sums = words + u16x64::from_array::<64>(from_fn(|k| b[k] as u16 * 257));
+        let want: [u16; 64] = from_fn(|k| (halves[k] as u32 + b[k] as u32 * 257) as u16);
+        assert_eq!(sums.to_array(), want);
+        let places = a[0] as u16 % 16;
+        let shifted = words >> u16x64::splat(places);
+        assert_eq!(shifted.to_array(), halves.map(|half| half >> places));
         let turned = words.swizzle(from_fn(|k| 63 - k));
         assert_eq!(turned.to_array(), from_fn(|k| halves[63 - k]));
         let sums = u32x16::from_array::<16>(from_fn(wide)) + u32x16::splat(limit as u32);
