@@ -1,5 +1,5 @@
 -- The bits of a plane.
-use Rattle.std.specs.Prelude.{◌≡◌, ℕ, ◌+◌, ◌-◌, ◌*◌, ◌/◌, ◌%◌, ◌<◌, ◌≤◌, List, slice_index}
+use Rattle.std.specs.Prelude.{◌≡◌, ℕ, ◌-◌, ◌/◌, ◌%◌, ◌<◌, ◌≤◌, List, slice_index}
 use Rattle.std.specs.Int.{bit_at}
 use Rattle.bit_planes.specs.declared.plane.Plane.{Plane}
 use Rattle.bit_planes.specs.declared.plane.TheConstants.{PLACES}
@@ -15,7 +15,3 @@ bit p i = bit_of p.words i
 pub record IsDrawn (f : ℕ → ℕ) (n : ℕ) (p : Plane) : Type 0 where
   pub drawn : (i : ℕ) → i < n → i < PLACES → bit p i ≡ f i
   pub clear : (i : ℕ) → n ≤ i → i < PLACES → bit p i ≡ 0
-
--- the last lane of the sixteen that a lane is one of
-abbrev pub last_of_sixteen : ℕ → ℕ
-last_of_sixteen k = 16 * (k / 16) + 15

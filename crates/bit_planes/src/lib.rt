@@ -24,4 +24,4 @@ mod word_lanes;
 pub use lanes::{LANES, SECOND_BIT, TOP_BIT, pick_bytes};
 pub use plane::{PLACES, Plane, WORD_PLACES, WORDS};
 pub use spread::marked_bytes;
-pub use word_lanes::{above_last_of_sixteen, bit_of_each, mask_of_each, pick_from_four};
+pub use word_lanes::{bit_of_each, mask_of_each, pick_from_four};

@@ -3,7 +3,6 @@
 ghost use Rattle.std.specs.Prelude.{◌≡◌, ◌+◌, ◌-◌, ◌*◌, ◌/◌, ◌%◌, ◌<◌, ◌≤◌, ◌^◌, ℕ, length};
 ghost use Rattle.std.specs.Prelude.{slice_index};
 ghost use Rattle.std.specs.Int.{bit_at};
-ghost use Rattle.bit_planes.specs.Bits.{last_of_sixteen};
 ghost use Rattle.bit_planes.specs.declared.lanes.TheConstants.{LANES};
 ghost use Rattle.bit_planes.specs.declared.plane.TheConstants.{WORD_PLACES};
 
@@ -83,24 +82,4 @@ fn two_windows(table: &[u8], first: usize, second: usize) -> u8x32
         → slice_index result r ≡ slice_index table.now (second + (r - LANES)) }
 {
     u8x16::from_slice(&table[first..]).shuffle(u8x16::from_slice(&table[second..]), THIRTY_TWO)
-}
-
-/// How far each of 64 bytes is above the last of its sixteen, modulo 256.
-pub fn above_last_of_sixteen(bytes: u8x64) -> u8x64
-    requires { length bytes ≡ WORD_PLACES }
-    ensures long { length result ≡ WORD_PLACES }
-    ensures lanes { (k : ℕ) → k < WORD_PLACES → slice_index result k
-        ≡ (slice_index bytes k + (256 - slice_index bytes (last_of_sixteen k))) % 256 }
-{
-    bytes - lasts_of_sixteen(bytes)
-}
-
-/// In each of 64 lanes the last byte of its sixteen.
-fn lasts_of_sixteen(bytes: u8x64) -> u8x64
-    requires { length bytes ≡ WORD_PLACES }
-    ensures long { length result ≡ WORD_PLACES }
-    ensures lanes { (k : ℕ) → k < WORD_PLACES → slice_index result k
-        ≡ slice_index bytes (last_of_sixteen k) }
-{
-    bytes.swizzle_dyn_within::<16>(u8x64::splat(15))
 }

@@ -1,6 +1,6 @@
 //! The seats of a bank: the slots of all clients, each with whose it is.
 
-ghost use Rattle.std.specs.Prelude.{◌≡◌, ◌≤◌, ◌<◌, ◌+◌, ◌*◌, ◌^◌, ℕ, length, [], IfOk, OnOk, true};
+ghost use Rattle.std.specs.Prelude.{◌≡◌, ◌≤◌, ◌<◌, ◌+◌, ◌*◌, ◌^◌, ℕ, length, [], IfOk, OnOk, true, ◌↔◌};
 ghost use Rattle.std.specs.List.{AllByRecursion};
 ghost use Rattle.definitions.specs.Oscillators.{Settings as DefinedSettings};
 ghost use Rattle.definitions.specs.Banks.{layout};
@@ -276,7 +276,7 @@ impl Seat {
 
 /// Whether nothing is emitted with a dump.
 fn is_silent(is_shown: bool, dump: &Dump) -> bool
-    ensures { result ≡ true → dump_events is_shown dump.now ≡ [] }
+    ensures { (result ≡ true) ↔ (dump_events is_shown dump.now ≡ []) }
 {
     if is_shown {
         return false;

@@ -1,10 +1,10 @@
 -- The products of a word in the lanes of two sums.
-use Rattle.std.proofs.Common.{◌≡◌, ℕ, ◌+◌, ◌-◌, ◌*◌, ◌<◌, ◌≤◌, ap, ◌∙◌, arith, List, length}
-use Rattle.std.proofs.Common.{get_or, sym, ◌%◌}
+use Rattle.std.proofs.Common.{◌≡◌, ℕ, ◌+◌, ◌-◌, ◌*◌, ◌<◌, ◌≤◌, ◌∙◌, arith, List, length}
+use Rattle.std.proofs.Common.{get_or, ◌%◌}
 use Rattle.std.specs.Prelude.{ℤ, ◌+ℤ◌, ◌*ℤ◌, unsigned_abs, ◌⊎◌, bit_and}
 use Rattle.std.specs.Simd.Lanes.{zip2}
 use Rattle.std.proofs.lemmas.Int.{ints}
-use Rattle.std.proofs.lemmas.Simd.{get_or-zip2, length-zip2}
+use Rattle.std.proofs.lemmas.Simd.{get_or-zip2}
 use Rattle.definitions.specs.Sums.{total}
 use Rattle.definitions.proofs.SumsLemmas.{total-same, total-split}
 use Rattle.lane_correlator.specs.Bytes.{signed_byte, mask_sign, lane_of, sum_of_lanes, signed_total}
@@ -18,10 +18,6 @@ product_of lanes masks k = signed_byte (get_or lanes k 0) *ℤ mask_sign (get_or
 by_lanes : (lanes masks : List ℕ) → signed_total lanes masks ≡ total (product_of lanes masks) 64
 unfolding signed_total product_of
 by_lanes lanes masks = total-reversed (product_of lanes masks) 64
-
-pub masked_long : (lanes masks : List ℕ) → length lanes ≡ 64 → length masks ≡ 64
-    → length (zip2 bit_and lanes masks) ≡ 64
-masked_long lanes masks hl hm = length-zip2 bit_and lanes masks (hl ∙ sym hm) ∙ hl
 
 -- a word comes into the lanes of all products, and what masks leave of it into those of turned ones
 module _ (lanes masks a t a1 t1 : List ℕ) (n m : ℕ) (hl : length lanes ≡ 64)

@@ -1,5 +1,5 @@
 -- Comparisons of halves in lanes.
-use Rattle.std.proofs.Common.{◌≡◌, ℕ, zero, suc, ◌+◌, ◌-◌, ◌*◌, ◌/◌, ◌%◌, ◌<◌, ◌≤◌, List, map, [], ◌∷◌}
+use Rattle.std.proofs.Common.{◌≡◌, ℕ, zero, suc, ◌<◌, ◌≤◌, List, map, [], ◌∷◌}
 use Rattle.std.proofs.Common.{length, ℤ, pos, of_z, FitsSigned, rules}
 use Rattle.std.proofs.Common.{get_or, refl, sym, ◌∙◌, arith, Bool, true, false, inl, inr, replicate}
 use Rattle.std.proofs.Common.{w16, to_z}
@@ -9,7 +9,7 @@ use Rattle.std.specs.Int.Signed.{lt_z}
 use Rattle.std.specs.Simd.Lanes.{zip2, top, sel_l, Each1}
 use Rattle.std.proofs.lemmas.Simd.{tops_compared, get_or-zip2, length-zip2, get_or-sel_l}
 use Rattle.std.proofs.lemmas.Simd.{length-sel_l}
-use Rattle.std.proofs.lemmas.Int.{to_z_pos, to_z-of_z, ints}
+use Rattle.std.proofs.lemmas.Int.{to_z-of_z, ints}
 use Rattle.std.proofs.lemmas.List.{get_or-map, get_or-replicate, length-map}
 use Rattle.std.proofs.lemmas.Bool.{cases_lt, lt-ltb, le-ltb}
 use Rattle.oscillators.specs.Halves.{signed_half, AreRooms}

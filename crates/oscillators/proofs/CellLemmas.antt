@@ -3,7 +3,6 @@ use Rattle.std.proofs.Common.{◌≡◌, ℕ, zero, suc, ◌+◌, ◌-◌, ◌*�
 use Rattle.std.proofs.Common.{length, get_or, refl, sym, ◌∙◌, arith, inl, inr, ap, [], ◌∷◌}
 use Rattle.std.specs.Prelude.{cond, ltb, bit_xor, bit_and}
 use Rattle.std.specs.Simd.Lanes.{zip2}
-use Rattle.std.proofs.lemmas.Simd.{get_or-zip2, length-zip2}
 use Rattle.std.proofs.lemmas.Nat.{and_mask, xor_lt}
 use Rattle.std.proofs.Math.Nat.{mod-eq_of_lt}
 use Rattle.std.proofs.lemmas.Bool.{cases_lt, lt-ltb, le-ltb}

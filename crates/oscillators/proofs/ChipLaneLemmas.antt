@@ -1,6 +1,6 @@
 -- What the lanes of a word find in a code's table. The word's first sample lies at phase `here`,
 -- and a lane's sample w after it. The first sample of the lane's sixteen lies v after it.
-use Rattle.std.proofs.Common.{◌≡◌, ℕ, zero, suc, ◌+◌, ◌-◌, ◌*◌, ◌/◌, ◌%◌, ◌^◌, ◌<◌, ◌≤◌, ◌∷◌, []}
+use Rattle.std.proofs.Common.{◌≡◌, ℕ, zero, suc, ◌+◌, ◌-◌, ◌*◌, ◌/◌, ◌%◌, ◌^◌, ◌<◌, ◌≤◌}
 use Rattle.std.proofs.Common.{get_or, ap, ◌∙◌, arith, mul-le-mul, List, length, refl, sym, inl}
 use Rattle.std.proofs.Common.{inr, ℤ, replicate}
 use Rattle.std.specs.Prelude.{bit_xor, bit_and, min, ◌⊎◌}

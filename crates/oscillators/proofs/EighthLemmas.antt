@@ -1,7 +1,7 @@
 -- The eighths of a cycle that 64 lanes find.
-use Rattle.std.proofs.Common.{◌≡◌, ℕ, ◌+◌, ◌-◌, ◌*◌, ◌/◌, ◌%◌, ◌^◌, ◌<◌, ◌≤◌, List, map, length}
+use Rattle.std.proofs.Common.{◌≡◌, ℕ, ◌+◌, ◌-◌, ◌/◌, ◌%◌, ◌^◌, ◌<◌, ◌≤◌, List, map, length}
 use Rattle.std.proofs.Common.{get_or, refl, sym, ◌∙◌, arith, replicate, to_z, of_z, w16, inl, inr, ap}
-use Rattle.std.specs.Prelude.{cond, ltb, ◌⊎◌}
+use Rattle.std.specs.Prelude.{cond, ltb}
 use Rattle.std.specs.Simd.Lanes.{zip2}
 use Rattle.std.proofs.lemmas.Simd.{get_or-zip2, length-zip2}
 use Rattle.std.proofs.lemmas.List.{get_or-map, get_or-replicate, length-map}

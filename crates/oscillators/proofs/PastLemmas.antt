@@ -1,14 +1,14 @@
 -- Which lanes of a code lie in one half chip more.
-use Rattle.std.proofs.Common.{◌≡◌, ℕ, zero, suc, ◌+◌, ◌-◌, ◌*◌, ◌/◌, ◌%◌, ◌^◌, ◌<◌, ◌≤◌, List, map}
-use Rattle.std.proofs.Common.{length, get_or, refl, sym, ◌∙◌, arith, replicate, pos, inl, inr, ap, ℤ}
-use Rattle.std.proofs.Common.{w16, to_z, of_z, Bool}
+use Rattle.std.proofs.Common.{◌≡◌, ℕ, zero, suc, ◌+◌, ◌-◌, ◌*◌, ◌/◌, ◌%◌, ◌<◌, ◌≤◌, List, map}
+use Rattle.std.proofs.Common.{length, get_or, refl, sym, ◌∙◌, arith, pos, inl, inr, ap, ℤ}
+use Rattle.std.proofs.Common.{w16, to_z, of_z}
 use Rattle.std.specs.Prelude.{cond, ltb}
 use Rattle.std.specs.Simd.Lanes.{zip2}
 use Rattle.std.proofs.lemmas.Simd.{get_or-zip2, length-zip2}
 use Rattle.std.proofs.lemmas.Int.{to_z_pos}
 use Rattle.std.proofs.lemmas.List.{get_or-map, length-map}
 use Rattle.std.proofs.lemmas.Bool.{cases_lt, lt-ltb, le-ltb}
-use Rattle.oscillators.specs.Halves.{place, AreRooms, signed_half}
+use Rattle.oscillators.specs.Halves.{place, AreRooms}
 use Rattle.oscillators.specs.Ways.{room_of}
 use Rattle.oscillators.specs.Strides.{IsCodeStrides}
 use Rattle.oscillators.specs.declared.code_strides.CodeStrides.{CodeStrides}

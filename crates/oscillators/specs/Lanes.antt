@@ -1,5 +1,5 @@
 -- The carrier and the code at 64 samples in a row, lane 63 - j being the sample j after the first.
-use Rattle.std.specs.Prelude.{◌≡◌, ◌⊎◌, ℕ, ℤ, ◌/◌, ◌%◌, ◌<◌, List, length}
+use Rattle.std.specs.Prelude.{◌≡◌, ◌⊎◌, ℕ, ℤ, ◌/◌, ◌<◌, List, length}
 use Rattle.definitions.specs.Samples.{sign_of}
 use Rattle.definitions.specs.Oscillators.{code_phase_after, early_sign, prompt_sign, late_sign}
 use Rattle.bit_planes.specs.ByteLanes.{place_in}

@@ -168,7 +168,7 @@ impl CodeOsc {
         } }
     {
         let masks = self.masks_by_windows(table);
-        self.phase = in_cycle(self.phase + 64 * self.step as u64);
+        self.pass_word();
         masks
     }
 
@@ -203,8 +203,18 @@ impl CodeOsc {
         } else {
             self.masks_by_samples(table)
         };
-        self.phase = in_cycle(self.phase + 64 * self.step as u64);
+        self.pass_word();
         masks
+    }
+
+    /// Goes on by the 64 samples of a word.
+    #[inline(always)]
+    fn pass_word(&mut self)
+        ensures { self.new ≡ record self.old {
+          phase = code_phase_after self.old.phase self.old.step WORD_PLACES;
+        } }
+    {
+        self.phase = in_cycle(self.phase + 64 * self.step as u64);
     }
 
     /// The masks of this sample and the 63 that follow, sixteen of them by a window of sixteen

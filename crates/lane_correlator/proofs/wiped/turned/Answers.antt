@@ -1,4 +1,4 @@
-use Rattle.std.proofs.Common.{◌<◌, ◌∙◌, ℕ, get_or, sym, arith}
+use Rattle.std.proofs.Common.{◌<◌, ◌∙◌, get_or, sym, arith}
 use Rattle.std.specs.Prelude.{bit_xor}
 use Rattle.std.proofs.lemmas.Nat.{xor_lt}
 use Rattle.std.proofs.lemmas.Simd.{get_or-zip2, length-zip2}

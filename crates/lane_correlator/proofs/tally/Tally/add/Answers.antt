@@ -5,7 +5,7 @@ use Rattle.lane_correlator.specs.Counting.{counts_in}
 use Rattle.lane_correlator.proofs.SumLemmas.{sums_fit, more_within, added_within}
 use Rattle.lane_correlator.proofs.TallyLemmas.{AreAllAdded, all_added, sums_added}
 use Rattle.lane_correlator.proofs.TallyLemmas.{emptied_into, low_none}
-use Rattle.lane_correlator.proofs.HalfLemmas.{masked_long}
+use Rattle.lane_correlator.proofs.MaskLemmas.{masked_long}
 use Rattle.lane_correlator.proofs.tally.Tally.add.Goals as goal
 use Rattle.lane_correlator.proofs.tally.Tally.add.Goals.{After-result-1}
 use Rattle.lane_correlator.proofs.tally.Tally.add.Goals.{After-none-else-has_room-3}

@@ -1,4 +1,4 @@
-use Rattle.std.proofs.Common.{◌≡◌, ◌*◌, ◌+◌, ◌-◌, ◌<◌, ◌/◌, ◌%◌, ◌^◌, ℕ, get_or, refl, ap, ◌∙◌}
+use Rattle.std.proofs.Common.{◌≡◌, ◌-◌, ℕ, refl, ap, ◌∙◌}
 use Rattle.std.proofs.Common.{arith}
 use Rattle.oscillators.specs.Views.{Oscillation}
 use Rattle.oscillators.proofs.PlaneLemmas.{carrier_turned}

@@ -1,4 +1,4 @@
-use Rattle.std.proofs.Common.{rules, ◌≡◌, ◌<◌, ◌^◌, ℕ, arith, refl, ◌∙◌, get_or}
+use Rattle.std.proofs.Common.{rules, ◌<◌, ◌^◌, arith, refl, get_or}
 use Rattle.std.proofs.lemmas.Simd.{Each1-from_get_or}
 use Rattle.oscillators.proofs.EighthLemmas.{eighths_long, eighth_small, eighth_found, rooms_of}
 use Rattle.oscillators.proofs.EighthLemmas.{eighths_of, highs}

@@ -1,4 +1,4 @@
-use Rattle.std.proofs.Common.{◌≡◌, ◌<◌, ℕ, arith, pos, get_or, ◌∙◌, refl}
+use Rattle.std.proofs.Common.{◌<◌, ℕ, arith, ◌∙◌}
 use Rattle.oscillators.specs.Halves.{place}
 use Rattle.oscillators.proofs.OrderLemmas.{place_below, ordered_lane}
 use Rattle.oscillators.proofs.CarryLemmas.{ordered_signed, half_fits}

@@ -1,4 +1,4 @@
-use Rattle.std.proofs.Common.{◌≡◌, ℕ, pos, ◌-◌, ◌*◌, ◌/◌, ◌%◌, ◌^◌, ◌<◌, length, get_or}
+use Rattle.std.proofs.Common.{◌≡◌, ℕ, pos, ◌-◌, ◌/◌, ◌%◌, ◌^◌, ◌<◌, length, get_or}
 use Rattle.oscillators.specs.Halves.{signed_half}
 use Rattle.oscillators.specs.Ways.{way_to}
 use Rattle.oscillators.proofs.carrier_strides.CarrierStrides.new.Given as goal

@@ -1,6 +1,5 @@
-use Rattle.std.proofs.Common.{◌≡◌, ◌+◌, ◌-◌, ◌<◌, ◌^◌, ℕ, ap, ◌∙◌, arith}
-use Rattle.oscillators.specs.Views.{Oscillation}
-use Rattle.oscillators.proofs.SampleLemmas.{chips_at, chip_at, chip_before}
+use Rattle.std.proofs.Common.{◌+◌, ◌-◌, ◌<◌, ◌^◌, ℕ, ◌∙◌, arith}
+use Rattle.oscillators.proofs.SampleLemmas.{chip_at, chip_before}
 use Rattle.oscillators.proofs.code.CodeOsc.masks_by_samples.Goals as goal
 
 pub returns-clause-masks : goal.returns-clause-masks

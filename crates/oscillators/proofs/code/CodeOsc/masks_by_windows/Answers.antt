@@ -1,7 +1,6 @@
 use Rattle.std.proofs.Common.{◌≡◌, ◌*◌, ◌+◌, ◌-◌, ◌<◌, ◌≤◌, ◌^◌, ◌/◌, ◌%◌, ℕ, get_or, ap, ◌∙◌}
 use Rattle.std.proofs.Common.{arith, refl}
 use Rattle.std.proofs.Math.Path.{ap₂}
-use Rattle.std.specs.Int.{bit_at}
 use Rattle.definitions.specs.Codes.{chip}
 use Rattle.definitions.specs.Oscillators.{code_phase_after}
 use Rattle.oscillators.specs.Views.{Oscillation}

@@ -1,4 +1,4 @@
-use Rattle.std.proofs.Common.{rules, ◌≡◌, ◌<◌, ◌+◌, ◌/◌, ◌^◌, ◌%◌, ℕ, List, [], arith, length, get_or}
+use Rattle.std.proofs.Common.{rules, ◌<◌, ◌^◌, arith}
 use Rattle.oscillators.proofs.CellLemmas.{chosen_long, cell_found}
 use Rattle.oscillators.proofs.code_strides.CodeStrides.cells.Goals as goal
 

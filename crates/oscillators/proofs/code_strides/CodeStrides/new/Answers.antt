@@ -1,5 +1,5 @@
-use Rattle.std.proofs.Common.{◌≡◌, ◌+◌, ◌-◌, ◌*◌, ◌/◌, ◌%◌, ◌<◌, ◌^◌, ℕ, zero, suc, pos, arith, ap}
-use Rattle.std.proofs.Common.{◌∙◌, get_or, length, w16, to_z, of_z, rules}
+use Rattle.std.proofs.Common.{◌≡◌, ◌+◌, ◌-◌, ◌*◌, ◌/◌, ◌%◌, ◌<◌, ◌^◌, ℕ, pos, arith, ap}
+use Rattle.std.proofs.Common.{◌∙◌, w16, to_z, of_z, rules}
 use Rattle.std.proofs.lemmas.Int.{to_z_pos, to_z-of_z}
 use Rattle.oscillators.specs.Halves.{place, signed_half}
 use Rattle.oscillators.specs.Ways.{way_to, window_of, cell_of, room_of}

@@ -1,7 +1,7 @@
-use Rattle.std.proofs.Common.{rules, ◌≡◌, ◌<◌, ◌^◌, ℕ, ◌≤◌, get_or, arith, refl, ◌∙◌, length}
+use Rattle.std.proofs.Common.{rules, ◌≤◌, get_or, arith, refl}
 use Rattle.std.proofs.lemmas.Simd.{Each1-from_get_or}
 use Rattle.oscillators.proofs.CarryLemmas.{all_or_none}
-use Rattle.oscillators.proofs.PastLemmas.{past_long, past_lane, rooms_of}
+use Rattle.oscillators.proofs.PastLemmas.{past_lane, rooms_of}
 use Rattle.oscillators.proofs.code_strides.CodeStrides.past.Goals as goal
 
 pub overflow_cast-left : goal.overflow_cast-left

@@ -1,4 +1,4 @@
-use Rattle.std.proofs.Common.{rules, ◌≡◌, ◌<◌, ◌≤◌, ℕ, arith, get_or}
+use Rattle.std.proofs.Common.{rules, arith}
 use Rattle.oscillators.proofs.CellLemmas.{moved_windows, near_windows}
 use Rattle.oscillators.proofs.code_strides.CodeStrides.windows.Goals as goal
 
