@@ -11,4 +11,5 @@ pub mod SumLemmas
 pub mod LoopLemmas
 pub mod WordLemmas
 pub mod ReplicaLemmas
+pub mod StandLemmas
 pub mod TallyLemmas

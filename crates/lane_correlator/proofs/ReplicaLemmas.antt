@@ -13,17 +13,7 @@ use Rattle.oscillators.specs.declared.code.ChipLanes.{ChipLanes}
 use Rattle.oscillators.specs.Lanes.{AreEighthLanes, AreChipLanes}
 use Rattle.oscillators.proofs.PlaneLemmas.{carrier_behind, code_behind}
 use Rattle.lane_correlator.specs.Chips.{AreMasksOfChips}
-use Rattle.lane_correlator.specs.ReplicaWords.{AreOf}
-
--- ---- a replica from a sample on, by the numbers of the run
-pub placed : ℕ → Phases → ℕ → Replica
-placed prn p start = record {
-  cos = λ i. cosine (carrier_phase_after p.carrier p.carrier_step (i - start));
-  sin = λ i. sine (carrier_phase_after p.carrier p.carrier_step (i - start));
-  early = λ i. early_sign prn (code_phase_after p.code p.code_step (i - start));
-  prompt = λ i. prompt_sign prn (code_phase_after p.code p.code_step (i - start));
-  late = λ i. late_sign prn (code_phase_after p.code p.code_step (i - start));
-}
+use Rattle.lane_correlator.specs.ReplicaWords.{AreOf, placed, StandAt}
 
 -- the lanes at a word of the run are of it
 pub lanes_of_placed : (prn : ℕ) (p : Phases) (first w carrier_at code_at : ℕ) (eighths : List ℕ)

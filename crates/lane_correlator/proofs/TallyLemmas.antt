@@ -2,14 +2,14 @@
 use Rattle.std.proofs.Common.{◌≡◌, ℕ, ◌+◌, ◌*◌, ◌≤◌, ◌<◌, ◌∙◌, refl, arith, List}
 use Rattle.std.specs.Prelude.{ℤ, pos, ◌+ℤ◌, bit_and, slice_index, length}
 use Rattle.std.proofs.lemmas.Int.{ints}
-use Rattle.definitions.specs.Correlation.{Counts as DefinedCounts, sum_of_counts}
+use Rattle.definitions.specs.Correlation.{sum_of_counts, no_counts}
 use Rattle.oscillators.specs.declared.code.ChipLanes.{ChipLanes}
 use Rattle.lane_correlator.specs.Bytes.{AreAtMost, AreMasks}
 use Rattle.lane_correlator.specs.Bytes.{signed_total}
 use Rattle.lane_correlator.specs.ByteSums.{HasLanes}
 use Rattle.lane_correlator.specs.LaneTotals.{AreAdded, AreNone, AreLow, in_phase_of, quadrature_of}
 use Rattle.lane_correlator.specs.Chips.{lanes_in, AreMasksOfChips}
-use Rattle.lane_correlator.specs.Tallies.{word_sums, HasRoom}
+use Rattle.lane_correlator.specs.Tallies.{word_sums, AreAllLow, AddsWord}
 use Rattle.lane_correlator.specs.declared.tally.Tally.{Tally}
 use Rattle.lane_correlator.specs.declared.lane_sums.LaneSums.{LaneSums}
 use Rattle.lane_correlator.specs.declared.wiped.Wiped.{Wiped}
@@ -17,12 +17,6 @@ use Rattle.lane_correlator.proofs.ByteLemmas.{none_of_lanes, none_low}
 use Rattle.lane_correlator.proofs.HalfLemmas.{word_added, word_low}
 use Rattle.oscillators.specs.Lanes.{HasAllLanes}
 use Rattle.std.specs.Simd.Lanes.{zip2}
-
-joined : (a b c : ℤ) → a +ℤ (b +ℤ c) ≡ (a +ℤ b) +ℤ c
-joined a b c = omega (arith, ints)
-
-nothing : (a : ℤ) → a +ℤ pos 0 ≡ a
-nothing a = omega (arith, ints)
 
 -- the products of a word with one kind of chips are added to both sums, and no lane is more than n
 -- in size then
@@ -56,31 +50,18 @@ kind_added n m p masks a t a1 t1 long lm bytes room low si sq are all turned = r
 }
 
 -- three kinds of chips
-pub lanes_added : (n : ℕ) (p : Wiped) (chips : ChipLanes) (a e f g a1 e1 f1 g1 : LaneSums)
-    (counts : DefinedCounts) → IsAdded n p.i p.q chips.early a e a1 e1
-    → IsAdded n p.i p.q chips.prompt a f a1 f1 → IsAdded n p.i p.q chips.late a g a1 g1
-    → sum_of_counts counts (lanes_in a1 e1 f1 g1)
-    ≡ sum_of_counts (sum_of_counts counts (lanes_in a e f g)) (word_sums p chips)
-lanes_added n p chips a e f g a1 e1 f1 g1 counts early prompt late = rw (
+lanes_added : (n : ℕ) (p : Wiped) (chips : ChipLanes) (a e f g a1 e1 f1 g1 : LaneSums)
+    → IsAdded n p.i p.q chips.early a e a1 e1 → IsAdded n p.i p.q chips.prompt a f a1 f1
+    → IsAdded n p.i p.q chips.late a g a1 g1
+    → lanes_in a1 e1 f1 g1 ≡ sum_of_counts (lanes_in a e f g) (word_sums p chips)
+lanes_added n p chips a e f g a1 e1 f1 g1 early prompt late = rw (
   early.in_phase,
   early.quadrature,
   prompt.in_phase,
   prompt.quadrature,
   late.in_phase,
   late.quadrature,
-  joined counts.ie (in_phase_of a e),
-  joined counts.qe (quadrature_of a e),
-  joined counts.ip (in_phase_of a f),
-  joined counts.qp (quadrature_of a f),
-  joined counts.il (in_phase_of a g),
-  joined counts.ql (quadrature_of a g),
 ) refl
-
-pub record AreAllAdded (most : ℕ) (t : Tally) (p : Wiped) (chips : ChipLanes)
-    (a e f g : LaneSums) : Type 0 where
-  pub early : IsAdded (t.filled + 2 * most) p.i p.q chips.early t.all t.early a e
-  pub prompt : IsAdded (t.filled + 2 * most) p.i p.q chips.prompt t.all t.prompt a f
-  pub late : IsAdded (t.filled + 2 * most) p.i p.q chips.late t.all t.late a g
 
 -- what `LaneSums::add` promises of the products that masks leave
 abbrev pub AddsMasked : Wiped → List ℕ → LaneSums → LaneSums → Type 0
@@ -89,44 +70,37 @@ AddsMasked p masks s t = AreAdded (zip2 bit_and p.i masks) (zip2 bit_and p.q mas
 bytes_in : (s : LaneSums) → AreBytes s
 bytes_in s = record { in_phase = s.bytes_i; quadrature = s.bytes_q }
 
-pub all_added : (most : ℕ) (t : Tally) (p : Wiped) (chips : ChipLanes) (a e f g : LaneSums)
-    → HasLanes p → HasAllLanes chips → HasRoom most t → AreAtMost most p.i
-    → AreAtMost most p.q → AreMasksOfChips chips → AreAdded p.i p.q t.all a
-    → AddsMasked p chips.early t.early e → AddsMasked p chips.prompt t.prompt f
-    → AddsMasked p chips.late t.late g → AreAllAdded most t p chips a e f g
-all_added most t p chips a e f g long lanes room si sq masks all early prompt late = record {
-  early = kind_added t.filled most p chips.early t.all t.early a e long lanes.early
-      (bytes_in t.early) room.filled room.early si sq masks.early all early;
-  prompt = kind_added t.filled most p chips.prompt t.all t.prompt a f long lanes.prompt
-      (bytes_in t.prompt) room.filled room.prompt si sq masks.prompt all prompt;
-  late = kind_added t.filled most p chips.late t.all t.late a g long lanes.late
-      (bytes_in t.late) room.filled room.late si sq masks.late all late;
-}
-
-pub sums_added : (most : ℕ) (t : Tally) (p : Wiped) (chips : ChipLanes) (a e f g : LaneSums)
-    (counts : DefinedCounts) → AreAllAdded most t p chips a e f g
-    → sum_of_counts counts (lanes_in a e f g)
-    ≡ sum_of_counts (sum_of_counts counts (lanes_in t.all t.early t.prompt t.late))
-    (word_sums p chips)
-sums_added most t p chips a e f g counts are = lanes_added (t.filled + 2 * most) p chips t.all
-    t.early t.prompt t.late a e f g counts are.early are.prompt are.late
+pub word_added_to : (n most : ℕ) (t u : Tally) (p : Wiped) (chips : ChipLanes) → HasLanes p
+    → HasAllLanes chips → n + 2 * most ≤ 127 → AreAllLow n t → AreAtMost most p.i
+    → AreAtMost most p.q → AreMasksOfChips chips → AreAdded p.i p.q t.all u.all
+    → AddsMasked p chips.early t.early u.early → AddsMasked p chips.prompt t.prompt u.prompt
+    → AddsMasked p chips.late t.late u.late → AddsWord (n + 2 * most) p chips t u
+word_added_to n most t u p chips long lanes room low si sq masks all early prompt late =
+    let e : IsAdded (n + 2 * most) p.i p.q chips.early t.all t.early u.all u.early =
+    kind_added n most p chips.early t.all t.early u.all u.early long lanes.early
+    (bytes_in t.early) room low.early si sq masks.early all early in
+    let f : IsAdded (n + 2 * most) p.i p.q chips.prompt t.all t.prompt u.all u.prompt =
+    kind_added n most p chips.prompt t.all t.prompt u.all u.prompt long lanes.prompt
+    (bytes_in t.prompt) room low.prompt si sq masks.prompt all prompt in
+    let g : IsAdded (n + 2 * most) p.i p.q chips.late t.all t.late u.all u.late =
+    kind_added n most p chips.late t.all t.late u.all u.late long lanes.late (bytes_in t.late) room
+    low.late si sq masks.late all late in
+    record {
+      sums = lanes_added (n + 2 * most) p chips t.all t.early t.prompt t.late u.all u.early
+          u.prompt u.late e f g;
+      low = record { early = e.low; prompt = f.low; late = g.low };
+    }
 
 -- lanes with nothing in them
-pub emptied : (counts : DefinedCounts) (a e f g : LaneSums) → AreNone a → AreNone e → AreNone f
-    → AreNone g → sum_of_counts counts (lanes_in a e f g) ≡ counts
-emptied counts a e f g all early prompt late = rw (
+pub none_in : (a e f g : LaneSums) → AreNone a → AreNone e → AreNone f → AreNone g
+    → lanes_in a e f g ≡ no_counts
+none_in a e f g all early prompt late = rw (
   none_of_lanes a.i e.i all.in_phase early.in_phase,
   none_of_lanes a.q e.q all.quadrature early.quadrature,
   none_of_lanes a.i f.i all.in_phase prompt.in_phase,
   none_of_lanes a.q f.q all.quadrature prompt.quadrature,
   none_of_lanes a.i g.i all.in_phase late.in_phase,
   none_of_lanes a.q g.q all.quadrature late.quadrature,
-  nothing counts.ie,
-  nothing counts.qe,
-  nothing counts.ip,
-  nothing counts.qp,
-  nothing counts.il,
-  nothing counts.ql,
 ) refl
 
 pub low_none : (n : ℕ) (a t : LaneSums) → AreNone a → AreNone t → AreLow n a t
@@ -135,9 +109,16 @@ low_none n a t all turned = record {
   quadrature = none_low a.q t.q all.quadrature turned.quadrature n;
 }
 
--- the sums of full lanes go into counts, and the lanes are empty then
-pub emptied_into : (before lanes after all : DefinedCounts) (a e f g : LaneSums) → AreNone a
-    → AreNone e → AreNone f → AreNone g → after ≡ sum_of_counts before lanes
-    → sum_of_counts before lanes ≡ all → sum_of_counts after (lanes_in a e f g) ≡ all
-emptied_into before lanes after all a e f g na ne nf ng is word =
-    emptied after a e f g na ne nf ng ∙ is ∙ word
+-- lanes that are low are also lower than more
+lower : (n m : ℕ) (a t : LaneSums) → n ≤ m → AreLow n a t → AreLow m a t
+lower n m a t more low = record {
+  in_phase = λ k h. omega (arith, more, low.in_phase k h);
+  quadrature = λ k h. omega (arith, more, low.quadrature k h);
+}
+
+pub all_lower : (n m : ℕ) (t : Tally) → n ≤ m → AreAllLow n t → AreAllLow m t
+all_lower n m t more low = record {
+  early = lower n m t.all t.early more low.early;
+  prompt = lower n m t.all t.prompt more low.prompt;
+  late = lower n m t.all t.late more low.late;
+}

@@ -1,7 +1,9 @@
 -- The lanes of a replica, and the phases of oscillators.
-use Rattle.std.specs.Prelude.{◌≡◌, ◌⊎◌, ℕ, ◌+◌, ◌<◌, List}
+use Rattle.std.specs.Prelude.{◌≡◌, ◌⊎◌, ℕ, ◌+◌, ◌-◌, ◌*◌, ◌<◌, ◌≤◌, List}
 use Rattle.definitions.specs.Samples.{Sample}
 use Rattle.definitions.specs.Correlation.{Replica, Phases}
+use Rattle.definitions.specs.Oscillators.{carrier_phase_after, code_phase_after, cosine, sine}
+use Rattle.definitions.specs.Oscillators.{early_sign, prompt_sign, late_sign}
 use Rattle.bit_planes.specs.ByteLanes.{place_in}
 use Rattle.sample_planes.specs.Signs.{AreOneBit}
 use Rattle.oscillators.specs.declared.code.ChipLanes.{ChipLanes}
@@ -25,6 +27,26 @@ phases_of carrier code = record {
   carrier_step = carrier.step;
 }
 
--- the greatest size of products of samples with a carrier: 3 where each part of these is 1 in size
-abbrev pub IsMostProduct : List Sample → ℕ → Type 0
-IsMostProduct xs most = ((most ≡ 3) × AreOneBit xs) ⊎ (most ≡ 9)
+-- the replica of a satellite from sample `start` of a run on, by the run's numbers
+unfoldable pub placed : ℕ → Phases → ℕ → Replica
+placed prn p start = record {
+  cos = λ i. cosine (carrier_phase_after p.carrier p.carrier_step (i - start));
+  sin = λ i. sine (carrier_phase_after p.carrier p.carrier_step (i - start));
+  early = λ i. early_sign prn (code_phase_after p.code p.code_step (i - start));
+  prompt = λ i. prompt_sign prn (code_phase_after p.code p.code_step (i - start));
+  late = λ i. late_sign prn (code_phase_after p.code p.code_step (i - start));
+}
+
+-- oscillators stand at the first sample of word w, if they had these phases at that of word first
+pub record StandAt (p : Phases) (first w : ℕ) (carrier code : Oscillation) : Type 0 where
+  pub carrier_is : (j : ℕ) → carrier_phase_after carrier.phase p.carrier_step j
+      ≡ carrier_phase_after p.carrier p.carrier_step (64 * (w - first) + j)
+  pub carrier_step_is : carrier.step ≡ p.carrier_step
+  pub code_is : (j : ℕ) → code_phase_after code.phase p.code_step j
+      ≡ code_phase_after p.code p.code_step (64 * (w - first) + j)
+  pub code_step_is : code.step ≡ p.code_step
+
+-- lanes of bytes have room for so many words: their products with a carrier are at most 3 in size
+-- where each part is 1 in size, and else 9
+abbrev pub HaveRoom : List Sample → ℕ → Type 0
+HaveRoom xs words = ((words ≤ 21) × AreOneBit xs) ⊎ (words ≤ 7)

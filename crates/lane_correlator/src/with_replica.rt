@@ -1,21 +1,22 @@
 //! Sums with a replica that is made as it is needed, 64 samples at a time.
 
-ghost use Rattle.std.specs.Prelude.{◌≡◌, ◌+◌, ◌*◌, ◌≤◌, ℕ, length, true};
+ghost use Rattle.std.specs.Prelude.{◌≡◌, ◌+◌, ◌-◌, ◌*◌, ◌/◌, ◌<◌, ◌≤◌, ℕ, length, true};
 ghost use Rattle.definitions.specs.Oscillators.{code_phase_after};
 ghost use Rattle.ca_codes.specs.Filled.{IsTable};
 ghost use Rattle.bit_planes.specs.declared.plane.TheConstants.{WORD_PLACES};
 ghost use Rattle.oscillators.specs.Lanes.{AreChipLanes, HasAllLanes};
 ghost use Rattle.oscillators.specs.declared.code.TheConstants.{MOST_WINDOW_STEP};
 ghost use Rattle.definitions.specs.Samples.{sample_at};
-ghost use Rattle.definitions.specs.Correlation.{six_sums, replica_of};
+ghost use Rattle.definitions.specs.Correlation.{six_sums, replica_of, Phases};
 ghost use Rattle.lane_correlator.specs.Counting.{counts_in, AreWithin};
-ghost use Rattle.lane_correlator.specs.ReplicaWords.{phases_of, IsMostProduct};
+ghost use Rattle.lane_correlator.specs.ReplicaWords.{phases_of, placed, StandAt, HaveRoom};
+ghost use Rattle.lane_correlator.specs.RangeSums.{HasSumsOf};
 ghost use Rattle.lane_correlator.specs.declared.wiped.TheConstants.{MOST_PRODUCT};
 ghost use Rattle.sample_planes.specs.declared.planes.TheConstants.{MAX_SAMPLES};
 
 use crate::counts::Counts;
 use crate::tally::Tally;
-use crate::wiped::{MOST_PRODUCT, Wiped};
+use crate::wiped::Wiped;
 use ca_codes::{CodeBook, Prn, TABLE};
 use oscillators::{CarrierOsc, ChipLanes, CodeOsc};
 use sample_planes::Planes;
@@ -68,7 +69,8 @@ fn sums_of_long_steps(
     sums(samples, from, count, carrier, code, book, prn, false)
 }
 
-/// The sums, with the chips of windows or of one sample after another.
+/// The sums, with the chips of windows or of one sample after another. As many words at a time are
+/// added up in lanes as these have room for.
 #[inline(always)]
 fn sums(
     samples: &Planes,
@@ -87,21 +89,67 @@ fn sums(
     ensures small { AreWithin (MOST_PRODUCT * count) (counts_in result) }
     ensures few { count ≤ MAX_SAMPLES }
 {
-    let len = samples.len();
-    let to = from + count;
+    let to = samples.len().min(from + count);
     let before = from % 64;
     let mut carrier = carrier.earlier(before as u32);
     let mut code = code.earlier(before as u32);
+    let most = words_of_lanes(samples);
+    let mut counts = Counts::NONE;
+    let mut here = from;
+    while here < to {
+        let next = to.min(64 * (here / 64 + most));
+        let more = sums_of_words(
+            samples,
+            here,
+            next,
+            &mut carrier,
+            &mut code,
+            book,
+            prn,
+            by_windows,
+        );
+        counts = counts.add(&more);
+        here = next;
+    }
+    counts
+}
+
+/// The sums over the samples `from` to `to` - 1 of a run, in so few words that lanes have room for
+/// them. The oscillators stand at the first sample of the first word, and go on by all words.
+#[inline(always)]
+fn sums_of_words(
+    samples: &Planes,
+    from: usize,
+    to: usize,
+    carrier: &mut CarrierOsc,
+    code: &mut CodeOsc,
+    book: &mut CodeBook,
+    prn: Prn,
+    by_windows: bool,
+) -> Counts
+    requires ordered { from ≤ to }
+    requires range { to ≤ length samples.now }
+    requires short { to ≤ MAX_SAMPLES }
+    requires windows { by_windows ≡ true → code.old.step ≤ MOST_WINDOW_STEP }
+    requires few { HaveRoom samples.now ((to + 63) / WORD_PLACES - from / WORD_PLACES) }
+    ensures sums { (p : Phases) (first : ℕ) → first ≤ from / WORD_PLACES
+        → StandAt p first (from / WORD_PLACES) carrier.old code.old
+        → HasSumsOf (sample_at samples.now) (placed prn p (WORD_PLACES * first)) from to
+        (counts_in result) }
+    ensures moved { (p : Phases) (first : ℕ) → first ≤ from / WORD_PLACES
+        → StandAt p first (from / WORD_PLACES) carrier.old code.old
+        → StandAt p first ((to + 63) / WORD_PLACES) carrier.new code.new }
+    ensures step { code.new.step ≡ code.old.step }
+{
     let table = book.table(prn);
-    let most = most_product(samples);
     let mut tally = Tally::none();
-    for w in from / 64..(to.min(len) + 63) / 64 {
+    for w in from / 64..(to + 63) / 64 {
         let eighths = carrier.next_eighths();
-        let chips = next_chips(&mut code, table, by_windows);
+        let chips = next_chips(code, table, by_windows);
         let first = from.max(64 * w) - 64 * w;
         let end = to.min(64 * w + 64) - 64 * w;
         let wiped = Wiped::new(eighths, samples.codes(w), samples.codes_q(w)).within(first, end);
-        tally = tally.add(wiped, chips, most);
+        tally = tally.add(wiped, chips);
     }
     tally.counts()
 }
@@ -124,13 +172,12 @@ fn next_chips(code: &mut CodeOsc, table: &[u8; TABLE], by_windows: bool) -> Chip
     }
 }
 
-/// The greatest size of the products of a run's samples with a carrier.
-fn most_product(samples: &Planes) -> u32
-    ensures { IsMostProduct samples.now result }
+/// How many words lanes have room for.
+fn words_of_lanes(samples: &Planes) -> usize
+    ensures room { HaveRoom samples.now result }
+    ensures some { 0 < result }
+    ensures few { result ≤ 21 }
 {
-    if samples.has_sizes() {
-        MOST_PRODUCT
-    } else {
-        MOST_PRODUCT / 3
-    }
+    // A lane takes two products of a word, each at most 3 in size or 9, and holds at most 127.
+    if samples.has_sizes() { 7 } else { 21 }
 }
