@@ -3,7 +3,7 @@ use Rattle.std.proofs.Common.{◌≡◌, ℕ, ◌+◌, ◌-◌, ◌*◌, ◌/◌
 use Rattle.std.specs.Prelude.{min, max}
 use Rattle.std.proofs.Math.Path.{ap₂}
 use Rattle.definitions.specs.Samples.{Sample}
-use Rattle.definitions.specs.Correlation.{Replica, six_sums, sum_of_counts, no_counts}
+use Rattle.definitions.specs.Correlation.{Replica, sum_of_counts, no_counts}
 use Rattle.definitions.specs.Correlation.{Counts as DefinedCounts}
 use Rattle.definitions.proofs.CorrelationLemmas.{six_sums-split}
 use Rattle.lane_correlator.specs.RangeSums.{HasSumsOf}

@@ -13,7 +13,7 @@ use Rattle.oscillators.specs.declared.code.ChipLanes.{ChipLanes}
 use Rattle.oscillators.specs.Lanes.{AreEighthLanes, AreChipLanes}
 use Rattle.oscillators.proofs.PlaneLemmas.{carrier_behind, code_behind}
 use Rattle.lane_correlator.specs.Chips.{AreMasksOfChips}
-use Rattle.lane_correlator.specs.ReplicaWords.{AreOf, placed, StandAt}
+use Rattle.lane_correlator.specs.ReplicaWords.{AreOf, placed}
 
 -- the lanes at a word of the run are of it
 pub lanes_of_placed : (prn : ℕ) (p : Phases) (first w carrier_at code_at : ℕ) (eighths : List ℕ)

@@ -22,8 +22,10 @@ stand_first carrier code first =
 -- and a word on
 pub stand_on : (p : Phases) (first w : ℕ) (carrier code carrier1 code1 : Oscillation) → first ≤ w
     → StandAt p first w carrier code
-    → carrier1 ≡ record { phase = carrier_phase_after carrier.phase carrier.step 64;
-    step = carrier.step }
+    → carrier1 ≡ record {
+      phase = carrier_phase_after carrier.phase carrier.step 64;
+      step = carrier.step;
+    }
     → code1 ≡ record { phase = code_phase_after code.phase code.step 64; step = code.step }
     → StandAt p first (w + 1) carrier1 code1
 stand_on p first w carrier code carrier1 code1 h at on_carrier on_code = record {

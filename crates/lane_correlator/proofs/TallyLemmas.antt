@@ -1,7 +1,6 @@
 -- A word more in the lanes of a tally.
-use Rattle.std.proofs.Common.{◌≡◌, ℕ, ◌+◌, ◌*◌, ◌≤◌, ◌<◌, ◌∙◌, refl, arith, List}
-use Rattle.std.specs.Prelude.{ℤ, pos, ◌+ℤ◌, bit_and, slice_index, length}
-use Rattle.std.proofs.lemmas.Int.{ints}
+use Rattle.std.proofs.Common.{◌≡◌, ℕ, ◌+◌, ◌*◌, ◌≤◌, ◌<◌, refl, arith, List}
+use Rattle.std.specs.Prelude.{◌+ℤ◌, bit_and, slice_index, length}
 use Rattle.definitions.specs.Correlation.{sum_of_counts, no_counts}
 use Rattle.oscillators.specs.declared.code.ChipLanes.{ChipLanes}
 use Rattle.lane_correlator.specs.Bytes.{AreAtMost, AreMasks}

@@ -101,9 +101,6 @@ impl Wiped {
         ensures in_phase { IsWithin first end self.i result.i }
         ensures quadrature { IsWithin first end self.q result.q }
     {
-        if end - first == WORD_PLACES {
-            return self;
-        }
         let inside = mask_of_places(first, end);
         Wiped {
             i: self.i & inside,

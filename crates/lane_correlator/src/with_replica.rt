@@ -1,6 +1,9 @@
 //! Sums with a replica that is made as it is needed, 64 samples at a time.
 
 ghost use Rattle.std.specs.Prelude.{◌≡◌, ◌+◌, ◌-◌, ◌*◌, ◌/◌, ◌<◌, ◌≤◌, ℕ, length, true};
+ghost use Rattle.std.specs.Prelude.{min, max};
+ghost use Rattle.lane_correlator.specs.ByteSums.{HasLanes};
+ghost use Rattle.lane_correlator.specs.Bytes.{IsWithin};
 ghost use Rattle.definitions.specs.Oscillators.{code_phase_after};
 ghost use Rattle.ca_codes.specs.Filled.{IsTable};
 ghost use Rattle.bit_planes.specs.declared.plane.TheConstants.{WORD_PLACES};
@@ -142,16 +145,39 @@ fn sums_of_words(
     ensures step { code.new.step ≡ code.old.step }
 {
     let table = book.table(prn);
+    let whole = (from + 63) / 64;
+    let many = (to / 64).saturating_sub(whole);
     let mut tally = Tally::none();
     for w in from / 64..(to + 63) / 64 {
         let eighths = carrier.next_eighths();
         let chips = next_chips(code, table, by_windows);
-        let first = from.max(64 * w) - 64 * w;
-        let end = to.min(64 * w + 64) - 64 * w;
-        let wiped = Wiped::new(eighths, samples.codes(w), samples.codes_q(w)).within(first, end);
-        tally = tally.add(wiped, chips);
+        let wiped = Wiped::new(eighths, samples.codes(w), samples.codes_q(w));
+        tally = tally.add(in_range(wiped, w, from, to, whole, many), chips);
     }
     tally.counts()
+}
+
+/// The products of word `w` at the samples `from` to `to` - 1, and 0 at the others. Of the words,
+/// `many` lie in this range whole, from word `whole` on: so one comparison finds most of them.
+#[inline(always)]
+fn in_range(wiped: Wiped, w: usize, from: usize, to: usize, whole: usize, many: usize) -> Wiped
+    requires long { HasLanes wiped }
+    requires begun { from / WORD_PLACES ≤ w }
+    requires inside { WORD_PLACES * w < to }
+    requires ordered { from ≤ to }
+    requires short { to ≤ MAX_SAMPLES }
+    requires whole { whole ≡ (from + 63) / WORD_PLACES }
+    requires many { many ≡ to / WORD_PLACES - whole }
+    ensures long { HasLanes result }
+    ensures in_phase { IsWithin (max from (WORD_PLACES * w) - WORD_PLACES * w)
+        (min to (WORD_PLACES * w + WORD_PLACES) - WORD_PLACES * w) wiped.i result.i }
+    ensures quadrature { IsWithin (max from (WORD_PLACES * w) - WORD_PLACES * w)
+        (min to (WORD_PLACES * w + WORD_PLACES) - WORD_PLACES * w) wiped.q result.q }
+{
+    if w.wrapping_sub(whole) < many {
+        return wiped;
+    }
+    wiped.within(from.max(64 * w) - 64 * w, to.min(64 * w + 64) - 64 * w)
 }
 
 /// The next chips of a code, with windows or without.

@@ -1,14 +1,13 @@
-use Rattle.std.proofs.Common.{◌≡◌, ◌≤◌, ◌∙◌, ◌+◌, ◌-◌, ◌*◌, ◌/◌, ◌<◌, sym, ap, arith, refl, rules, ℕ}
+use Rattle.std.proofs.Common.{◌≡◌, ◌∙◌, ◌+◌, ◌-◌, ◌*◌, ◌/◌, ◌<◌, sym, arith, refl, ℕ}
 use Rattle.definitions.specs.Samples.{sample_at}
-use Rattle.definitions.specs.Correlation.{Replica, Phases}
+use Rattle.definitions.specs.Correlation.{Phases}
 use Rattle.oscillators.specs.Views.{Oscillation}
 use Rattle.lane_correlator.specs.Counting.{counts_in}
-use Rattle.lane_correlator.specs.ReplicaWords.{phases_of, placed, StandAt}
+use Rattle.lane_correlator.specs.ReplicaWords.{phases_of, placed}
 use Rattle.lane_correlator.specs.RangeSums.{HasSumsOf}
 use Rattle.lane_correlator.proofs.LoopLemmas.{none_of, joined_of}
 use Rattle.lane_correlator.proofs.ReplicaLemmas.{sums_from}
 use Rattle.lane_correlator.proofs.StandLemmas.{stand_first, fewer_words}
-use Rattle.lane_correlator.proofs.SumLemmas.{sums_fit}
 use Rattle.lane_correlator.proofs.with_replica.sums.Goals as goal
 
 pub loop-here-init : goal.loop-here-init

@@ -1,4 +1,4 @@
-use Rattle.std.proofs.Common.{◌≡◌, ℕ, ◌≤◌, ◌<◌, ◌-◌, ◌*◌, ◌/◌}
+use Rattle.std.proofs.Common.{◌≡◌, ◌≤◌, ◌<◌, ◌-◌, ◌*◌, ◌/◌}
 use Rattle.definitions.specs.Samples.{sample_at}
 use Rattle.lane_correlator.specs.Counting.{counts_in}
 use Rattle.lane_correlator.specs.ReplicaWords.{placed, StandAt, phases_of}
