@@ -242,9 +242,9 @@ fn chip_masks_at_extreme_steps(rt: HostRuntime) -> Result<(), Fail> {
     for half_chips in [0u16, 1, 1_023, 2_045] {
         for step in EXTREME_STEPS {
             let mut osc = CodeOsc::new(HalfChip::new(half_chips).ok_or("a half chip")?, step);
-            for w in 0..2 {
+            for w in 0..2u32 {
                 let lanes = osc.next_lanes(book.table(prn));
-                let first = half_chips as u128 * 0x8000_0000 + 64 * w * step as u128;
+                let first = half_chips as u128 * 0x8000_0000 + 64 * w as u128 * step as u128;
                 assert_masks(&rt, &mut book, &lanes, first, step);
             }
         }
