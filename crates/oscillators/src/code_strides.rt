@@ -18,8 +18,8 @@ pub const HALF_CHIP: u32 = 1 << 31;
 /// What a cell has beside the number of its chip where it is the second half of the chip.
 pub(crate) const SECOND: u8 = 128;
 
-/// The sets of cells: those that the whole half chips of ways lead to from the first half of a chip,
-/// and those one half chip and two half chips on.
+/// The sets of cells: those that the whole half chips of ways lead to from the first half of a
+/// chip, and those one half chip and two half chips on.
 const CELL_SETS: usize = 3;
 
 /// The most chips that lie between the first sample and a window.

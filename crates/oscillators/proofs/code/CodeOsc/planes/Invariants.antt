@@ -12,6 +12,6 @@ invariant-loop-w l = record {
       32)) (64 * l.w) l.early;
   prompt : IsDrawn (λ i. chip l.fn.prn (code_phase_after l.self.phase l.self.step i / 2 ^ 32))
       (64 * l.w) l.prompt;
-  late : IsDrawn (λ i. chip l.fn.prn (code_phase_after (l.self.phase + 2 ^ 31) l.self.step i / 2 ^ 32 +
-      1022)) (64 * l.w) l.late;
+  late : IsDrawn (λ i. chip l.fn.prn (code_phase_after (l.self.phase + 2 ^ 31) l.self.step i / 2 ^
+      32 + 1022)) (64 * l.w) l.late;
 }
