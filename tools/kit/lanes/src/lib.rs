@@ -306,16 +306,3 @@ operators! {
     BitAnd bitand and;
     BitXor bitxor xor;
 }
-
-impl<const P: usize> Shr for Lanes<u8, P> {
-    type Output = Self;
-
-    /// Each byte is shifted by as many places, below 8; `std::simd` takes others too, and no source
-    /// of this workspace has any.
-    #[inline(always)]
-    fn shr(self, places: Self) -> Self {
-        let first = places.0[0][0];
-        debug_assert!(first < 8 && places.0.iter().flatten().all(|&number| number == first));
-        Lanes(processor::shifted(self.0, first))
-    }
-}

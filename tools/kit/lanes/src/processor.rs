@@ -43,16 +43,6 @@ operations! {
     equal |a: u8, b: u8| if a == b { 255 } else { 0 }, _mm_cmpeq_epi8 _mm256_cmpeq_epi8;
 }
 
-/// The bytes, shifted down by fewer than 8 places.
-#[inline(always)]
-pub(crate) fn shifted<const P: usize>(bytes: Bytes<P>, places: u8) -> Bytes<P> {
-    #[cfg(target_arch = "x86_64")]
-    let shifted = x86_64::shifted_pairs(bytes, places);
-    #[cfg(not(target_arch = "x86_64"))]
-    let shifted = bytes.map(|sixteen| sixteen.map(|byte| byte >> places));
-    and(shifted, [[255 >> places; 16]; P])
-}
-
 /// In each sixteen bytes, byte k of the result is the byte of the table that number k names. The
 /// numbers are below 16.
 #[inline(always)]
@@ -117,13 +107,12 @@ mod x86_64 {
     #[cfg(target_feature = "ssse3")]
     use core::arch::x86_64::_mm_shuffle_epi8;
     use core::arch::x86_64::{
-        __cpuid, __m128i, _mm_add_epi64, _mm_and_si128, _mm_cvtsi32_si128, _mm_cvtsi128_si32,
-        _mm_movemask_epi8, _mm_packus_epi16, _mm_sad_epu8, _mm_set1_epi16, _mm_setzero_si128,
-        _mm_slli_epi64, _mm_srl_epi16, _mm_srli_epi16, _mm_srli_si128, _mm_unpackhi_epi8,
-        _mm_unpacklo_epi8,
+        __cpuid, __m128i, _mm_add_epi64, _mm_and_si128, _mm_cvtsi128_si32, _mm_movemask_epi8,
+        _mm_packus_epi16, _mm_sad_epu8, _mm_set1_epi16, _mm_setzero_si128, _mm_slli_epi64,
+        _mm_srli_epi16, _mm_srli_si128, _mm_unpackhi_epi8, _mm_unpacklo_epi8,
     };
     #[cfg(target_feature = "avx2")]
-    use core::arch::x86_64::{__m256i, _mm256_srl_epi16};
+    use core::arch::x86_64::__m256i;
     use core::mem::transmute;
     use core::sync::atomic::{AtomicU8, Ordering};
 
@@ -175,20 +164,6 @@ mod x86_64 {
             asm!("pshufb {}, {}", inlateout(xmm_reg) table => found, in(xmm_reg) numbers,
                 options(pure, nomem, nostack, preserves_flags));
             found
-        }
-    }
-
-    /// The bytes, shifted down two by two: each gets bits of the one behind it at its top.
-    #[inline(always)]
-    pub(super) fn shifted_pairs<const P: usize>(bytes: Bytes<P>, places: u8) -> Bytes<P> {
-        // SAFETY: every x86-64 has SSE2, and for AVX2 the build has to be for it.
-        unsafe {
-            let places = _mm_cvtsi32_si128(places as i32);
-            #[cfg(target_feature = "avx2")]
-            if P > 1 {
-                return by_vectors(bytes, bytes, |a, _| _mm256_srl_epi16(a, places));
-            }
-            by_vectors(bytes, bytes, |a, _| _mm_srl_epi16(a, places))
         }
     }
 
