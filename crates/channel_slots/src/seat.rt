@@ -1,6 +1,7 @@
 //! The seats of a bank: the slots of all clients, each with whose it is.
 
-ghost use Rattle.std.specs.Prelude.{◌≡◌, ◌≤◌, ◌<◌, ◌+◌, ◌*◌, ◌^◌, ℕ, length, [], IfOk, OnOk, true, ◌↔◌};
+ghost use Rattle.std.specs.Prelude.{◌≡◌, ◌≤◌, ◌<◌, ◌+◌, ◌*◌, ◌^◌, ℕ, length, [], IfOk, OnOk};
+ghost use Rattle.std.specs.Prelude.{true, ◌↔◌};
 ghost use Rattle.std.specs.List.{AllByRecursion};
 ghost use Rattle.definitions.specs.Oscillators.{Settings as DefinedSettings};
 ghost use Rattle.definitions.specs.Banks.{layout};

@@ -120,7 +120,8 @@ both_added sums low high =
 module _ (sums low high : List ℕ) (hs : length sums ≡ 32) (hl : length low ≡ 32)
     (hh : length high ≡ 32) where
   pub both_long : length (both_added sums low high) ≡ 32
-  both_long = sum_long (zip2 (λ (a b : ℕ). (a + b) % 256) sums low) high (sum_long sums low hs hl) hh
+  both_long =
+      sum_long (zip2 (λ (a b : ℕ). (a + b) % 256) sums low) high (sum_long sums low hs hl) hh
 
   both_lane : (k : ℕ) → k < 32 → get_or (both_added sums low high) k 0
       ≡ (get_or sums k 0 + get_or low k 0 + get_or high k 0) % 256

@@ -21,7 +21,8 @@ by_lanes lanes masks = total-reversed (product_of lanes masks) 64
 
 -- a word comes into the lanes of all products, and what masks leave of it into those of turned ones
 module _ (lanes masks a t a1 t1 : List ℕ) (n m : ℕ) (hl : length lanes ≡ 64)
-    (hm : length masks ≡ 64) (turned : (k : ℕ) → k < 32 → get_or t k 0 < 256) (room : n + 2 * m ≤ 127)
+    (hm : length masks ≡ 64) (turned : (k : ℕ) → k < 32 → get_or t k 0 < 256)
+    (room : n + 2 * m ≤ 127)
     (low : (k : ℕ) → k < 32 → unsigned_abs (lane_of a t k) ≤ n) (small : AreAtMost m lanes)
     (are : AreMasks masks)
     (all_more : (k : ℕ) → k < 32 → get_or a1 k 0
@@ -34,7 +35,9 @@ module _ (lanes masks a t a1 t1 : List ℕ) (n m : ℕ) (hl : length lanes ≡ 6
   masked k h = get_or-zip2 bit_and lanes masks k 0 0 0 (omega (arith, hl)) (omega (arith, hm))
 
   size : (k : ℕ) → k < 64 → unsigned_abs (signed_byte (get_or lanes k 0)) ≤ m
-  size k h = let place : 63 - (63 - k) ≡ k = omega arith in rw place at (small (63 - k) (omega arith))
+  size k h =
+      let place : 63 - (63 - k) ≡ k = omega arith in
+      rw place at (small (63 - k) (omega arith))
 
   mask : (k : ℕ) → k < 64 → (get_or masks k 0 ≡ 0) ⊎ (get_or masks k 0 ≡ 255)
   mask k h = let place : 63 - (63 - k) ≡ k = omega arith in rw place at (are (63 - k) (omega arith))

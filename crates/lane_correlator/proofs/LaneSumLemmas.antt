@@ -77,12 +77,12 @@ module _ (all_lanes turned : List ℕ) (hs : length all_lanes ≡ 32) (hb : leng
   lanes_long = length-map (zip2 add (twice all_lanes turned) (replicate 32 128)) (λ (n : ℕ). n)
       ∙ all_long
 
-  lane_is : (k : ℕ) → k < 32 → pos (get_or (lanes all_lanes turned) k 0) ≡ lane_of all_lanes turned k
-      +ℤ pos 128
+  lane_is : (k : ℕ) → k < 32 → pos (get_or (lanes all_lanes turned) k 0)
+      ≡ lane_of all_lanes turned k +ℤ pos 128
   lane_is k h =
       let there : get_or (lanes all_lanes turned) k 0
-      ≡ (((get_or all_lanes k 0 + (256 - get_or turned k 0)) % 256 + (256 - get_or turned k 0)) % 256
-      + 128) % 256 =
+      ≡ (((get_or all_lanes k 0 + (256 - get_or turned k 0)) % 256
+      + (256 - get_or turned k 0)) % 256 + 128) % 256 =
       get_or-map (λ (n : ℕ). n) (zip2 add (twice all_lanes turned) (replicate 32 128)) k 0 0
       (omega (arith, all_long))
       ∙ get_or-zip2 add (twice all_lanes turned) (replicate 32 128) k 0 0 0
@@ -134,7 +134,8 @@ module _ (all_lanes turned : List ℕ) (hs : length all_lanes ≡ 32) (hb : leng
 
   pub value : pos (fold_l (λ (s x : ℕ). (s + x) % 65536) 0 (lanes all_lanes turned)) -ℤ pos 4096
       ≡ sum_of_lanes all_lanes turned
-  value = rw folded (moved (sum_l (lanes all_lanes turned)) (sum_of_lanes all_lanes turned) total_is)
+  value =
+      rw folded (moved (sum_l (lanes all_lanes turned)) (sum_of_lanes all_lanes turned) total_is)
     where
       moved : (n : ℕ) (t : ℤ) → pos n ≡ t +ℤ pos 4096 → pos n -ℤ pos 4096 ≡ t
       moved n t is = omega (arith, ints, is)

@@ -1,5 +1,6 @@
 -- Where the oscillators of a replica stand.
-use Rattle.std.proofs.Common.{◌≡◌, ℕ, ◌+◌, ◌-◌, ◌*◌, ◌<◌, ◌≤◌, ◌∙◌, ap, refl, arith, mul-le-mul, List, inl, inr}
+use Rattle.std.proofs.Common.{◌≡◌, ℕ, ◌+◌, ◌-◌, ◌*◌, ◌<◌, ◌≤◌, ◌∙◌, ap, refl, arith}
+use Rattle.std.proofs.Common.{mul-le-mul, List, inl, inr}
 use Rattle.definitions.specs.Samples.{Sample}
 use Rattle.definitions.specs.Correlation.{Phases}
 use Rattle.definitions.specs.Oscillators.{carrier_phase_after, code_phase_after}

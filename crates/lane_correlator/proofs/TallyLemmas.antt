@@ -31,8 +31,8 @@ pub record AreBytes (s : LaneSums) : Type 0 where
 
 -- one kind of chips
 kind_added : (n m : ℕ) (p : Wiped) (masks : List ℕ) (a t a1 t1 : LaneSums) → HasLanes p
-    → length masks ≡ 64 → AreBytes t → n + 2 * m ≤ 127 → AreLow n a t → AreAtMost m p.i → AreAtMost m p.q
-    → AreMasks masks → AreAdded p.i p.q a a1
+    → length masks ≡ 64 → AreBytes t → n + 2 * m ≤ 127 → AreLow n a t → AreAtMost m p.i
+    → AreAtMost m p.q → AreMasks masks → AreAdded p.i p.q a a1
     → AreAdded (zip2 bit_and p.i masks) (zip2 bit_and p.q masks) t t1
     → IsAdded (n + 2 * m) p.i p.q masks a t a1 t1
 kind_added n m p masks a t a1 t1 long lm bytes room low si sq are all turned = record {

@@ -1,4 +1,5 @@
-use Rattle.std.proofs.Common.{◌≡◌, ◌≤◌, ◌∙◌, ◌+◌, ◌-◌, ◌*◌, ◌/◌, ◌<◌, ap, arith, refl, rules, ℕ, length}
+use Rattle.std.proofs.Common.{◌≡◌, ◌≤◌, ◌∙◌, ◌+◌, ◌-◌, ◌*◌, ◌/◌, ◌<◌, ap, arith, refl}
+use Rattle.std.proofs.Common.{rules, ℕ, length}
 use Rattle.std.specs.Prelude.{min, max}
 use Rattle.definitions.specs.Samples.{sample_at}
 use Rattle.definitions.specs.Correlation.{Replica, Phases}
@@ -95,8 +96,8 @@ added c p first most h is room at =
     let i = c.loop-w.invariant in
     let one = word c.before p first most h is at in
     c.add-tally.ensures ((c.loop-w.w - c.args.from / 64) * (2 * most)) most
-    (room_for_one c.loop-w.w (c.args.from / 64) ((c.args.to + 63) / 64) most i.from c.loop-w-test.true
-    room)
+    (room_for_one c.loop-w.w (c.args.from / 64) ((c.args.to + 63) / 64) most i.from
+    c.loop-w-test.true room)
     (i.low most is room) one.in_phase one.quadrature
 
 pub loop-w-preserved : goal.loop-w-preserved
@@ -117,8 +118,8 @@ loop-w-preserved c =
           c.next_chips-chips.ensures.moved;
       sums = λ p first h at.
           word_more (sample_at c.args.samples.now) (placed c.args.prn p (64 * first)) from c.args.to
-          w (max from (64 * w) - 64 * w) (min c.args.to (64 * w + 64) - 64 * w) (tally_in c.loop-w.tally)
-          (word_sums c.in_range.result c.next_chips-chips.result)
+          w (max from (64 * w) - 64 * w) (min c.args.to (64 * w + 64) - 64 * w)
+          (tally_in c.loop-w.tally) (word_sums c.in_range.result c.next_chips-chips.result)
           (tally_in c.add-tally.result) c.requires.ordered i.from inside
           refl refl (i.sums p first h at)
           (word c.before p first room.most h room.is at).sums

@@ -16,7 +16,8 @@ add-requires-3-clause-i c =
 
 pub add-requires-3-clause-q : goal.add-requires-3-clause-q
 add-requires-3-clause-q c =
-    masked_long c.args.wiped.q c.args.chips.prompt c.requires.wiped.quadrature c.requires.lanes.prompt
+    masked_long c.args.wiped.q c.args.chips.prompt c.requires.wiped.quadrature
+    c.requires.lanes.prompt
 
 pub add-requires-4-clause-i : goal.add-requires-4-clause-i
 add-requires-4-clause-i c =

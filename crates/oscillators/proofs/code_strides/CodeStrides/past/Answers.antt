@@ -18,4 +18,5 @@ pub returns-clause-past : goal.returns-clause-past
 returns-clause-past c step is k h =
     let s = c.args.self.now in
     past_lane c.args.part s.room_high c.carries.result s.lanes.0 c.carries.ensures.long s step refl
-    is c.requires (λ j below. c.carries.ensures.carried _ (rooms_of s step s.lanes.1 is) j below) k h
+    is c.requires (λ j below. c.carries.ensures.carried _ (rooms_of s step s.lanes.1 is) j below)
+    k h
