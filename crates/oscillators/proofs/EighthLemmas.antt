@@ -41,56 +41,56 @@ eighth_is phase way small = elim (carry_is (65535 - way % 65536) (phase % 65536)
   | inr n ↦ rw (n.0) (let less : phase % 65536 ≤ 65535 - way % 65536 = n.1 in omega arith)
 ]
 
-module _ (phase : ℕ) (high carried : List ℕ) (lh : length high ≡ 64) (lc : length carried ≡ 64)
-  where
-    highs_long : length (highs high phase carried) ≡ 64
-    highs_long = added_long (added high (replicate 64 (phase / 65536))) carried
-        (added_long high (replicate 64 (phase / 65536)) lh refl) lc
+module _ (phase : ℕ) (high carried : List ℕ) (lh : length high ≡ 64)
+    (lc : length carried ≡ 64) where
+  highs_long : length (highs high phase carried) ≡ 64
+  highs_long = added_long (added high (replicate 64 (phase / 65536))) carried
+      (added_long high (replicate 64 (phase / 65536)) lh refl) lc
 
-    pub eighths_long : length (eighths_of (highs high phase carried)) ≡ 64
-    eighths_long =
-        length-zip2 (λ (a b : ℕ). a / 2 ^ b) (highs high phase carried) (replicate 64 13) highs_long
-        ∙ highs_long
+  pub eighths_long : length (eighths_of (highs high phase carried)) ≡ 64
+  eighths_long =
+      length-zip2 (λ (a b : ℕ). a / 2 ^ b) (highs high phase carried) (replicate 64 13) highs_long
+      ∙ highs_long
 
-    eighth_lane : (k : ℕ) → k < 64 → get_or (eighths_of (highs high phase carried)) k 0
-        ≡ ((get_or high k 0 + phase / 65536) % 65536 + get_or carried k 0) % 65536 / 8192
-    eighth_lane k h =
-        get_or-zip2 (λ (a b : ℕ). a / 2 ^ b) (highs high phase carried) (replicate 64 13) k 0 0 0
-        (omega (arith, highs_long, h)) h
-        ∙ rw (
-          get_or-replicate {A = ℕ} 64 k 13 0 h,
-          added_lane (added high (replicate 64 (phase / 65536))) carried k
-              (added_long high (replicate 64 (phase / 65536)) lh refl) lc h,
-          added_lane high (replicate 64 (phase / 65536)) k lh refl h,
-          get_or-replicate {A = ℕ} 64 k (phase / 65536) 0 h,
-        ) refl
+  eighth_lane : (k : ℕ) → k < 64 → get_or (eighths_of (highs high phase carried)) k 0
+      ≡ ((get_or high k 0 + phase / 65536) % 65536 + get_or carried k 0) % 65536 / 8192
+  eighth_lane k h =
+      get_or-zip2 (λ (a b : ℕ). a / 2 ^ b) (highs high phase carried) (replicate 64 13) k 0 0 0
+      (omega (arith, highs_long, h)) h
+      ∙ rw (
+        get_or-replicate {A = ℕ} 64 k 13 0 h,
+        added_lane (added high (replicate 64 (phase / 65536))) carried k
+            (added_long high (replicate 64 (phase / 65536)) lh refl) lc h,
+        added_lane high (replicate 64 (phase / 65536)) k lh refl h,
+        get_or-replicate {A = ℕ} 64 k (phase / 65536) 0 h,
+      ) refl
 
-    pub eighth_small : (k : ℕ) → k < 64 → get_or (eighths_of (highs high phase carried)) k 0 < 8
-    eighth_small k h = rw (eighth_lane k h) (omega arith)
+  pub eighth_small : (k : ℕ) → k < 64 → get_or (eighths_of (highs high phase carried)) k 0 < 8
+  eighth_small k h = rw (eighth_lane k h) (omega arith)
 
-    pub eighth_found : (s : CarrierStrides) (step : ℕ) → high ≡ s.high → IsCarrierStrides step s
-        → phase < 4294967296
-        → ((k : ℕ) → k < 64 → get_or carried k 0
-        ≡ cond (ltb (65535 - way_to step (place k) % 65536) (phase % 65536)) 1 0)
-        → (k : ℕ) → k < 64
-        → get_or (ordered (map (λ (n : ℕ). n) (eighths_of (highs high phase carried)))) k 0
-        ≡ (phase + way_to step k) % 4294967296 / 536870912
-    eighth_found s step is_high is small are k h =
-        let p : ℕ = place k in
-        let there : p < 64 = place_below k h in
-        let lanes : List ℕ = eighths_of (highs high phase carried) in
-        let upper : get_or high p 0 ≡ way_to step k % 4294967296 / 65536 =
-        ap (λ (l : List ℕ). get_or l p 0) is_high ∙ is.high p there
-        ∙ ap (λ (n : ℕ). way_to step n % 4294967296 / 65536) (place_back k h) in
-        let lower : get_or carried p 0
-        ≡ cond {A = ℕ} (ltb (65535 - way_to step k % 65536) (phase % 65536)) 1 0 =
-        are p there
-        ∙ ap (λ (n : ℕ). cond {A = ℕ} (ltb (65535 - way_to step n % 65536) (phase % 65536)) 1 0)
-        (place_back k h) in
-        ordered_lane (map (λ (n : ℕ). n) lanes) k (length-map lanes (λ (n : ℕ). n) ∙ eighths_long) h
-        ∙ get_or-map (λ (n : ℕ). n) lanes p 0 0 (omega (arith, eighths_long, there))
-        ∙ eighth_lane p there
-        ∙ rw (upper, lower) (eighth_is phase (way_to step k) small)
+  pub eighth_found : (s : CarrierStrides) (step : ℕ) → high ≡ s.high → IsCarrierStrides step s
+      → phase < 4294967296
+      → ((k : ℕ) → k < 64 → get_or carried k 0
+      ≡ cond (ltb (65535 - way_to step (place k) % 65536) (phase % 65536)) 1 0)
+      → (k : ℕ) → k < 64
+      → get_or (ordered (map (λ (n : ℕ). n) (eighths_of (highs high phase carried)))) k 0
+      ≡ (phase + way_to step k) % 4294967296 / 536870912
+  eighth_found s step is_high is small are k h =
+      let p : ℕ = place k in
+      let there : p < 64 = place_below k h in
+      let lanes : List ℕ = eighths_of (highs high phase carried) in
+      let upper : get_or high p 0 ≡ way_to step k % 4294967296 / 65536 =
+      ap (λ (l : List ℕ). get_or l p 0) is_high ∙ is.high p there
+      ∙ ap (λ (n : ℕ). way_to step n % 4294967296 / 65536) (place_back k h) in
+      let lower : get_or carried p 0
+      ≡ cond {A = ℕ} (ltb (65535 - way_to step k % 65536) (phase % 65536)) 1 0 =
+      are p there
+      ∙ ap (λ (n : ℕ). cond {A = ℕ} (ltb (65535 - way_to step n % 65536) (phase % 65536)) 1 0)
+      (place_back k h) in
+      ordered_lane (map (λ (n : ℕ). n) lanes) k (length-map lanes (λ (n : ℕ). n) ∙ eighths_long) h
+      ∙ get_or-map (λ (n : ℕ). n) lanes p 0 0 (omega (arith, eighths_long, there))
+      ∙ eighth_lane p there
+      ∙ rw (upper, lower) (eighth_is phase (way_to step k) small)
 
 -- the rooms of a carrier's lanes
 pub rooms_of : (s : CarrierStrides) (step : ℕ) → length s.room ≡ 64 → IsCarrierStrides step s
