@@ -1,12 +1,13 @@
 -- The chips of 1, one after another.
-use Rattle.std.proofs.Common.{inl, inr, ◌≡◌, ℕ, suc, ◌+◌, ◌<◌, ◌≤◌, refl, ap, arith}
+use Rattle.std.proofs.Common.{inl, inr, ◌≡◌, ◌≢◌, ℕ, zero, suc, ◌+◌, ◌*◌, ◌<◌, ◌∙◌, refl, ap}
+use Rattle.std.proofs.Common.{arith}
 use Rattle.std.specs.Prelude.{ℤ, pos, ◌+ℤ◌, ◌==◌, true, false, cond, ◌⊎◌, List, slice_index}
 use Rattle.std.proofs.lemmas.Int.{ints}
 use Rattle.definitions.specs.Sums.{total}
 use Rattle.definitions.specs.Codes.{chip}
 use Rattle.definitions.proofs.SumsLemmas.{total-same}
 use Rattle.ca_codes.specs.Filled.{IsTable}
-use Rattle.ca_codes.proofs.BookLemmas.{chip_below_two}
+use Rattle.ca_codes.proofs.BookLemmas.{before_next, chip_below_two}
 use Rattle.acquisition.specs.Ones.{AreOnes}
 
 pub ones-none : (prn : ℕ) (chips : List ℕ) → AreOnes prn 0 chips 0
@@ -50,14 +51,14 @@ pub ones-same : (prn n count : ℕ) (old new : List ℕ) → AreOnes prn n old c
     → ((k : ℕ) → k < count → slice_index new k ≡ slice_index old k)
     → (chip prn n == 1) ≡ false → AreOnes prn (n + 1) new count
 unfolding total
-ones-same prn n count old new are alike zero =
+ones-same prn n count old new are alike nought =
     let e : n + 1 ≡ suc n = omega arith in
     record {
       few = omega (arith, are.few);
       below = λ k h. rw (alike k h) (omega (arith, are.below k h));
       sums = λ y. rw (
         e,
-        zero,
+        nought,
         total-same (λ k. y (slice_index new k)) (λ k. y (slice_index old k)) count
             (λ k h. ap y (alike k h)),
         are.sums y,
@@ -67,19 +68,26 @@ ones-same prn n count old new are alike zero =
     no_more : (z : ℤ) → z ≡ z +ℤ pos 0
     no_more z = omega (arith, ints)
 
--- whether a chip is 1, by the top bit of its byte in a table of the code
-pub record IsInTable (prn k byte : ℕ) : Type 0 where
-  pub one : 128 ≤ byte → (chip prn k == 1) ≡ true
-  pub nought : byte < 128 → (chip prn k == 1) ≡ false
+-- whether a chip is 1, by its mask in a table of the code
+pub record IsInTable (prn k mask : ℕ) : Type 0 where
+  pub one : mask ≡ 255 → (chip prn k == 1) ≡ true
+  pub nought : mask ≢ 255 → (chip prn k == 1) ≡ false
 
 pub in_table : (prn k : ℕ) (table : List ℕ) → IsTable prn table → k < 1023
-    → IsInTable prn k (slice_index table k)
+    → IsInTable prn k (slice_index table (k + 1))
 unfolding IsTable
 in_table prn k table is inside =
-    let byte = is k (omega (arith, inside)) in
+    let mask : slice_index table (k + 1) ≡ 255 * chip prn k =
+    is (k + 1) (omega (arith, inside)) ∙ ap (λ (n : ℕ). 255 * n) (before_next prn k) in
     let small = chip_below_two prn k in
-    let before = chip_below_two prn (k + 1022) in
     record {
-      one = λ high. let e : chip prn k ≡ 1 = omega (arith, byte, high, small, before) in rw e refl;
-      nought = λ low. let e : chip prn k ≡ 0 = omega (arith, byte, low, small, before) in rw e refl;
+      one = λ all. let e : chip prn k ≡ 1 = omega (arith, mask, all) in rw e refl;
+      nought = λ other.
+          let e : chip prn k ≡ 0 = none (chip prn k) small (λ all. other (mask ∙ all)) in
+          rw e refl;
     }
+  where
+    none : (c : ℕ) → c < 2 → 255 * c ≢ 255 → c ≡ 0
+    none zero h not = refl
+    none (suc zero) h not = absurd (not refl)
+    none (suc (suc c)) h not = absurd (omega (arith, h))

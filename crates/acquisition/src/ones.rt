@@ -26,7 +26,7 @@ impl Ones {
         let mut count = 0;
         for chip in 0..CODE_CHIPS as usize {
             chips[count] = chip as u16;
-            if table[chip] >= 1 << 7 {
+            if table[chip + 1] == 255 {
                 count += 1;
             }
         }

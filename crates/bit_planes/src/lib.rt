@@ -3,9 +3,8 @@
 //!
 //! A `Plane` stands for a bit at each place. `pick_bytes` looks up sixteen bytes of a table, and
 //! `marked_bytes` puts a number into the lanes whose bit is 1. `pick_from_four` looks up 64 bytes,
-//! `bit_of_each` gives bits of them as a word of a plane, and `mask_of_each` as masks in their
-//! lanes. Lane 0 stands for the last of these places, so that a bitmask of lanes has the first
-//! place in its top bit.
+//! and `bit_of_each` gives bits of them as a word of a plane. Lane 0 stands for the last of these
+//! places, so that a bitmask of lanes has the first place in its top bit.
 //!
 //!     use bit_planes::{Plane, TOP_BIT, bit_of_each};
 //!     use std::simd::prelude::u8x64;
@@ -21,7 +20,7 @@ mod plane;
 mod spread;
 mod word_lanes;
 
-pub use lanes::{LANES, SECOND_BIT, TOP_BIT, pick_bytes};
+pub use lanes::{LANES, TOP_BIT, pick_bytes};
 pub use plane::{PLACES, Plane, WORD_PLACES, WORDS};
 pub use spread::marked_bytes;
-pub use word_lanes::{bit_of_each, mask_of_each, pick_from_four};
+pub use word_lanes::{bit_of_each, pick_from_four};

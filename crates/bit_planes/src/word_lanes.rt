@@ -33,20 +33,6 @@ pub fn bit_of_each(bytes: u8x64, number: u32) -> u64
         .to_bitmask()
 }
 
-/// 255 in each of 64 lanes whose byte has a 1 as bit `number`, the lowest being bit 0, and 0 in the
-/// others.
-pub fn mask_of_each(bytes: u8x64, number: u32) -> u8x64
-    requires bytes { length bytes ≡ WORD_PLACES }
-    requires number { number < 8 }
-    ensures long { length result ≡ WORD_PLACES }
-    ensures masks { (k : ℕ) → k < WORD_PLACES
-        → slice_index result k ≡ 255 * bit_at (slice_index bytes k) number }
-{
-    (bytes & u8x64::splat(1 << number))
-        .simd_ne(u8x64::splat(0))
-        .select(u8x64::splat(255), u8x64::splat(0))
-}
-
 /// 64 bytes of a table, by their lanes' numbers. Each sixteen lanes count from a place of their
 /// own.
 pub fn pick_from_four(table: &[u8], at: [usize; 4], numbers: u8x64) -> u8x64

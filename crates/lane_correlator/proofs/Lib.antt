@@ -13,3 +13,4 @@ pub mod WordLemmas
 pub mod ReplicaLemmas
 pub mod StandLemmas
 pub mod TallyLemmas
+pub mod AddingLemmas

@@ -6,12 +6,8 @@ use Rattle.definitions.specs.Samples.{Sample}
 use Rattle.definitions.specs.Correlation.{Replica, sum_of_counts, no_counts}
 use Rattle.definitions.specs.Correlation.{Counts as DefinedCounts}
 use Rattle.definitions.proofs.CorrelationLemmas.{six_sums-split}
-use Rattle.lane_correlator.specs.RangeSums.{HasSumsOf}
+use Rattle.lane_correlator.specs.RangeSums.{HasSumsOf, cut}
 use Rattle.lane_correlator.proofs.SumLemmas.{six_sums-none, none_within, added_within}
-
--- how far a range lies before word w
-abbrev pub cut : ℕ → ℕ → ℕ → ℕ
-cut from to w = min to (max from (64 * w))
 
 -- no sample
 pub none_of : (x : ℕ → Sample) (r : Replica) (from : ℕ) (c : DefinedCounts) → c ≡ no_counts

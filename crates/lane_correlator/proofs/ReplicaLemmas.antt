@@ -9,7 +9,7 @@ use Rattle.definitions.specs.Correlation.{Replica, Phases, replica_of, six_sums,
 use Rattle.definitions.specs.Correlation.{quadrature_sum, wiped_in_phase, wiped_quadrature}
 use Rattle.definitions.proofs.SumsLemmas.{total-same}
 use Rattle.bit_planes.specs.ByteLanes.{place_in}
-use Rattle.oscillators.specs.declared.code.ChipLanes.{ChipLanes}
+use Rattle.oscillators.specs.declared.code_words.ChipLanes.{ChipLanes}
 use Rattle.oscillators.specs.Lanes.{AreEighthLanes, AreChipLanes}
 use Rattle.oscillators.proofs.PlaneLemmas.{carrier_behind, code_behind}
 use Rattle.lane_correlator.specs.Chips.{AreMasksOfChips}

@@ -1,6 +1,6 @@
 -- Where the oscillators of a replica stand.
-use Rattle.std.proofs.Common.{◌≡◌, ℕ, ◌+◌, ◌-◌, ◌*◌, ◌<◌, ◌≤◌, ◌∙◌, ap, refl, arith}
-use Rattle.std.proofs.Common.{mul-le-mul, List, inl, inr}
+use Rattle.std.proofs.Common.{◌≡◌, ℕ, ◌+◌, ◌-◌, ◌*◌, ◌≤◌, ◌∙◌, ap, refl, arith}
+use Rattle.std.proofs.Common.{List, inl, inr}
 use Rattle.definitions.specs.Samples.{Sample}
 use Rattle.definitions.specs.Correlation.{Phases}
 use Rattle.definitions.specs.Oscillators.{carrier_phase_after, code_phase_after}
@@ -40,24 +40,7 @@ stand_on p first w carrier code carrier1 code1 h at on_carrier on_code = record 
   code_step_is = ap (λ (o : Oscillation). o.step) on_code ∙ at.code_step_is;
 }
 
--- ---- words that lanes have room for
-
-pub one_more_word : (w first k : ℕ) → first ≤ w → (w - first) * k + k ≡ (w + 1 - first) * k
-one_more_word w first k h =
-    let next : w + 1 - first ≡ w - first + 1 = omega arith in
-    rw next (more (w - first))
-  where
-    more : (n : ℕ) → n * k + k ≡ (n + 1) * k
-    more n = omega arith
-
-pub room_for_one : (w first last most : ℕ) → first ≤ w → w < last
-    → (last - first) * (2 * most) ≤ 127 → (w - first) * (2 * most) + 2 * most ≤ 127
-room_for_one w first last most begun inside room =
-    let few : (w + 1 - first) * (2 * most) ≤ (last - first) * (2 * most) = mul-le-mul
-    {n₁ = w + 1 - first} {m₁ = 2 * most} {n₂ = last - first} {m₂ = 2 * most} (omega arith)
-    (omega arith) in
-    rw (one_more_word w first (2 * most) begun) (omega (arith, few, room))
-
+-- fewer words have room too
 pub fewer_words : (xs : List Sample) (a b : ℕ) → a ≤ b → HaveRoom xs b → HaveRoom xs a
 fewer_words xs a b h room = elim room [
   | inl one ↦ inl (omega (arith, h, one.0), one.1)

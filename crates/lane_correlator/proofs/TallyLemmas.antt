@@ -2,7 +2,7 @@
 use Rattle.std.proofs.Common.{◌≡◌, ℕ, ◌+◌, ◌*◌, ◌≤◌, ◌<◌, refl, arith, List}
 use Rattle.std.specs.Prelude.{◌+ℤ◌, bit_and, slice_index, length}
 use Rattle.definitions.specs.Correlation.{sum_of_counts, no_counts}
-use Rattle.oscillators.specs.declared.code.ChipLanes.{ChipLanes}
+use Rattle.oscillators.specs.declared.code_words.ChipLanes.{ChipLanes}
 use Rattle.lane_correlator.specs.Bytes.{AreAtMost, AreMasks}
 use Rattle.lane_correlator.specs.Bytes.{signed_total}
 use Rattle.lane_correlator.specs.ByteSums.{HasLanes}

@@ -1,6 +1,6 @@
 -- Sums and masks with the three kinds of chips.
 use Rattle.definitions.specs.Correlation.{Counts}
-use Rattle.oscillators.specs.declared.code.ChipLanes.{ChipLanes}
+use Rattle.oscillators.specs.declared.code_words.ChipLanes.{ChipLanes}
 use Rattle.lane_correlator.specs.Bytes.{AreMasks}
 use Rattle.lane_correlator.specs.LaneTotals.{in_phase_of, quadrature_of}
 use Rattle.lane_correlator.specs.declared.lane_sums.LaneSums.{LaneSums}

@@ -6,3 +6,4 @@ pub mod Chips
 pub mod RangeSums
 pub mod Tallies
 pub mod ReplicaWords
+pub mod Adding

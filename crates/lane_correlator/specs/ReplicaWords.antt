@@ -6,7 +6,7 @@ use Rattle.definitions.specs.Oscillators.{carrier_phase_after, code_phase_after,
 use Rattle.definitions.specs.Oscillators.{early_sign, prompt_sign, late_sign}
 use Rattle.bit_planes.specs.ByteLanes.{place_in}
 use Rattle.sample_planes.specs.Signs.{AreOneBit}
-use Rattle.oscillators.specs.declared.code.ChipLanes.{ChipLanes}
+use Rattle.oscillators.specs.declared.code_words.ChipLanes.{ChipLanes}
 use Rattle.oscillators.specs.Views.{Oscillation}
 use Rattle.lane_correlator.specs.Bytes.{cosine_in, sine_in, mask_sign}
 
@@ -50,3 +50,7 @@ pub record StandAt (p : Phases) (first w : ℕ) (carrier code : Oscillation) : T
 -- where each part is 1 in size, and else 9
 abbrev pub HaveRoom : List Sample → ℕ → Type 0
 HaveRoom xs words = ((words ≤ 21) × AreOneBit xs) ⊎ (words ≤ 7)
+
+-- the greatest size of products of samples with a carrier: 3 where each part of these is 1 in size
+abbrev pub IsMostProduct : List Sample → ℕ → Type 0
+IsMostProduct xs most = ((most ≡ 3) × AreOneBit xs) ⊎ (most ≡ 9)

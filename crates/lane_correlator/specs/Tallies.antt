@@ -1,7 +1,7 @@
 -- Six sums while they are added up.
 use Rattle.std.specs.Prelude.{◌≡◌, ℕ}
 use Rattle.definitions.specs.Correlation.{Counts, sum_of_counts}
-use Rattle.oscillators.specs.declared.code.ChipLanes.{ChipLanes}
+use Rattle.oscillators.specs.declared.code_words.ChipLanes.{ChipLanes}
 use Rattle.lane_correlator.specs.Bytes.{signed_total}
 use Rattle.lane_correlator.specs.LaneTotals.{AreLow}
 use Rattle.lane_correlator.specs.Chips.{lanes_in}

@@ -24,6 +24,7 @@
 
 mod counts;
 mod lane_sums;
+mod replica;
 mod tally;
 mod wiped;
 mod with_replica;

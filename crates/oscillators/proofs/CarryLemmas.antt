@@ -53,6 +53,40 @@ marked_lane mark number xs k long h =
     )
     refl)
 
+-- the same where the number is below the lanes
+abbrev pub marked_over : ℕ → ℕ → List ℕ → List ℕ
+marked_over mark number xs =
+    sel_l (map (top 15) (zip2 (λ (a b : ℕ). cond (below a b) 65535 0) (replicate 64 number) xs))
+    (replicate 64 mark) (replicate 64 0)
+
+over_is : (number : ℕ) (xs : List ℕ)
+    → map (top 15) (zip2 (λ (a b : ℕ). cond (below a b) 65535 0) (replicate 64 number) xs)
+    ≡ zip2 below (replicate 64 number) xs
+over_is number xs = tops_compared w16 below (replicate 64 number) xs
+
+pub marked_over_long : (mark number : ℕ) (xs : List ℕ) → length xs ≡ 64
+    → length (marked_over mark number xs) ≡ 64
+marked_over_long mark number xs long =
+    let many : length (zip2 below (replicate 64 number) xs) ≡ 64 =
+    length-zip2 below (replicate 64 number) xs (sym long) in
+    rw (over_is number xs) (length-sel_l (zip2 below (replicate 64 number) xs)
+    (replicate {A = ℕ} 64 mark) (replicate {A = ℕ} 64 0) many many ∙ many)
+
+pub marked_over_lane : (mark number : ℕ) (xs : List ℕ) (k : ℕ) → length xs ≡ 64 → k < 64
+    → get_or (marked_over mark number xs) k 0 ≡ cond {A = ℕ} (below number (get_or xs k 0)) mark 0
+marked_over_lane mark number xs k long h =
+    let many : length (zip2 below (replicate 64 number) xs) ≡ 64 =
+    length-zip2 below (replicate 64 number) xs (sym long) in
+    rw (over_is number xs) (get_or-sel_l (zip2 below (replicate 64 number) xs)
+    (replicate {A = ℕ} 64 mark) (replicate {A = ℕ} 64 0) k 0 (omega (arith, many, h)) h h
+    ∙ rw (
+      get_or-zip2 below (replicate 64 number) xs k 0 0 false h (omega (arith, long, h)),
+      get_or-replicate {A = ℕ} 64 k number 0 h,
+      get_or-replicate {A = ℕ} 64 k mark 0 h,
+      get_or-replicate {A = ℕ} 64 k 0 0 h,
+    )
+    refl)
+
 -- ---- lower halves
 
 less_signed : (a b : ℕ) → lt_z (signed_half a) (signed_half b) ≡ ltb a b

@@ -2,17 +2,15 @@
 -- and a lane's sample w after it. The first sample of the lane's sixteen lies v after it.
 use Rattle.std.proofs.Common.{◌≡◌, ℕ, zero, suc, ◌+◌, ◌-◌, ◌*◌, ◌/◌, ◌%◌, ◌^◌, ◌<◌, ◌≤◌}
 use Rattle.std.proofs.Common.{get_or, ap, ◌∙◌, arith, mul-le-mul, List, length, refl, sym, inl}
-use Rattle.std.proofs.Common.{inr, ℤ, replicate}
-use Rattle.std.specs.Prelude.{bit_xor, bit_and, min, ◌⊎◌}
+use Rattle.std.proofs.Common.{inr, ℤ}
+use Rattle.std.specs.Prelude.{◌⊎◌}
 use Rattle.std.specs.Simd.Lanes.{zip2}
 use Rattle.std.proofs.lemmas.Simd.{get_or-zip2, length-zip2}
-use Rattle.std.proofs.lemmas.List.{get_or-replicate}
-use Rattle.std.proofs.lemmas.Nat.{and_mask}
-use Rattle.oscillators.specs.Ways.{way_to, cell_of, LeadsTo}
+use Rattle.oscillators.specs.Ways.{way_to, half_at}
 use Rattle.definitions.specs.Samples.{sign_of}
 use Rattle.oscillators.specs.Lanes.{IsMask, AreChipLanes}
 use Rattle.oscillators.specs.ChipWords.{AreChipMasks}
-use Rattle.oscillators.specs.declared.code.ChipLanes.{ChipLanes}
+use Rattle.oscillators.specs.declared.code_words.ChipLanes.{ChipLanes}
 use Rattle.ca_codes.proofs.BookLemmas.{chip_below_two}
 use Rattle.std.specs.Int.{bit_at}
 use Rattle.std.proofs.Math.Nat.{mod-add-mod}
@@ -52,136 +50,82 @@ pub first_not_after : (step k : ℕ) → k < 64 → way_to_first step k ≤ way_
 first_not_after step k h = mul-le-mul {n₁ = 48 - 16 * (k / 16)} {m₁ = step} {n₂ = 63 - k}
     {m₂ = step} (omega arith) (omega arith)
 
--- the number of a lane's chip in its window
-number_is : (part v w : ℕ) → part < 4294967296 → v ≤ w → w ≤ v + 15 * 4008636142
-    → cell_of ((part + w) / 2147483648 - 2 * (v / 4294967296)) % 16
-    ≡ (part + w) / 4294967296 - v / 4294967296
-number_is part v w small from near = omega arith
+-- the half chips from the window of a lane on are few
+half_small : (part step k : ℕ) → part < 4294967296 → step ≤ 3865470566 → k < 64
+    → half_at part step k ≤ 30
+half_small part step k small short h =
+    let from : way_to_first step k ≤ way_to step k = first_not_after step k h in
+    let near : way_to step k ≤ way_to_first step k + 15 * 3865470566 =
+    way_from_first step 3865470566 k h short in
+    omega (arith, from, near)
 
-pub numbers_long : (cells : List ℕ) → length cells ≡ 64
-    → length (zip2 bit_and cells (replicate 64 15)) ≡ 64
-numbers_long cells long = pair_long bit_and cells (replicate 64 15) long refl
+pub early_below : (part step k n : ℕ) → part < 4294967296 → step ≤ 3865470566 → k < 64
+    → n ≡ half_at part step k / 2 → n < 16
+early_below part step k n small short h is =
+    let few : half_at part step k ≤ 30 = half_small part step k small short h in
+    omega (arith, few, is)
 
-low_four : (cells : List ℕ) (k : ℕ) → length cells ≡ 64 → k < 64
-    → get_or (zip2 bit_and cells (replicate 64 15)) k 0 ≡ get_or cells k 0 % 16
-low_four cells k long h =
-    pair_lane bit_and cells (replicate 64 15) k long refl h
-    ∙ rw (get_or-replicate {A = ℕ} 64 k 15 0 h) (and_mask (get_or cells k 0) 4)
-
-pub number_below : (cells : List ℕ) (k : ℕ) → length cells ≡ 64 → k < 64
-    → get_or (zip2 bit_and cells (replicate 64 15)) k 0 < 16
-number_below cells k long h = rw (low_four cells k long h) (omega arith)
-
-pub number_of_lane : (part step : ℕ) (cells : List ℕ) (k : ℕ) → part < 4294967296
-    → step ≤ 4008636142 → length cells ≡ 64 → k < 64 → LeadsTo part step k (get_or cells k 0)
-    → get_or (zip2 bit_and cells (replicate 64 15)) k 0
-    ≡ (part + way_to step k) / 4294967296 - way_to_first step k / 4294967296
-number_of_lane part step cells k small short long h leads =
-    low_four cells k long h
-    ∙ rw leads (number_is part (way_to_first step k) (way_to step k) small
-    (first_not_after step k h) (way_from_first step 4008636142 k h short))
+pub prompt_below : (part step k n : ℕ) → part < 4294967296 → step ≤ 3865470566 → k < 64
+    → n ≡ (half_at part step k + 1) / 2 → n < 16
+prompt_below part step k n small short h is =
+    let few : half_at part step k ≤ 30 = half_small part step k small short h in
+    omega (arith, few, is)
 
 -- the phase at a lane's sample
 phase_there : (phase w : ℕ) → (phase % (1023 * 2 ^ 32) + w) % (1023 * 2 ^ 32)
     ≡ (phase + w) % (1023 * 2 ^ 32)
 phase_there phase w = mod-add-mod phase (1023 * 2 ^ 32) w
 
-chip_there : (here v w : ℕ) → here < 4393751543808 → v ≤ w → w ≤ 63 * 4294967295
-    → (here / 4294967296 + v / 4294967296
-    + ((here % 4294967296 + w) / 4294967296 - v / 4294967296)) % 1023
+early_there : (here v w : ℕ) → here < 4393751543808 → v ≤ w → w ≤ 63 * 4294967295
+    → (here / 4294967296 + 1 + v / 4294967296
+    + ((here % 4294967296 + w) / 2147483648 - 2 * (v / 4294967296)) / 2 + 1022) % 1023
     ≡ (here + w) % 4393751543808 / 4294967296 % 1023
-chip_there here v w below from few = omega arith
+early_there here v w below from few = omega arith
 
-chip_before_there : (here v w : ℕ) → here < 4393751543808 → v ≤ w → w ≤ 63 * 4294967295
+late_there : (here v w : ℕ) → here < 4393751543808 → v ≤ w → w ≤ 63 * 4294967295
     → (here / 4294967296 + v / 4294967296
-    + ((here % 4294967296 + w) / 4294967296 - v / 4294967296) + 1022) % 1023
+    + ((here % 4294967296 + w) / 2147483648 - 2 * (v / 4294967296)) / 2 + 1022) % 1023
     ≡ ((here + w) % 4393751543808 / 4294967296 + 1022) % 1023
-chip_before_there here v w below from few = omega arith
+late_there here v w below from few = omega arith
 
--- the cell says whether a sample lies in the second half of its chip
-half_there : (here v w : ℕ) → here < 4393751543808 → v ≤ w → w ≤ v + 15 * 4008636142
-    → w ≤ 63 * 4294967295
-    → bit_at (cell_of ((here % 4294967296 + w) / 2147483648 - 2 * (v / 4294967296))) 7
-    ≡ (here + w) % 4393751543808 % 4294967296 / 2147483648
-half_there here v w below from near few = omega arith
+-- the prompt phase lies half a chip behind the early one
+prompt_there : (p here v w : ℕ) → p < 4393751543808 → here ≡ (p + 2147483648) % 4393751543808
+    → v ≤ w → w ≤ 63 * 4294967295
+    → (here / 4294967296 + v / 4294967296
+    + ((here % 4294967296 + w) / 2147483648 - 2 * (v / 4294967296) + 1) / 2 + 1022) % 1023
+    ≡ (p + w) % 4393751543808 / 4294967296 % 1023
+prompt_there p here v w below is from few = omega arith
 
--- the chips that lanes find, and those before them
-pub chip_found : (prn phase here v w : ℕ) → here ≡ phase % (1023 * 2 ^ 32) → v ≤ w
-    → w ≤ 63 * 4294967295
-    → chip prn (here / 4294967296 + v / 4294967296
-    + ((here % 4294967296 + w) / 4294967296 - v / 4294967296))
-    ≡ chip prn ((phase + w) % (1023 * 2 ^ 32) / 2 ^ 32)
-chip_found prn phase here v w is from few =
-    same_chip prn _ _ (chip_there here v w (omega (arith, is)) from few
-    ∙ rw is (ap (λ (p : ℕ). p / 2 ^ 32 % 1023) (phase_there phase w)))
+-- the chips that a lane finds, one before those of its numbers
+module _ (prn phase here step k : ℕ) (h : k < 64) (short : step < 2 ^ 32)
+    (is : here ≡ (phase + 2 ^ 31) % (1023 * 2 ^ 32)) where
+  abbrev pub half : ℕ
+  half = half_at (here % 4294967296) step k
 
-pub chip_before_found : (prn phase here v w : ℕ) → here ≡ phase % (1023 * 2 ^ 32) → v ≤ w
-    → w ≤ 63 * 4294967295
-    → chip prn (here / 4294967296 + v / 4294967296
-    + ((here % 4294967296 + w) / 4294967296 - v / 4294967296) + 1022)
-    ≡ chip prn ((phase + w) % (1023 * 2 ^ 32) / 2 ^ 32 + 1022)
-chip_before_found prn phase here v w is from few =
-    same_chip prn _ _ (chip_before_there here v w (omega (arith, is)) from few
-    ∙ rw is (ap (λ (p : ℕ). (p / 2 ^ 32 + 1022) % 1023) (phase_there phase w)))
+  abbrev pub window : ℕ
+  window = way_to_first step k / 4294967296
 
--- whether a sample lies in the second half of its chip
-pub half_found : (phase here step k cell : ℕ) → here ≡ phase % (1023 * 2 ^ 32) → k < 64
-    → step ≤ 4008636142 → LeadsTo (here % 4294967296) step k cell
-    → bit_at cell 7 ≡ (phase + way_to step k) % (1023 * 2 ^ 32) % 2 ^ 32 / 2 ^ 31
-half_found phase here step k cell is h short leads =
-    ap (λ (n : ℕ). bit_at n 7) leads
-    ∙ half_there here (way_to_first step k) (way_to step k) (omega (arith, is))
-    (first_not_after step k h) (way_from_first step 4008636142 k h short)
-    (way_is_short step k (omega (arith, short)))
-    ∙ rw is (ap (λ (p : ℕ). p % 2 ^ 32 / 2 ^ 31) (phase_there phase (way_to step k)))
+  pub early_found : chip prn (here / 4294967296 + 1 + window + half / 2 + 1022)
+      ≡ chip prn ((phase + 2 ^ 31 + way_to step k) % (1023 * 2 ^ 32) / 2 ^ 32)
+  early_found =
+      same_chip prn _ _ (early_there here (way_to_first step k) (way_to step k) (omega (arith, is))
+      (first_not_after step k h) (way_is_short step k short)
+      ∙ rw is (ap (λ (p : ℕ). p / 2 ^ 32 % 1023) (phase_there (phase + 2 ^ 31) (way_to step k))))
 
--- masks of lanes, and what two of them make
+  pub late_found : chip prn (here / 4294967296 + window + half / 2 + 1022)
+      ≡ chip prn ((phase + 2 ^ 31 + way_to step k) % (1023 * 2 ^ 32) / 2 ^ 32 + 1022)
+  late_found =
+      same_chip prn _ _ (late_there here (way_to_first step k) (way_to step k) (omega (arith, is))
+      (first_not_after step k h) (way_is_short step k short)
+      ∙ rw is (ap (λ (p : ℕ). (p / 2 ^ 32 + 1022) % 1023)
+      (phase_there (phase + 2 ^ 31) (way_to step k))))
 
--- where masks are chosen from two by those of a third
-pub chosen_long : (early late half : List ℕ) → length early ≡ 64 → length late ≡ 64
-    → length half ≡ 64
-    → length (zip2 bit_xor late (zip2 bit_and (zip2 bit_xor early late) half)) ≡ 64
-chosen_long early late half le ll lh = pair_long bit_xor late
-    (zip2 bit_and (zip2 bit_xor early late) half) ll (pair_long bit_and
-    (zip2 bit_xor early late) half (pair_long bit_xor early late le ll) lh)
-
-chosen_mask : (e l h : ℕ) → e < 2 → l < 2 → h < 2
-    → bit_xor (255 * l) (bit_and (bit_xor (255 * e) (255 * l)) (255 * h))
-    ≡ 255 * ((l + min ((e + l) % 2) h) % 2)
-chosen_mask zero zero zero he hl hh = refl
-chosen_mask zero zero (suc zero) he hl hh = refl
-chosen_mask zero (suc zero) zero he hl hh = refl
-chosen_mask zero (suc zero) (suc zero) he hl hh = refl
-chosen_mask (suc zero) zero zero he hl hh = refl
-chosen_mask (suc zero) zero (suc zero) he hl hh = refl
-chosen_mask (suc zero) (suc zero) zero he hl hh = refl
-chosen_mask (suc zero) (suc zero) (suc zero) he hl hh = refl
-chosen_mask (suc (suc e)) l h he hl hh = absurd (omega (arith, he))
-chosen_mask zero (suc (suc l)) h he hl hh = absurd (omega (arith, hl))
-chosen_mask (suc zero) (suc (suc l)) h he hl hh = absurd (omega (arith, hl))
-chosen_mask zero zero (suc (suc h)) he hl hh = absurd (omega (arith, hh))
-chosen_mask zero (suc zero) (suc (suc h)) he hl hh = absurd (omega (arith, hh))
-chosen_mask (suc zero) zero (suc (suc h)) he hl hh = absurd (omega (arith, hh))
-chosen_mask (suc zero) (suc zero) (suc (suc h)) he hl hh = absurd (omega (arith, hh))
-
-pub chosen_lane : (early late half : List ℕ) (k e l h : ℕ) → length early ≡ 64
-    → length late ≡ 64 → length half ≡ 64 → k < 64 → e < 2 → l < 2 → h < 2
-    → get_or early k 0 ≡ 255 * e → get_or late k 0 ≡ 255 * l → get_or half k 0 ≡ 255 * h
-    → get_or (zip2 bit_xor late (zip2 bit_and (zip2 bit_xor early late) half)) k 0
-    ≡ 255 * ((l + min ((e + l) % 2) h) % 2)
-chosen_lane early late half k e l h le ll lh below he hl hh ee el eh =
-    let either : List ℕ = zip2 bit_xor early late in
-    let long : length (zip2 bit_xor early late) ≡ 64 = pair_long bit_xor early late le ll in
-    pair_lane bit_xor late (zip2 bit_and either half) k ll (pair_long bit_and either half long lh)
-    below
-    ∙ rw (
-      pair_lane bit_and either half k long lh below,
-      pair_lane bit_xor early late k le ll below,
-      ee,
-      el,
-      eh,
-    )
-    (chosen_mask e l h he hl hh)
+  pub prompt_found : phase < 1023 * 2 ^ 32
+      → chip prn (here / 4294967296 + window + (half + 1) / 2 + 1022)
+      ≡ chip prn ((phase + way_to step k) % (1023 * 2 ^ 32) / 2 ^ 32)
+  prompt_found below =
+      same_chip prn _ _ (prompt_there phase here (way_to_first step k) (way_to step k)
+      (omega (arith, below)) is (first_not_after step k h) (way_is_short step k short))
 
 -- what a mask says of its chip
 pub top_of_mask : (c : ℕ) → c < 2 → bit_at (255 * c) 7 ≡ c

@@ -1,9 +1,7 @@
 -- Planes that are filled 64 samples at a time.
-use Rattle.std.proofs.Common.{inl, inr, ◌≡◌, ℕ, zero, suc, ◌+◌, ◌-◌, ◌*◌, ◌/◌, ◌%◌, ◌^◌, ◌<◌, ◌≤◌}
+use Rattle.std.proofs.Common.{◌≡◌, ℕ, zero, suc, ◌+◌, ◌-◌, ◌*◌, ◌/◌, ◌%◌, ◌^◌, ◌<◌, ◌≤◌}
 use Rattle.std.proofs.Common.{List, ◌∷◌, length, map, get_or, refl, sym, ap, ◌∙◌, arith, ℤ}
 use Rattle.std.proofs.Common.{pos}
-use Rattle.std.specs.Prelude.{min}
-use Rattle.std.proofs.lemmas.Bool.{cases_lt}
 use Rattle.std.proofs.Math.Path.{ap₂}
 use Rattle.std.proofs.Math.Nat.{add-mod-mod, mod-add-mod}
 use Rattle.std.proofs.lemmas.Nat.{mul-mod_first}
@@ -126,37 +124,6 @@ early_is prn phase step j = ap (λ (p : ℕ). sign_of (chip prn (p / 2 ^ 32))) (
 behind_number : (p : ℕ) → p < 4393751543808 → ((p + 2147483648) % 4393751543808 / 4294967296 + 1022)
     % 1023 ≡ (p + 4393751543808 - 2147483648) % 4393751543808 / 4294967296 % 1023
 behind_number p h = omega arith
-
-second_number : (p a : ℕ) → p < 4393751543808 → a ≡ (p + 2147483648) % 4393751543808
-    → a % 4294967296 / 2147483648 ≡ 1 → a / 4294967296 % 1023 ≡ p / 4294967296 % 1023
-second_number p a h is half = omega arith
-
-first_number : (p a : ℕ) → p < 4393751543808 → a ≡ (p + 2147483648) % 4393751543808
-    → a % 4294967296 / 2147483648 ≡ 0 → (a / 4294967296 + 1022) % 1023 ≡ p / 4294967296 % 1023
-first_number p a h is half = omega arith
-
--- the chip in time is the early one in the second half of that, and in the first half the one
--- before
-pub prompt_between : (prn phase step j e l h : ℕ) → e < 2 → l < 2 → h < 2
-    → e ≡ chip prn (code_phase_after (phase + 2 ^ 31) step j / 2 ^ 32)
-    → l ≡ chip prn (code_phase_after (phase + 2 ^ 31) step j / 2 ^ 32 + 1022)
-    → h ≡ code_phase_after (phase + 2 ^ 31) step j % 2 ^ 32 / 2 ^ 31
-    → (l + min ((e + l) % 2) h) % 2 ≡ chip prn (code_phase_after phase step j / 2 ^ 32)
-prompt_between prn phase step j e l h he hl hh early late half =
-    let p : ℕ = code_phase_after phase step j in
-    let a : ℕ = code_phase_after (phase + 2 ^ 31) step j in
-    let below : p < 4393751543808 = omega arith in
-    elim (cases_lt h 1) [
-      | inl none ↦
-          let zero_is : a % 4294967296 / 2147483648 ≡ 0 = omega (arith, none, half) in
-          let first : (l + min ((e + l) % 2) h) % 2 ≡ l = omega (arith, none, hl) in
-          first ∙ late ∙ same_chip prn _ _ (first_number p a below (ahead_is phase step j) zero_is)
-      | inr one ↦
-          let one_is : a % 4294967296 / 2147483648 ≡ 1 = omega (arith, one, hh, half) in
-          let second : (l + min ((e + l) % 2) h) % 2 ≡ e = omega (arith, one, hh, he, hl) in
-          second ∙ early ∙ same_chip prn _ _ (second_number p a below (ahead_is phase step j)
-          one_is)
-    ]
 
 pub late_is : (prn phase step j : ℕ) → sign_of (chip prn
     (code_phase_after (phase + 2 ^ 31) step j / 2 ^ 32 + 1022))

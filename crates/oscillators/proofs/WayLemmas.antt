@@ -5,7 +5,7 @@ use Rattle.std.specs.Prelude.{slice_set}
 use Rattle.std.proofs.lemmas.Bool.{cases_lt}
 use Rattle.std.proofs.lemmas.List.{get_or-set_other}
 use Rattle.std.proofs.lemmas.Grind.{get_or-set_at}
-use Rattle.oscillators.specs.Ways.{way_to, window_of, cell_of, room_of}
+use Rattle.oscillators.specs.Ways.{way_to, window_of, half_to, room_of}
 
 by_halves : (samples step : ℕ)
     → samples * step ≡ 65536 * (samples * (step / 65536)) + samples * (step % 65536)
@@ -23,7 +23,7 @@ way_by_halves samples step = omega (arith, by_halves samples step)
 -- the way to the sample of a lane, by the way of its samples in 2^-16 chip
 pub half_is : (k step way window : ℕ) → k < 64 → way ≡ (63 - k) * step / 65536
     → window ≡ (63 - k) / 16 * 16 * step / 4294967296
-    → way / 32768 - 2 * window ≡ way_to step k / 2 ^ 31 - 2 * window_of step k
+    → way / 32768 - 2 * window ≡ half_to step k
 half_is k step way window h is there =
     let first : (63 - k) / 16 * 16 ≡ 48 - 16 * (k / 16) = omega arith in
     let same : window ≡ window_of step k =
@@ -59,15 +59,3 @@ windows_are step a b c (suc zero) h ea eb ec = eb
 windows_are step a b c (suc (suc zero)) h ea eb ec = ec
 windows_are step a b c (suc (suc (suc zero))) h ea eb ec = omega arith
 windows_are step a b c (suc (suc (suc (suc n)))) h ea eb ec = absurd (omega (arith, h))
-
--- the three sets of cells
-pub cells_are : (step : ℕ) (first second third : List ℕ) (set k : ℕ) → set < 3
-    → get_or first k 0 ≡ cell_of (way_to step k / 2 ^ 31 - 2 * window_of step k)
-    → get_or second k 0 ≡ cell_of (way_to step k / 2 ^ 31 - 2 * window_of step k + 1)
-    → get_or third k 0 ≡ cell_of (way_to step k / 2 ^ 31 - 2 * window_of step k + 2)
-    → get_or (get_or (first ∷ second ∷ third ∷ []) set []) k 0
-    ≡ cell_of (way_to step k / 2 ^ 31 - 2 * window_of step k + set)
-cells_are step first second third zero k few a b c = a ∙ ap cell_of (omega arith)
-cells_are step first second third (suc zero) k few a b c = b
-cells_are step first second third (suc (suc zero)) k few a b c = c
-cells_are step first second third (suc (suc (suc n))) k few a b c = absurd (omega (arith, few))

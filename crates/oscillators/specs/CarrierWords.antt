@@ -2,7 +2,7 @@
 use Rattle.std.specs.Prelude.{◌≡◌, ℕ, ◌-◌, ◌/◌, ◌^◌, ◌<◌}
 use Rattle.std.specs.Int.{bit_at}
 use Rattle.definitions.specs.Oscillators.{carrier_phase_after}
-use Rattle.oscillators.specs.declared.carrier.CarrierWord.{CarrierWord}
+use Rattle.oscillators.specs.declared.carrier_words.CarrierWord.{CarrierWord}
 use Rattle.oscillators.specs.Eighths.{cos_sign_in, sin_sign_in, sin_size_in}
 
 -- the bits of cosine and sine by the eighths that the samples lie in, from a phase on

@@ -5,8 +5,8 @@ use Rattle.std.specs.Int.{bit_at}
 use Rattle.definitions.specs.Codes.{chip}
 use Rattle.definitions.specs.Oscillators.{code_phase_after}
 use Rattle.bit_planes.specs.ByteLanes.{place_in}
-use Rattle.oscillators.specs.declared.code.ChipWord.{ChipWord}
-use Rattle.oscillators.specs.declared.code.ChipLanes.{ChipLanes}
+use Rattle.oscillators.specs.declared.code_words.ChipWord.{ChipWord}
+use Rattle.oscillators.specs.declared.code_words.ChipLanes.{ChipLanes}
 
 -- the chips from a phase on; the phase half a chip ahead gives the early ones, and the late ones,
 -- which come one chip before these

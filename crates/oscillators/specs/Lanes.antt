@@ -4,7 +4,7 @@ use Rattle.definitions.specs.Samples.{sign_of}
 use Rattle.definitions.specs.Oscillators.{code_phase_after, early_sign, prompt_sign, late_sign}
 use Rattle.bit_planes.specs.ByteLanes.{place_in}
 use Rattle.oscillators.specs.CarrierWords.{eighth_after}
-use Rattle.oscillators.specs.declared.code.ChipLanes.{ChipLanes}
+use Rattle.oscillators.specs.declared.code_words.ChipLanes.{ChipLanes}
 
 -- the numbers of the eighths of a cycle from a phase on
 pub record AreEighthLanes (phase step : ℕ) (lanes : List ℕ) : Type 0 where

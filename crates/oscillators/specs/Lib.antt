@@ -2,6 +2,7 @@ pub mod Views
 pub mod Limits
 pub mod Halves
 pub mod Ways
+pub mod ChipSets
 pub mod Strides
 pub mod Signs
 pub mod Eighths

@@ -7,14 +7,12 @@ ghost use Rattle.definitions.specs.Oscillators.{carrier_phase_after, cosine, sin
 ghost use Rattle.bit_planes.specs.Bits.{bit};
 ghost use Rattle.oscillators.specs.Views.{Oscillation, CarrierViews};
 ghost use Rattle.oscillators.specs.Signs.{signed, cos_in, sin_in};
-ghost use Rattle.oscillators.specs.CarrierWords.{AreEighths};
-ghost use Rattle.oscillators.specs.Lanes.{AreEighthLanes};
-ghost use Rattle.bit_planes.specs.declared.plane.TheConstants.{PLACES, WORD_PLACES};
+ghost use Rattle.bit_planes.specs.declared.plane.TheConstants.{PLACES};
 
 use crate::carrier_strides::CarrierStrides;
-use bit_planes::{Plane, bit_of_each};
+use crate::carrier_words::CarrierWords;
+use bit_planes::Plane;
 use std::marker::Model;
-use std::simd::prelude::*;
 
 /// An oscillator at the carrier's frequency. Its phase is in 2^-32 cycle, from 0 to below 2^32, and
 /// its step is what a sample adds to it. The fixed-point form and the values of `planes` are this
@@ -60,16 +58,14 @@ impl CarrierOsc {
         self.phase = self.phase.wrapping_add(turns.wrapping_mul(self.step));
     }
 
-    /// The oscillator `n` samples ago, if it has had this step since.
-    pub fn earlier(&self, n: u32) -> CarrierOsc
-        ensures now { carrier_phase_after result.phase result.step n ≡ self.now.phase }
+    /// The carrier in words of 64 samples, from `before` samples ago on, if it has had this step
+    /// since.
+    pub fn words(&self, before: u32) -> CarrierWords<'_>
+        ensures now { carrier_phase_after result.phase result.step before ≡ self.now.phase }
         ensures step { result.step ≡ self.now.step }
     {
-        CarrierOsc {
-            phase: self.phase.wrapping_sub(n.wrapping_mul(self.step)),
-            step: self.step,
-            strides: self.strides,
-        }
+        let phase = self.phase.wrapping_sub(before.wrapping_mul(self.step));
+        CarrierWords::new(phase, self.step, &self.strides)
     }
 
     /// Takes another step from here on. It stays a call: it is long, and not done often.
@@ -79,40 +75,6 @@ impl CarrierOsc {
     {
         self.step = step;
         self.strides = CarrierStrides::new(step);
-    }
-
-    /// The eighths of a cycle in which this sample and the 63 that follow lie, by their numbers, 0
-    /// to 7. Lane k stands for sample 63 - k. The oscillator goes on by 64 samples.
-    #[inline(always)]
-    pub fn next_eighths(&mut self) -> u8x64
-        ensures eighths { AreEighthLanes self.old.phase self.old.step result }
-        ensures moved { self.new ≡ record self.old {
-          phase = carrier_phase_after self.old.phase self.old.step WORD_PLACES;
-        } }
-    {
-        let eighths = self.strides.eighths(self.phase);
-        self.phase = self.phase.wrapping_add(self.step.wrapping_mul(64));
-        eighths
-    }
-
-    /// The bits of cosine and sine at this sample and the 63 that follow. The oscillator goes on by
-    /// 64 samples.
-    #[inline(always)]
-    fn next_bits(&mut self) -> CarrierWord
-        ensures word { AreEighths self.old.phase self.old.step result }
-        ensures moved { self.new ≡ record self.old {
-          phase = carrier_phase_after self.old.phase self.old.step WORD_PLACES;
-        } }
-    {
-        let eighths = self.next_eighths();
-        let half = bit_of_each(eighths, 2);
-        let quarter = bit_of_each(eighths, 1);
-        let eighth = bit_of_each(eighths, 0);
-        CarrierWord {
-            cos_sign: half ^ quarter,
-            sin_sign: half,
-            sin_size: quarter ^ eighth,
-        }
     }
 
     /// Cosine and sine at this sample and the `n` - 1 that follow; `n` is at most 1,024. The
@@ -126,12 +88,12 @@ impl CarrierOsc {
         ensures sin { result.sin ≡ map (λ j. sine
             (carrier_phase_after self.now.phase self.now.step j)) (range_with_len 0 n) }
     {
-        let mut here = self.earlier(0);
+        let mut words = self.words(0);
         let mut cos_sign = Plane::new();
         let mut sin_sign = Plane::new();
         let mut sin_size = Plane::new();
         for w in 0..(n + 63) / 64 {
-            let word = here.next_bits();
+            let word = words.next_bits();
             cos_sign.set_word(w, word.cos_sign);
             sin_sign.set_word(w, word.sin_sign);
             sin_size.set_word(w, word.sin_size);
@@ -143,17 +105,6 @@ impl CarrierOsc {
             len: n,
         }
     }
-}
-
-/// Cosine and sine of a carrier at 64 samples, the first of them in the top bits.
-#[derive(Clone, Copy, Debug)]
-struct CarrierWord {
-    /// 1 where the cosine is below 0.
-    pub cos_sign: u64,
-    /// 1 where the sine is below 0.
-    pub sin_sign: u64,
-    /// 1 where the sine is 2 in size and the cosine 1, and 0 where it is the other way round.
-    pub sin_size: u64,
 }
 
 /// Cosine and sine of a carrier at a run of at most 1,024 samples.

@@ -15,25 +15,17 @@ ghost use Rattle.oscillators.specs.Lanes.{AreChipLanes, HasAllLanes};
 ghost use Rattle.bit_planes.specs.declared.plane.TheConstants.{PLACES, WORD_PLACES};
 ghost use Rattle.ca_codes.specs.declared.book.TheConstants.{CODE_CHIPS};
 ghost use Rattle.ca_codes.specs.Filled.{IsTable};
-ghost use Rattle.oscillators.specs.declared.code.TheConstants.{MOST_WINDOW_STEP};
 ghost use Rattle.oscillators.specs.declared.code_strides.TheConstants.{HALF_CHIP};
 
 use crate::code_strides::{CodeStrides, HALF_CHIP};
+use crate::code_words::CodeWords;
 use crate::half_chip::HalfChip;
-use bit_planes::{Plane, SECOND_BIT, TOP_BIT, WORD_PLACES, bit_of_each, mask_of_each};
-use ca_codes::{CODE_CHIPS, CodeBook, Prn, TABLE, look_up};
+use bit_planes::Plane;
+use ca_codes::{CODE_CHIPS, CodeBook, Prn};
 use std::marker::Model;
-use std::simd::prelude::*;
 
 /// The code's cycle of 1,023 chips, in 2^-32 chip.
 const CODE_CYCLE: u64 = (CODE_CHIPS as u64) << 32;
-
-/// A chip, in 2^-32 chip.
-const CHIP: u64 = 1 << 32;
-
-/// The greatest step with which no sixteen samples take more than sixteen chips, wherever their
-/// window begins, in 2^-32 chip: 14/15 of a chip.
-pub const MOST_WINDOW_STEP: u32 = 0xeeee_eeee;
 
 /// An oscillator at the code's rate. Its phase is in 2^-32 chip, from 0 to below the cycle of
 /// 1,023 * 2^32 (IS-GPS-200, section 3.3.2.3: the code has 1,023 chips); its step is what a sample
@@ -121,153 +113,15 @@ impl CodeOsc {
         self.phase = (phase % CODE_CYCLE as u128) as u64;
     }
 
-    /// The oscillator `n` samples ago, at most 1,023, if it has had this step since.
-    pub fn earlier(&self, n: u32) -> CodeOsc
-        requires { n ≤ CODE_CHIPS }
-        ensures now { code_phase_after result.phase result.step n ≡ self.now.phase }
+    /// The code in words of 64 samples, from `before` samples ago on, at most 1,023, if it has had
+    /// this step since.
+    pub fn words(&self, before: u32) -> CodeWords<'_>
+        requires { before ≤ CODE_CHIPS }
+        ensures now { code_phase_after result.phase result.step before ≡ self.now.phase }
         ensures step { result.step ≡ self.now.step }
     {
-        CodeOsc {
-            phase: in_cycle(self.phase + (CODE_CYCLE - n as u64 * self.step as u64)),
-            step: self.step,
-            strides: self.strides,
-        }
-    }
-
-    /// Whether the step is at most `MOST_WINDOW_STEP`, as that of each recording is. Then
-    /// `next_lanes_by_windows` gives the masks of chips too, in less time.
-    pub fn has_windows(&self) -> bool
-        ensures { result ≡ nat_le self.now.step MOST_WINDOW_STEP }
-    {
-        self.step <= MOST_WINDOW_STEP
-    }
-
-    /// Masks of the chips of a satellite at this sample and the 63 that follow: at the phase
-    /// (prompt), half a chip ahead of it (early) and half a chip behind it (late). The table is one
-    /// that `CodeBook::table` gives. The oscillator goes on by 64 samples.
-    pub fn next_lanes(&mut self, table: &[u8; TABLE]) -> ChipLanes
-        ensures chips { (prn : ℕ) → IsTable prn table.now
-            → AreChipLanes prn self.old.phase self.old.step result }
-        ensures long { HasAllLanes result }
-        ensures moved { self.new ≡ record self.old {
-          phase = code_phase_after self.old.phase self.old.step WORD_PLACES;
-        } }
-    {
-        self.next_masks(table)
-    }
-
-    /// What `next_lanes` gives, in less time: sixteen samples take at most sixteen chips each time.
-    #[inline(always)]
-    pub fn next_lanes_by_windows(&mut self, table: &[u8; TABLE]) -> ChipLanes
-        requires { self.old.step ≤ MOST_WINDOW_STEP }
-        ensures chips { (prn : ℕ) → IsTable prn table.now
-            → AreChipLanes prn self.old.phase self.old.step result }
-        ensures long { HasAllLanes result }
-        ensures moved { self.new ≡ record self.old {
-          phase = code_phase_after self.old.phase self.old.step WORD_PLACES;
-        } }
-    {
-        let masks = self.masks_by_windows(table);
-        self.pass_word();
-        masks
-    }
-
-    /// The chips as bits of words. The oscillator goes on by 64 samples.
-    fn next_chips(&mut self, table: &[u8; TABLE]) -> ChipWord
-        ensures word { (prn : ℕ) → IsTable prn table.now
-            → AreChipBits prn self.old.phase self.old.step result }
-        ensures moved { self.new ≡ record self.old {
-          phase = code_phase_after self.old.phase self.old.step WORD_PLACES;
-        } }
-    {
-        let masks = self.next_masks(table);
-        ChipWord {
-            early: bit_of_each(masks.early, TOP_BIT),
-            prompt: bit_of_each(masks.prompt, TOP_BIT),
-            late: bit_of_each(masks.late, TOP_BIT),
-        }
-    }
-
-    /// Does what `next_lanes` does. Contracts see the masks by the chips here, and by their signs
-    /// there.
-    fn next_masks(&mut self, table: &[u8; TABLE]) -> ChipLanes
-        ensures masks { (prn : ℕ) → IsTable prn table.now
-            → AreChipMasks prn self.old.phase self.old.step result }
-        ensures long { HasAllLanes result }
-        ensures moved { self.new ≡ record self.old {
-          phase = code_phase_after self.old.phase self.old.step WORD_PLACES;
-        } }
-    {
-        let masks = if self.step <= MOST_WINDOW_STEP {
-            self.masks_by_windows(table)
-        } else {
-            self.masks_by_samples(table)
-        };
-        self.pass_word();
-        masks
-    }
-
-    /// Goes on by the 64 samples of a word.
-    #[inline(always)]
-    fn pass_word(&mut self)
-        ensures { self.new ≡ record self.old {
-          phase = code_phase_after self.old.phase self.old.step WORD_PLACES;
-        } }
-    {
-        self.phase = in_cycle(self.phase + 64 * self.step as u64);
-    }
-
-    /// The masks of this sample and the 63 that follow, sixteen of them by a window of sixteen
-    /// chips each.
-    #[inline(always)]
-    fn masks_by_windows(&self, table: &[u8; TABLE]) -> ChipLanes
-        requires { self.now.step ≤ MOST_WINDOW_STEP }
-        ensures masks { (prn : ℕ) → IsTable prn table.now
-            → AreChipMasks prn self.now.phase self.now.step result }
-        ensures long { HasAllLanes result }
-    {
-        let ahead = in_cycle(self.phase + HALF_CHIP as u64);
-        let cells = self.strides.cells((ahead % CHIP) as u32);
-        let windows = self.strides.windows(chip_number(ahead));
-        let chips = look_up(table, windows, cells & u8x64::splat(15));
-        let early = mask_of_each(chips, TOP_BIT);
-        // The late chip is the one before the early one.
-        let late = mask_of_each(chips, SECOND_BIT);
-        let second_half = mask_of_each(cells, TOP_BIT);
-        ChipLanes {
-            early,
-            // The prompt phase lies half a chip before the early one. Where the early phase is in
-            // the second half of its chip, the prompt chip is that chip. Else it is the chip before
-            // it, the late one.
-            prompt: late ^ ((early ^ late) & second_half),
-            late,
-        }
-    }
-
-    /// The masks of this sample and the 63 that follow, one after another, for steps so long that
-    /// sixteen samples can take more than sixteen chips. No rate of a recording has such a step.
-    #[cold]
-    #[inline(never)]
-    fn masks_by_samples(&self, table: &[u8; TABLE]) -> ChipLanes
-        ensures masks { (prn : ℕ) → IsTable prn table.now
-            → AreChipMasks prn self.now.phase self.now.step result }
-        ensures long { HasAllLanes result }
-    {
-        let mut early = [0; WORD_PLACES];
-        let mut prompt = [0; WORD_PLACES];
-        let mut late = [0; WORD_PLACES];
-        for k in 0..WORD_PLACES {
-            let here = in_cycle(self.phase + (63 - k as u64) * self.step as u64);
-            let chips = table[chip_number(in_cycle(here + HALF_CHIP as u64))];
-            early[k] = 255 * (chips >> 7);
-            prompt[k] = 255 * (table[chip_number(here)] >> 7);
-            late[k] = 255 * (chips >> 6 & 1);
-        }
-        ChipLanes {
-            early: u8x64::from_array(early),
-            prompt: u8x64::from_array(prompt),
-            late: u8x64::from_array(late),
-        }
+        let phase = in_cycle(self.phase + (CODE_CYCLE - before as u64 * self.step as u64));
+        CodeWords::new(phase, self.step, &self.strides)
     }
 
     /// The signs of a satellite's chips at this sample and the `n` - 1 that follow: at the phase
@@ -288,12 +142,12 @@ impl CodeOsc {
             (code_phase_after self.now.phase self.now.step j)) (range_with_len 0 n) }
     {
         let table = book.table(prn);
-        let mut here = self.earlier(0);
+        let mut words = self.words(0);
         let mut early = Plane::new();
         let mut prompt = Plane::new();
         let mut late = Plane::new();
         for w in 0..(n + 63) / 64 {
-            let word = here.next_chips(table);
+            let word = words.next_chips(table);
             early.set_word(w, word.early);
             prompt.set_word(w, word.prompt);
             late.set_word(w, word.late);
@@ -307,38 +161,8 @@ impl CodeOsc {
     }
 }
 
-/// The chips of a satellite at 64 samples, the first of them in the top bits.
-#[derive(Clone, Copy, Debug)]
-struct ChipWord {
-    /// The chips half a chip ahead of the phase.
-    pub early: u64,
-    /// The chips at the phase.
-    pub prompt: u64,
-    /// The chips half a chip behind the phase.
-    pub late: u64,
-}
-
-/// Masks of the chips of a satellite at 64 samples, 255 for chip 1 and 0 for chip 0. Lane k stands
-/// for sample 63 - k.
-#[derive(Clone, Copy, Debug)]
-pub struct ChipLanes {
-    /// The chips half a chip ahead of the phase.
-    pub early: u8x64,
-    /// The chips at the phase.
-    pub prompt: u8x64,
-    /// The chips half a chip behind the phase.
-    pub late: u8x64,
-}
-
-/// The number of the chip that a phase lies in, counted on past the end of a cycle.
-fn chip_number(phase: u64) -> usize
-    ensures { result ≡ phase / 2 ^ 32 }
-{
-    (phase >> 32) as usize
-}
-
 /// The phase that is left of one less than a cycle ahead, without a division.
-fn in_cycle(phase: u64) -> u64
+pub(crate) fn in_cycle(phase: u64) -> u64
     requires { phase < code_cycle + code_cycle }
     ensures { result ≡ phase % code_cycle }
 {

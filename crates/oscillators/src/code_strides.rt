@@ -4,23 +4,22 @@ ghost use Rattle.std.specs.Prelude.{◌≡◌, ◌+◌, ◌-◌, ◌*◌, ◌/�
 ghost use Rattle.std.specs.Prelude.{slice_index, get_or, [], cond, ltb};
 ghost use Rattle.bit_planes.specs.declared.plane.TheConstants.{WORD_PLACES};
 ghost use Rattle.oscillators.specs.declared.code_strides.TheConstants.{HALF_CHIP, MOST_CHIPS};
-ghost use Rattle.oscillators.specs.declared.code_strides.TheConstants.{CELL_SETS};
-ghost use Rattle.oscillators.specs.Ways.{cell_of, room_of};
+ghost use Rattle.oscillators.specs.declared.code_strides.TheConstants.{CHIP_SETS};
+ghost use Rattle.oscillators.specs.Ways.{half_at, room_of};
+ghost use Rattle.oscillators.specs.ChipSets.{IsLong, set_in};
 ghost use Rattle.ca_codes.specs.declared.book.TheConstants.{CODE_CHIPS};
 
 use crate::carries::{HALF, ORDER, carries, signed_half};
+use crate::chip_set::ChipSet;
 use bit_planes::WORD_PLACES;
 use std::simd::prelude::*;
 
 /// Half a chip, in 2^-32 chip.
 pub const HALF_CHIP: u32 = 1 << 31;
 
-/// What a cell has beside the number of its chip where it is the second half of the chip.
-pub(crate) const SECOND: u8 = 128;
-
-/// The sets of cells: those that the whole half chips of ways lead to from the first half of a
-/// chip, and those one half chip and two half chips on.
-const CELL_SETS: usize = 3;
+/// The sets of chips: those in which the whole half chips of ways end from the first half of a chip
+/// on, and those one half chip and two half chips further.
+const CHIP_SETS: usize = 3;
 
 /// The most chips that lie between the first sample and a window.
 const MOST_CHIPS: usize = 47;
@@ -30,48 +29,42 @@ const HALF_OF_HALF: u32 = 1 << 15;
 
 /// How far 64 samples lie from the first of them, in half chips: lane k stands for sample 63 - k.
 ///
-/// Each sixteen samples have a window of sixteen chips, which begins at the chip that the first of
-/// them lies in where the first sample of all begins a chip. A lane's cell is the number of its
-/// chip in the window, and `SECOND` more in the second half of the chip.
+/// Each sixteen samples have a window of chips. It begins at the chip that the first of them lies
+/// in where the first sample of all begins a chip. A lane's chip is told by its number there.
 #[derive(Clone, Copy, Debug)]
 pub(crate) struct CodeStrides {
     /// The chips from the first sample on to the windows of sixteen lanes each.
     windows: [usize; 4],
-    /// The three sets of cells.
-    cells: [[u8; WORD_PLACES]; CELL_SETS],
+    /// The three sets of chips.
+    sets: [ChipSet; CHIP_SETS],
     /// What else a half chip has room for: the part of it that is left, less one. Of that the upper
     /// half, in `ORDER`.
     room_high: i16x64,
     /// The lower half, in `ORDER`.
     room_low: i16x64,
     ghost lanes: { (length room_high ≡ WORD_PLACES) × (length room_low ≡ WORD_PLACES) },
-    ghost sets: { (set : ℕ) → set < CELL_SETS → length (get_or cells set []) ≡ WORD_PLACES },
+    ghost long: { (set : ℕ) → set < CHIP_SETS → IsLong (set_in sets set) },
     ghost near: { (b : ℕ) → b < 4 → slice_index windows b ≤ MOST_CHIPS },
 }
 
 impl CodeStrides {
     ghost use Rattle.oscillators.specs.Strides.{IsCodeStrides};
-    ghost use Rattle.oscillators.specs.Ways.{LeadsTo};
 
     /// The strides of a step.
     pub(crate) fn new(step: u32) -> CodeStrides
         ensures { IsCodeStrides step result }
     {
-        let mut first = [0; WORD_PLACES];
-        let mut second = [0; WORD_PLACES];
-        let mut third = [0; WORD_PLACES];
+        let mut half = [0; WORD_PLACES];
         let mut high = [0; WORD_PLACES];
         let mut low = [0; WORD_PLACES];
         for k in 0..WORD_PLACES {
             let samples = 63 - k as u32;
             let way = way(samples, step);
-            let half = (way / HALF_OF_HALF - 2 * window(samples / 16 * 16, step)) as u8;
-            first[k] = cell(half);
-            second[k] = cell(half + 1);
-            third[k] = cell(half + 2);
+            half[k] = (way / HALF_OF_HALF - 2 * window(samples / 16 * 16, step)) as u8;
             high[k] = (HALF_OF_HALF - 1 - way % HALF_OF_HALF) as i16;
             low[k] = signed_half(HALF - 1 - samples * (step % HALF) % HALF);
         }
+        let half = u8x64::from_array(half);
         CodeStrides {
             windows: [
                 window(48, step) as usize,
@@ -79,7 +72,11 @@ impl CodeStrides {
                 window(16, step) as usize,
                 0,
             ],
-            cells: [first, second, third],
+            sets: [
+                ChipSet::new(half, 0),
+                ChipSet::new(half, 1),
+                ChipSet::new(half, 2),
+            ],
             room_high: i16x64::from_array(high).swizzle(ORDER),
             room_low: i16x64::from_array(low).swizzle(ORDER),
         }
@@ -88,7 +85,7 @@ impl CodeStrides {
     /// The chips at which the windows begin, the first sample of all lying in a chip.
     #[inline(always)]
     pub(crate) fn windows(&self, chip: usize) -> [usize; 4]
-        requires { chip < CODE_CHIPS }
+        requires { chip ≤ CODE_CHIPS }
         ensures near { (b : ℕ) → b < 4 → slice_index result b ≤ chip + MOST_CHIPS }
         ensures begin { (step : ℕ) → IsCodeStrides step self.now → (b : ℕ) → b < 4
             → slice_index result b ≡ chip + (48 - 16 * b) * step / 2 ^ 32 }
@@ -101,35 +98,48 @@ impl CodeStrides {
         ]
     }
 
-    /// The cells in which 64 samples lie, by how far the first of them lies in its chip.
+    /// The chips in which 64 samples lie, by how far the first of them lies in its chip.
     #[inline(always)]
-    pub(crate) fn cells(&self, part: u32) -> u8x64
-        ensures long { length result ≡ WORD_PLACES }
-        ensures cells { (step : ℕ) → step < 2 ^ 32 → IsCodeStrides step self.now → (k : ℕ)
-            → k < WORD_PLACES → LeadsTo part step k (slice_index result k) }
+    pub(crate) fn chips(&self, part: u32) -> WindowChips
+        ensures early_long { length result.early ≡ WORD_PLACES }
+        ensures prompt_long { length result.prompt ≡ WORD_PLACES }
+        ensures early { (step : ℕ) → step < 2 ^ 32 → IsCodeStrides step self.now → (k : ℕ)
+            → k < WORD_PLACES → slice_index result.early k ≡ half_at part step k / 2 }
+        ensures prompt { (step : ℕ) → step < 2 ^ 32 → IsCodeStrides step self.now → (k : ℕ)
+            → k < WORD_PLACES → slice_index result.prompt k ≡ (half_at part step k + 1) / 2 }
     {
         let set = (part / HALF_CHIP) as usize;
-        let here = u8x64::from_array(self.cells[set]);
-        let next = u8x64::from_array(self.cells[set + 1]);
-        here ^ ((here ^ next) & self.past(part % HALF_CHIP))
+        let stays = self.stays(part % HALF_CHIP);
+        WindowChips {
+            early: self.sets[set].kept(stays),
+            prompt: self.sets[set + 1].kept(stays),
+        }
     }
 
-    /// 255 in the lanes of the samples that lie in one half chip more, since the first of them is
-    /// further in its half chip than there is room for, and 0 in the others.
+    /// 0 in the lanes of the samples that lie in one half chip more, since the first of them is
+    /// further in its half chip than there is room for, and 255 in the others.
     #[inline(always)]
-    fn past(&self, part: u32) -> u8x64
+    fn stays(&self, part: u32) -> u8x64
         requires { part < HALF_CHIP }
         ensures long { length result ≡ WORD_PLACES }
-        ensures past { (step : ℕ) → IsCodeStrides step self.now → (k : ℕ) → k < WORD_PLACES
-            → slice_index result k ≡ cond (ltb (room_of step k) part) 255 0 }
+        ensures stays { (step : ℕ) → IsCodeStrides step self.now → (k : ℕ) → k < WORD_PLACES
+            → slice_index result k ≡ cond (ltb (room_of step k) part) 0 255 }
     {
         let left = self.room_high - carries(part % HALF, self.room_low).cast::<i16>();
-        i16x64::splat((part / HALF) as i16)
-            .simd_gt(left)
+        left.simd_gt(i16x64::splat((part / HALF) as i16 - 1))
             .select(u16x64::splat(255), u16x64::splat(0))
             .cast::<u8>()
             .swizzle(ORDER)
     }
+}
+
+/// The chips in which 64 samples lie, by their numbers in windows.
+#[derive(Clone, Copy, Debug)]
+pub(crate) struct WindowChips {
+    /// Those at the early phase, from the chip on at which a window begins.
+    pub(crate) early: u8x64,
+    /// Those at the prompt phase, half a chip behind, from the chip before it on.
+    pub(crate) prompt: u8x64,
 }
 
 /// The way of at most 63 samples, in 2^-16 chip, rounded down.
@@ -146,11 +156,4 @@ fn window(samples: u32, step: u32) -> u32
     ensures { result ≡ samples * step / 2 ^ 32 }
 {
     way(samples, step) / HALF
-}
-
-/// The cell of a half chip of a window, by its number.
-fn cell(half: u8) -> u8
-    ensures { result ≡ cell_of half }
-{
-    half / 2 + SECOND * (half % 2)
 }

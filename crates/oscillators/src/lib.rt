@@ -1,10 +1,10 @@
 //! The settings of a recording, and the oscillators that follow a satellite's carrier and code
 //! through its samples.
 //!
-//! `Settings` gives the steps for a Doppler shift; `CarrierOsc` and `CodeOsc` keep a phase, step it
-//! on, and give the replica of 64 samples in lanes of bytes, or of up to 1,024 samples as planes of
-//! bits. Each step, phase and value is proved to be that of its definition, for every step of 32
-//! bits.
+//! `Settings` gives the steps for a Doppler shift; `CarrierOsc` and `CodeOsc` keep a phase and step
+//! it on. They give the replica in words of 64 samples, as lanes of bytes, or of up to 1,024
+//! samples as planes of bits. Each step, phase and value is proved to be that of its definition,
+//! for every step of 32 bits.
 //!
 //!     use oscillators::{CarrierOsc, CodeOsc, Doppler, HalfChip, Settings};
 //!     use sample_planes::Format;
@@ -18,16 +18,21 @@
 
 mod carrier;
 mod carrier_strides;
+mod carrier_words;
 mod carries;
+mod chip_set;
 mod code;
 mod code_strides;
+mod code_words;
 mod doppler;
 mod half_chip;
 mod settings;
 
 pub use carrier::{CarrierOsc, CarrierPlanes};
-pub use code::{ChipLanes, CodeOsc, CodePlanes, MOST_WINDOW_STEP};
+pub use carrier_words::CarrierWords;
+pub use code::{CodeOsc, CodePlanes};
 pub use code_strides::HALF_CHIP;
+pub use code_words::{ChipLanes, CodeWords, MOST_WINDOW_STEP};
 pub use doppler::{Doppler, DopplerFault, MOST_DOPPLER};
 pub use half_chip::{HalfChip, HalfChipFault, LAST_HALF_CHIP};
 pub use settings::{

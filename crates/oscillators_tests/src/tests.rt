@@ -168,16 +168,20 @@ fn eighths_at_extreme_steps(rt: HostRuntime) {
         let mut osc = CarrierOsc::new(0x9000_0001);
         osc.advance(3);
         osc.set_step(step);
-        for w in 0..2 {
-            let lanes = osc.next_eighths().to_array();
-            for j in 0..64 {
-                let i = 64 * w + j;
-                let phase = (3 * 0x9000_0001 + i as u128 * step as u128) % 0x1_0000_0000;
-                assert_eq!(rt;
-                    lanes[63 - j] as u128,
-                    phase / 0x2000_0000,
-                    "at sample {i} with step {step}"
-                );
+        for before in [0u32, 1, 63] {
+            let mut words = osc.words(before);
+            for w in 0..2u32 {
+                let lanes = words.next_eighths().to_array();
+                for j in 0..64u32 {
+                    let way = (64 * w + j).wrapping_sub(before);
+                    // Phases are modulo 2^32.
+                    let phase = 0xb000_0003u32.wrapping_add(way.wrapping_mul(step));
+                    assert_eq!(rt;
+                        lanes[63 - j as usize] as u32,
+                        phase / 0x2000_0000,
+                        "at word {w}, place {j} with step {step}, {before} samples ago"
+                    );
+                }
             }
         }
     }
@@ -241,11 +245,18 @@ fn chip_masks_at_extreme_steps(rt: HostRuntime) -> Result<(), Fail> {
     let mut book = CodeBook::new();
     for half_chips in [0u16, 1, 1_023, 2_045] {
         for step in EXTREME_STEPS {
-            let mut osc = CodeOsc::new(HalfChip::new(half_chips).ok_or("a half chip")?, step);
-            for w in 0..2u32 {
-                let lanes = osc.next_lanes(book.table(prn));
-                let first = half_chips as u128 * 0x8000_0000 + 64 * w as u128 * step as u128;
-                assert_masks(&rt, &mut book, &lanes, first, step);
+            let osc = CodeOsc::new(HalfChip::new(half_chips).ok_or("a half chip")?, step);
+            for before in [0u32, 1, 63] {
+                let mut words = osc.words(before);
+                for w in 0..2u32 {
+                    let lanes = words.next_lanes(book.table(prn));
+                    // A whole number of cycles more, so that no phase is below 0.
+                    let first = (half_chips as u128 * 0x8000_0000
+                        + 64 * (w as u128 + CYCLE) * step as u128).wrapping_sub(
+                        before as u128 * step as u128,
+                    );
+                    assert_masks(&rt, &mut book, &lanes, first, step);
+                }
             }
         }
     }
@@ -258,10 +269,15 @@ fn chip_masks_by_windows(rt: HostRuntime) -> Result<(), Fail> {
     let mut book = CodeBook::new();
     for half_chips in [0u16, 1, 1_023, 2_045] {
         for step in EXTREME_STEPS {
-            let mut osc = CodeOsc::new(HalfChip::new(half_chips).ok_or("a half chip")?, step);
-            assert_eq!(rt; osc.has_windows(), step <= 0xeeee_eeee, "with step {step}");
-            if osc.has_windows() {
-                let lanes = osc.next_lanes_by_windows(book.table(prn));
+            let osc = CodeOsc::new(HalfChip::new(half_chips).ok_or("a half chip")?, step);
+            let mut words = osc.words(0);
+            assert_eq!(rt;
+                words.has_windows(),
+                step <= 0xe666_6666,
+                "with step {step}"
+            );
+            if words.has_windows() {
+                let lanes = words.next_lanes_by_windows(book.table(prn));
                 assert_masks(
                     &rt,
                     &mut book,

@@ -264,15 +264,21 @@ impl<const P: usize> Add for Lanes<u16, P> {
     }
 }
 
-impl<const P: usize> Shr for Lanes<u16, P> {
-    type Output = Self;
+macro_rules! shifts {
+    ($($number:ty)*) => {
+        $(impl<const P: usize> Shr for Lanes<$number, P> {
+            type Output = Self;
 
-    /// Each lane is shifted by as many places as the other's, below 16.
-    #[inline(always)]
-    fn shr(self, places: Self) -> Self {
-        Lanes(parts(|p| from_fn(|k| self.0[p][k] >> places.0[p][k])))
-    }
+            /// Each lane is shifted by as many places as the other's, fewer than it has.
+            #[inline(always)]
+            fn shr(self, places: Self) -> Self {
+                Lanes(parts(|p| from_fn(|k| self.0[p][k] >> places.0[p][k])))
+            }
+        })*
+    };
 }
+
+shifts! { u8 u16 }
 
 impl<const P: usize> Sub for Lanes<i16, P> {
     type Output = Self;

@@ -76,7 +76,7 @@ fn choices() {
 }
 
 #[test]
-fn sums_and_differences() {
+fn sums_differences_and_shifts() {
     over_bytes(|a, b| {
         let (x, y) = (u8x64::from_array(a), u8x64::from_array(b));
         let sums = from_fn(|k| (a[k] as u32 + b[k] as u32) as u8);
@@ -90,6 +90,9 @@ fn sums_and_differences() {
         let long = |k: usize| a[k] as u16 * 256 + b[k] as u16;
         let sum = (0..32).map(long).fold(0, u16::wrapping_add);
         assert_eq!(Lanes::<u16, 2>::from_array::<32>(from_fn(long)).reduce_sum(), sum);
+        let places = a.map(|byte| byte % 8);
+        let shifted = from_fn(|k| b[k] >> places[k]);
+        assert_eq!((y >> u8x64::from_array(places)).to_array(), shifted);
     });
 }
 

@@ -15,11 +15,11 @@ loop-w-preserved c =
     let step : ℕ = c.args.self.now.step in
     let i = c.loop-w.invariant in
     let w : ℕ = c.loop-w.w in
-    let here : ℕ = c.loop-w.here.phase in
+    let here : ℕ = c.loop-w.words.phase in
     let next : 64 * w + 64 ≡ 64 * (w + 1) = omega arith in
     let word = c.next_bits-word.ensures.word in
     let moved = c.next_bits-word.ensures.moved in
-    let behind : (j : ℕ) → carrier_phase_after here c.loop-w.here.step j
+    let behind : (j : ℕ) → carrier_phase_after here c.loop-w.words.step j
     ≡ carrier_phase_after phase step (64 * w + j) = λ j.
     ap (λ (s : ℕ). carrier_phase_after here s j) i.step
     ∙ carrier_behind phase step (64 * w) j here i.phase

@@ -7,8 +7,8 @@ use Rattle.oscillators.proofs.carrier.CarrierOsc.planes.Given as goal
 
 abbrev pub invariant-loop-w : goal.invariant-loop-w
 invariant-loop-w l = record {
-  phase : l.here.phase ≡ carrier_phase_after l.self.phase l.self.step (64 * l.w);
-  step : l.here.step ≡ l.self.step;
+  phase : l.words.phase ≡ carrier_phase_after l.self.phase l.self.step (64 * l.w);
+  step : l.words.step ≡ l.self.step;
   cos_sign : IsDrawn (λ i. cos_sign_in (eighth_after l.self.phase l.self.step i))
       (64 * l.w) l.cos_sign;
   sin_sign : IsDrawn (λ i. sin_sign_in (eighth_after l.self.phase l.self.step i))

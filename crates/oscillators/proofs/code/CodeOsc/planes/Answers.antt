@@ -14,16 +14,16 @@ loop-w-preserved c =
     let step : ℕ = c.args.self.now.step in
     let i = c.loop-w.invariant in
     let w : ℕ = c.loop-w.w in
-    let here : ℕ = c.loop-w.here.phase in
+    let here : ℕ = c.loop-w.words.phase in
     let next : 64 * w + 64 ≡ 64 * (w + 1) = omega arith in
     let word = (c.next_chips-word.ensures.word c.args.prn c.table-table.ensures) in
     let moved = c.next_chips-word.ensures.moved in
-    let behind : (j : ℕ) → code_phase_after here c.loop-w.here.step j
+    let behind : (j : ℕ) → code_phase_after here c.loop-w.words.step j
     ≡ code_phase_after phase step (64 * w + j) = λ j.
     ap (λ (s : ℕ). code_phase_after here s j) i.step
     ∙ code_behind phase step (64 * w) j here i.phase
     in
-    let ahead : (j : ℕ) → code_phase_after (here + 2 ^ 31) c.loop-w.here.step j
+    let ahead : (j : ℕ) → code_phase_after (here + 2 ^ 31) c.loop-w.words.step j
     ≡ code_phase_after (phase + 2 ^ 31) step (64 * w + j) = λ j.
     ap (λ (s : ℕ). code_phase_after (here + 2 ^ 31) s j) i.step
     ∙ code_behind_ahead phase step (64 * w) j here i.phase

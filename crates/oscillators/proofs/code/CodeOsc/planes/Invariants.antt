@@ -6,8 +6,8 @@ use Rattle.oscillators.proofs.code.CodeOsc.planes.Given as goal
 
 abbrev pub invariant-loop-w : goal.invariant-loop-w
 invariant-loop-w l = record {
-  phase : l.here.phase ≡ code_phase_after l.self.phase l.self.step (64 * l.w);
-  step : l.here.step ≡ l.self.step;
+  phase : l.words.phase ≡ code_phase_after l.self.phase l.self.step (64 * l.w);
+  step : l.words.step ≡ l.self.step;
   early : IsDrawn (λ i. chip l.fn.prn (code_phase_after (l.self.phase + 2 ^ 31) l.self.step i / 2 ^
       32)) (64 * l.w) l.early;
   prompt : IsDrawn (λ i. chip l.fn.prn (code_phase_after l.self.phase l.self.step i / 2 ^ 32))

@@ -1,5 +1,5 @@
 use Rattle.std.proofs.Common.{rules, arith}
-use Rattle.oscillators.proofs.CellLemmas.{moved_windows, near_windows}
+use Rattle.oscillators.proofs.WindowLemmas.{moved_windows, near_windows}
 use Rattle.oscillators.proofs.code_strides.CodeStrides.windows.Goals as goal
 
 pub overflow_add-result : goal.overflow_add-result

@@ -1,7 +1,0 @@
-use Rattle.oscillators.proofs.ChipLaneLemmas.{signs_of_masks}
-use Rattle.oscillators.proofs.code.CodeOsc.next_lanes.Goals as goal
-
-pub returns-clause-chips : goal.returns-clause-chips
-returns-clause-chips c prn is =
-    signs_of_masks prn c.args.self.now.phase c.args.self.now.step c.next_masks.result
-    (c.next_masks.ensures.masks prn is)

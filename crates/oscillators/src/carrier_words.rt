@@ -1,0 +1,93 @@
+//! A carrier in words of 64 samples.
+
+ghost use Rattle.std.specs.Prelude.{◌≡◌, ◌*◌, ◌+◌, ◌<◌, ◌/◌, ◌%◌, ◌^◌, length, slice_index};
+ghost use Rattle.definitions.specs.Oscillators.{carrier_phase_after};
+ghost use Rattle.oscillators.specs.CarrierWords.{AreEighths};
+ghost use Rattle.oscillators.specs.Lanes.{AreEighthLanes};
+ghost use Rattle.oscillators.specs.Strides.{IsCarrierStrides};
+ghost use Rattle.bit_planes.specs.declared.plane.TheConstants.{WORD_PLACES};
+
+use crate::carrier_strides::CarrierStrides;
+use bit_planes::bit_of_each;
+use std::marker::Model;
+use std::simd::prelude::*;
+
+/// A carrier in words of 64 samples, the next one first. `CarrierOsc::words` begins them, and they
+/// leave the oscillator where it is. The phase and the step are as an oscillator has them.
+#[derive(Debug, Drop)]
+pub struct CarrierWords<'a> {
+    phase: u32,
+    step: u32,
+    strides: &'a CarrierStrides,
+}
+
+impl<'a> Model for CarrierWords<'a> {
+    ghost use Rattle.oscillators.specs.Views.{Oscillation};
+    ghost use Rattle.oscillators.specs.Strides.{IsCarrierStrides};
+
+    ghost Value = { Oscillation };
+
+    ghost view = { λ w. record { phase = w.phase; step = w.step } };
+
+    ghost invariant = { λ w. IsCarrierStrides w.step w.strides.now };
+}
+
+impl<'a> CarrierWords<'a> {
+    /// Those of a carrier from a phase on, with the strides of its step.
+    #[inline(always)]
+    pub(crate) fn new(phase: u32, step: u32, strides: &'a CarrierStrides) -> CarrierWords<'a>
+        requires { IsCarrierStrides step strides.now }
+        ensures { result ≡ record { phase = phase; step = step } }
+    {
+        CarrierWords {
+            phase,
+            step,
+            strides,
+        }
+    }
+
+    /// The eighths of a cycle in which this sample and the 63 that follow lie, by their numbers, 0
+    /// to 7. Lane k stands for sample 63 - k. The words go on.
+    #[inline(always)]
+    pub fn next_eighths(&mut self) -> u8x64
+        ensures eighths { AreEighthLanes self.old.phase self.old.step result }
+        ensures moved { self.new ≡ record self.old {
+          phase = carrier_phase_after self.old.phase self.old.step WORD_PLACES;
+        } }
+    {
+        let eighths = self.strides.eighths(self.phase);
+        self.phase = self.phase.wrapping_add(self.step.wrapping_mul(64));
+        eighths
+    }
+
+    /// The bits of cosine and sine at this sample and the 63 that follow. The oscillator goes on by
+    /// 64 samples.
+    #[inline(always)]
+    pub(crate) fn next_bits(&mut self) -> CarrierWord
+        ensures word { AreEighths self.old.phase self.old.step result }
+        ensures moved { self.new ≡ record self.old {
+          phase = carrier_phase_after self.old.phase self.old.step WORD_PLACES;
+        } }
+    {
+        let eighths = self.next_eighths();
+        let half = bit_of_each(eighths, 2);
+        let quarter = bit_of_each(eighths, 1);
+        let eighth = bit_of_each(eighths, 0);
+        CarrierWord {
+            cos_sign: half ^ quarter,
+            sin_sign: half,
+            sin_size: quarter ^ eighth,
+        }
+    }
+}
+
+/// Cosine and sine of a carrier at 64 samples, the first of them in the top bits.
+#[derive(Clone, Copy, Debug)]
+pub(crate) struct CarrierWord {
+    /// 1 where the cosine is below 0.
+    pub(crate) cos_sign: u64,
+    /// 1 where the sine is below 0.
+    pub(crate) sin_sign: u64,
+    /// 1 where the sine is 2 in size and the cosine 1, and 0 where it is the other way round.
+    pub(crate) sin_size: u64,
+}
