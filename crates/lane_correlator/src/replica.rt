@@ -104,12 +104,10 @@ impl<'a> WordReplica<'a> {
         ensures moved { GoesOn (first_word part.now) (word_end part.now) self.old self.new }
     {
         // Words are told apart before the loop over them, so that it has few branches.
-        if !self.code.has_windows() {
-            self.sums_of_long_steps(part, book)
-        } else if part.samples.is_complex() {
-            self.sums_of_words(part, book, Words::Complex)
-        } else {
-            self.sums_of_words(part, book, Words::Real)
+        match (self.code.has_windows(), part.samples.is_complex()) {
+            (true, false) => self.sums_of_words(part, book, Words::Real),
+            (true, true) => self.sums_of_words(part, book, Words::Complex),
+            (false, _) => self.sums_of_long_steps(part, book),
         }
     }
 
