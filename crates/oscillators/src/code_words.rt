@@ -82,7 +82,7 @@ impl<'a> CodeWords<'a> {
         self.next_masks(table)
     }
 
-    /// What `next_lanes` gives, in less time: sixteen samples take at most sixteen chips each time.
+    /// What `next_lanes` gives, in less time: a window of sixteen chips serves sixteen samples.
     #[inline(always)]
     pub fn next_lanes_by_windows(&mut self, table: &[u8; TABLE]) -> ChipLanes
         requires { self.old.step ≤ MOST_WINDOW_STEP }
