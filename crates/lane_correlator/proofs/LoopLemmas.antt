@@ -54,3 +54,8 @@ pub all_words : (x : ℕ → Sample) (r : Replica) (from to w : ℕ) (c : Define
 all_words x r from to w c ordered past before =
     let last : cut from to w ≡ to = omega (arith, past, ordered) in
     rw last at before
+
+-- a loop over words that ends is past the last of them, and not further
+pub all_reached : (from to w : ℕ) → from < to → (to + 63) / 64 ≤ w
+    → (from / 64 ≤ (to + 63) / 64 → w ≤ (to + 63) / 64) → w ≡ (to + 63) / 64
+all_reached from to w some past before = omega (arith, past, before (omega (arith, some)))

@@ -10,8 +10,10 @@ use Rattle.lane_correlator.specs.declared.replica.WordReplica.{WordReplica}
 use Rattle.lane_correlator.specs.Counting.{counts_in}
 use Rattle.lane_correlator.specs.declared.counts.Counts.{Counts}
 use Rattle.lane_correlator.specs.declared.tally.Tally.{Tally}
+use Rattle.lane_correlator.specs.declared.tally.TheConstants.{MOST_OF_LANE}
+use Rattle.sample_planes.specs.declared.planes.TheConstants.{MAX_SAMPLES}
 
--- the first word of a run that has samples of a part, and the word behind the last of them
+-- the first word of a run that has samples of a part, and the word after the last of them
 abbrev pub first_word : RunPart → ℕ
 first_word part = part.from / 64
 
@@ -22,7 +24,7 @@ word_end part = (part.to + 63) / 64
 pub record IsPart (part : RunPart) : Type 0 where
   pub some : part.from < part.to
   pub inside : part.to ≤ length part.samples.now
-  pub short : part.to ≤ 1024
+  pub short : part.to ≤ MAX_SAMPLES
   pub few : HaveRoom part.samples.now (word_end part - first_word part)
 
 -- sums over a part are those with a replica that stands at its first word
@@ -37,7 +39,7 @@ pub record HasSums (part : RunPart) (r : WordReplica) (c : Counts) : Type 0 wher
 pub record HasRoom (part : RunPart) (a b n most : ℕ) (t : Tally) : Type 0 where
   pub product : IsMostProduct part.samples.now most
   pub low : AreAllLow n t
-  pub room : n + (b - a) * (2 * most) ≤ 127
+  pub room : n + (b - a) * (2 * most) ≤ MOST_OF_LANE
 
 -- the words are added with a replica that stands at the first of them
 pub record AddsWords (part : RunPart) (a b : ℕ) (r : WordReplica) (t u : Tally) : Type 0 where

@@ -59,8 +59,7 @@ impl RunPart<'_> {
     {
         match words {
             Words::Real => None,
-            Words::Complex => self.samples.codes_q(w),
-            Words::Any => self.samples.codes_q(w),
+            Words::Complex | Words::Any => self.samples.codes_q(w),
         }
     }
 
@@ -103,7 +102,7 @@ impl<'a> WordReplica<'a> {
         ensures sums { HasSums part.now self.old result }
         ensures moved { GoesOn (first_word part.now) (word_end part.now) self.old self.new }
     {
-        // Words are told apart before the loop over them, so that it has few branches.
+        // Each kind of words has a loop of its own, so that this has few branches.
         match (self.code.has_windows(), part.samples.is_complex()) {
             (true, false) => self.sums_of_words(part, book, Words::Real),
             (true, true) => self.sums_of_words(part, book, Words::Complex),
@@ -157,8 +156,7 @@ fn next_chips(code: &mut CodeWords<'_>, table: &[u8; TABLE], words: Words) -> Ch
     } }
 {
     match words {
-        Words::Real => code.next_lanes_by_windows(table),
-        Words::Complex => code.next_lanes_by_windows(table),
+        Words::Real | Words::Complex => code.next_lanes_by_windows(table),
         Words::Any => code.next_lanes(table),
     }
 }

@@ -1,7 +1,7 @@
 //! The oscillator at the frequency of the carrier.
 
-ghost use Rattle.std.specs.Prelude.{◌≡◌, ◌*◌, ◌+◌, ◌<◌, ◌≤◌, ◌/◌, ℤ, List, pos, map, take};
-ghost use Rattle.std.specs.Prelude.{length, get_or, unsigned_abs, All};
+ghost use Rattle.std.specs.Prelude.{◌≡◌, ◌+◌, ◌<◌, ◌≤◌, ◌/◌, pos, map};
+ghost use Rattle.std.specs.Prelude.{length, get_or, unsigned_abs};
 ghost use Rattle.std.specs.List.{range_with_len};
 ghost use Rattle.definitions.specs.Oscillators.{carrier_phase_after, cosine, sine};
 ghost use Rattle.bit_planes.specs.Bits.{bit};

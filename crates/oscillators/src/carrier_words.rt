@@ -1,6 +1,6 @@
 //! A carrier in words of 64 samples.
 
-ghost use Rattle.std.specs.Prelude.{◌≡◌, ◌*◌, ◌+◌, ◌<◌, ◌/◌, ◌%◌, ◌^◌, length, slice_index};
+ghost use Rattle.std.specs.Prelude.{◌≡◌};
 ghost use Rattle.definitions.specs.Oscillators.{carrier_phase_after};
 ghost use Rattle.oscillators.specs.CarrierWords.{AreEighths};
 ghost use Rattle.oscillators.specs.Lanes.{AreEighthLanes};
@@ -60,8 +60,7 @@ impl<'a> CarrierWords<'a> {
         eighths
     }
 
-    /// The bits of cosine and sine at this sample and the 63 that follow. The oscillator goes on by
-    /// 64 samples.
+    /// The bits of cosine and sine at this sample and the 63 that follow. The words go on.
     #[inline(always)]
     pub(crate) fn next_bits(&mut self) -> CarrierWord
         ensures word { AreEighths self.old.phase self.old.step result }

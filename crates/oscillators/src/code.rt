@@ -1,8 +1,8 @@
 //! The oscillator at the rate of the code.
 
-ghost use Rattle.std.specs.Prelude.{◌≡◌, ◌+◌, ◌-◌, ◌*◌, ◌/◌, ◌%◌, ◌<◌, ◌≤◌, ◌^◌, ℕ, ℤ, List};
-ghost use Rattle.std.specs.Prelude.{pos, nat_le};
-ghost use Rattle.std.specs.Prelude.{map, take, length, get_or, unsigned_abs, All};
+ghost use Rattle.std.specs.Prelude.{◌≡◌, ◌+◌, ◌-◌, ◌*◌, ◌/◌, ◌%◌, ◌<◌, ◌≤◌, ◌^◌, ℕ};
+ghost use Rattle.std.specs.Prelude.{pos};
+ghost use Rattle.std.specs.Prelude.{map, take, length, get_or, unsigned_abs};
 ghost use Rattle.std.specs.List.{range_with_len};
 ghost use Rattle.definitions.specs.Oscillators.{code_cycle, code_phase_after, early_sign};
 ghost use Rattle.definitions.specs.Oscillators.{prompt_sign, late_sign};
@@ -10,11 +10,8 @@ ghost use Rattle.definitions.specs.Samples.{sign_of};
 ghost use Rattle.bit_planes.specs.Bits.{bit};
 ghost use Rattle.oscillators.specs.Views.{Oscillation, CodeViews};
 ghost use Rattle.oscillators.specs.Signs.{sign_in};
-ghost use Rattle.oscillators.specs.ChipWords.{AreChipBits, AreChipMasks};
-ghost use Rattle.oscillators.specs.Lanes.{AreChipLanes, HasAllLanes};
-ghost use Rattle.bit_planes.specs.declared.plane.TheConstants.{PLACES, WORD_PLACES};
+ghost use Rattle.bit_planes.specs.declared.plane.TheConstants.{PLACES};
 ghost use Rattle.ca_codes.specs.declared.book.TheConstants.{CODE_CHIPS};
-ghost use Rattle.ca_codes.specs.Filled.{IsTable};
 ghost use Rattle.oscillators.specs.declared.code_strides.TheConstants.{HALF_CHIP};
 
 use crate::code_strides::{CodeStrides, HALF_CHIP};

@@ -1,7 +1,7 @@
 //! 64 samples of a code at once.
 
 ghost use Rattle.std.specs.Prelude.{◌≡◌, ◌+◌, ◌-◌, ◌*◌, ◌/◌, ◌%◌, ◌<◌, ◌≤◌, ◌^◌, ℕ, length};
-ghost use Rattle.std.specs.Prelude.{slice_index, get_or, [], cond, ltb};
+ghost use Rattle.std.specs.Prelude.{slice_index, cond, ltb};
 ghost use Rattle.bit_planes.specs.declared.plane.TheConstants.{WORD_PLACES};
 ghost use Rattle.oscillators.specs.declared.code_strides.TheConstants.{HALF_CHIP, MOST_CHIPS};
 ghost use Rattle.oscillators.specs.declared.code_strides.TheConstants.{CHIP_SETS};
@@ -30,7 +30,7 @@ const HALF_OF_HALF: u32 = 1 << 15;
 /// How far 64 samples lie from the first of them, in half chips: lane k stands for sample 63 - k.
 ///
 /// Each sixteen samples have a window of chips. It begins at the chip that the first of them lies
-/// in where the first sample of all begins a chip. A lane's chip is told by its number there.
+/// in where the first sample of all begins a chip. A lane has the number of its chip there.
 #[derive(Clone, Copy, Debug)]
 pub(crate) struct CodeStrides {
     /// The chips from the first sample on to the windows of sixteen lanes each.
@@ -138,7 +138,7 @@ impl CodeStrides {
 pub(crate) struct WindowChips {
     /// Those at the early phase, from the chip on at which a window begins.
     pub(crate) early: u8x64,
-    /// Those at the prompt phase, half a chip behind, from the chip before it on.
+    /// Those at the prompt phase, half a chip less, from the chip before it on.
     pub(crate) prompt: u8x64,
 }
 

@@ -10,6 +10,7 @@ use Rattle.lane_correlator.specs.Tallies.{tally_in, word_sums, AddsWord}
 use Rattle.lane_correlator.specs.Adding.{AddsWords, HasRoom, first_word, word_end}
 use Rattle.lane_correlator.proofs.WordLemmas.{IsRunWord, run_word, HasMost, most_of}
 use Rattle.lane_correlator.proofs.LoopLemmas.{none_before, word_more, all_words}
+use Rattle.lane_correlator.proofs.LoopLemmas.{all_reached}
 use Rattle.lane_correlator.proofs.ReplicaLemmas.{lanes_of_placed, masks_of_chips, eighths_below}
 use Rattle.lane_correlator.proofs.StandLemmas.{stand_on, stand_first}
 use Rattle.lane_correlator.proofs.AddingLemmas.{one_more_word, room_first}
@@ -127,24 +128,16 @@ loop-w-preserved c =
 
 pub returns-clause-moved : goal.returns-clause-moved
 returns-clause-moved c =
-    let last : c.loop-w.w ≡ word_end c.args.part.now = omega (
-      arith,
-      c.loop-w-test.false,
-      c.loop-w.auto.w,
-      c.loop-w.auto.w-end,
-      c.requires.part.some,
-    ) in
+    let last : c.loop-w.w ≡ word_end c.args.part.now =
+    all_reached c.args.part.now.from c.args.part.now.to c.loop-w.w c.requires.part.some
+    c.loop-w-test.false c.loop-w.auto.w-end in
     rw last at c.loop-w.invariant.goes
 
 pub returns-clause-sums : goal.returns-clause-sums
 returns-clause-sums c =
-    let last : c.loop-w.w ≡ word_end c.args.part.now = omega (
-      arith,
-      c.loop-w-test.false,
-      c.loop-w.auto.w,
-      c.loop-w.auto.w-end,
-      c.requires.part.some,
-    ) in
+    let last : c.loop-w.w ≡ word_end c.args.part.now =
+    all_reached c.args.part.now.from c.args.part.now.to c.loop-w.w c.requires.part.some
+    c.loop-w-test.false c.loop-w.auto.w-end in
     let part = c.args.part.now in
     let a : ℕ = first_word part in
     let e : ℕ = word_end part in
