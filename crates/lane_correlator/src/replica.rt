@@ -59,7 +59,8 @@ impl RunPart<'_> {
     {
         match words {
             Words::Real => None,
-            Words::Complex | Words::Any => self.samples.codes_q(w),
+            Words::Complex => self.samples.codes_q(w),
+            Words::Any => self.samples.codes_q(w),
         }
     }
 
