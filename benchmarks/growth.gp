@@ -1,8 +1,6 @@
 # Processor seconds for a second of samples, over the slots and over the samples a second.
-#   gnuplot -e "slots='..'; rates='..'; picture='..'" growth.gp
-# The common settings have the lines of a run, which this picture has none of.
-lines = ''
-load '../examples/plots/style.gp'
+# `slots` and `rates` are files of the folder that it runs in, as of benchmarks/growth.
+load 'style.gp'
 set terminal svg size 900,420 rounded font 'DejaVu Sans,13' background 'white' noenhanced
 set logscale xy
 set yrange [0.0005:20]
@@ -18,7 +16,7 @@ set xlabel 'slots'
 set xrange [0.9:72]
 set xtics (1, 2, 4, 8, 16, 32, 64)
 plot 1 with lines linecolor rgb grey dashtype 2 notitle, \
-     for [k = 1:4] slots using 1:(column(k + 1)) with linespoints linewidth 1.5 pointtype 7 \
+     for [k = 1:4] 'slots' using 1:(column(k + 1)) with linespoints linewidth 1.5 pointtype 7 \
          pointsize 0.5 dashtype 2 - k % 2 linecolor rgb word(colours, k) \
          title word(names, k)
 set title '8 slots'
@@ -26,7 +24,7 @@ set xlabel 'million samples a second'
 set xrange [1.8:23]
 set xtics (2.046, 4.092, 8.184, 16.368)
 plot 1 with lines linecolor rgb grey dashtype 2 notitle, \
-     for [k = 1:4] rates using 1:(column(k + 1)) with linespoints linewidth 1.5 pointtype 7 \
+     for [k = 1:4] 'rates' using 1:(column(k + 1)) with linespoints linewidth 1.5 pointtype 7 \
          pointsize 0.5 dashtype 2 - k % 2 linecolor rgb word(colours, k) \
          title word(names, k)
 unset multiplot

@@ -1,6 +1,7 @@
 """Runs of the receiver over made recordings."""
 import os
 import shlex
+import shutil
 import subprocess
 import tempfile
 from concurrent.futures import ThreadPoolExecutor
@@ -69,6 +70,18 @@ def in_turn(work, tasks):
     """What the work gives for each task, in the order of the tasks, some at once."""
     with ThreadPoolExecutor(JOBS) as pool:
         return list(pool.map(lambda task: work(*task), tasks))
+
+
+def draw(script, folder, picture, names=''):
+    """Draws by a script of gnuplot, which runs in the folder of what it draws. No path is a part of
+    its program."""
+    for path in (os.path.join(HERE, script), os.path.join(TOP, 'examples', 'plots', 'style.gp')):
+        shutil.copy(path, folder)
+    drawn = os.path.join(folder, 'picture.svg')
+    with open(drawn, 'wb') as file:
+        subprocess.run(['gnuplot', '-d', '-e', f'names="{names}"', script], check=True, cwd=folder,
+                       stdout=file)
+    shutil.copyfile(drawn, picture)
 
 
 def table(heads, rows):

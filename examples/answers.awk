@@ -2,7 +2,9 @@
 # Prints each line of a script with its number and the answer that it got.
 #   examples/answers.awk [-v client=K] SCRIPT [LINES]
 # SCRIPT is the script of client K, 1 where none is named. LINES is what the receiver printed, and
-# standard input where none is named. Lines without words get no answer and are left out.
+# standard input where none is named. Both are names of files, whatever they look like; those that
+# begin with - come after a word `--`. Lines without words get no answer and are left out. The last
+# printed line may have been cut where no other follows it, so it is no answer then.
 
 # Ends with one line on standard error.
 function refuse(text) {
@@ -11,22 +13,21 @@ function refuse(text) {
     exit 2
 }
 
-# Sees that a file can be read.
-function need(path,    line) {
-    if (path != "-" && (getline line < path) < 0) refuse(path " can't be read")
-    close(path)
+# A path that awk takes for a file, not for standard input.
+function path_of(name) {
+    return name ~ /^\// ? name : "./" name
 }
 
 # Keeps the lines of a script that have words, or that are too long to be looked at.
-function read_script(path,    line, number) {
-    while ((getline line < path) > 0) {
+function read_script(path,    line, number, got) {
+    while ((got = (getline line < path)) > 0) {
         number++
         if (line !~ /^ *$/ || length(line) > 80) {
             asked[++count] = line
             number_of[count] = number
         }
     }
-    close(path)
+    if (got < 0) refuse(path " can't be read")
 }
 
 # What each N of `err N` says: as in docs/FORMATS.md.
@@ -56,23 +57,42 @@ function take(time, text,    words) {
     show(done, text ~ /^err / ? text ": " why[substr(text, 5)] : text)
 }
 
+# Looks at the answer that came last, and keeps that of a line. An answer is whole where a line
+# follows it.
+function look_at(line,    words) {
+    if (held != "") take(held_time, held)
+    held = ""
+    split(line, words, " ")
+    if (words[1] != client) return
+    if (words[3] == "end") ended = 1
+    if (words[3] == "ok" || words[3] == "err" || words[3] == "state") {
+        held_time = words[2]
+        held = substr(line, length(words[1] words[2]) + 3)
+    }
+}
+
+# Goes through what the receiver printed into a file.
+function read_lines(path,    line, got) {
+    while ((got = (getline line < path)) > 0) look_at(line)
+    if (got < 0) refuse(path " can't be read")
+}
+
 BEGIN {
     if (client == "") client = 1
     if (client !~ /^[1-8]$/) refuse("client is 1 to 8")
     if (ARGC < 2 || ARGC > 3)
         refuse("usage: awk -f answers.awk [-v client=K] SCRIPT [LINES]")
-    for (i = 1; i < ARGC; i++) need(ARGV[i])
     name_refusals()
-    read_script(ARGV[1])
-    ARGV[1] = ARGC == 3 ? ARGV[2] : "-"
-    ARGC = 2
+    read_script(path_of(ARGV[1]))
+    if (ARGC == 3) {
+        read_lines(path_of(ARGV[2]))
+        exit
+    }
+    # Without a name left awk reads standard input.
+    ARGC = 1
 }
 
-$1 == client && ($3 == "ok" || $3 == "err" || $3 == "state") {
-    take($2, substr($0, length($1 $2) + 3))
-}
-
-$1 == client && $3 == "end" { ended = 1 }
+{ look_at($0) }
 
 END {
     if (refused) exit 2

@@ -34,7 +34,10 @@ def refusal(asked, is_measured):
     part_of_complex = to.startswith('iq') and asked.get('part') == 'q'
     cut = any(int(asked.get(it, 0)) * sample_bits(asked) % 8 for it in ('skip', 'count'))
     needs_to = not is_measured and not to
-    return lacks_threshold or only_of_pairs or of_one_bit or part_of_complex or cut or needs_to
+    how = {'to', 'threshold', 'centre', 'centre-q', 'conjugate'}
+    packs_nothing = is_measured and not how.isdisjoint(asked)
+    return (lacks_threshold or only_of_pairs or of_one_bit or part_of_complex or cut or needs_to
+            or packs_nothing)
 
 
 def values(kind, data):

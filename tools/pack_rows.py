@@ -8,7 +8,8 @@ FLOAT = '--threshold: of floats it takes a number from 0 to 3.4e38'
 # Words of options that are refused, and why.
 REFUSED = (
     ('--from i8', '--to: it is missing, and so is --measure'),
-    ('--from i8 --to real1 --measure', '--to: --measure packs nothing'),
+    *((f'--from iq-i8 --measure {words}', f'{words.split()[0]}: --measure packs nothing')
+      for words in ('--to real1', '--threshold 3', '--centre 1', '--centre-q 1', '--conjugate')),
     ('--from i8 --to real2', '--to: two bits a part need --threshold; --measure suggests one'),
     ('--from f32 --to real1 --centre 1', '--centre: floats have the centre 0'),
     ('--from i8 --to real2 --threshold -1', f'--threshold: {NUMBER}'),
@@ -23,6 +24,9 @@ REFUSED = (
     ('--from i8 --to iq1', '--from: real values have no part in quadrature'),
     ('--from f32 --to real2 --threshold 1e39', FLOAT),
     ('--from f32 --to real2 --threshold -1', FLOAT),
+    # The float nearest to these is -0.
+    *((f'--from f32 --to real2 --threshold -{number}', FLOAT)
+      for number in ('1e-46', '0.0000000000000000000000000000000000000000000009', '.9e-99')),
     ('--from f32 --to real2 --threshold nan', FLOAT),
     ('--from f32 --to real2 --threshold x', FLOAT),
 )

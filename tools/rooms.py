@@ -2,25 +2,22 @@
 repository `rt` works in one crate at a time, since it keeps others out of all crates below the one
 that it works in. In rooms it works side by side."""
 import fcntl
+import functools
 import os
 import shutil
 import subprocess
 import sys
-import tempfile
 
+import children
+from built import OF_CI, clean_environment, read, sum_of_sources
 from crate_order import TOP, with_those_below
+from room_folders import new_folder
 
 # The kit's `rt`, quicker where many libraries lie below a crate.
 RT = (sys.executable, os.path.join(TOP, 'tools', 'rt_once'))
 
 # What `rt` keeps of a library: the library, and what its check proved.
 KEPT = ('rlib', 'incremental')
-
-
-def new_folder(kind):
-    """A folder that is removed in the end: on the repository's disk, where files can be linked."""
-    git = os.path.join(TOP, '.git')
-    return tempfile.TemporaryDirectory(prefix=f'{kind}-', dir=git if os.path.isdir(git) else None)
 
 
 def link(source, copy):
@@ -31,11 +28,38 @@ def link(source, copy):
         shutil.copy2(source, copy)
 
 
-class Room:
-    """A copy of a crate in a repository of its own, with what was kept of it."""
+@functools.lru_cache(maxsize=None)
+def are_libraries_of_ci():
+    """Whether the last `rt ci` that was kept had the sources as they are."""
+    try:
+        return read(OF_CI).decode() == sum_of_sources('proved')
+    except (OSError, UnicodeDecodeError):
+        return False
 
-    def __init__(self, crate, crates, folder):
+
+def is_made(crate):
+    """Whether `rt ci` made the library of a crate, of the sources as they are: it leaves no sum
+    beside it by which `rt` would know that."""
+    return os.path.isdir(library(crate)) and are_libraries_of_ci()
+
+
+def library(crate):
+    """Where the library of a crate is built."""
+    return os.path.join(TOP, 'crates', crate, 'out', 'rlib', f'{crate}.rlib')
+
+
+def has_kept(crate):
+    """Whether a check of a crate has kept what it proved."""
+    return os.path.isdir(os.path.join(TOP, 'crates', crate, 'out', 'incremental'))
+
+
+class Room:
+    """A copy of a crate in a repository of its own, with what was kept of it. It may take the
+    libraries that `rt ci` made; else these are left out, and made anew."""
+
+    def __init__(self, crate, crates, folder, takes_made=False):
         self.crate, self.folder = crate, os.path.join(folder, 'crates', crate)
+        self.takes_made = takes_made and are_libraries_of_ci()
         below = with_those_below([crate], crates)
         with open(os.path.join(TOP, 'crates.txt'), encoding='utf-8') as lines:
             named = [it for it in lines if it.split('#')[0].partition(':')[0].strip() in below]
@@ -49,26 +73,28 @@ class Room:
                             ignore=shutil.ignore_patterns('must-fail', 'out'))
             for part in KEPT[:1 + (name == crate)]:
                 kept = os.path.join(TOP, 'crates', name, 'out', part)
-                if os.path.isdir(kept):
+                stamp = os.path.join(kept, 'stamp')
+                is_whole = part != 'rlib' or os.path.exists(stamp) or self.takes_made
+                if os.path.isdir(kept) and is_whole:
                     shutil.copytree(kept, os.path.join(folder, 'crates', name, 'out', part),
                                     copy_function=link)
 
-    def run(self, command, jobs, nice=0):
+    def run(self, command, jobs, nice=0, more=()):
         """Runs a command of `rt`. Gives whether the crate is proved, and what the prover said."""
-        words = ['nice', '-n', str(nice), *RT, command, '--jobs', str(jobs)]
-        ran = subprocess.run(words, cwd=self.folder,
-                             stdin=subprocess.DEVNULL, stdout=subprocess.PIPE,
-                             stderr=subprocess.STDOUT, errors='replace')
-        return ran.returncode == 0, ran.stdout
+        words = ['nice', '-n', str(nice), *RT, command, '--jobs', str(jobs), *more]
+        environment = {**clean_environment(), **({'RT_ROOM': '1'} if self.takes_made else {})}
+        status, said, _ = children.run(words, self.folder, stderr=subprocess.STDOUT,
+                                       env=environment)
+        return status == 0, said
 
-    def bring_out(self):
+    def bring_out(self, parts=KEPT):
         """Moves what `rt` keeps of the crate to the repository."""
         home = os.path.join(TOP, 'crates', self.crate)
         lock = os.open(home, os.O_RDONLY)
         try:
             # As `rt` does where it works in the crate.
             fcntl.flock(lock, fcntl.LOCK_EX)
-            for part in KEPT:
+            for part in parts:
                 made, kept = os.path.join(self.folder, 'out', part), os.path.join(home, 'out', part)
                 if os.path.isdir(made):
                     shutil.rmtree(kept, ignore_errors=True)

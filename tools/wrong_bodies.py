@@ -127,10 +127,3 @@ def is_at(line, place):
 def has_goal(line, edit):
     """Whether a line of the prover names the goal of an edit."""
     return all(word in line[:160] for word in edit.goal)
-
-
-def waits_for_callee(said, place):
-    """Whether the prover left a function, or goals of it, since one that it calls is refused."""
-    path = '::'.join([*path_of(place[0]), ''])
-    name = rf'`?\w+::{re.escape(path)}(?:\w+::)?{place[1].name}`?'
-    return bool(re.search(rf'^fn {name}: no.* it calls |goals of {name}, which wait', said, re.M))

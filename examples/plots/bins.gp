@@ -1,9 +1,9 @@
 # The powers of acquisitions of one bin each over the bin's Doppler shift. The commands come every
-# `step` samples, with the shift 125 Hz higher each time, from -6000 Hz on.
-# gnuplot -e "lines='RUN.lines'; step=20000; picture='bins.svg'" bins.gp
+# 20,000 samples, with the shift 125 Hz higher each time, from -6000 Hz on.
+# examples/plots/draw bins RUN.lines > bins.svg
 load 'style.gp'
-of(slot) = "< awk '$3 == \"acq\" && $4 == " . slot . "' " . lines
-shift(t) = -6000 + 125 * floor(t / step)
+of(slot) = "< awk '$3 == \"acq\" && $4 == " . slot . "' run.lines"
+shift(t) = -6000 + 125 * floor(t / 20000)
 set title 'Power of the strongest half chip of each bin'
 set xlabel 'Doppler shift of the bin [Hz]'
 set ylabel 'POWER / 1000 [squared samples]'

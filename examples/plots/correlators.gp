@@ -1,5 +1,5 @@
 # The sizes of the early, prompt and late sums of a slot over time, means of 20 code periods.
-# gnuplot -e "lines='RUN.lines'; rate=2046000; picture='correlators.svg'" correlators.gp
+# examples/plots/draw correlators RUN.lines > correlators.svg
 load 'style.gp'
 load 'events.gp'
 means = " | awk '{e += sqrt($5^2 + $6^2); p += sqrt($7^2 + $8^2); l += sqrt($9^2 + $10^2)}" \

@@ -1,5 +1,5 @@
 # The prompt sums of a slot over time, every third.
-# gnuplot -e "lines='RUN.lines'; rate=2046000; picture='prompt.svg'" prompt.gp
+# examples/plots/draw prompt RUN.lines > prompt.svg
 load 'style.gp'
 load 'events.gp'
 set title 'Prompt sums of each code period'

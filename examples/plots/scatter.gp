@@ -1,5 +1,5 @@
 # The prompt sums of a slot against each other: in the first 0.2 s, and once the loops are locked.
-# gnuplot -e "lines='RUN.lines'; rate=2046000; picture='scatter.svg'" scatter.gp
+# examples/plots/draw scatter RUN.lines > scatter.svg
 load 'style.gp'
 set terminal svg size 520,520 rounded font 'DejaVu Sans,13' background 'white' noenhanced
 set title 'Prompt sums of each code period'

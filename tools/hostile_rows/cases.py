@@ -91,6 +91,13 @@ def searches(programs, clients, share):
     return Case([programs.receiver, '--shares', shares, *scripts], bytes(size), lines)
 
 
+def blanks(programs, size, count):
+    """Scripts of so many bytes that ask for nothing."""
+    script = programs.file(f'blanks-{size}', b'\n' * size)
+    lines = b''.join(b'%d 0 end\n' % client for client in range(1, count + 1))
+    return Case([programs.receiver, *[script] * count], b'', lines)
+
+
 def packed(programs, count=100000):
     """Unsigned bytes packed into signs: 1 below 127.5, the earliest in the top bit."""
     given = bytes(k * 37 % 256 for k in range(count * 8))

@@ -3,18 +3,23 @@ import os
 import re
 import signal
 
-from .cases import Case, packed, searches
+from .cases import Case, blanks, packed, searches
 from .runs import Wanted, run
 
-# The KiB of stack that are enough for every run.
+# The KiB of stack that are enough for every run, and how many more bytes of environment the system
+# still passes beside it.
 STACK = 512
-# The KiB of address space that a sweep begins with, its step, and where the last run is whole.
-LEAST_SPACE, STEP, MOST_SPACE = 2048, 4, 20480
+MOST_ENVIRONMENT = 120 << 10
+# The KiB of address space that a sweep begins with, those of a page, and where the last run without
+# long scripts is whole.
+LEAST_SPACE, PAGE, MOST_SPACE = 2048, 4, 20480
 # How many runs after the first whole one a sweep goes on.
 BEHIND = 96
+# The bytes of the scripts that memory is swept with, one of them or eight.
+SCRIPTS = 1, 64 << 10, 1 << 20, 16 << 20
 
-# What Rust's own std says before it aborts.
-ABORTED = re.compile(rb'[^\0]*')
+# What Rust's own std says before it aborts: it was refused little, as docs/PLAIN.md has it.
+ABORTED = re.compile(rb'(?:(?!memory allocation of \d{6})[^\0])*')
 
 # A library that refuses one request for memory, and then makes a file that says so.
 REFUSER = r'''
@@ -59,11 +64,13 @@ def called(case, programs):
 
 
 def stack(programs, rows):
-    """The stack that is enough."""
+    """The stack that is enough, with little in the environment and with much."""
     for name, case in cases_of(programs):
-        line = f'ulimit -s {STACK}; exec "$@"'
-        rows.see(f'{STACK} KiB of stack, {name}', run(line, case.command, case.given),
-                 Wanted(0, b'', case.lines))
+        for filler in 0, MOST_ENVIRONMENT:
+            line = (f'export FILLER=$(head -c {filler} /dev/zero | tr "\\0" x); '
+                    f'ulimit -s {STACK}; exec "$@"')
+            rows.see(f'{STACK} KiB of stack, {filler} bytes of environment, {name}',
+                     run(line, case.command, case.given), Wanted(0, b'', case.lines))
 
 
 def answers(programs, case):
@@ -90,25 +97,54 @@ def of_the_system(outcome):
     return outcome.status in (127, -signal.SIGKILL) and not outcome.lines
 
 
-def swept(case, wanted):
-    """The outcomes that aren't wanted, with their limits, and whether a run was whole."""
-    wrong, whole = {}, 0
-    for space in range(LEAST_SPACE, MOST_SPACE, STEP):
-        outcome = run(f'ulimit -v {space}; exec "$@"', case.command, case.given)
-        if not of_the_system(outcome) and differs(outcome, wanted):
-            wrong.setdefault(told(outcome), []).append(space)
-        whole += outcome.status == 0
-        if whole > BEHIND:
-            break
-    return wrong, whole > 0
+class Sweep:
+    """Runs of a case with limits of the address space."""
+
+    def __init__(self, case, wanted):
+        self.case, self.wanted, self.wrong = case, wanted, {}
+
+    def run(self, space):
+        """Whether a run with so many KiB is whole. One that isn't wanted is noted."""
+        outcome = run(f'ulimit -v {space}; exec "$@"', self.case.command, self.case.given)
+        if not of_the_system(outcome) and differs(outcome, self.wanted):
+            self.wrong.setdefault(told(outcome), []).append(space)
+        return outcome.status == 0
+
+    def faults(self, least, most, step):
+        """What was wrong from too little space up to enough, in KiB: by so many at a time up to
+        the first whole run, and by pages from that many and STACK KiB before it on."""
+        first = next((it for it in range(least, most, step) if self.run(it)), None)
+        if first is None:
+            return [*self.noted(), 'no run was whole']
+        whole, space = 0, max(least, first - step - STACK)
+        while whole <= BEHIND and space < most + STACK:
+            whole += self.run(space)
+            space += PAGE
+        return self.noted()
+
+    def noted(self):
+        """The outcomes that aren't wanted, with the least and the greatest limit of each."""
+        return [f'{min(spaces)} to {max(spaces)} KiB: {text}' for text, spaces in self.wrong.items()]
 
 
 def address_space(programs, rows):
-    """Limits of the address space, from too little up to enough."""
+    """Limits of the address space, page by page, from too little up to enough."""
     for name, case in cases_of(programs):
-        wrong, is_whole = swept(case, answers(programs, case))
-        faults = [f'{spaces[0]} to {spaces[-1]} KiB: {text}' for text, spaces in wrong.items()]
-        rows.say(f'address space, {name}', faults if is_whole else [*faults, 'no run was whole'])
+        rows.say(f'address space, {name}',
+                 Sweep(case, answers(programs, case)).faults(LEAST_SPACE, MOST_SPACE, PAGE))
+
+
+def long_scripts(programs, rows):
+    """Limits of the address space with scripts of all sizes. With long ones it goes by steps that
+    are shorter than what the stack has."""
+    for size in SCRIPTS:
+        for count in 1, 8:
+            case = blanks(programs, size, count)
+            held = size * count >> 10
+            step = PAGE if held < 1024 else 32 if held < 16384 else 256
+            rows.say(f'address space, {count} scripts of {size} bytes',
+                     Sweep(case, answers(programs, case))
+                     .faults(LEAST_SPACE + held, MOST_SPACE + 4 * held, step))
 
 
 def refused_in_turn(case, library, mark):
@@ -140,4 +176,4 @@ def refusals(programs, rows):
                  wrong if number else ['none was refused'])
 
 
-ROWS = stack, address_space, refusals
+ROWS = stack, address_space, long_scripts, refusals

@@ -1,5 +1,6 @@
 """Rows of options and scripts: what is read, in which order faults come, and what is printed."""
 import os
+import re
 
 from .runs import PARSER, Outcome, Wanted, run
 
@@ -20,6 +21,9 @@ ssize_t read(int file, void *to, size_t size) {
     return -1;
 }
 '''
+# What is said of an offset below zero, after the option parser's own text.
+SIGNED = re.compile(rb'error: [^\0]+\n'
+                    rb'receiver: --offset takes no sign: --offset 5000 --minus is -5000 Hz\n')
 # What the help has to say, among all else.
 OF_THE_HELP = (b'receiver [OPTIONS] [SCRIPT]...', b'count S IE QE IP QP IL QL',
                b'T track S PRN DOPPLER HALF', b'T acquire S PRN CENTRE BINS MS THRESHOLD',
@@ -93,9 +97,11 @@ def refusals(programs, rows):
     table.refuses(['--offset', '1023001', '--minus'], b'offset')
     table.refuses(['--offset', '1023001', 'there_is_none'], b'offset')
     table.refuses(['--offset', '1023001', '--shares', '9'], b'offset')
-    for words in (['--speed', '1'], ['--rate', 'fast'], ['--rate', '4294967296'], ['--offset=-1'],
-                  ['--format', 'real3']):
+    for words in (['--speed', '1'], ['--rate', 'fast'], ['--rate', '4294967296'],
+                  ['--format', 'real3'], ['--offset', '--minus'], ['--rate', '-5000']):
         table.ends(words, Wanted(2, PARSER))
+    for words in ['--offset', '-5000'], ['--offset=-5000'], ['--minus', '--offset', '-0', 'script']:
+        table.ends(words, Wanted(2, SIGNED))
 
 
 def the_help(programs, rows):

@@ -5,10 +5,10 @@ import subprocess
 from dataclasses import dataclass
 
 # The seconds after which a run counts as hanging.
-LONGEST = 30
+LONGEST = 120
 
 # What the option parser says of a refusal, and the line of the packer.
-PARSER = re.compile(rb'error: [^\0]+')
+PARSER = re.compile(rb'error: (?:(?!receiver: )[^\0])+')
 PACKER = re.compile(rb'pack: [^\0\n]+\n')
 
 # Rust's own std says no more than it has to.

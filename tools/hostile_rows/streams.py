@@ -38,6 +38,15 @@ def no_streams(programs, rows):
              Wanted(1, READ, long.lines, False))
 
 
+def help_on_full(programs, rows):
+    """The help and the version on a full device: a write that fails, as any other."""
+    unwritten = b"pack: standard output couldn't be written\n"
+    for program, said in (programs.receiver, WRITE), (programs.pack, unwritten):
+        for word in '--help', '--version':
+            rows.see(f'{os.path.basename(program)} {word} on a full device',
+                     run('exec "$@" > /dev/full', [program, word]), Wanted(1, said))
+
+
 def fifo_input(programs, rows):
     """Samples from a named pipe."""
     long = states(programs, 30000)
@@ -120,4 +129,4 @@ def packers(programs, rows):
              Wanted(0, b'', case.lines))
 
 
-ROWS = closed, no_streams, fifo_input, closed_pipe, file_size, nonblocking, packers
+ROWS = closed, no_streams, help_on_full, fifo_input, closed_pipe, file_size, nonblocking, packers

@@ -8,7 +8,7 @@ import threading
 MOST_READ = 16384
 MOST_WRITTEN = 65536
 # The seconds without a line after which a run counts as hanging.
-LONGEST = 60
+LONGEST = 120
 
 
 def feed(device, samples, piece):

@@ -90,3 +90,14 @@ crowds : map (λ k. is_crowded (changing (1 ∷ 10 ∷ 21 ∷ 30 ∷ 41 ∷ 50 �
     (69 ∷ 70 ∷ []) ≡ false ∷ true ∷ []
 unfolding xor
 crowds = refl
+
+-- 0 isn't below zero
+changes_at_zero : map (is_change (pos 0 ∷ negsuc 0 ∷ pos 0 ∷ pos 1 ∷ [])) (range_with_len 0 4)
+    ≡ false ∷ true ∷ true ∷ false ∷ []
+unfolding xor
+changes_at_zero = refl
+
+-- a change at a reset isn't counted after it
+change_at_reset : map (changes_at (pos 0 ∷ negsuc 0 ∷ pos 0 ∷ []) 1 1) (1 ∷ 2 ∷ []) ≡ 0 ∷ 0 ∷ []
+unfolding xor
+change_at_reset = refl

@@ -62,3 +62,9 @@ issue_names = refl
 almanac_names : map (name_at almanac_fields) (1 ∷ 3 ∷ 6 ∷ [])
     ≡ Some (codes "sv") ∷ Some (codes "toa") ∷ Some (codes "health") ∷ []
 almanac_names = refl
+
+-- the almanac's parameters in the order of figure 20-1, sheet 4 of IS-GPS-200
+names_of_almanac : map (λ (f : Field). f.name) almanac_fields ≡ codes "data" ∷ codes "sv"
+    ∷ codes "e" ∷ codes "toa" ∷ codes "di" ∷ codes "omdot" ∷ codes "health" ∷ codes "sqrta"
+    ∷ codes "om0" ∷ codes "w" ∷ codes "m0" ∷ codes "af0" ∷ codes "af1" ∷ []
+names_of_almanac = refl

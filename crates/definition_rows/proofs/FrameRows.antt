@@ -10,6 +10,7 @@ use Rattle.definitions.specs.Parity.{checked_data, passes, holds, data_of}
 use Rattle.definitions.specs.Frames.{found_by, Found, starts_of, starts_from, is_candidate}
 use Rattle.definitions.specs.Frames.{candidate_from, checked_at, subframe_at, id_of, tow_of}
 use Rattle.definitions.specs.Pages.{page_of}
+use Rattle.definitions.specs.Frames.{tow_in, id_in, has_preamble}
 
 abbrev bits_of_word : ℕ → List Bool
 bits_of_word word = map (λ i. bit_at word (29 - i) == 1) (range_with_len 0 30)
@@ -117,3 +118,13 @@ found_false_header : words_found (false ∷ false ∷ header ++ replicate 90 fal
 unfolding found_by starts_of starts_from is_candidate checked_at checked_data passes holds data_of
     least_below subframe_at
 found_false_header = refl
+
+-- all 17 bits of the time of week are ones, and then subframe 1 (IS-GPS-200, 20.3.3.2)
+greatest_time_of_week : tow_in 0xffff84 ∷ id_in 0xffff84 ∷ [] ≡ 131071 ∷ 1 ∷ []
+greatest_time_of_week = refl
+
+-- data have the preamble 10001011 as it is, since the inversion of a word is taken off before; the
+-- other sixteen bits are free (20.3.3.1)
+preambles : map has_preamble (0x8b0000 ∷ 0x740000 ∷ 0x8a0000 ∷ 0x8bffff ∷ [])
+    ≡ true ∷ false ∷ false ∷ true ∷ []
+preambles = refl

@@ -29,6 +29,7 @@ use Rattle.definitions.specs.Receiver.{body, Client, entries_of, commands_to, bo
 use Rattle.definitions.specs.Receiver.{full_lines, at_each_time, lines_at, event_lines}
 use Rattle.definitions.specs.Receiver.{answer_lines, for_each_client, event_texts, answer_texts}
 use Rattle.definitions.specs.Receiver.{full}
+use Rattle.std.specs.Prelude.{true}
 
 -- lines of text, each ended
 abbrev text : List (List ℕ) → List ℕ
@@ -333,3 +334,24 @@ unfolding full full_lines body_lines end_lines at_each_time lines_at event_lines
     counts_over six_sums in_phase_sum quadrature_sum least_below code_step carrier_step total chip
     chip_after register_after
 two_slots = refl
+
+eight_scripts : are_clients (replicate 8 []) ≡ true
+eight_scripts = refl
+
+share_of_eight : are_shares (8 ∷ 1 ∷ []) ([] ∷ [] ∷ []) ≡ true
+share_of_eight = refl
+
+-- six sums that all differ, by a program apart: twelve samples, of which ten are before the end of
+-- the code
+distinct_sums : run (quick real2) (0x72 ∷ 0x1e ∷ 0xb4 ∷ []) (client 4 (codes "0 hold 0 3 0 2041"
+    ∷ codes "0 counts 0 1" ∷ []) ∷ [])
+    ≡ text (codes "1 0 ok" ∷ codes "1 0 ok" ∷ codes "1 10 count 0 9 -17 -7 -9 -1 -7"
+    ∷ codes "1 12 end" ∷ [])
+unfolding full full_lines body_lines end_lines at_each_time lines_at event_lines answer_lines
+    for_each_client event_texts answer_texts entries_of commands_to script entry_of entries_after
+    pieces_ended_by values_in as_bytes digits events_at_end life_now life_of life_events is_over
+    answer_at_end view_of event_text answer_text sample samples_from dumps_of_life last_of front_of
+    unprinted_count progress after_segments closed_if_ended next_end end_by is_through closed_at
+    counts_over six_sums in_phase_sum quadrature_sum least_below code_step carrier_step total chip
+    chip_after register_after
+distinct_sums = refl

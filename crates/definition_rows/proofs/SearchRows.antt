@@ -12,6 +12,15 @@ use Rattle.definitions.specs.Lock.{news_of}
 use Rattle.definitions.specs.Commands.{begin, acquire, state}
 use Rattle.definitions.specs.Answers.{answer_at_end, view_of, shown, acquiring}
 use Rattle.definitions.specs.Lives.{life_now, life_of, is_over, dumps_of_life}
+use Rattle.definitions.specs.Acquisition.{cell_phases}
+use Rattle.definitions.specs.Oscillators.{samples_per_ms}
+use Rattle.definitions.specs.Lives.{is_steered, tracked_channel}
+use Rattle.definitions.specs.Commands.{hold, track}
+use Rattle.definitions.specs.Loops.{loops_after}
+use Rattle.definitions.specs.Lock.{is_locked}
+use Rattle.definitions.specs.Events.{pushes_of, pushes_by}
+use Rattle.definitions.specs.BitEdge.{edge_of}
+use Rattle.definitions.specs.Answers.{channel_view, tracking}
 
 abbrev usual : Settings
 usual = record { rate = 2046000; offset = pos 0; packing = real1 }
@@ -78,3 +87,27 @@ found_at_ten = refl
 none_at_eleven : (equal_cells 11).found ≡ false
 unfolding named_cell
 none_at_eleven = refl
+
+-- 6000/1540 Hz of code at 4,092,000 samples a second: 2^30 + 4089.3
+cell_code : (cell_phases (record usual { rate = 4092000 })
+    (record smallest { centre = pos 6000 }) 0).code_step ≡ 1073745913
+unfolding code_step carrier_step
+cell_code = refl
+
+-- a millisecond has whole samples
+whole_milliseconds : samples_per_ms (record usual { rate = 2046999 }) ≡ 2046
+whole_milliseconds = refl
+
+-- what is tracked is steered, and so is a signal that a search found
+steered : map is_steered (hold 1 (pos 0) 0 ∷ track 1 (pos 0) 0 ∷ acquire smallest ∷ [])
+    ≡ false ∷ true ∷ true ∷ []
+steered = refl
+
+-- the shift that is shown is that after the last dump: a sixteenth of it is 4096 * 3 / 5, down
+shown_shift : channel_view (track 1 (pos 0) 0) (record {
+  time = 1;
+  counts = record { ie = pos 2; qe = pos 0; ip = pos 1; qp = pos 0; il = pos 1; ql = pos 0 };
+} ∷ []) (tracked_channel 0 1 (pos 0) 0)
+    ≡ tracking 1 1 (record { v = pos 0; w = pos 39312 }) false false
+unfolding loops_after is_locked pushes_of pushes_by edge_of least_below
+shown_shift = refl

@@ -1,7 +1,7 @@
 -- Worked examples of how segments follow each other, of the steps of their phases, and of the chips
 -- beside the prompt one.
 use Rattle.std.proofs.Common.{◌≡◌, [], ◌∷◌, refl}
-use Rattle.std.specs.Prelude.{◌+◌, ◌-◌, ◌*◌, ◌^◌, ℤ, pos, negsuc, neg_ℤ, map, true}
+use Rattle.std.specs.Prelude.{◌+◌, ◌-◌, ◌*◌, ◌^◌, pos, negsuc, neg_ℤ, map, true}
 use Rattle.definitions.specs.Correlation.{Phases}
 use Rattle.definitions.specs.Codes.{chip, chip_after, register_after}
 use Rattle.definitions.specs.Oscillators.{Settings, code_step, carrier_step, early_sign, late_sign}
@@ -70,3 +70,14 @@ early_changes = refl
 late_changes : map (late_sign 1) ((5 * 2 ^ 31 - 1) ∷ 5 * 2 ^ 31 ∷ []) ≡ negsuc 0 ∷ pos 1 ∷ []
 unfolding chip chip_after register_after
 late_changes = refl
+
+-- the shift v is rounded down in the code's step
+step_rounds_down : code_step usual (negsuc 0) (pos 0) ≡ 1073741823
+unfolding code_step
+step_rounds_down = refl
+
+-- the correction w is of the code alone
+carrier_without_w : (phases_of usual (record { v = pos 0; w = pos 65536 })
+    (record { start = 0; code = 0; carrier = 0 })).carrier_step ≡ 0
+unfolding code_step carrier_step
+carrier_without_w = refl

@@ -9,6 +9,8 @@ use Rattle.definitions.specs.Pages.{Page, clock, eph2, eph3, almanac}
 use Rattle.definitions.specs.DataSets.{reports_of, last_reported, new_set, AlmanacSet, single}
 use Rattle.definitions.specs.Events.{almanacs}
 use Rattle.definitions.specs.Texts.{event_text}
+use Rattle.definitions.specs.Pages.{utc}
+use Rattle.definitions.specs.Events.{report_events, reported}
 
 abbrev clock_of_issue : ℕ → Page
 clock_of_issue n = record {
@@ -127,3 +129,14 @@ last_is_told : (reports_of (almanac_with 3 5 0 ∷ almanac_with 4 6 1 ∷ [])).p
     ≡ Some (single (almanac_with 4 6 1))
 unfolding reports_of new_set last_reported
 last_is_told = refl
+
+-- a page is reported before a set of almanacs that it completes
+abbrev a_page : Page
+a_page = record { kind = utc; values = [] }
+
+abbrev a_set : AlmanacSet
+a_set = record { toa = pos 1; health = [] }
+
+page_before_set : report_events (record { page = Some (single a_page); set = Some a_set })
+    ≡ reported (single a_page) ∷ almanacs a_set ∷ []
+page_before_set = refl

@@ -11,6 +11,10 @@ use Rattle.definitions.specs.Pages.{page_of}
 use Rattle.std.specs.Prelude.{false}
 use Rattle.definitions.specs.Answers.{acquiring, holding, tracking, idle, shown}
 use Rattle.definitions.specs.Texts.{answer_text, word_text}
+use Rattle.std.specs.List.{range_with_len}
+use Rattle.definitions.specs.DataSets.{single}
+use Rattle.definitions.specs.Events.{count}
+use Rattle.definitions.specs.Pages.{almanac}
 
 abbrev words : List ℕ → Subframe
 words data_words = record { words = map (λ w. Some w) data_words }
@@ -92,3 +96,34 @@ states = refl
 -- words in lower case
 lower_case : word_text (Some 0xabcdef) ≡ codes "abcdef"
 lower_case = refl
+
+-- a search whose greatest power is below the threshold
+none_text : event_text 2 (acquired 7 (record {
+  bin = neg_ℤ (pos 3);
+  half_chip = 100;
+  power = 9;
+  found = false;
+})) ≡ codes "acq 2 7 none -3 100 9"
+unfolding event_text digits
+none_text = refl
+
+-- an almanac whose thirteen values tell its fields apart, with the exponents of table 20-VI
+alm_text : event_text 1 (reported (single (record {
+  kind = almanac;
+  values = map pos (range_with_len 1 13);
+}))) ≡ codes "alm 1 data=1:0 sv=2:0 e=3:-21 toa=4:12 di=5:-19 omdot=6:-38 health=7:0 sqrta=8:-11 "
+    ++ codes "om0=9:-23 w=10:-23 m0=11:-23 af0=12:-20 af1=13:-38"
+unfolding event_text digits page_text
+alm_text = refl
+
+-- early, prompt and late, in phase and in quadrature
+count_text : event_text 1 (count (record {
+  ie = pos 1;
+  qe = pos 2;
+  ip = pos 3;
+  qp = pos 4;
+  il = pos 5;
+  ql = pos 6;
+})) ≡ codes "count 1 1 2 3 4 5 6"
+unfolding event_text digits
+count_text = refl

@@ -3,3 +3,4 @@ pub mod RunLemmas
 pub mod NumberLemmas
 pub mod TextLemmas
 pub mod AskedLemmas
+pub mod OptionRows

@@ -14,7 +14,7 @@ use Rattle.std.specs.Float.{Float, binary32}
 use Rattle.std.proofs.lemmas.Bool.{and_parts, and_from, ltb-true, lt-ltb}
 use Rattle.std.proofs.lemmas.Slice.Eq.{bytes_eq-Decides}
 use Rattle.clap.specs.Matches.{ReadsOne}
-use Rattle.packer.specs.Options.{all_digits, is_number, number_below, finite_bits, float_in}
+use Rattle.packer.specs.Options.{all_digits, is_number, number_below, finite_bits, decimal_in}
 use Rattle.packer.specs.Options.{twice_in, halves_in, has_half, has_minus, kind_in, named_kind}
 use Rattle.packer.specs.Options.{is_pairs_name, bytes_in}
 use Rattle.packer.specs.declared.halves.TheConstants.{MOST_WHOLE}
@@ -170,14 +170,14 @@ number_read (Some text) r default none some = by_read r (some text refl)
 
 -- ---- floats
 
-pub float_found : (text : List ℕ) (x : Float) (o : Option ℕ)
-    → parse_float binary32 text ≡ Some x → finite_bits x ≡ o → o ≡ float_in text
-unfolding float_in
-float_found text x o p h = rw p (sym h)
+pub decimal_found : (text : List ℕ) (x : Float) (o : Option ℕ)
+    → parse_float binary32 text ≡ Some x → finite_bits x ≡ o → o ≡ decimal_in text
+unfolding decimal_in
+decimal_found text x o p h = rw p (sym h)
 
-pub no_float : (text : List ℕ) → parse_float binary32 text ≡ None → None ≡ float_in text
-unfolding float_in
-no_float text p = rw p refl
+pub no_decimal : (text : List ℕ) → parse_float binary32 text ≡ None → None ≡ decimal_in text
+unfolding decimal_in
+no_decimal text p = rw p refl
 
 -- ---- texts with halves
 

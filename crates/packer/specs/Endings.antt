@@ -1,5 +1,6 @@
 -- How the program ends, whatever the words of its command line are.
 use Rattle.std.specs.Prelude.{◌≡◌, ◌⊎◌, ℕ, List, take, drop, Some, Result, Err, true, false}
+use Rattle.std.specs.Prelude.{Bool, if◌then◌else◌, IfErr}
 use Rattle.clap.specs.declared.parser.matches.Found.{Found}
 use Rattle.clap.specs.declared.error.kind.ErrorKind.{ErrorKind}
 use Rattle.clap.specs.declared.error.kind.ErrorKind.TheVariants.{OutOfMemory, DisplayHelp}
@@ -10,14 +11,17 @@ use Rattle.packer.specs.Options.{IsAsked, IsStretch, CannotBeHad, HasNoStretch, 
 use Rattle.packer.specs.Runs.{Packs}
 use Rattle.packer.specs.Statuses.{status_of}
 use Rattle.packer.specs.declared.failure.Failure.{Failure}
-use Rattle.packer.specs.declared.failure.Failure.TheVariants.{NoMemory, Words}
+use Rattle.packer.specs.declared.failure.Failure.TheVariants.{NoMemory, Words, Input}
+use Rattle.packer.specs.declared.failure.Failure.TheVariants.{NotANumber, Infinite, Nothing}
+use Rattle.packer.specs.declared.failure.Failure.TheVariants.{Output}
 
--- the status where the option parser gives no options: it shows the help, has no memory, or refuses
-abbrev pub parser_status : ErrorKind → ℕ
-parser_status DisplayHelp = 0
-parser_status DisplayVersion = 0
-parser_status OutOfMemory = 1
-parser_status _ = 2
+-- the status where the option parser gives no options: it shows the help, which can be printed or
+-- can't, or it has no memory, or it refuses
+abbrev pub parser_status : Bool → ErrorKind → ℕ
+parser_status is_printed DisplayHelp = if is_printed then 0 else 1
+parser_status is_printed DisplayVersion = if is_printed then 0 else 1
+parser_status is_printed OutOfMemory = 1
+parser_status is_printed _ = 2
 
 -- ---- what is done with options
 
@@ -31,9 +35,21 @@ pub record IsRefused (found : Found) (old new : Devices) (answer : Result (Unit 
       × HasNoStretch found recipe)
   pub untouched : new ≡ old
 
--- the recording is measured, and nothing is written to the device
-pub record IsMeasured (found : Found) (old new : Devices) : Type 0 where
+-- what ends measuring early: memory, a device or the recording is at fault, and no option is
+abbrev pub EndsMeasuring : Failure → Type 0
+EndsMeasuring NoMemory = Unit {0}
+EndsMeasuring Input = Unit {0}
+EndsMeasuring NotANumber = Unit {0}
+EndsMeasuring Infinite = Unit {0}
+EndsMeasuring Nothing = Unit {0}
+EndsMeasuring Output = Unit {0}
+EndsMeasuring _ = ⊥
+
+-- the recording is measured, to its end or to a failure, and nothing is written to the device
+pub record IsMeasured (found : Found) (old new : Devices) (answer : Result (Unit {0}) Failure)
+    : Type 0 where
   pub asks : is_measured_in found ≡ true
+  pub fault : IfErr answer EndsMeasuring
   pub untouched : new.output ≡ old.output
   pub none_failed : new.write_failed ≡ old.write_failed
 
@@ -57,28 +73,28 @@ pub record IsPackedAsAsked (found : Found) (old new : Devices)
 
 abbrev pub CarriesOut : Found → Devices → Devices → Result (Unit {0}) Failure → Type 0
 CarriesOut found old new answer =
-    IsRefused found old new answer ⊎ (IsMeasured found old new
+    IsRefused found old new answer ⊎ (IsMeasured found old new answer
     ⊎ (HasNoMemory old new answer ⊎ IsPackedAsAsked found old new answer))
 
 -- ---- endings
 
 -- there are no words for want of memory or of UTF-8, or the option parser gives no options for its
--- reason, or what it found was carried out
+-- reason and what it says is printed or not, or what it found was carried out
 pub data Ending : Type 0 where
   without_words : Failure → Ending
-  without_options : ErrorKind → Ending
+  without_options : Bool → ErrorKind → Ending
   with_options : Found → Result (Unit {0}) Failure → Ending
 
 abbrev pub ending_status : Ending → ℕ
 ending_status (without_words failure) = status_of (Err failure)
-ending_status (without_options kind) = parser_status kind
+ending_status (without_options is_printed kind) = parser_status is_printed kind
 ending_status (with_options found answer) = status_of answer
 
 -- what an ending says of the devices: nothing is read or written before the options are known
 abbrev pub LeavesDevices : Devices → Devices → Ending → Type 0
 LeavesDevices old new (without_words failure) =
     ((failure ≡ NoMemory) ⊎ (failure ≡ Words)) × (new ≡ old)
-LeavesDevices old new (without_options kind) = new ≡ old
+LeavesDevices old new (without_options is_printed kind) = new ≡ old
 LeavesDevices old new (with_options found answer) = CarriesOut found old new answer
 
 -- the program ends with a status in one of these ways

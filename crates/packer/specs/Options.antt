@@ -1,8 +1,9 @@
 -- What the options of a command line ask for.
-use Rattle.std.specs.Prelude.{◌≡◌, ◌⊎◌, ℕ, ◌+◌, ◌-◌, ◌*◌, ◌/◌, ◌%◌, ◌^◌, ◌==◌, ◌&&◌, nat_lt, nat_le}
+use Rattle.std.specs.Prelude.{◌≡◌, ◌⊎◌, ℕ, ◌+◌, ◌-◌, ◌*◌, ◌/◌, ◌%◌, ◌^◌, ◌==◌, ◌&&◌, ◌||◌, not, nat_lt, nat_le}
 use Rattle.std.specs.Prelude.{ℤ, pos, neg_ℤ, int_lt, unsigned_abs, Bool, true, false, List, [], ◌∷◌}
 use Rattle.std.specs.Prelude.{if◌then◌else◌, length, take, drop, Option, Some, None, option_map}
 use Rattle.std.specs.Prelude.{option_and_then, unwrap_or, is_some, codes, is_nan, to_bits}
+use Rattle.std.specs.List.{list_all}
 use Rattle.std.specs.Str.{bytes_eq}
 use Rattle.std.specs.Str.Parse.{digits_value, without_leading_plus}
 use Rattle.std.specs.Char.{digit_value}
@@ -68,8 +69,20 @@ finite_bits x =
     else if to_bits binary32 x == 2 ^ 31 then Some 0
     else if nat_lt (to_bits binary32 x) 0x7f800000 then Some (to_bits binary32 x) else None
 
-unfoldable pub float_in : List ℕ → Option ℕ
-float_in text = option_and_then finite_bits (parse_float binary32 text)
+unfoldable pub decimal_in : List ℕ → Option ℕ
+decimal_in text = option_and_then finite_bits (parse_float binary32 text)
+
+-- any byte but the digits 1 to 9
+abbrev pub has_no_size : ℕ → Bool
+has_no_size c = not (nat_le 49 c && nat_le c 57)
+
+-- A minus stands before another digit than 0. The float nearest to such a number may be -0.
+abbrev pub is_below_zero : List ℕ → Bool
+is_below_zero text = has_minus text && not (list_all has_no_size text)
+
+-- the bits of the float of a threshold, which isn't below 0
+abbrev pub float_in : List ℕ → Option ℕ
+float_in text = if is_below_zero text then None else decimal_in text
 
 -- ---- the choice
 
@@ -111,12 +124,20 @@ named_format name =
     else if bytes_eq name (codes "iq1") then Some Iq1
     else if bytes_eq name (codes "iq2") then Some Iq2 else None
 
+-- an option is there that says how to pack
+abbrev pub says_how_to_pack : Found → Bool
+says_how_to_pack found =
+    is_some (first_value found (codes "to"))
+    || (is_some (first_value found (codes "threshold"))
+    || (is_some (first_value found (codes "centre"))
+    || (is_some (first_value found (codes "centre-q"))
+    || flag_in (one_text found (codes "conjugate")))))
+
 -- the packing to write, or signs alone of what is measured, which is not written
 abbrev pub format_in : Found → Bool → Option Format
 format_in found is_paired =
     if is_measured_in found then
-    (if is_some (first_value found (codes "to")) then None
-    else Some (if is_paired then Iq1 else Real1))
+    (if says_how_to_pack found then None else Some (if is_paired then Iq1 else Real1))
     else option_and_then named_format (first_value found (codes "to"))
 
 -- the middle of unsigned bytes is 127.5

@@ -29,9 +29,9 @@ pub enum Failure {
     /// No packing was given.
     #[error("--to: it is missing, and so is --measure")]
     NoFormat,
-    /// A packing was given, and measuring writes none.
-    #[error("--to: --measure packs nothing")]
-    NotPacked,
+    /// An option says how to pack, and measuring packs nothing.
+    #[error("--{0}: --measure packs nothing")]
+    NotPacked(&'static str),
     /// The packing has sizes, and no threshold was given.
     #[error("--to: two bits a part need --threshold; --measure suggests one")]
     NoThreshold,

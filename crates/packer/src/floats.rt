@@ -1,8 +1,9 @@
 //! What a recording of floats is like, as text.
 
-ghost use Rattle.std.specs.Prelude.{◌≡◌, ◌<◌, ◌≤◌, length};
+ghost use Rattle.std.specs.Prelude.{◌≡◌, ◌<◌, ◌≤◌, length, IfErr};
 ghost use Rattle.recordings.specs.Recordings.{parts_of};
 ghost use Rattle.recordings.specs.declared.recipe.TheConstants.{MOST_BYTES};
+ghost use Rattle.packer.specs.Endings.{EndsMeasuring};
 
 use crate::failure::Failure;
 use crate::measuring::tell_shares;
@@ -23,6 +24,7 @@ struct Floats {
 /// mean of all squares.
 pub fn measure_floats<P: Print>(rt: &P, recipe: &Recipe, bytes: &[u8]) -> Result<(), Failure>
     requires few { length bytes.now ≤ MOST_BYTES }
+    ensures fault { IfErr result EndsMeasuring }
 {
     let (i, q) = (about_zero(&recipe.in_phase), about_zero(&recipe.quadrature));
     let floats_i = Floats::measure(recipe, &i, bytes)?;
@@ -89,6 +91,7 @@ impl Floats {
     /// infinite.
     fn measure(recipe: &Recipe, part: &Part, bytes: &[u8]) -> Result<Floats, Failure>
         requires place { part.now.place < parts_of recipe.now }
+        ensures fault { IfErr result EndsMeasuring }
     {
         let (size, first) = (if recipe.is_paired { 8 } else { 4 }, 4 * part.place);
         let (mut sum, mut squares) = (0.0, 0.0);
@@ -108,7 +111,9 @@ impl Floats {
 }
 
 /// The float of four bytes, the low one first.
-fn value(bytes: [u8; 4]) -> Result<f64, Failure> {
+fn value(bytes: [u8; 4]) -> Result<f64, Failure>
+    ensures { IfErr result EndsMeasuring }
+{
     const INFINITY: u32 = 0x7f80_0000;
     let bits = u32::from_le_bytes(bytes);
     let size = bits % (1 << 31);

@@ -1,14 +1,14 @@
 //! Kinds of recordings and packings, by the names that options have for them.
 
-ghost use Rattle.std.specs.Prelude.{◌≡◌, Err, IfErr, true, codes, option_and_then};
+ghost use Rattle.std.specs.Prelude.{◌≡◌, Err, IfErr, true, codes, option_and_then, is_some};
 ghost use Rattle.std.specs.Result.{result_ok};
 ghost use Rattle.clap.specs.Matches.{found_of, first_value};
 ghost use Rattle.packer.specs.Statuses.{status_of};
 ghost use Rattle.packer.specs.Options.{from_in, is_pairs_name, kind_in, named_kind, is_measured_in};
-ghost use Rattle.packer.specs.Options.{named_format, format_in};
+ghost use Rattle.packer.specs.Options.{named_format, format_in, says_how_to_pack};
 
 use crate::failure::Failure;
-use crate::options::is_measured;
+use crate::options::{is_measured, is_set};
 use clap::ArgMatches;
 use recordings::Kind;
 use sample_planes::Format;
@@ -92,10 +92,29 @@ fn measured_format(matches: &ArgMatches, is_paired: bool) -> Result<Format, Fail
     ensures value { result_ok result ≡ format_in (found_of matches.now) is_paired }
     ensures status { IfErr result (λ failure. status_of (Err failure) ≡ 2) }
 {
-    match matches.get_str("to") {
-        Some(_) => Err(Failure::NotPacked),
+    match packing_option(matches) {
+        Some(name) => Err(Failure::NotPacked(name)),
         None if is_paired => Ok(Format::Iq1),
         None => Ok(Format::Real1),
+    }
+}
+
+/// The name of an option that says how to pack, where there is one.
+fn packing_option(matches: &ArgMatches) -> Option<&'static str>
+    ensures { is_some result ≡ says_how_to_pack (found_of matches.now) }
+{
+    if matches.get_str("to").is_some() {
+        Some("to")
+    } else if matches.get_str("threshold").is_some() {
+        Some("threshold")
+    } else if matches.get_str("centre").is_some() {
+        Some("centre")
+    } else if matches.get_str("centre-q").is_some() {
+        Some("centre-q")
+    } else if is_set(matches, "conjugate") {
+        Some("conjugate")
+    } else {
+        None
     }
 }
 

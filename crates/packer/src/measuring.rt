@@ -1,8 +1,9 @@
 //! What a recording is like, as text.
 
-ghost use Rattle.std.specs.Prelude.{◌≡◌, ◌<◌, ◌≤◌, length, IfOk};
+ghost use Rattle.std.specs.Prelude.{◌≡◌, ◌<◌, ◌≤◌, length, IfOk, IfErr};
 ghost use Rattle.recordings.specs.Recordings.{parts_of};
 ghost use Rattle.recordings.specs.declared.recipe.TheConstants.{MOST_BYTES};
+ghost use Rattle.packer.specs.Endings.{EndsMeasuring};
 
 use crate::decimals::{Halves, Hundredths};
 use crate::devices::Device;
@@ -21,7 +22,9 @@ pub fn measure<T: AllocGlobal + Print, R: Read>(
     recipe: &Recipe,
     window: &mut Window,
     reader: &mut Device<R>,
-) -> Result<(), Failure> {
+) -> Result<(), Failure>
+    ensures fault { IfErr result EndsMeasuring }
+{
     let bytes = gather(rt.alloc(), window, reader)?;
     if recipe.kind == Kind::F32 {
         return measure_floats(rt, recipe, &bytes);
@@ -147,7 +150,8 @@ fn gather<R: Read>(
     window: &mut Window,
     reader: &mut Device<R>,
 ) -> Result<Vec<u8>, Failure>
-    ensures { IfOk result (λ bytes. length bytes.items ≤ MOST_BYTES) }
+    ensures few { IfOk result (λ bytes. length bytes.items ≤ MOST_BYTES) }
+    ensures fault { IfErr result EndsMeasuring }
 {
     let mut buffer = zeros(alloc, MOST_PIECE)?;
     let mut bytes = Vec::new(alloc);

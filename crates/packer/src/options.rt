@@ -1,6 +1,7 @@
 //! What the options of a command line ask for.
 
 ghost use Rattle.std.specs.Prelude.{◌≡◌, ℕ, ℤ, [], Err, IfOk, IfErr, codes};
+ghost use Rattle.std.specs.List.{list_all};
 ghost use Rattle.std.specs.Result.{result_ok};
 ghost use Rattle.clap.specs.Matches.{found_of, first_value, one_text};
 ghost use Rattle.recordings.specs.Windows.{Shows};
@@ -9,7 +10,7 @@ ghost use Rattle.packer.specs.Statuses.{status_of};
 ghost use Rattle.packer.specs.Options.{Asks, HasCentres, IsAsked, CannotBeHad, IsStretch};
 ghost use Rattle.packer.specs.Options.{HasNoStretch, usual_centre, is_second, finite_bits};
 ghost use Rattle.packer.specs.Options.{is_measured_in, threshold_in, float_in, halves_or, flag_in};
-ghost use Rattle.packer.specs.Options.{bytes_in};
+ghost use Rattle.packer.specs.Options.{bytes_in, decimal_in, is_below_zero, has_no_size};
 
 pub use crate::command::matches;
 use crate::failure::Failure;
@@ -108,6 +109,40 @@ fn float(text: &str) -> Result<u32, Failure>
     ensures value { result_ok result ≡ float_in text.now }
     ensures status { IfErr result (λ failure. status_of (Err failure) ≡ 2) }
 {
+    if is_below_zero(text) {
+        Err(Failure::Float)
+    } else {
+        decimal(text)
+    }
+}
+
+/// Whether a decimal is below 0. Where it is very near to 0 its float is -0, which doesn't show it.
+fn is_below_zero(text: &str) -> bool
+    ensures { result ≡ is_below_zero text.now }
+{
+    match text.strip_prefix("-") {
+        Some(_) => !has_no_size(text.as_bytes()),
+        None => false,
+    }
+}
+
+/// Whether none of the digits 1 to 9 is in a text.
+fn has_no_size(text: &[u8]) -> bool
+    ensures { result ≡ list_all has_no_size text.now }
+{
+    for byte in text {
+        if (b'1'..=b'9').contains(byte) {
+            return false;
+        }
+    }
+    true
+}
+
+/// The bits of the float of a text, which is finite and has no sign, but for -0.
+fn decimal(text: &str) -> Result<u32, Failure>
+    ensures value { result_ok result ≡ decimal_in text.now }
+    ensures status { IfErr result (λ failure. status_of (Err failure) ≡ 2) }
+{
     match text.parse::<f32>() {
         Ok(number) => match finite_bits(number) {
             Some(bits) => Ok(bits),
@@ -153,7 +188,7 @@ pub fn is_measured(matches: &ArgMatches) -> bool
 }
 
 /// Whether an option without a value is there.
-fn is_set(matches: &ArgMatches, name: &str) -> bool
+pub fn is_set(matches: &ArgMatches, name: &str) -> bool
     ensures { result ≡ flag_in (one_text (found_of matches.now) name.now) }
 {
     matches.get_one(name).unwrap_or(false)

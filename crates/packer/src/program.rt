@@ -1,6 +1,6 @@
 //! The program, from its words to its status.
 
-ghost use Rattle.std.specs.Prelude.{◌≡◌, ◌⊎◌, IfErr};
+ghost use Rattle.std.specs.Prelude.{◌≡◌, ◌⊎◌, Bool, IfErr};
 ghost use Rattle.std.specs.Process.{exit_status};
 ghost use Rattle.clap.specs.Matches.{found_of};
 ghost use Rattle.clap.specs.Values.{kind_of};
@@ -98,19 +98,32 @@ fn tell_rest<E: Eprint>(rt: &E, packer: &Packer) {
     }
 }
 
-/// Prints what the option parser says where it gives no options, and gives the status: 0 where help
-/// was asked for, 1 where it had no memory, and 2 where it refuses.
+/// Prints what the option parser says where it gives no options, and gives the status.
 fn refuse<P: Print + Eprint>(rt: &P, error: &Error) -> ExitCode
-    ensures status { exit_status result ≡ parser_status (kind_of error.now) }
+    ensures status { (is_printed : Bool)
+        × (exit_status result ≡ parser_status is_printed (kind_of error.now)) }
 {
-    match error.kind() {
-        ErrorKind::OutOfMemory => tell(rt, Err(Failure::NoMemory)),
-        kind => {
-            // Where printing fails too, only the status shows it.
-            let _ = error.print(rt);
-            let is_shown = matches!(kind, ErrorKind::DisplayHelp | ErrorKind::DisplayVersion);
-            ExitCode::from(if is_shown { 0 } else { 2 })
+    let kind = error.kind();
+    let is_printed = kind != ErrorKind::OutOfMemory && error.print(rt).is_ok();
+    match kind {
+        ErrorKind::OutOfMemory => report(rt, Failure::NoMemory),
+        ErrorKind::DisplayHelp | ErrorKind::DisplayVersion if !is_printed => {
+            report(rt, Failure::Output);
         }
+        _ => {}
+    }
+    ExitCode::from(parser_status(kind, is_printed))
+}
+
+/// The status where the option parser gives no options: 0 where help was asked for, 1 where it had
+/// no memory or the help couldn't be printed, and 2 where it refuses.
+fn parser_status(kind: ErrorKind, is_printed: bool) -> u8
+    ensures { result ≡ parser_status is_printed kind }
+{
+    match kind {
+        ErrorKind::DisplayHelp | ErrorKind::DisplayVersion if is_printed => 0,
+        ErrorKind::DisplayHelp | ErrorKind::DisplayVersion | ErrorKind::OutOfMemory => 1,
+        _ => 2,
     }
 }
 
@@ -119,8 +132,12 @@ fn tell<E: Eprint>(rt: &E, ended: Result<(), Failure>) -> ExitCode
     ensures status { exit_status result ≡ status_of ended }
 {
     if let Err(failure) = ended {
-        // Where standard error fails too, only the status shows it.
-        let _ = eprintln!(rt; "pack: {failure}");
+        report(rt, failure);
     }
     ExitCode::from(status(ended))
+}
+
+/// Reports a failure on standard error. Where that fails too, only the status shows it.
+fn report<E: Eprint>(rt: &E, failure: Failure) {
+    let _ = eprintln!(rt; "pack: {failure}");
 }

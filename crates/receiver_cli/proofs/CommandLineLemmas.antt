@@ -1,5 +1,5 @@
 -- The program ends before its options are known.
-use Rattle.std.proofs.Common.{ℕ, ◌≡◌, ◌⊎◌, refl, List, []}
+use Rattle.std.proofs.Common.{ℕ, ◌≡◌, ◌⊎◌, refl, ap, List, []}
 use Rattle.std.specs.Prelude.{Option, Some, None, IfSome, unwrap_or}
 use Rattle.clap.specs.Walk.{Text}
 use Rattle.clap.specs.Faults.{fault_of}
@@ -10,7 +10,10 @@ use Rattle.clap.specs.declared.error.kind.ErrorKind.TheVariants.{OutOfMemory}
 use Rattle.receiver.specs.Runs.{Devices}
 use Rattle.receiver_options.proofs.CommandLineLemmas.{some-names, names-formats}
 use Rattle.receiver_options.specs.CommandLines.{receiver, NamesFormats}
-use Rattle.receiver_cli.specs.Endings.{HasEnded, without_words, without_options, parser_status}
+use Rattle.receiver_cli.specs.Endings.{HasEnded, ShowsFor, without_words, without_options}
+use Rattle.receiver_cli.specs.Endings.{parser_status, status_in}
+use Rattle.receiver_cli.specs.declared.outcome.Outcome.{Outcome}
+use Rattle.receiver_cli.specs.declared.outcome.Outcome.TheVariants.{Status}
 
 -- the words that are given, where they are known
 given-words : (given : Option (List Text)) → IfSome given (λ all. unwrap_or given [] ≡ all)
@@ -19,29 +22,34 @@ given-words (Some all) = refl
 
 -- the program ends before the options are known, for want of memory
 pub without-memory : (given : Option (List Text)) (bytes_of : List ℕ → Option (List ℕ))
-    (devices : Devices) (status : ℕ) → status ≡ 1 → HasEnded given bytes_of devices devices status
-without-memory given bytes_of devices status is = record {
+    (devices : Devices) (outcome : Outcome) → outcome ≡ Status 1
+    → HasEnded given bytes_of devices devices outcome
+without-memory given bytes_of devices outcome is = record {
   words = unwrap_or given [];
   are_given = given-words given;
   names = some-names;
   formats = names-formats;
   ending = without_words;
   comes = refl;
-  by_ending = is;
+  by_ending = ap status_in is;
+  shows = rw is tt;
 }
 
 -- the option parser gives no options, and no device was touched
 pub with-options-refused : (given : Option (List Text)) (bytes_of : List ℕ → Option (List ℕ))
-    (devices : Devices) (words : List Text) (names : ValueParser) (kind : ErrorKind) (status : ℕ)
+    (devices : Devices) (words : List Text) (names : ValueParser) (kind : ErrorKind)
+    (outcome : Outcome) → status_in outcome ≡ parser_status kind → ShowsFor kind outcome
     → IfSome given (λ all. words ≡ all) → NamesFormats names
     → (kind ≡ OutOfMemory) ⊎ IsAmong kind (fault_of (receiver names) words)
-    → status ≡ parser_status kind → HasEnded given bytes_of devices devices status
-with-options-refused given bytes_of devices words names kind status are formats fault is = record {
-  words = words;
-  are_given = are;
-  names = names;
-  formats = formats;
-  ending = without_options kind;
-  comes = (fault, refl);
-  by_ending = is;
-}
+    → HasEnded given bytes_of devices devices outcome
+with-options-refused given bytes_of devices words names kind outcome is shows are formats fault =
+    record {
+      words = words;
+      are_given = are;
+      names = names;
+      formats = formats;
+      ending = without_options kind;
+      comes = (fault, refl);
+      by_ending = is;
+      shows = shows;
+    }

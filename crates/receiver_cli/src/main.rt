@@ -1,8 +1,9 @@
 //! The program `receiver`: scripts of timed commands in, lines of what the channels report out.
 //! `carry_out` takes the words of the command line, has the option parser read them, reads the
 //! script files that they name, and runs them, in their order, over a reader and a writer. It
-//! reports on standard error what went wrong, and gives the status. `main` hands it the standard
-//! devices. The crate `receiver` has the run.
+//! reports on standard error what went wrong, and gives the status, or the help to be shown. It has
+//! no right to print on standard output but by its writer. `main` hands it the standard devices,
+//! and shows the help. The crate `receiver` has the run.
 //!
 //! `carry_out` is proved to end in one of three ways: without memory for the words, without
 //! options, or with what the run for the options answered. In the first two nothing is read or
@@ -13,17 +14,35 @@
 #![tactic(auto)]
 
 mod failure;
+mod outcome;
 mod program;
 mod receiving;
 
+use crate::outcome::Outcome;
 use crate::program::carry_out;
-use receiver::Plain;
+use clap::Error;
+use receiver::{Plain, RunFault};
 use receiver_options::{Stored, SystemCommandLine};
-use std::io;
+use std::io::{self, Eprint, Print};
 use std::process::ExitCode;
 
 fn main(rt: HostRuntime) -> ExitCode {
     let (mut reader, mut writer) = (Plain::new(rt.reader()), Plain::new(io::writer(&rt)));
     let (line, files) = (SystemCommandLine::new(&rt), Stored::new(&rt));
-    carry_out(&rt, &line, &files, &mut reader, &mut writer)
+    match carry_out(&rt, &line, &files, &mut reader, &mut writer) {
+        Outcome::Status(status) => ExitCode::from(status),
+        Outcome::Help(help) => show(&rt, &help),
+    }
+}
+
+/// Shows the help or the version, and gives the status: 0, or 1 where it can't be printed.
+fn show<P: Print + Eprint>(rt: &P, help: &Error) -> ExitCode {
+    match help.print(rt) {
+        Ok(()) => ExitCode::from(0),
+        Err(_) => {
+            // Where standard error fails too, only the status shows it.
+            let _ = eprintln!(rt; "receiver: {}", RunFault::Write);
+            ExitCode::from(1)
+        }
+    }
 }

@@ -1,42 +1,41 @@
 //! The program, from its words to its status.
 
 ghost use Rattle.std.specs.Prelude.{◌≡◌};
-ghost use Rattle.std.specs.Process.{exit_status};
 ghost use Rattle.clap.specs.Values.{kind_of};
 ghost use Rattle.receiver.specs.Runs.{devices_at};
 ghost use Rattle.receiver_cli.specs.Programs.{status_of};
-ghost use Rattle.receiver_cli.specs.Endings.{HasEnded, parser_status};
+ghost use Rattle.receiver_cli.specs.Endings.{HasEnded, ShowsFor, parser_status, status_in};
 
 use crate::failure::{Failure, status};
+use crate::outcome::Outcome;
 use crate::receiving::receive;
 use clap::Error;
 use clap::error::ErrorKind;
 use receiver::{Sink, Source};
 use receiver_options::{CommandLine, ScriptFiles};
 use std::alloc::{AllocError, Global};
-use std::io::{Eprint, Print};
-use std::process::ExitCode;
+use std::io::Eprint;
 
 /// Does what the words of the command line ask for, with these script files, reader and writer:
-/// shows the help, or refuses an option, or runs the scripts. It reports on standard error what
-/// went wrong, and gives the status: 0, or 1 where the run or memory is at fault, or 2 where what
-/// was asked for is.
+/// refuses an option, or runs the scripts, or leaves the help to be shown. It reports on standard
+/// error what went wrong, and gives the status: 0, or 1 where the run or memory is at fault, or 2
+/// where what was asked for is. On standard output it prints by the writer alone.
 pub fn carry_out<T, C, S, R, W>(
     rt: &T,
     line: &C,
     files: &S,
     reader: &mut R,
     writer: &mut W,
-) -> ExitCode
+) -> Outcome
 where
-    T: AllocGlobal + Print + Eprint,
+    T: AllocGlobal + Eprint,
     C: CommandLine,
     S: ScriptFiles,
     R: Source,
     W: Sink,
-    ensures status { HasEnded (C.given line.now) (S.bytes_of files.now)
+    ensures ended { HasEnded (C.given line.now) (S.bytes_of files.now)
         (devices_at R.Source W.Sink reader.old writer.old)
-        (devices_at R.Source W.Sink reader.new writer.new) (exit_status result) }
+        (devices_at R.Source W.Sink reader.new writer.new) result }
 {
     match room_for_stack(rt.alloc()) {
         Ok(()) => carry_out_in_room(rt, line, files, reader, writer),
@@ -65,16 +64,16 @@ fn carry_out_in_room<T, C, S, R, W>(
     files: &S,
     reader: &mut R,
     writer: &mut W,
-) -> ExitCode
+) -> Outcome
 where
-    T: AllocGlobal + Print + Eprint,
+    T: AllocGlobal + Eprint,
     C: CommandLine,
     S: ScriptFiles,
     R: Source,
     W: Sink,
-    ensures status { HasEnded (C.given line.now) (S.bytes_of files.now)
+    ensures ended { HasEnded (C.given line.now) (S.bytes_of files.now)
         (devices_at R.Source W.Sink reader.old writer.old)
-        (devices_at R.Source W.Sink reader.new writer.new) (exit_status result) }
+        (devices_at R.Source W.Sink reader.new writer.new) result }
 {
     let words = match line.words(rt.alloc()) {
         Ok(words) => words,
@@ -82,33 +81,57 @@ where
     };
     match receiver_options::matches(rt.alloc(), &words) {
         Ok(matches) => tell(rt, receive(rt.alloc(), files, &matches, reader, writer)),
-        Err(error) => refuse(rt, &error),
+        Err(error) => refuse(rt, &words, error),
     }
 }
 
-/// Prints what the option parser says where it gives no options, and gives the status: 0 where help
-/// was asked for, 1 where it had no memory, and 2 where it refuses.
-fn refuse<P: Print + Eprint>(rt: &P, error: &Error) -> ExitCode
-    ensures status { exit_status result ≡ parser_status (kind_of error.now) }
+/// What comes of it where the option parser gives no options: the help is to be shown, or there is
+/// the status 1 where it had no memory, or 2 where it refuses. It reports the latter two.
+fn refuse<E: Eprint>(rt: &E, words: &[String], error: Error) -> Outcome
+    ensures status { status_in result ≡ parser_status (kind_of error) }
+    ensures help { ShowsFor (kind_of error) result }
 {
     match error.kind() {
+        ErrorKind::DisplayHelp | ErrorKind::DisplayVersion => Outcome::Help(error),
         ErrorKind::OutOfMemory => tell(rt, Err(Failure::NoMemory)),
-        kind => {
-            // Where printing fails too, only the status shows it.
-            let _ = error.print(rt);
-            let is_shown = matches!(kind, ErrorKind::DisplayHelp | ErrorKind::DisplayVersion);
-            ExitCode::from(if is_shown { 0 } else { 2 })
+        _ => {
+            // Where standard error fails too, only the status shows it.
+            let _ = eprint!(rt; "{error}");
+            hint(rt, words);
+            Outcome::Status(2)
         }
     }
 }
 
+/// Reports how to give an offset below zero, where the words of a refused command line have one.
+/// The parser takes it for another option.
+fn hint<E: Eprint>(rt: &E, words: &[String]) {
+    let mut is_offset = false;
+    for word in words {
+        let word = word.as_str();
+        let value = if is_offset {
+            Some(word)
+        } else {
+            word.strip_prefix("--offset=")
+        };
+        if let Some([b'-', b'0'..=b'9', ..]) = value.map(str::as_bytes) {
+            // Where standard error fails too, only the status shows it.
+            let _ = eprintln!(rt;
+                "receiver: --offset takes no sign: --offset 5000 --minus is -5000 Hz"
+            );
+            return;
+        }
+        is_offset = word == "--offset";
+    }
+}
+
 /// Reports what went wrong, where something did, and gives the status.
-fn tell<E: Eprint>(rt: &E, ended: Result<u64, Failure>) -> ExitCode
-    ensures status { exit_status result ≡ status_of ended }
+fn tell<E: Eprint>(rt: &E, ended: Result<u64, Failure>) -> Outcome
+    ensures status { result ≡ Outcome.Status (status_of ended) }
 {
     if let Err(failure) = ended {
         // Where standard error fails too, only the status shows it.
         let _ = eprintln!(rt; "receiver: {failure}");
     }
-    ExitCode::from(status(ended))
+    Outcome::Status(status(ended))
 }

@@ -1,3 +1,4 @@
 pub mod OptionLemmas
 pub mod CommandLineLemmas
 pub mod FileLemmas
+pub mod AskedRows

@@ -8,8 +8,10 @@ use std::alloc::{AllocError, Global};
 use std::env::{Env, FillError};
 use std::str::from_utf8;
 
-/// The most bytes of a word: Linux takes none of 128 KiB.
-const MOST_WORD_BYTES: usize = 128 << 10;
+/// Room for a word, of which Linux takes less than 128 KiB. It is on the stack, and more than all
+/// that comes later takes of it. So the stack has grown for good when the words are read, and no
+/// later call is ended by a limit on the address space.
+const WORD_ROOM: usize = 344 << 10;
 
 /// What gives the words of a command line.
 pub trait CommandLine {
@@ -38,10 +40,9 @@ impl<'a, E> SystemCommandLine<'a, E> {
 impl<E: Env> CommandLine for SystemCommandLine<'_, E> {
     ghost given = { λ _. None };
 
-    // The room for a word is on the stack, more of it than the run takes.
     #[inline(never)]
     fn words(&self, alloc: Global) -> Result<Vec<String>, AllocError> {
-        let mut buffer = [0; MOST_WORD_BYTES];
+        let mut buffer = [0; WORD_ROOM];
         let mut words = Vec::new(alloc);
         for i in 0..usize::MAX {
             match self.env.arg(i, &mut buffer) {

@@ -2,6 +2,7 @@
 
 use kit_std::alloc::AllocError;
 use kit_std::io::{Eprint, Print, Result};
+use std::fmt;
 
 /// What kind of thing kept the parser from giving options.
 #[derive(Clone, Copy, Debug, PartialEq, Eq)]
@@ -43,8 +44,8 @@ impl Error {
     /// Prints the help on standard output, and anything else on standard error.
     pub fn print<P: Print + Eprint>(&self, rt: &P) -> Result<()> {
         match self.kind {
-            ErrorKind::DisplayHelp | ErrorKind::DisplayVersion => rt.print(&self.text),
-            _ => rt.eprint(&self.text),
+            ErrorKind::DisplayHelp | ErrorKind::DisplayVersion => rt.print(self),
+            _ => rt.eprint(self),
         }
     }
 
@@ -54,6 +55,12 @@ impl Error {
             ErrorKind::DisplayHelp | ErrorKind::DisplayVersion => 0,
             _ => 2,
         }
+    }
+}
+
+impl fmt::Display for Error {
+    fn fmt(&self, f: &mut fmt::Formatter<'_>) -> fmt::Result {
+        f.write_str(&self.text)
     }
 }
 

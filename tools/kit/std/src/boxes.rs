@@ -8,6 +8,8 @@ use ::std::ops::{Deref, DerefMut};
 pub struct Box<T>(::std::vec::Vec<T>);
 
 impl<T> Box<T> {
+    // A large value is on the stack as few times as can be.
+    #[inline(always)]
     pub fn new(_: Global, value: T) -> Result<Box<T>, AllocFailed<T>> {
         let mut held = ::std::vec::Vec::new();
         if held.try_reserve_exact(1).is_err() {

@@ -28,7 +28,7 @@ pub mod prelude {
         pub use crate::string::{String, ToString};
         pub use crate::vec::Vec;
         pub use crate::{AnyDrop as Drop, HostRuntime};
-        pub use crate::{assert, assert_eq, eprintln, format, panic, println, vec};
+        pub use crate::{assert, assert_eq, eprint, eprintln, format, panic, println, vec};
         pub use ::std::prelude::rust_2024::*;
     }
 }

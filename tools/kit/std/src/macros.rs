@@ -25,6 +25,12 @@ macro_rules! println {
 }
 
 #[macro_export]
+macro_rules! eprint {
+    ($rt:expr; $($rest:tt)*) => { $rt.eprint(::core::format_args!($($rest)*)) };
+    ($($rest:tt)*) => { $crate::real::eprint!($($rest)*) };
+}
+
+#[macro_export]
 macro_rules! eprintln {
     ($rt:expr; $($rest:tt)*) => { $rt.eprintln(::core::format_args!($($rest)*)) };
     ($($rest:tt)*) => { $crate::real::eprintln!($($rest)*) };

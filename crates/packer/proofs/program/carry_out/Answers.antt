@@ -25,8 +25,8 @@ returns-in-Ok-matches g c = record {
 pub returns : goal.returns
 returns g c = record {
   status = record {
-    ending = without_options (kind_of c.in-Err-matches.error);
+    ending = without_options c.refuse.ensures.status.0 (kind_of c.in-Err-matches.error);
     devices = refl;
-    by_ending = c.refuse.ensures.status;
+    by_ending = c.refuse.ensures.status.1;
   };
 }

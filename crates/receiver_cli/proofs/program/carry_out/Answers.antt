@@ -3,7 +3,7 @@ use Rattle.receiver_cli.proofs.program.carry_out.Goals as goal
 
 pub returns-in-Err : goal.returns-in-Err
 returns-in-Err g c = record {
-  status =
+  ended =
       without-memory (g.C.CommandLine.given c.args.line.now) _ _ _
       c.tell.ensures.status;
 }

@@ -1,0 +1,73 @@
+//! Assertions of tests: what was found is what was expected.
+//!
+//! The prover follows a comparison and how both values would be printed anew in each function with
+//! an `assert_eq!`. Here the comparison is a call, which is proved once for values of any type, and
+//! what it found is printed as its error. An assertion that fails names its own line.
+#![tactic(auto)]
+
+use std::fmt::Debug;
+
+/// Two values that differ.
+#[derive(Debug)]
+pub struct Difference<'a, T> {
+    pub found: &'a T,
+    pub expected: &'a T,
+}
+
+/// Two values that differ, and the one of several places at which they do.
+#[derive(Debug)]
+pub struct DifferenceAt<'a, P, T> {
+    pub place: &'a P,
+    pub found: &'a T,
+    pub expected: &'a T,
+}
+
+/// Compares two values.
+///
+/// # Errors
+///
+/// Both values, where they differ.
+pub fn same<'a, T: PartialEq>(found: &'a T, expected: &'a T) -> Result<(), Difference<'a, T>> {
+    if *found == *expected {
+        Ok(())
+    } else {
+        Err(Difference { found, expected })
+    }
+}
+
+/// Compares two values at one of several places.
+///
+/// # Errors
+///
+/// The place and both values, where these differ.
+pub fn same_at<'a, P, T: PartialEq>(
+    place: &'a P,
+    found: &'a T,
+    expected: &'a T,
+) -> Result<(), DifferenceAt<'a, P, T>> {
+    if *found == *expected {
+        Ok(())
+    } else {
+        Err(DifferenceAt {
+            place,
+            found,
+            expected,
+        })
+    }
+}
+
+/// Asserts that two values are the same: `assert_same!(rt; found, expected)`.
+#[macro_export]
+macro_rules! assert_same {
+    ($rt:expr; $found:expr, $expected:expr) => {
+        $crate::same(&$found, &$expected).expect(&$rt, "not the same")
+    };
+}
+
+/// Asserts that two values are the same at a place: `assert_same_at!(rt; place, found, expected)`.
+#[macro_export]
+macro_rules! assert_same_at {
+    ($rt:expr; $place:expr, $found:expr, $expected:expr) => {
+        $crate::same_at(&$place, &$found, &$expected).expect(&$rt, "not the same")
+    };
+}

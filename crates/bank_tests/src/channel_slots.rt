@@ -1,0 +1,263 @@
+//! Slots by hand: what they answer, and sums of samples of which each product is plain. `banks` has
+//! those of all clients together, and `searches` what a bank searches for.
+
+ghost use Rattle.std.specs.Prelude.{◌≡◌, ◌+◌, ◌<◌, ◌≤◌, ℕ, IfOk};
+ghost use Rattle.definitions.specs.Samples.{real1};
+ghost use Rattle.channel_slots.specs.Slots.{IsSound};
+ghost use Rattle.slot_protocol.specs.Commands.{slot_of};
+
+use crate::commands;
+use assertions::assert_same;
+use ca_codes::{CodeBook, Prn};
+use channel_slots::*;
+use channels::Dump;
+use lane_correlator::Counts;
+use oscillators::Settings;
+use sample_planes::{Format, NumberedSamples, PackedSamples, unpack};
+use std::process::Abort;
+use std::test::Fail;
+
+mod banks;
+mod searches;
+
+/// A recording of one-bit samples at two samples a chip, with the carrier at 0 Hz.
+fn plain_settings() -> Result<Settings, Fail>
+    ensures packing { IfOk result (λ settings. settings.packing ≡ real1) }
+{
+    Ok(Settings::new(2_046_000, 0, Format::Real1)?)
+}
+
+fn slot_zero() -> Result<SlotNo, Fail>
+    ensures { IfOk result (λ slot. slot ≡ 0) }
+{
+    Ok(SlotNo::new(0).ok_or("a slot")?)
+}
+
+/// A track in the first slot, which begins half a chip before the end of the code.
+fn track(prn: u8, doppler: i32) -> Result<Command, Fail>
+    ensures { IfOk result (λ command. slot_of command ≡ 0) }
+{
+    Ok(commands::track(0, prn, doppler, 2_045).ok_or("a track")?)
+}
+
+/// A hold in the first slot, which begins half a chip before the end of the code.
+fn hold(prn: u8, doppler: i32) -> Result<Command, Fail>
+    ensures { IfOk result (λ command. slot_of command ≡ 0) }
+{
+    Ok(commands::hold(0, prn, doppler, 2_045).ok_or("a hold")?)
+}
+
+/// A search for a satellite at 0 Hz, over one period of its code.
+fn acquire(prn: u8, threshold: u32) -> Result<Command, Fail>
+    ensures { IfOk result (λ command. slot_of command ≡ 0) }
+{
+    Ok(commands::acquire(0, prn, 0, 0, 1, threshold).ok_or("a search")?)
+}
+
+/// What a slot that follows nothing answers to what needs one that does.
+const IDLE: Answer = Answer::Refused(Refusal::Idle);
+
+/// What a slot that follows something answers to what would begin.
+const BUSY: Answer = Answer::Refused(Refusal::Busy);
+
+/// Sees that a slot answers so to commands at time 0.
+fn answers(rt: &impl Abort, slot: &mut Slot, settings: &Settings, rows: &[(Command, Answer)]) {
+    for &(command, answer) in rows {
+        assert_same!(rt; slot.command(settings, 0, command), answer);
+    }
+}
+
+/// Sees that a slot follows nothing, and what it refuses then.
+fn is_idle(rt: &impl Abort, held: &mut Slot, settings: &Settings) -> Result<(), Fail> {
+    let slot = slot_zero()?;
+    let counts = Command::Counts { slot, n: 3 };
+    let stop = Command::Stop { slot };
+    let state = Command::State { slot };
+    let rows = [
+        (counts, IDLE),
+        (stop, IDLE),
+        (state, Answer::State(SlotState::Idle)),
+    ];
+    answers(rt, held, settings, &rows);
+    Ok(())
+}
+
+/// Sees that an idle slot takes a command, then refuses what would begin with a satellite, shows
+/// this state, and stops.
+fn is_busy(
+    rt: &impl Abort,
+    held: &mut Slot,
+    settings: &Settings,
+    begin: Command,
+    prn: u8,
+    shown: SlotState,
+) -> Result<(), Fail> {
+    let slot = slot_zero()?;
+    let counts = Command::Counts { slot, n: 3 };
+    let stop = Command::Stop { slot };
+    let state = Command::State { slot };
+    let rows = [
+        (begin, Answer::Accepted),
+        (hold(prn, 0)?, BUSY),
+        (track(prn, 0)?, BUSY),
+        (acquire(prn, 10)?, BUSY),
+        (counts, Answer::Accepted),
+        (state, Answer::State(shown)),
+        (stop, Answer::Accepted),
+    ];
+    answers(rt, held, settings, &rows);
+    is_idle(rt, held, settings)
+}
+
+/// The state of a slot that tracks satellite 3 from -1,000 Hz, before its first dump.
+fn tracks_three() -> Result<SlotState, Fail> {
+    Ok(SlotState::Track {
+        prn: Prn::new(3).ok_or("a satellite")?,
+        dumps: 0,
+        v: -65_536_000,
+        w: 0,
+        phase: Phase::Unlocked,
+    })
+}
+
+/// The state of a slot that searches for satellite 4 over one bin, before its first cell.
+fn acquires_four() -> Result<SlotState, Fail> {
+    Ok(SlotState::Acquire {
+        prn: Prn::new(4).ok_or("a satellite")?,
+        done: 0,
+        cells: 2_046,
+    })
+}
+
+#[test]
+fn idle_and_busy_slots_answer(rt: HostRuntime) -> Result<(), Fail> {
+    let settings = plain_settings()?;
+    let mut slot = Slot::new();
+    is_idle(&rt, &mut slot, &settings)?;
+    let prn = Prn::new(1).ok_or("a satellite")?;
+    let state = SlotState::Hold { prn, dumps: 0 };
+    is_busy(&rt, &mut slot, &settings, hold(1, 0)?, 2, state)?;
+    is_busy(
+        &rt,
+        &mut slot,
+        &settings,
+        track(3, -1_000)?,
+        1,
+        tracks_three()?,
+    )?;
+    is_busy(
+        &rt,
+        &mut slot,
+        &settings,
+        acquire(4, 10)?,
+        4,
+        acquires_four()?,
+    )
+}
+
+/// Sums in the order of a line of counts.
+fn sums([ie, qe, ip, qp, il, ql]: [i32; 6]) -> Counts {
+    Counts {
+        ie,
+        qe,
+        ip,
+        qp,
+        il,
+        ql,
+    }
+}
+
+/// The first slot is to show one dump.
+fn one_count() -> Result<Command, Fail>
+    ensures { IfOk result (λ command. slot_of command ≡ 0) }
+{
+    Ok(commands::counts(0, 1).ok_or("a number of dumps")?)
+}
+
+/// A slot that began to hold before the first sample, with counts asked for.
+fn held(settings: &Settings, prn: u8, doppler: i32) -> Result<Slot, Fail>
+    ensures { IfOk result (λ slot. (reach : ℕ) × IsSound 0 0 reach slot) }
+{
+    let mut slot = Slot::new();
+    slot.command(settings, 0, hold(prn, doppler)?);
+    slot.command(settings, 0, one_count()?);
+    Ok(slot)
+}
+
+/// What it emits at a time, with samples of value 1, where it is to take `count` of `len` of them.
+fn told(slot: &mut Slot, time: u64, len: usize, count: usize) -> Result<Option<Counts>, Fail>
+    requires some { 0 < len }
+    requires sound { (reach : ℕ) × IsSound 0 time reach slot.old }
+    requires in_byte { time + len ≤ 8 }
+    ensures { IfOk result (λ _. (reach : ℕ) × IsSound 0 (time + count) reach slot.new) }
+{
+    let samples = unpack(Format::Real1, &[0], 0, len);
+    if samples.len() != len {
+        return Err(Fail::new("samples are missing"));
+    }
+    let packed = PackedSamples::new(Format::Real1, &[0]).part(0, time as usize + len);
+    let source = NumberedSamples::new(packed, 0);
+    let mut dump = Dump::plain(Counts::NONE);
+    let (taken, news) = slot.take(&samples, 0, &source, &mut CodeBook::new(), &mut dump);
+    if taken != count {
+        return Err(Fail::new("the next event is elsewhere"));
+    }
+    Ok(shown(news, &dump))
+}
+
+/// The sums of a dump that are to be printed.
+fn shown(news: Option<SlotNews>, dump: &Dump) -> Option<Counts> {
+    match news {
+        Some(SlotNews::Dump { is_shown }) if is_shown => Some(dump.counts),
+        _ => None,
+    }
+}
+
+/// Sees that it emits this at a time.
+fn tells(
+    rt: &impl Abort,
+    slot: &mut Slot,
+    time: u64,
+    len: usize,
+    count: usize,
+    wanted: Option<Counts>,
+) -> Result<(), Fail>
+    requires some { 0 < len }
+    requires sound { (reach : ℕ) × IsSound 0 time reach slot.old }
+    requires in_byte { time + len ≤ 8 }
+    ensures { IfOk result (λ _. (reach : ℕ) × IsSound 0 (time + count) reach slot.new) }
+{
+    assert_same!(rt; told(slot, time, len, count)?, wanted);
+    Ok(())
+}
+
+// At two samples a chip the code begins half a chip before its end, so one sample ends the segment.
+// Chip 0 of satellite 1 is 1 and chip 1022 is 0, and the carrier's first pair is 2, 1: the early
+// chip, of the next period, has the sign -1, the others +1.
+#[test]
+fn early_wraps(rt: HostRuntime) -> Result<(), Fail> {
+    let settings = plain_settings()?;
+    let mut slot = held(&settings, 1, 0)?;
+    let counts = sums([-2, 1, 2, -1, 2, -1]);
+    tells(&rt, &mut slot, 0, 8, 1, Some(counts))
+}
+
+// A little slower than half a chip a sample, so the second sample ends the segment. Chip 0 of
+// satellite 7 is 1 and chip 1022 is 0. The carrier has turned a little less than a whole cycle back
+// at the second sample, where its pair is 2, -1: the signs of the quadrature cancel.
+#[test]
+fn sums_do_not_depend_on_the_cut(rt: HostRuntime) -> Result<(), Fail> {
+    let settings = plain_settings()?;
+    let counts = sums([-4, 0, 4, 0, 4, 0]);
+    let mut whole = held(&settings, 7, -1_000)?;
+    tells(&rt, &mut whole, 0, 8, 2, Some(counts))?;
+    let mut cut = held(&settings, 7, -1_000)?;
+    tells(&rt, &mut cut, 0, 1, 1, None)?;
+    tells(&rt, &mut cut, 1, 7, 1, Some(counts))
+}
+
+#[test]
+fn slots_are_0_to_7(rt: HostRuntime) {
+    let last = SlotNo::new(7).map(|slot| slot.get());
+    assert_same!(rt; (last, SlotNo::new(8)), (Some(7), None));
+}

@@ -1,0 +1,93 @@
+//! The slots of several clients over one stream.
+
+ghost use Rattle.std.specs.Prelude.{◌≡◌, IfOk};
+ghost use Rattle.channel_slots.specs.BankStates.{settings_of, time_of};
+ghost use Rattle.definitions.specs.Samples.{real1};
+
+use super::{hold, one_count, plain_settings, sums};
+use assertions::assert_same;
+use channel_slots::{Bank, Event, OpenFault, SlotEvent};
+use sample_planes::{Format, PackedSamples};
+use std::alloc::{Alloc, Global};
+use std::process::Abort;
+use std::test::Fail;
+
+/// A bank of which one slot is to hold satellite 1, and to show its first dump.
+fn bank_that_holds(alloc: Global) -> Result<Bank, Fail>
+    ensures packing { IfOk result (λ bank. (settings_of bank).packing ≡ real1) }
+    ensures time { IfOk result (λ bank. time_of bank ≡ 0) }
+{
+    let mut bank = Bank::open(alloc, plain_settings()?, &[4])?;
+    bank.command(1, hold(1, 0)?);
+    bank.command(1, one_count()?);
+    Ok(bank)
+}
+
+// Samples from the ninth of two bytes on are those of the second byte.
+#[test]
+fn a_feed_begins_anywhere(rt: HostRuntime) -> Result<(), Fail> {
+    let mut bank = bank_that_holds(rt.alloc())?;
+    let events = bank.feed(&PackedSamples::new(Format::Real1, &[255, 127]).part(8, 1));
+    let told = [SlotEvent {
+        client: 1,
+        slot: 0,
+        time: 1,
+        event: Event::Count(sums([-2, 1, 2, -1, 2, -1])),
+    }];
+    assert_same!(rt; events.as_slice(), told.as_slice());
+    Ok(())
+}
+
+/// Sees that a bank with each of these shares opens at time 0, or how it fails to.
+fn open(
+    rt: &(impl Abort + Alloc<A = Global>),
+    rows: &[(&[u8], Result<u64, OpenFault>)],
+) -> Result<(), Fail> {
+    for &(shares, time) in rows {
+        let opened = Bank::open(rt.alloc(), plain_settings()?, shares);
+        assert_same!(rt; opened.map(|bank| bank.time()), time);
+    }
+    Ok(())
+}
+
+static CLIENTS: [(&[u8], Result<u64, OpenFault>); 7] = [
+    (&[1], Ok(0)),
+    (&[4; 8], Ok(0)),
+    (&[8; 8], Ok(0)),
+    (&[], Err(OpenFault::Clients)),
+    (&[4; 9], Err(OpenFault::Clients)),
+    (&[0; 9], Err(OpenFault::Clients)),
+    (&[8; 255], Err(OpenFault::Clients)),
+];
+
+#[test]
+fn one_to_eight_clients(rt: HostRuntime) -> Result<(), Fail> {
+    open(&rt, &CLIENTS)
+}
+
+static REFUSED_SHARES: [(&[u8], Result<u64, OpenFault>); 5] = [
+    (&[0], Err(OpenFault::Share)),
+    (&[9], Err(OpenFault::Share)),
+    (&[255], Err(OpenFault::Share)),
+    (&[8, 1, 0], Err(OpenFault::Share)),
+    (&[1, 2, 3, 4, 5, 6, 7, 9], Err(OpenFault::Share)),
+];
+
+#[test]
+fn one_to_eight_slots(rt: HostRuntime) -> Result<(), Fail> {
+    open(&rt, &REFUSED_SHARES)
+}
+
+static TEXTS: [(OpenFault, &str); 3] = [
+    (OpenFault::NoMemory, "no memory"),
+    (OpenFault::Clients, "clients"),
+    (OpenFault::Share, "share"),
+];
+
+#[test]
+fn faults_have_texts(rt: HostRuntime) -> Result<(), Fail> {
+    for &(fault, text) in &TEXTS {
+        assert_same!(rt; fault.to_string(rt.alloc())?.as_str(), text);
+    }
+    Ok(())
+}

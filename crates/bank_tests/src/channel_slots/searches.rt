@@ -1,0 +1,265 @@
+//! Searches of a bank, over its one history of samples.
+
+ghost use Rattle.std.specs.Prelude.{◌≡◌, ◌<◌, ◌≤◌, ◌∷◌, [], IfOk, replicate};
+ghost use Rattle.channel_slots.specs.BankStates.{settings_of, shares_of};
+ghost use Rattle.definitions.specs.Samples.{real1};
+ghost use Rattle.sample_planes.specs.declared.planes.TheConstants.{MAX_SAMPLES};
+
+use super::{acquire, plain_settings};
+use acquisition::{Cell, Plan};
+use arrayvec::ArrayVec;
+use assertions::{assert_same, assert_same_at};
+use ca_codes::Prn;
+use channel_slots::{Bank, Command, Event, SlotEvent, SlotNo};
+use made_signals::long_code_file;
+use oscillators::HalfChip;
+use sample_planes::{Format, PackedSamples};
+use std::alloc::{Alloc, Global};
+use std::process::Abort;
+use std::test::Fail;
+
+/// The most events that these tests wait for.
+const MOST_TOLD: usize = 32;
+
+/// The longest recording of these tests, in samples.
+const LONGEST: u64 = 100_000;
+
+/// A bank of one client over a plain recording.
+fn bank_of_one(alloc: Global) -> Result<Bank, Fail>
+    ensures packing { IfOk result (λ bank. (settings_of bank).packing ≡ real1) }
+    ensures shares { IfOk result (λ bank. shares_of bank ≡ 4 ∷ []) }
+{
+    Ok(Bank::open(alloc, plain_settings()?, &[4])?)
+}
+
+/// Feeds a bank the samples of a recording up to a time, in pieces, and gives its events.
+fn feed_to(
+    bank: &mut Bank,
+    recording: &PackedSamples,
+    piece: usize,
+    until: u64,
+) -> Result<ArrayVec<SlotEvent, MOST_TOLD>, Fail>
+    requires packing { recording.now.packing ≡ (settings_of bank.old).packing }
+    requires some { 0 < piece }
+    requires short { piece ≤ MAX_SAMPLES }
+    ensures settings { settings_of bank.new ≡ settings_of bank.old }
+    ensures shares { shares_of bank.new ≡ shares_of bank.old }
+{
+    if (recording.len() as u64) < until {
+        return Err(Fail::new("samples are missing"));
+    }
+    if LONGEST < until {
+        return Err(Fail::new("the recording is too long"));
+    }
+    let mut told = ArrayVec::new();
+    let mut events = ArrayVec::new();
+    for _ in 0..until {
+        let time = bank.time();
+        if until <= time {
+            break;
+        }
+        let count = piece.min((until - time) as usize);
+        events.clear();
+        bank.feed_into(&recording.part(time as usize, count), &mut events);
+        told.try_extend_from_slice(events.as_slice())?;
+    }
+    Ok(told)
+}
+
+/// The same, and sees that its events are just those that are wanted.
+fn hear(
+    rt: &impl Abort,
+    bank: &mut Bank,
+    recording: &PackedSamples,
+    piece: usize,
+    until: u64,
+    wanted: &[SlotEvent],
+) -> Result<(), Fail>
+    requires packing { recording.now.packing ≡ (settings_of bank.old).packing }
+    requires some { 0 < piece }
+    requires short { piece ≤ MAX_SAMPLES }
+    ensures settings { settings_of bank.new ≡ settings_of bank.old }
+    ensures shares { shares_of bank.new ≡ shares_of bank.old }
+{
+    let told = feed_to(bank, recording, piece, until)?;
+    assert_same_at!(rt; piece, told.as_slice(), wanted);
+    Ok(())
+}
+
+/// The cell that the code of satellite 1 is found in: half chip 2, where all its products are 2 in
+/// phase and -1 in quadrature.
+fn found_at_two() -> Result<Event, Fail> {
+    Ok(Event::Acquired {
+        prn: Prn::new(1).ok_or("a satellite")?,
+        cell: Cell {
+            bin: 0,
+            half: HalfChip::new(2).ok_or("a half chip")?,
+            power: 20_930_580,
+            found: true,
+        },
+    })
+}
+
+/// What slot 0 of client 1 emits at a time.
+fn told_at(time: u64, event: Event) -> SlotEvent {
+    SlotEvent {
+        client: 1,
+        slot: 0,
+        time,
+        event,
+    }
+}
+
+/// Client 1's slot 0 is to search over ten periods at time 0, and slot s of client k over one at
+/// time 4 (k - 1) + s.
+fn ask_in_turn(bank: &mut Bank, recording: &PackedSamples) -> Result<(), Fail>
+    requires packing { recording.now.packing ≡ (settings_of bank.old).packing }
+    requires shares { shares_of bank.old ≡ replicate 8 4 }
+    ensures settings { settings_of bank.new ≡ settings_of bank.old }
+    ensures shares { shares_of bank.new ≡ shares_of bank.old }
+{
+    let prn = Prn::new(1).ok_or("a satellite")?;
+    for turn in 0..32u8 {
+        feed_to(bank, recording, 1, u64::from(turn))?;
+        let (bins, dwell) = if turn == 0 { (40, 10) } else { (0, 1) };
+        let plan = Plan::new(prn, 0, bins, dwell, 1_000)?;
+        let slot = SlotNo::new(turn % 4).ok_or("a slot")?;
+        bank.command(turn / 4 + 1, Command::Acquire { slot, plan });
+    }
+    Ok(())
+}
+
+/// When the answer is due that slot s of client k asks for at time 4 (k - 1) + s: its dwell has
+/// 2,046 samples, and there are 2,046 cells.
+fn due_in_turn(client: u8, slot: u8) -> u64 {
+    10_226 + 4 * u64::from(client) + u64::from(slot)
+}
+
+/// Sees that all answers but that of client 1's slot 0 come when they are due.
+fn hear_in_turn(rt: &impl Abort, told: &[SlotEvent]) {
+    assert_same!(rt; told.len(), 31);
+    for event in told {
+        assert_same!(rt; event.time, due_in_turn(event.client, event.slot));
+    }
+}
+
+/// A client, one of its slots, and how many cells its search has done.
+type Done = (u8, u8, Option<u64>);
+
+/// Sees how many cells the searches of these slots have done.
+fn have_done(rt: &impl Abort, bank: &Bank, rows: &[Done]) -> Result<(), Fail> {
+    for &(client, slot, cells) in rows {
+        let place = SlotNo::new(slot).ok_or("a slot")?;
+        let done = bank.cells_done(client, place);
+        assert_same!(rt; (client, slot, done), (client, slot, cells));
+    }
+    Ok(())
+}
+
+/// At 10,000 the dwells of the second and of the last slot, which ended at 2,047 and at 2,077, have
+/// cells. There is no client 0 or 9, and no slot 7 of client 1.
+static DONE_AT_10_000: [Done; 6] = [
+    (1, 0, Some(0)),
+    (1, 1, Some(1_988)),
+    (8, 3, Some(1_980)),
+    (0, 3, None),
+    (9, 0, None),
+    (1, 7, None),
+];
+
+// Whatever 31 other slots search for, the dwell of client 1's slot 0 ends at 20,460, and one cell
+// is done with the fourth sample after it.
+#[test]
+fn cells_among_strangers(rt: HostRuntime) -> Result<(), Fail> {
+    let zeros = [0; 2_558];
+    let recording = PackedSamples::new(Format::Real1, &zeros);
+    let mut bank = Bank::open(rt.alloc(), plain_settings()?, &[4; 8])?;
+    have_done(&rt, &bank, &[(1, 0, None)])?;
+    ask_in_turn(&mut bank, &recording)?;
+    have_done(&rt, &bank, &[(8, 3, Some(0))])?;
+    hear(&rt, &mut bank, &recording, 1_024, 10_000, &[])?;
+    have_done(&rt, &bank, &DONE_AT_10_000)?;
+    let told = feed_to(&mut bank, &recording, 1_024, 20_463)?;
+    hear_in_turn(&rt, told.as_slice());
+    have_done(&rt, &bank, &[(8, 3, None), (1, 0, Some(0))])?;
+    hear(&rt, &mut bank, &recording, 1_024, 20_464, &[])?;
+    have_done(&rt, &bank, &[(1, 0, Some(1))])
+}
+
+/// The same samples after a number of others, fewer than a byte has.
+fn behind(bytes: &[u8; 1_536], first: usize) -> [u8; 1_537]
+    requires { first < 8 }
+{
+    let mut moved = [255; 1_537];
+    for k in 0..1_536 {
+        let pair = u16::from(bytes[k]) << (8 - first);
+        let kept = if first == 0 {
+            0
+        } else {
+            moved[k] >> (8 - first) << (8 - first)
+        };
+        moved[k] = kept | (pair >> 8) as u8;
+        moved[k + 1] = (pair & 255) as u8;
+    }
+    moved
+}
+
+/// Sees that a bank finds satellite 1 in a recording, which it takes in pieces.
+fn hear_from(
+    rt: &(impl Abort + Alloc<A = Global>),
+    recording: &PackedSamples,
+    piece: usize,
+) -> Result<(), Fail>
+    requires packing { recording.now.packing ≡ real1 }
+    requires some { 0 < piece }
+    requires short { piece ≤ MAX_SAMPLES }
+{
+    let named = told_at(10_232, found_at_two()?);
+    let mut bank = bank_of_one(rt.alloc())?;
+    hear(rt, &mut bank, recording, piece, 2, &[])?;
+    bank.command(1, acquire(1, 10)?);
+    hear(rt, &mut bank, recording, piece, 10_240, &[named])
+}
+
+/// Sees that it does so where the recording begins at this sample of a byte.
+fn hear_from_place(
+    rt: &(impl Abort + Alloc<A = Global>),
+    bytes: &[u8; 1_536],
+    first: usize,
+    piece: usize,
+) -> Result<(), Fail>
+    requires place { first < 8 }
+    requires some { 0 < piece }
+    requires short { piece ≤ MAX_SAMPLES }
+{
+    let moved = behind(bytes, first);
+    let recording = PackedSamples::new(Format::Real1, &moved).part(first, 10_240);
+    hear_from(rt, &recording, piece)
+}
+
+/// Sees that it does so wherever in a byte the recording begins.
+fn hear_from_each_place(rt: &(impl Abort + Alloc<A = Global>), piece: usize) -> Result<(), Fail>
+    requires some { 0 < piece }
+    requires short { piece ≤ MAX_SAMPLES }
+{
+    let bytes = long_code_file();
+    for first in 0..8 {
+        hear_from_place(rt, &bytes, first, piece)?;
+    }
+    Ok(())
+}
+
+#[test]
+fn samples_one_by_one(rt: HostRuntime) -> Result<(), Fail> {
+    hear_from_each_place(&rt, 1)
+}
+
+#[test]
+fn samples_by_threes(rt: HostRuntime) -> Result<(), Fail> {
+    hear_from_each_place(&rt, 3)
+}
+
+#[test]
+fn samples_by_whole_runs(rt: HostRuntime) -> Result<(), Fail> {
+    hear_from_each_place(&rt, 1_024)
+}

@@ -1,0 +1,78 @@
+//! Commands by the numbers that a line has, or none where a number is out of its range.
+
+ghost use Rattle.std.specs.Prelude.{◌≡◌, IfSome};
+ghost use Rattle.slot_protocol.specs.Commands.{slot_of};
+
+use acquisition::Plan;
+use ca_codes::Prn;
+use oscillators::{Doppler, HalfChip};
+use slot_protocol::{Command, SlotNo};
+
+/// A hold from a shift in Hz and a half chip on.
+pub fn hold(slot: u8, prn: u8, doppler: i32, half: u16) -> Option<Command>
+    ensures { IfSome result (λ command. slot_of command ≡ slot) }
+{
+    Some(Command::Hold {
+        slot: SlotNo::new(slot)?,
+        prn: Prn::new(prn)?,
+        doppler: Doppler::new(doppler)?,
+        half: HalfChip::new(half)?,
+    })
+}
+
+/// A track from a shift in Hz and a half chip on.
+pub fn track(slot: u8, prn: u8, doppler: i32, half: u16) -> Option<Command>
+    ensures { IfSome result (λ command. slot_of command ≡ slot) }
+{
+    Some(Command::Track {
+        slot: SlotNo::new(slot)?,
+        prn: Prn::new(prn)?,
+        doppler: Doppler::new(doppler)?,
+        half: HalfChip::new(half)?,
+    })
+}
+
+/// A search about a shift in Hz, over so many bins to either side and periods.
+pub fn acquire(
+    slot: u8,
+    prn: u8,
+    centre: i32,
+    bins: u32,
+    dwell: u32,
+    threshold: u32,
+) -> Option<Command>
+    ensures { IfSome result (λ command. slot_of command ≡ slot) }
+{
+    Some(Command::Acquire {
+        slot: SlotNo::new(slot)?,
+        plan: Plan::new(Prn::new(prn)?, centre, bins, dwell, threshold).ok()?,
+    })
+}
+
+/// A request to show so many dumps.
+pub fn counts(slot: u8, n: u32) -> Option<Command>
+    ensures { IfSome result (λ command. slot_of command ≡ slot) }
+{
+    Some(Command::Counts {
+        slot: SlotNo::new(slot)?,
+        n,
+    })
+}
+
+/// A question for the state.
+pub fn state(slot: u8) -> Option<Command>
+    ensures { IfSome result (λ command. slot_of command ≡ slot) }
+{
+    Some(Command::State {
+        slot: SlotNo::new(slot)?,
+    })
+}
+
+/// A stop of what the slot does.
+pub fn stop(slot: u8) -> Option<Command>
+    ensures { IfSome result (λ command. slot_of command ≡ slot) }
+{
+    Some(Command::Stop {
+        slot: SlotNo::new(slot)?,
+    })
+}

@@ -1,7 +1,0 @@
-//! Tests of `ca_codes`, over what it makes public.
-//!
-//! They stand apart since a crate with tests is proved twice, with them and without.
-#![tactic(auto)]
-
-#[cfg(test)]
-mod tests;

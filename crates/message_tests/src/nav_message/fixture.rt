@@ -1,0 +1,92 @@
+//! A message to which whole bits and words are pushed.
+
+ghost use Rattle.std.specs.Prelude.{◌≤◌};
+ghost use Rattle.nav_message.specs.Standing.{bit_count};
+
+use assertions::{assert_same, assert_same_at};
+use nav_message::{MOST_BITS, Message, MessageNews};
+use std::process::Abort;
+
+/// A message, and how many prompt sums were pushed.
+#[derive(Drop)]
+pub struct Pushed {
+    message: Message,
+    pushes: u64,
+    ghost bounded: { bit_count message ≤ pushes },
+}
+
+impl Pushed {
+    /// A message of nothing.
+    pub fn new() -> Pushed {
+        Pushed {
+            message: Message::new(),
+            pushes: 0,
+        }
+    }
+
+    /// A message whose edge is found, and to which two bits 0 were pushed. Its sums were 20 times
+    /// +1, 20 times -1 and so on up to push 320, the sixteenth change, and then 40 times +1.
+    pub fn behind_two_zeros(rt: &impl Abort) -> Pushed {
+        let mut pushed = Pushed::new();
+        for k in 0..340u32 {
+            pushed.push_alternating(rt, k);
+        }
+        pushed.push_zeros(rt, 1);
+        pushed
+    }
+
+    /// Pushes sum k of 20 times +1, 20 times -1 and so on, to a message that has those before it.
+    /// Push 320 reports the edge, and no other reports anything.
+    pub fn push_alternating(&mut self, rt: &impl Abort, k: u32) {
+        let has_edge = self.message.has_edge();
+        let news = self.push(rt, k / 20 % 2 == 1);
+        let expected = if k == 320 {
+            MessageNews::Edge
+        } else {
+            MessageNews::Nothing
+        };
+        assert_same_at!(rt; k, (has_edge, news), (k > 320, expected));
+    }
+
+    /// Pushes bits 0, which report nothing.
+    pub fn push_zeros(&mut self, rt: &impl Abort, count: u32) {
+        for k in 0..count {
+            assert_same_at!(rt; k, self.push_bit(rt, false), MessageNews::Nothing);
+        }
+    }
+
+    /// Pushes words, and asserts what the last of their bits makes reported.
+    pub fn assert_words(&mut self, rt: &impl Abort, words: &[u32; 10], expected: &MessageNews) {
+        let news = self.push_words(rt, words);
+        assert_same_at!(rt; self.pushes, news, *expected);
+    }
+
+    /// Pushes the bits of words of 30, the highest first. Only the last of them may make something
+    /// reported.
+    pub fn push_words(&mut self, rt: &impl Abort, words: &[u32; 10]) -> MessageNews {
+        let mut last = MessageNews::Nothing;
+        for k in 0..300usize {
+            assert_same_at!(rt; k, last, MessageNews::Nothing);
+            last = self.push_bit(rt, words[k / 30] >> (29 - k % 30) & 1 == 1);
+        }
+        last
+    }
+
+    /// Pushes the 20 sums of a bit, of which only the last may make something reported.
+    fn push_bit(&mut self, rt: &impl Abort, bit: bool) -> MessageNews {
+        for _ in 0..19 {
+            assert_same!(rt; self.push(rt, bit), MessageNews::Nothing);
+        }
+        self.push(rt, bit)
+    }
+
+    /// Pushes +1, or -1.
+    fn push(&mut self, rt: &impl Abort, is_negative: bool) -> MessageNews {
+        assert!(rt; self.pushes < MOST_BITS);
+        self.pushes += 1;
+        let mut news = MessageNews::Nothing;
+        self.message
+            .push(if is_negative { -1 } else { 1 }, &mut news);
+        news
+    }
+}

@@ -1,0 +1,82 @@
+//! Words whose data are known from outside, and the words near one of them.
+
+ghost use Rattle.std.specs.Prelude.{◌≡◌, ◌<◌, Some, IfSome};
+ghost use Rattle.nav_parity.specs.declared.parity.TheConstants.{WORD_LIMIT, DATA_LIMIT};
+ghost use Rattle.nav_parity.specs.declared.parity.TheConstants.{PRIOR_LIMIT};
+
+use crate::sent::{HANDOVER, HANDOVER_DATA, TELEMETRY, TELEMETRY_DATA};
+use assertions::assert_same;
+use nav_parity::{DATA_LIMIT, PRIOR_LIMIT, WORD_LIMIT, check, encode};
+
+// The telemetry word comes after 00, and the handover word after 10.
+#[test]
+fn parity_words(rt: HostRuntime) {
+    assert_same!(rt; check(TELEMETRY, 0), Some(TELEMETRY_DATA));
+    assert_same!(rt; encode(TELEMETRY_DATA, 0), TELEMETRY);
+    assert_same!(rt; check(HANDOVER, 2), Some(HANDOVER_DATA));
+}
+
+#[test]
+fn inverted_parity(rt: HostRuntime) {
+    assert_same!(rt; check(0x3fff_ffd6, 1), Some(0));
+    assert_same!(rt; check(0x3fff_ffff, 3), Some(0));
+}
+
+#[test]
+fn three_bit_law(rt: HostRuntime) {
+    let mut after_one = 0u32;
+    let mut after_two = 0u32;
+    let mut after_three = 0u32;
+    for first in 0..30u32 {
+        let one = 1 << first;
+        after_one = after_one.wrapping_add(refused(one));
+        for second in 0..first {
+            let two = one | (1 << second);
+            after_two = after_two.wrapping_add(refused(two));
+            for third in 0..second {
+                after_three = after_three.wrapping_add(refused(two | (1 << third)));
+            }
+        }
+    }
+    assert_same!(rt; after_one, 30);
+    assert_same!(rt; after_two, 435);
+    assert_same!(rt; after_three, 4_060);
+}
+
+#[test]
+fn there_and_back(rt: HostRuntime) {
+    assert_same!(rt; checked_code(0x8b_0000, 3), Some(0x8b_0000));
+    assert_same!(rt; recoded_word(TELEMETRY, 0), Some(TELEMETRY));
+    assert_same!(rt; recoded_word(TELEMETRY, 1), None);
+}
+
+/// 1 where the telemetry word with these bits changed gives no data, else 0.
+fn refused(bits: u32) -> u32 {
+    u32::from(check(changed(bits), 0).is_none())
+}
+
+/// The telemetry word with these bits changed.
+fn changed(bits: u32) -> u32
+    ensures { result < WORD_LIMIT }
+{
+    (TELEMETRY ^ bits) & 0x3fff_ffff
+}
+
+/// What `check` answers to `encode`, as the contracts of the two say.
+fn checked_code(data: u32, prior: u8) -> Option<u32>
+    requires is_data { «data» < DATA_LIMIT }
+    requires is_prior { prior < PRIOR_LIMIT }
+    ensures { result ≡ Some «data» }
+{
+    check(encode(data, prior), prior)
+}
+
+/// What `encode` makes of the data that `check` finds, as the contracts of the two say.
+fn recoded_word(word: u32, prior: u8) -> Option<u32>
+    requires is_word { word < WORD_LIMIT }
+    requires is_prior { prior < PRIOR_LIMIT }
+    ensures { IfSome result (λ again. again ≡ word) }
+{
+    let found = check(word, prior)?;
+    Some(encode(found, prior))
+}

@@ -1,0 +1,28 @@
+//! What is chosen for a recording that is packed.
+
+use recordings::{Choice, Kind, Recipe};
+use sample_planes::Format;
+use std::test::Fail;
+
+/// Signs of values as they are, about 0.
+pub fn signs(kind: Kind, is_paired: bool, format: Format) -> Choice {
+    Choice {
+        kind,
+        is_paired,
+        format,
+        threshold: 0,
+        centre: 0,
+        centre_q: 0,
+        is_swapped: false,
+        is_conjugate: false,
+        takes_quadrature: false,
+    }
+}
+
+/// The recipe of a choice that isn't refused.
+pub fn recipe_of(choice: &Choice) -> Result<Recipe, Fail> {
+    match choice.recipe() {
+        Ok(recipe) => Ok(recipe),
+        Err(_) => Err(Fail::new("a choice was refused")),
+    }
+}

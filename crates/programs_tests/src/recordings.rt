@@ -1,0 +1,186 @@
+//! Recordings of random values, packed, against plain loops.
+
+ghost use Rattle.std.specs.Prelude.{◌≤◌, ◌<◌};
+
+mod by_hand;
+mod measures;
+
+use crate::choices::signs;
+use assertions::assert_same;
+use recordings::{Choice, Kind, MOST_PIECE, Packer, Recipe};
+use sample_planes::Format;
+use std::alloc::{AllocError, Global};
+use std::process::Abort;
+use std::test::Fail;
+
+/// Every kind.
+static KINDS: [Kind; 8] = [
+    Kind::U8,
+    Kind::I8,
+    Kind::I16,
+    Kind::I16Be,
+    Kind::Bits2Low,
+    Kind::SignSizeLow,
+    Kind::Bits1Low,
+    Kind::Bits1High,
+];
+
+/// Every format.
+static FORMATS: [Format; 4] = [Format::Real1, Format::Real2, Format::Iq1, Format::Iq2];
+
+/// Signs of values as they are, about centre and threshold of their kind.
+fn choice(kind: Kind, is_paired: bool, format: Format) -> Choice {
+    let (centre, threshold) = match kind {
+        Kind::U8 => (255, 85),
+        Kind::I8 => (-9, 86),
+        Kind::I16 | Kind::I16Be => (1000, 21846),
+        _ => (0, 4),
+    };
+    Choice {
+        threshold,
+        centre,
+        centre_q: centre,
+        ..signs(kind, is_paired, format)
+    }
+}
+
+/// Bytes that look like chance: the top bytes of a congruential generator of 32 bits.
+fn noise(alloc: Global, count: usize) -> Result<Vec<u8>, AllocError> {
+    let mut bytes = Vec::new(alloc);
+    let mut state: u32 = 12345;
+    for _ in 0..count {
+        state = state.wrapping_mul(1_664_525).wrapping_add(1_013_904_223);
+        bytes.push((state >> 24) as u8)?;
+    }
+    Ok(bytes)
+}
+
+/// Byte `i`, or 0.
+fn at(bytes: &[u8], i: usize) -> u8 {
+    bytes.get(i).copied().unwrap_or(0)
+}
+
+/// Twice value `i`, as Rust reads it.
+fn twice(kind: Kind, bytes: &[u8], i: usize) -> i64
+    requires { i < 1000000 }
+{
+    let value = match kind {
+        Kind::U8 => i64::from(at(bytes, i)),
+        Kind::I8 => i64::from(i8::from_le_bytes([at(bytes, i)])),
+        Kind::I16 => i64::from(i16::from_le_bytes([at(bytes, 2 * i), at(bytes, 2 * i + 1)])),
+        Kind::I16Be => i64::from(i16::from_be_bytes([at(bytes, 2 * i), at(bytes, 2 * i + 1)])),
+        Kind::Bits2Low => [1, 3, -3, -1][usize::from(at(bytes, i / 4) >> (i % 4 * 2) & 3)],
+        Kind::SignSizeLow => [1, 3, -1, -3][usize::from(at(bytes, i / 4) >> (i % 4 * 2) & 3)],
+        Kind::Bits1Low => [1, -1][usize::from(at(bytes, i / 8) >> (i % 8) & 1)],
+        _ => [1, -1][usize::from(at(bytes, i / 8) >> (7 - i % 8) & 1)],
+    };
+    2 * value
+}
+
+/// Bits in a row, the first in the top of its byte.
+#[derive(Drop)]
+struct Bits {
+    bytes: Vec<u8>,
+    last: u8,
+    count: u32,
+}
+
+impl Bits {
+    fn push(&mut self, bit: bool) -> Result<(), Fail> {
+        self.last = self.last << 1 | u8::from(bit);
+        self.count = self.count.wrapping_add(1);
+        if self.count % 8 == 0 {
+            self.bytes.push(self.last)?;
+        }
+        Ok(())
+    }
+
+    /// The bits of a value.
+    fn put(&mut self, choice: &Choice, value: i64) -> Result<(), Fail> {
+        self.push(value < i64::from(choice.centre))?;
+        let distance = value.wrapping_sub(i64::from(choice.centre)).unsigned_abs();
+        if matches!(choice.format, Format::Real2 | Format::Iq2) {
+            self.push(distance > u64::from(choice.threshold))?;
+        }
+        Ok(())
+    }
+}
+
+/// Packs value by value and bit by bit.
+fn plainly(alloc: Global, choice: &Choice, bytes: &[u8]) -> Result<Vec<u8>, Fail> {
+    let mut bits = Bits {
+        bytes: Vec::new(alloc),
+        last: 0,
+        count: 0,
+    };
+    let is_complex = matches!(choice.format, Format::Iq1 | Format::Iq2);
+    let count = bytes.len().min(100_000) * 8 / choice.kind.bits();
+    for i in 0..count {
+        if i < 1_000_000 && (!choice.is_paired || is_complex || i % 2 == 0) {
+            bits.put(choice, twice(choice.kind, bytes, i))?;
+        }
+    }
+    Ok(bits.bytes)
+}
+
+/// Packs in pieces of a size.
+fn in_pieces(alloc: Global, recipe: Recipe, bytes: &[u8], size: usize) -> Result<Vec<u8>, Fail>
+    requires { size ≤ 65536 }
+{
+    let mut packer = Packer::new(alloc, recipe)?;
+    let (mut all, mut written) = (Vec::new(alloc), Vec::new(alloc));
+    let mut rest = bytes;
+    for _ in 0..bytes.len() {
+        let (piece, behind) = rest.split_at(rest.len().min(size));
+        packer.take(piece, &mut written)?;
+        all.extend_from_slice(&written)?;
+        rest = behind;
+    }
+    Ok(all)
+}
+
+/// Asserts that a recording packed in pieces of a size is as it is packed value by value, where a
+/// choice can be had.
+fn assert_packed_plainly(
+    rt: &impl Abort,
+    alloc: Global,
+    choice: &Choice,
+    bytes: &[u8],
+    size: usize,
+) -> Result<(), Fail>
+    requires { size ≤ 65536 }
+{
+    if let Ok(recipe) = choice.recipe() {
+        let written = in_pieces(alloc, recipe, bytes, size)?;
+        let wanted = plainly(alloc, choice, bytes)?;
+        assert_same!(rt; written.as_slice(), wanted.as_slice());
+    }
+    Ok(())
+}
+
+// A hundred thousand values of each kind of bytes, and more of those of bits.
+#[test]
+fn every_kind_and_cut(rt: HostRuntime) -> Result<(), Fail> {
+    let bytes = noise(rt.alloc(), 100_000)?;
+    for kind in &KINDS {
+        for format in &FORMATS {
+            for is_paired in [false, true] {
+                let choice = choice(*kind, is_paired, *format);
+                assert_packed_plainly(&rt, rt.alloc(), &choice, &bytes, MOST_PIECE)?;
+            }
+        }
+    }
+    Ok(())
+}
+
+#[test]
+fn pieces_of_every_size(rt: HostRuntime) -> Result<(), Fail> {
+    let bytes = noise(rt.alloc(), 3001)?;
+    for kind in &KINDS {
+        let choice = choice(*kind, true, Format::Iq1);
+        for size in [1, 7, 64, 1000, MOST_PIECE] {
+            assert_packed_plainly(&rt, rt.alloc(), &choice, &bytes, size)?;
+        }
+    }
+    Ok(())
+}

@@ -1,0 +1,12 @@
+//! What the program comes to.
+
+use clap::Error;
+
+/// What the program comes to, once its run is over or can't begin.
+#[derive(Drop)]
+pub enum Outcome {
+    /// It ends with this status, and has reported what went wrong.
+    Status(u8),
+    /// Its help or its version was asked for, and is to be shown.
+    Help(Error),
+}

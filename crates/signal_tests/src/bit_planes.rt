@@ -1,0 +1,48 @@
+//! Planes by hand.
+
+use assertions::assert_same;
+use bit_planes::{Plane, bit_of_each, marked_bytes};
+use std::simd::prelude::{u8x16, u8x64};
+
+#[test]
+fn words_of_a_plane(rt: HostRuntime) {
+    let mut plane = Plane::new();
+    plane.set_word(0, 0x8001_ffff_0000_0000);
+    plane.set_word(1, 0x0000_4000_0000_0000);
+    assert_same!(
+        rt;
+        [
+            plane.bit(0),
+            plane.bit(1),
+            plane.bit(15),
+            plane.bit(32),
+            plane.bit(81),
+        ],
+        [1, 0, 1, 0, 1]
+    );
+}
+
+#[test]
+fn lane_0_is_the_last_place_of_a_word(rt: HostRuntime) {
+    let mut bytes = [0x20; 64];
+    bytes[0] = 0x60;
+    bytes[62] = 0xdf;
+    bytes[63] = 0x40;
+    let bytes = u8x64::from_array(bytes);
+    assert_same!(rt; bit_of_each(bytes, 6), 0xc000_0000_0000_0001);
+    assert_same!(rt; bit_of_each(bytes, 5), 0x3fff_ffff_ffff_ffff);
+    assert_same!(rt; bit_of_each(bytes, 4), 0x4000_0000_0000_0000);
+}
+
+#[test]
+fn bytes_marked_by_their_bits(rt: HostRuntime) {
+    // The mask of lane 2 names the top bit, that of lane 9 the lowest; no other lane has its bit.
+    let mut masks = [0x40; 16];
+    masks[2] = 0x80;
+    masks[9] = 0x01;
+    let mut expected = [0; 16];
+    expected[2] = 4;
+    expected[9] = 4;
+    let marked = marked_bytes(u8x16::splat(0x81), u8x16::from_array(masks), 4);
+    assert_same!(rt; marked.to_array(), expected);
+}

@@ -1,0 +1,80 @@
+//! The code table's octal column, and the ends of a code.
+
+use assertions::{assert_same, assert_same_at};
+use ca_codes::{CodeBook, Prn, PrnFault};
+
+/// The first ten chips of satellites 1 to 32 in octal, as the standard lists them (IS-GPS-200,
+/// table 3-Ia): the first digit stands for one chip, the other three for three chips each.
+const FIRST_CHIPS: [u32; 32] = [
+    0o1440, 0o1620, 0o1710, 0o1744, 0o1133, 0o1455, 0o1131, 0o1454, 0o1626, 0o1504, 0o1642, 0o1750,
+    0o1764, 0o1772, 0o1775, 0o1776, 0o1156, 0o1467, 0o1633, 0o1715, 0o1746, 0o1763, 0o1063, 0o1706,
+    0o1743, 0o1761, 0o1770, 0o1774, 0o1127, 0o1453, 0o1625, 0o1712,
+];
+
+/// Ten chips as a number, the first of them its highest bit.
+fn first_ten_chips(book: &mut CodeBook, prn: Prn, first: u32) -> u32 {
+    let mut chips = 0u32;
+    for i in 0..10u32 {
+        chips = chips.wrapping_mul(2) | u32::from(book.chip(prn, first.wrapping_add(i)));
+    }
+    chips
+}
+
+#[test]
+fn each_code_begins_as_listed(rt: HostRuntime) {
+    let mut book = CodeBook::new();
+    for (number, want) in (1u8..=32).zip(FIRST_CHIPS) {
+        let prn = Prn::new(number).expect(&rt, "a satellite");
+        assert_same_at!(rt; number, first_ten_chips(&mut book, prn, 0), want);
+    }
+}
+
+#[test]
+fn a_code_repeats_after_1023_chips(rt: HostRuntime) {
+    let mut book = CodeBook::new();
+    let prn = Prn::new(1).expect(&rt, "a satellite");
+    assert_same!(rt; [book.chip(prn, 1021), book.chip(prn, 1022)], [false, false]);
+    assert_same!(rt; first_ten_chips(&mut book, prn, 1023), 0o1440);
+    // 4,294,967,295 is 4,198,404 times 1,023 and 3 more.
+    for (n, want) in [
+        (u32::MAX - 2, true),
+        (u32::MAX - 1, false),
+        (u32::MAX, false),
+    ] {
+        assert_same_at!(rt; n, book.chip(prn, n), want);
+    }
+}
+
+#[test]
+fn satellites_are_1_to_32(rt: HostRuntime) {
+    assert_same!(rt; Prn::new(0), None);
+    assert_same!(rt; Prn::new(33), None);
+    let last = Prn::new(32).expect(&rt, "a satellite");
+    assert_same!(rt; last.get(), 32);
+    assert_same!(rt; Prn::try_from(32), Ok(last));
+    assert_same!(rt; Prn::try_from(33), Err(PrnFault));
+    assert!(rt; Prn::new(31) < Some(last));
+}
+
+#[test]
+fn window_wraps(rt: HostRuntime) {
+    let mut book = CodeBook::new();
+    let prn = Prn::new(1).expect(&rt, "a satellite");
+    // Chips 1021 and 1022 are 0, and the code begins with 1100100000.
+    assert_same!(rt; book.window(prn, 1021) >> 52, 0x320);
+    assert_same!(rt; book.window(prn, 2 * 1023 + 1021) >> 52, 0x320);
+}
+
+#[test]
+fn either_order_fills_the_book(rt: HostRuntime) {
+    let first = Prn::new(3).expect(&rt, "a satellite");
+    let second = Prn::new(19).expect(&rt, "a satellite");
+    let mut upward = CodeBook::new();
+    let mut downward = CodeBook::default();
+    // The first ten chips of both are those of the standard's table, whichever of them the book was
+    // asked for first.
+    assert_same!(rt; upward.window(first, 0) >> 54, 0o1710);
+    assert_same!(rt; upward.window(second, 0) >> 54, 0o1633);
+    assert_same!(rt; downward.window(second, 0) >> 54, 0o1633);
+    assert_same!(rt; downward.window(first, 0) >> 54, 0o1710);
+}

@@ -1,0 +1,272 @@
+//! Sums against plain loops, and sums worked out by hand.
+
+ghost use Rattle.std.specs.Prelude.{◌≤◌, length};
+ghost use Rattle.definitions.specs.Samples.{sample_count};
+ghost use Rattle.sample_planes.specs.Packings.{packing_of};
+ghost use Rattle.sample_planes.specs.declared.planes.TheConstants.{MAX_SAMPLES};
+
+use crate::noise::noise_bytes;
+use assertions::assert_same;
+use ca_codes::{CodeBook, Prn};
+use lane_correlator::{Counts, replica_sums};
+use oscillators::{CarrierOsc, CarrierPlanes, CodeOsc, CodePlanes, HalfChip};
+use sample_planes::{Format, Planes, unpack};
+use std::test::Fail;
+
+/// The sums with one more sample, whose parts in phase and in quadrature are `sample`.
+fn with_sample(
+    sums: Counts,
+    sample: (i32, i32),
+    carrier: (i32, i32),
+    chips: (i32, i32, i32),
+) -> Counts {
+    let i = sample
+        .0
+        .wrapping_mul(carrier.0)
+        .wrapping_add(sample.1.wrapping_mul(carrier.1));
+    let q = sample
+        .1
+        .wrapping_mul(carrier.0)
+        .wrapping_sub(sample.0.wrapping_mul(carrier.1));
+    Counts {
+        ie: sums.ie.wrapping_add(i.wrapping_mul(chips.0)),
+        qe: sums.qe.wrapping_add(q.wrapping_mul(chips.0)),
+        ip: sums.ip.wrapping_add(i.wrapping_mul(chips.1)),
+        qp: sums.qp.wrapping_add(q.wrapping_mul(chips.1)),
+        il: sums.il.wrapping_add(i.wrapping_mul(chips.2)),
+        ql: sums.ql.wrapping_add(q.wrapping_mul(chips.2)),
+    }
+}
+
+/// The sums of a plain loop over the samples before each one of a run, and over all of them.
+fn plain_sums(samples: &Planes, carrier: &CarrierPlanes, code: &CodePlanes) -> [Counts; 1025]
+    requires cos { length samples.now ≤ length carrier.now.cos }
+    requires sin { length samples.now ≤ length carrier.now.sin }
+    requires early { length samples.now ≤ length code.now.early }
+    requires prompt { length samples.now ≤ length code.now.prompt }
+    requires late { length samples.now ≤ length code.now.late }
+{
+    let mut all = [Counts::NONE; 1025];
+    let mut sums = Counts::NONE;
+    for i in 0..samples.len() {
+        sums = with_sample(
+            sums,
+            (samples.value(i).into(), samples.value_q(i).into()),
+            (carrier.cos(i).into(), carrier.sin(i).into()),
+            (
+                code.early(i).into(),
+                code.prompt(i).into(),
+                code.late(i).into(),
+            ),
+        );
+        all[i + 1] = sums;
+    }
+    all
+}
+
+/// What the later sums have more than the earlier ones.
+fn between(earlier: &Counts, later: &Counts) -> Counts {
+    Counts {
+        ie: later.ie.wrapping_sub(earlier.ie),
+        qe: later.qe.wrapping_sub(earlier.qe),
+        ip: later.ip.wrapping_sub(earlier.ip),
+        qp: later.qp.wrapping_sub(earlier.qp),
+        il: later.il.wrapping_sub(earlier.il),
+        ql: later.ql.wrapping_sub(earlier.ql),
+    }
+}
+
+/// For how many ranges of a run of `len` samples, which begin at sample `lowest` or after it, the
+/// sums are those of a plain loop.
+fn agreeing(format: Format, lowest: usize, len: usize) -> Result<u32, Fail>
+    requires { len ≤ MAX_SAMPLES }
+{
+    let bytes = noise_bytes();
+    let prn = Prn::new(7).ok_or("a satellite")?;
+    let mut book = CodeBook::new();
+    let carrier_osc = CarrierOsc::new(0x2345_6789);
+    let code_osc = CodeOsc::new(HalfChip::new(2_030).ok_or("a half chip")?, 0x6000_0001);
+    let samples = unpack(format, &bytes, 3, len);
+    let carrier = carrier_osc.planes(samples.len());
+    let code = code_osc.planes(samples.len(), &mut book, prn);
+    let plain = plain_sums(&samples, &carrier, &code);
+    let mut agreeing = 0u32;
+    for from in lowest..=samples.len() {
+        let mut carrier_there = CarrierOsc::new(0x2345_6789);
+        carrier_there.advance(from as u64);
+        let half_chip = HalfChip::new(2_030).ok_or("a half chip")?;
+        let mut code_there = CodeOsc::new(half_chip, 0x6000_0001);
+        code_there.jump(from as u64);
+        for to in from..=samples.len() {
+            let sums = replica_sums(
+                &samples,
+                from,
+                to - from,
+                &carrier_there,
+                &code_there,
+                &mut book,
+                prn,
+            );
+            if sums == between(&plain[from], &plain[to]) {
+                agreeing = agreeing.wrapping_add(1);
+            }
+        }
+    }
+    Ok(agreeing)
+}
+
+/// As many ranges as there are from <= to <= 200, and 954 <= from <= to <= 1,024.
+const SHORT_RANGES: u32 = 202 * 201 / 2;
+
+const LATE_RANGES: u32 = 72 * 71 / 2;
+
+#[test]
+fn sums_of_one_bit_samples(rt: HostRuntime) -> Result<(), Fail> {
+    assert_same!(rt; agreeing(Format::Real1, 0, 200)?, SHORT_RANGES);
+    assert_same!(rt; agreeing(Format::Real1, 954, 1024)?, LATE_RANGES);
+    Ok(())
+}
+
+#[test]
+fn sums_of_two_bit_samples(rt: HostRuntime) -> Result<(), Fail> {
+    assert_same!(rt; agreeing(Format::Real2, 0, 200)?, SHORT_RANGES);
+    assert_same!(rt; agreeing(Format::Real2, 954, 1024)?, LATE_RANGES);
+    Ok(())
+}
+
+#[test]
+fn sums_of_complex_samples(rt: HostRuntime) -> Result<(), Fail> {
+    assert_same!(rt; agreeing(Format::Iq1, 0, 200)?, SHORT_RANGES);
+    assert_same!(rt; agreeing(Format::Iq1, 954, 1024)?, LATE_RANGES);
+    Ok(())
+}
+
+#[test]
+fn sums_of_complex_two_bit_samples(rt: HostRuntime) -> Result<(), Fail> {
+    assert_same!(rt; agreeing(Format::Iq2, 0, 200)?, SHORT_RANGES);
+    assert_same!(rt; agreeing(Format::Iq2, 954, 1024)?, LATE_RANGES);
+    Ok(())
+}
+
+/// Four samples at a quarter of a cycle and a quarter of a chip a sample, the code of satellite 1
+/// beginning with its last chip.
+fn four_samples(format: Format, bytes: &[u8]) -> Result<Counts, Fail>
+    requires { 4 ≤ sample_count (packing_of format) bytes.now }
+{
+    let prn = Prn::new(1).ok_or("a satellite")?;
+    let code = CodeOsc::new(HalfChip::new(2_044).ok_or("a half chip")?, 1 << 30);
+    let samples = unpack(format, bytes, 0, 4);
+    let carrier = CarrierOsc::new(1 << 30);
+    Ok(replica_sums(
+        &samples,
+        0,
+        samples.len(),
+        &carrier,
+        &code,
+        &mut CodeBook::new(),
+        prn,
+    ))
+}
+
+#[test]
+fn two_bit_byte(rt: HostRuntime) -> Result<(), Fail> {
+    let want = Counts {
+        ie: 12,
+        qe: 4,
+        ip: 6,
+        qp: 2,
+        il: 6,
+        ql: 2,
+    };
+    assert_same!(rt; four_samples(Format::Real2, &[0x72])?, want);
+    Ok(())
+}
+
+#[test]
+fn complex_byte(rt: HostRuntime) -> Result<(), Fail> {
+    let want = Counts {
+        ie: -2,
+        qe: 6,
+        ip: 2,
+        qp: -6,
+        il: 2,
+        ql: -6,
+    };
+    assert_same!(rt; four_samples(Format::Iq1, &[0x1b])?, want);
+    Ok(())
+}
+
+#[test]
+fn complex_bytes(rt: HostRuntime) -> Result<(), Fail> {
+    let want = Counts {
+        ie: 12,
+        qe: 4,
+        ip: -8,
+        qp: 4,
+        il: -8,
+        ql: 4,
+    };
+    assert_same!(rt; four_samples(Format::Iq2, &[0x4b, 0x2d])?, want);
+    Ok(())
+}
+
+/// The prompt sums over samples of +1, at a quarter of a cycle a sample, with chip 2 of satellite
+/// 1, which is 0.
+fn quarter_cycles(count: usize) -> Result<(i32, i32), Fail>
+    requires { count ≤ 4 }
+{
+    let prn = Prn::new(1).ok_or("a satellite")?;
+    let samples = unpack(Format::Real1, &[0], 0, count);
+    let carrier = CarrierOsc::new(1 << 30);
+    let code = CodeOsc::new(HalfChip::new(4).ok_or("a half chip")?, 0);
+    let sums = replica_sums(
+        &samples,
+        0,
+        samples.len(),
+        &carrier,
+        &code,
+        &mut CodeBook::new(),
+        prn,
+    );
+    Ok((sums.ip, sums.qp))
+}
+
+#[test]
+fn a_quarter_cycle_a_sample(rt: HostRuntime) -> Result<(), Fail> {
+    // Cosines 2, -1, -2, 1 and sines 1, 2, -1, -2.
+    assert_same!(rt; quarter_cycles(0)?, (0, 0));
+    assert_same!(rt; quarter_cycles(1)?, (2, -1));
+    assert_same!(rt; quarter_cycles(3)?, (-1, -2));
+    assert_same!(rt; quarter_cycles(4)?, (0, 0));
+    Ok(())
+}
+
+#[test]
+fn counts_add_place_by_place(rt: HostRuntime) {
+    let ones = Counts {
+        ie: 1,
+        qe: 2,
+        ip: 3,
+        qp: 4,
+        il: 5,
+        ql: 6,
+    };
+    let more = Counts {
+        ie: 10,
+        qe: -20,
+        ip: 30,
+        qp: -40,
+        il: 50,
+        ql: -60,
+    };
+    let sum = Counts {
+        ie: 11,
+        qe: -18,
+        ip: 33,
+        qp: -36,
+        il: 55,
+        ql: -54,
+    };
+    assert_same!(rt; ones.add(&more), sum);
+    assert_same!(rt; ones.add(&Counts::NONE), ones);
+}

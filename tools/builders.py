@@ -1,0 +1,139 @@
+"""Builds of a program: by `rt`, which proves it, crates that don't stand on each other side by
+side; and by cargo, from the same sources as plain Rust."""
+import json
+import os
+import subprocess
+import sys
+import time
+
+import children
+import room_folders
+from built import TOP, clean_environment, find, read, replace, sum_of_sources
+from crate_order import job_count, read_crates, side_by_side, steps_above, with_those_below
+from rooms import RT, prove as prove_in_room
+
+# What the third level of x86-64 has over the second, and /proc/cpuinfo calls so. The kit's compiler
+# takes no higher level.
+THIRD_LEVEL = {'avx2', 'bmi2', 'fma', 'movbe'}
+
+# How far crates that are one or two steps below the program leave the processors to the others,
+# which have more above them.
+NICE = {1: 19, 2: 10}
+
+# The minutes that a proof from nothing takes, on a quick day and on a slow one: those that no
+# further processor saves, and those that the processors share.
+MINUTES = {'receiver_cli': ((4, 23), (8.5, 31)), 'packer_cli': ((2.5, 3), (4, 4.5))}
+
+
+class Failed(Exception):
+    """A build that failed, with what it said."""
+
+
+def run(command, folder, **more):
+    """Runs a command of a build, and gives what it printed."""
+    status, said, errors = children.run(command, folder,
+                                        **{'env': clean_environment(), **more})
+    if status:
+        raise Failed(errors if errors is not None else said)
+    return said
+
+
+def level():
+    """The level of the processor to build for, as options of rt."""
+    with open('/proc/cpuinfo', encoding='utf-8') as lines:
+        flags = next((set(it.split()) for it in lines if it.startswith('flags')), set())
+    return ['--cpu', 'x86-64-v3'] if THIRD_LEVEL <= flags else []
+
+
+def say_how_long(crate, called, count, say):
+    """Says about how long a proof takes, and what answers sooner."""
+    cores = job_count()
+    quick, slow = (fixed + shared / cores for fixed, shared in MINUTES[crate])
+    say(f'{count} crates are proved first, from nothing in about {quick:.0f} to {slow:.0f} minutes'
+        f' on {cores} processor{"s" * (cores > 1)}')
+    if find('cargo'):
+        say(f'RECEIVER_PLAIN=1 ./{called} .. answers in half a minute, by a build that isn\'t'
+            ' proved')
+
+
+def prove(crate, called, say):
+    """Proves and builds a program, and first the libraries that it stands on. Gives its path."""
+    crates = read_crates()
+    names = with_those_below([crate], crates)
+    home = os.path.join(TOP, 'crates', crate)
+    began = time.monotonic()
+    in_work = set()
+
+    def build(name):
+        in_work.add(name)
+        # One that the others wait for gets the processors that they leave.
+        jobs = max(2, job_count() // len(in_work))
+        try:
+            if name == crate:
+                # The program says nothing to speak of where it is asked for its help.
+                run([*RT, 'run', '--jobs', str(jobs), *level(), '--', '--help'], home,
+                    stderr=subprocess.STDOUT)
+                return
+            is_proved, said = prove_in_room(name, crates, jobs, NICE.get(steps[name], 0))
+            if not is_proved:
+                raise Failed(said)
+        finally:
+            in_work.discard(name)
+
+    say_how_long(crate, called, len(names), say)
+    room_folders.clear()
+    steps = steps_above(names, crates)
+    # Those on which most others stand go first.
+    names.sort(key=lambda name: -sum(name in with_those_below([it], crates) for it in names))
+    waits = {name: crates[name] for name in names}
+    for done, (name, _) in enumerate(side_by_side(waits, build, job_count()), 1):
+        say(f'{name} is proved, {done} of {len(names)}, {(time.monotonic() - began) / 60:.1f} min')
+    return os.path.join(home, 'out', crate)
+
+
+def executable(messages, crate):
+    """The path of a program, by what cargo said of all that it made."""
+    for line in messages.split('\n'):
+        made = json.loads(line) if line.startswith('{') else {}
+        if made.get('executable') and made['target']['name'] == crate:
+            return made['executable']
+    raise Failed(f'cargo has made no program {crate}')
+
+
+class Target:
+    """The folder of what cargo makes, with a mark of the sources and the cargo that it is of. Cargo
+    goes by the times of files, which can mislead it, so nothing is left of other sources."""
+
+    def __init__(self, folder, sources, line):
+        self.folder, self.text = os.path.join(folder, 'target'), f'{sources}\n{line}'
+        self.mark = os.path.join(self.folder, 'sources')
+
+    def clear(self):
+        """Removes what cargo made of other sources."""
+        try:
+            is_of_these = read(self.mark).decode() == self.text
+        except (OSError, UnicodeDecodeError):
+            is_of_these = False
+        if not is_of_these:
+            run(['cargo', 'clean', '--offline', '--quiet', '--target-dir', self.folder],
+                os.path.dirname(self.folder))
+
+    def keep(self):
+        """Keeps that all in it is of these sources."""
+        replace(self.mark, self.text)
+
+
+def build_plain(crate, sources, line, say):
+    """Builds a program of plain Rust by cargo. Gives its path."""
+    folder = os.path.join(TOP, 'plain')
+    run([sys.executable, '-E', '-s', '-S', os.path.join(TOP, 'tools', 'plain'), folder], TOP)
+    say('this build is of plain Rust, by cargo, and not proved; it takes about half a minute')
+    target = Target(folder, sources, line)
+    target.clear()
+    flags = {**clean_environment(), 'RUSTFLAGS': '-C target-cpu=native'}
+    command = ['cargo', 'build', '--offline', '--quiet', '--release', '--target-dir', target.folder,
+               '--message-format', 'json-render-diagnostics', '-p', crate]
+    program = executable(run(command, folder, env=flags), crate)
+    if sum_of_sources('plain') == sources:
+        target.keep()
+    return program

@@ -1,0 +1,211 @@
+"""What makes a built program new: a sum of all that it is made of, by content, and the line of the
+toolchain that made it. Both are kept in the folder `out` beside README.md, with a sum of the
+program itself. A start reads no more than this, so it imports little."""
+import hashlib
+import os
+import select
+import signal
+import stat
+
+TOP = os.path.dirname(os.path.dirname(os.path.realpath(__file__)))
+OUT = os.path.join(TOP, 'out')
+
+# What the files of sources end with, and the folders among them that make no program of a kind.
+SOURCES = ('.rt', '.antt', '.rs', '.toml', '.txt')
+NO_SOURCES = {'proved': {'out', 'must-fail'}, 'plain': {'out', 'must-fail', 'specs', 'proofs'}}
+
+# The folders and files that a program is made of: a proved one, and one of plain Rust.
+PARTS = {
+    'proved': ('crates.txt', 'HANDLES', 'crates', 'tools/build', 'tools/built.py',
+               'tools/builders.py', 'tools/crate_order.py', 'tools/rooms.py', 'tools/rt_once'),
+    'plain': ('crates.txt', 'crates', 'tools/build', 'tools/built.py', 'tools/builders.py',
+              'tools/kit', 'tools/plain', 'tools/plain_additions.py', 'tools/plain_docs.py',
+              'tools/plain_folder.py', 'tools/plain_premises.py', 'tools/plain_text.py'),
+}
+
+# How the variables begin that would turn a build, or Python; and those of them that are kept: where
+# cargo keeps its things, and how many processors it takes.
+TURNING = ('CARGO', '__CARGO', 'PYTHON', 'RUSTC', 'RUSTFLAGS', 'RUSTDOC', 'RUST_TARGET_PATH',
+           'RT_ALLOW_C', 'RT_BACKEND')
+KEPT = ('CARGO_HOME', 'CARGO_BUILD_JOBS')
+
+# The seconds after which a command that has said nothing is ended.
+LONGEST = 20
+
+# What the kit's `rt` calls itself, and the file beside it that says so too.
+KIT = 'rattle-kit-'
+KIT_ID = 'KIT-ID'
+
+
+def find(name):
+    """The path of a command in the PATH; nothing where there is none."""
+    for folder in os.environ.get('PATH', os.defpath).split(os.pathsep):
+        path = os.path.join(folder or '.', name)
+        if os.access(path, os.X_OK) and os.path.isfile(path):
+            return os.path.abspath(path)
+    return None
+
+
+def read(path):
+    """The bytes of a file."""
+    with open(path, 'rb', buffering=0) as file:
+        return file.readall()
+
+
+def files_below(folder, skipped):
+    """The paths of the sources in a folder, but for an editor's own, which begin with a dot. Links
+    to folders aren't followed."""
+    found, left = [], [folder]
+    while left:
+        with os.scandir(left.pop()) as entries:
+            for it in entries:
+                if it.is_dir(follow_symlinks=False):
+                    if it.name not in skipped:
+                        left.append(it.path)
+                elif it.name.endswith(SOURCES) and not it.name.startswith('.'):
+                    found.append(it.path)
+    return found
+
+
+def sum_of_sources(kind):
+    """The sum of all that a program of a kind is made of: names, sizes and contents."""
+    made = hashlib.sha256()
+    for part in PARTS[kind]:
+        path = os.path.join(TOP, part)
+        is_folder = os.path.isdir(path)
+        for file in sorted(files_below(path, NO_SOURCES[kind])) if is_folder else [path]:
+            data = read(file)
+            made.update(f'{file[len(TOP):]} {len(data)}\n'.encode('utf-8', 'surrogateescape'))
+            made.update(data)
+    return made.hexdigest()
+
+
+def sum_of(path):
+    """The sum of one file; nothing where there is none that can be read."""
+    try:
+        return hashlib.sha256(read(path)).hexdigest()
+    except OSError:
+        return None
+
+
+def clean_environment():
+    """The environment without what would turn a build."""
+    return {name: value for name, value in os.environ.items()
+            if name in KEPT or not name.startswith(TURNING)}
+
+
+def said_by(command):
+    """What a command prints, as one line; nothing where it fails or long says nothing. It runs in
+    the checkout."""
+    os.chdir(TOP)
+    said, prints = os.pipe()
+    null = os.open(os.devnull, os.O_RDWR)
+    actions = [(os.POSIX_SPAWN_DUP2, null, 0), (os.POSIX_SPAWN_DUP2, prints, 1),
+               (os.POSIX_SPAWN_DUP2, null, 2)]
+    try:
+        child = os.posix_spawn(command[0], command, clean_environment(), file_actions=actions)
+    except OSError:
+        child = None
+    os.close(null)
+    os.close(prints)
+    with open(said, 'rb') as file:
+        if child and not select.select([file], [], [], LONGEST)[0]:
+            os.kill(child, signal.SIGKILL)
+        line = ' '.join(file.read().decode('utf-8', 'replace').split())
+    is_well = child is not None and os.waitpid(child, 0)[1] == 0
+    return line if is_well else ''
+
+
+def line_of_rustc():
+    """What rustc says of itself; nothing where there is none."""
+    rustc = find('rustc')
+    return said_by([rustc, '-Vv']) if rustc else ''
+
+
+class Prover:
+    """The `rt` in the PATH, if there is one, and its line, if it is the Rattle kit's."""
+
+    # The sum of an `rt` that was asked and is another is kept, so that it is asked once.
+    OTHER = os.path.join(OUT, 'other-rt')
+
+    def __init__(self):
+        self.path = find('rt')
+        self.line = self.line_of_kit() if self.path else ''
+
+    def line_of_kit(self):
+        """The kit's line, from its file, or from `rt version`."""
+        home = os.path.dirname(os.path.dirname(os.path.realpath(self.path)))
+        try:
+            line = ' '.join(read(os.path.join(home, KIT_ID)).decode('utf-8', 'replace').split())
+        except OSError:
+            line = ''
+        if not line.startswith(KIT) and not self.is_known_as_other():
+            line = said_by([self.path, 'version'])
+        return line if line.startswith(KIT) else ''
+
+    def is_known_as_other(self):
+        """Whether this `rt` was asked before, and is another."""
+        try:
+            return read(self.OTHER).decode() == sum_of(self.path)
+        except (OSError, UnicodeDecodeError):
+            return False
+
+    def note_other(self):
+        """Keeps that this `rt` is another."""
+        replace(self.OTHER, sum_of(self.path) or '')
+
+
+def replace(path, text):
+    """Writes a file anew, whole or not at all."""
+    new = f'{path}.{os.getpid()}'
+    try:
+        with open(new, 'x', encoding='utf-8') as file:
+            file.write(text)
+        os.replace(new, path)
+    except OSError:
+        if os.path.lexists(new):
+            os.remove(new)
+        raise
+
+
+class Built:
+    """A program of a kind, as it was built last."""
+
+    def __init__(self, crate, kind):
+        self.kind = kind
+        self.stamp = os.path.join(OUT, f'{crate}.{kind}')
+        self.sources = sum_of_sources(kind)
+
+    def program(self, line):
+        """The path of the program where it is what the sources are, and the toolchain of this line
+        made it; any toolchain where the line is empty. Nothing where it isn't."""
+        try:
+            path, *known = read(self.stamp).decode().split('\n')
+        except (OSError, UnicodeDecodeError):
+            return None
+        path = os.path.join(TOP, path)
+        if known[:1] != [self.sources] or line not in ('', *known[1:2]):
+            return None
+        is_whole = known[2:] == [sum_of(path)] and os.access(path, os.X_OK)
+        return path if is_whole else None
+
+    def keep(self, path, line):
+        """Keeps that the program is built."""
+        rows = os.path.relpath(path, TOP), self.sources, line, sum_of(path)
+        replace(self.stamp, '\n'.join(rows))
+
+
+# The sum of the sources that the last `rt ci` had which was kept.
+OF_CI = os.path.join(OUT, 'rt-ci')
+
+
+def keep_libraries():
+    """Keeps that the libraries of all crates are what the sources make, as `rt ci` has left them."""
+    replace(OF_CI, sum_of_sources('proved'))
+
+
+def make_out():
+    """Makes the folder in which all this is kept."""
+    os.makedirs(OUT, exist_ok=True)
+    if not stat.S_ISDIR(os.lstat(OUT).st_mode):
+        raise NotADirectoryError(20, 'Not a folder', OUT)

@@ -1,0 +1,64 @@
+"""Commands that end where the process ends that started them."""
+import os
+import signal
+import subprocess
+import threading
+
+# The commands that run, each in a process group of its own, and the signal that came.
+RUNNING = set()
+ENDING = []
+
+
+class Ended(Exception):
+    """A signal came, and has ended all commands."""
+
+
+def end(process):
+    """Ends a command and all that it started."""
+    try:
+        os.killpg(process.pid, signal.SIGKILL)
+    except ProcessLookupError:
+        pass
+
+
+def end_all(number, _):
+    """Ends all commands, and this process by what is raised."""
+    ENDING.append(number)
+    for process in list(RUNNING):
+        end(process)
+    raise Ended(number)
+
+
+def end_with_signals():
+    """Has a signal end all commands. One that was ignored from the start stays so."""
+    for number in (signal.SIGINT, signal.SIGTERM, signal.SIGHUP):
+        if signal.getsignal(number) != signal.SIG_IGN:
+            signal.signal(number, end_all)
+
+
+def end_with_reader(stream=1):
+    """Has this process end where nobody can read any more what it writes to a pipe: who started it
+    is gone. Nothing happens where the stream is no pipe."""
+    def watch():
+        import select
+        waits = select.poll()
+        waits.register(stream, 0)
+        if any(what & select.POLLERR for _, what in waits.poll()):
+            os.kill(os.getpid(), signal.SIGTERM)
+
+    threading.Thread(target=watch, daemon=True).start()
+
+
+def run(words, folder, **more):
+    """Runs a command to its end. Gives its status, what it printed, and its standard error."""
+    streams = {'stdin': subprocess.DEVNULL, 'stdout': subprocess.PIPE, 'stderr': subprocess.PIPE}
+    with subprocess.Popen(words, cwd=folder, start_new_session=True, encoding='utf-8',
+                          errors='replace', **{**streams, **more}) as process:
+        RUNNING.add(process)
+        try:
+            if ENDING:
+                end(process)
+            said, errors = process.communicate()
+        finally:
+            RUNNING.discard(process)
+    return process.returncode, said, errors

@@ -1,0 +1,125 @@
+"""Wrong bodies that stand beside the right ones: each is a copy of its function under a name of its
+own, with the same contract and the same proof. So many edits of a crate are tried in one check, no
+caller waits for a function with a wrong body, and nothing else of the crate is proved again. Of
+each function there is also a copy with the right body: it shows that a copy is proved where nothing
+is turned."""
+import os
+import re
+
+from wrong_bodies import Function, has_goal, is_at, path_of
+
+IMPL = re.compile(r'(?:unsafe )?impl\b')
+
+
+def without_parameters(head):
+    """The head of an `impl` without what stands in angle brackets."""
+    depth, kept = 0, []
+    for at, sign in enumerate(head):
+        depth += sign == '<'
+        kept.append('' if depth else sign)
+        depth -= sign == '>' and head[at - 1] not in '-='
+    return ''.join(kept)
+
+
+def named_at(function, lines):
+    """The index of the line that names a function."""
+    return next(it for it in range(function.first - 1, function.body)
+                if re.search(rf'\bfn {function.name}\b', lines[it]))
+
+
+def owner_of(function, lines):
+    """The type whose method a function is: empty where it is of none, and nothing where it is of a
+    trait, which takes no second method."""
+    at = named_at(function, lines)
+    if not lines[at].startswith(' '):
+        return ''
+    head = next(lines[it] for it in range(at, -1, -1) if lines[it] and lines[it][0] not in ' #/})')
+    words = without_parameters(head).split()
+    return words[1] if IMPL.match(head) and 'for' not in words else None
+
+
+class Second:
+    """A second body of a function: as an edit turns it, or as it is."""
+
+    def __init__(self, place, owner, number, edit=None):
+        (self.file, self.function), self.edit = place, edit
+        self.path = [*path_of(self.file), *filter(None, [owner])]
+        self.name = f'{self.function.name}_body{number}'
+        self.place = place
+
+    def copied(self, given):
+        """Its lines."""
+        texts = self.edit.texts(given) if self.edit else {self.file: given(self.file)}
+        lines = texts[self.file].split('\n')
+        at = named_at(self.function, lines)
+        lines[at] = re.sub(rf'\bfn {self.function.name}\b', f'fn {self.name}', lines[at])
+        return lines[self.function.first - 1:self.function.last + 1]
+
+    def stand(self, first):
+        """Notes that it begins at a line of the made file."""
+        by = first - self.function.first
+        self.place = self.file, Function(self.name, first, self.function.body + by,
+                                         self.function.last + by)
+
+    def copy_proof(self, folder):
+        """Copies the proof of the function, if it has one: gives the new folder."""
+        was = os.path.join('proofs', *self.path, self.function.name)
+        now = os.path.join('proofs', *self.path, self.name)
+        dotted = re.compile(re.escape(was.replace(os.sep, '.')) + r'(?![\w-])')
+        for at, _, files in os.walk(os.path.join(folder, was)):
+            to = os.path.join(folder, now, os.path.relpath(at, os.path.join(folder, was)))
+            os.makedirs(to, exist_ok=True)
+            for file in files:
+                with open(os.path.join(at, file), encoding='utf-8', newline='') as source:
+                    text = source.read()
+                with open(os.path.join(to, file), 'w', encoding='utf-8', newline='') as made:
+                    made.write(dotted.sub(now.replace(os.sep, '.'), text))
+        return os.path.join(folder, now)
+
+    def says(self, said):
+        """What the prover says of the second function."""
+        name = '::'.join([r'\w+', *map(re.escape, self.path), self.name])
+        found = re.search(rf'^fn {name}: (.*)', said, re.M)
+        return found[1] if found else ''
+
+    def is_refused(self, refused):
+        """Whether it is refused at the goal of its edit."""
+        own = (line for line in refused if is_at(line, self.place))
+        return any(has_goal(re.sub(rf'\b{self.name}\b', self.function.name, line), self.edit)
+                   for line in own)
+
+
+def is_copied(place, given):
+    """Whether a function can have a second body: a trait's method can't."""
+    file, function = place
+    return owner_of(function, given(file).split('\n')) is not None
+
+
+def seconds_of(places, given):
+    """The second bodies of edits by their places: of each function one with its right body, and one
+    of each edit."""
+    made, right = [], set()
+    for number, (edit, place) in enumerate(places.items(), 1):
+        file, function = place
+        owner = owner_of(function, given(file).split('\n'))
+        if (file, function.first) not in right:
+            right.add((file, function.first))
+            made.append(Second(place, owner, 0))
+        made.append(Second(place, owner, number, edit))
+    return made
+
+
+def with_seconds(seconds, given):
+    """The texts of a crate with second bodies: each stands after the function that it copies."""
+    texts = {}
+    for file in {it.file for it in seconds}:
+        lines, made = given(file).split('\n'), []
+        ours = sorted((it for it in seconds if it.file == file), key=lambda it: it.function.last)
+        at = 0
+        for second in ours:
+            made += lines[at:second.function.last + 1]
+            at = max(at, second.function.last + 1)
+            second.stand(len(made) + 2)
+            made += ['', *second.copied(given)]
+        texts[file] = '\n'.join(made + lines[at:])
+    return texts

@@ -1,0 +1,236 @@
+"""Rows of ./receiver, ./pack and tools/build: what makes a build new, and what may turn one."""
+import os
+import shutil
+
+from .commands import changes, contents, refused, run, write
+from .small_checkout import LIBRARY, Checkout
+
+PROGRAM = 'plain/target/release/receiver_cli'
+
+# What would have cargo build elsewhere, for another processor, in another way, or not at all.
+TURNED = {
+    'CARGO_BUILD_TARGET': 'no-such-target', 'CARGO_ENCODED_RUSTFLAGS': '--no-such-flag',
+    'CARGO_BUILD_RUSTFLAGS': '--no-such-flag', 'RUSTFLAGS': '--no-such-flag',
+    'CARGO_PROFILE_RELEASE_LTO': 'no-such-lto', 'CARGO_BUILD_RUSTC': '/nowhere',
+    'RUSTC': '/nowhere', 'RUSTC_WRAPPER': '/nowhere', 'RUSTC_WORKSPACE_WRAPPER': '/nowhere',
+    'CARGO_BUILD_RUSTC_WRAPPER': '/nowhere',
+}
+
+
+def date_all(top, seconds):
+    """Gives all files of a folder the same time."""
+    for at, _, files in os.walk(top):
+        for name in files:
+            os.utime(os.path.join(at, name), (seconds, seconds))
+
+
+def variables(rows, folder):
+    """Variables that turn cargo's builds turn none here."""
+    if not shutil.which('cargo'):
+        return
+    checkout = Checkout(folder)
+    other = {name: os.path.join(folder, name)
+             for name in ('CARGO_TARGET_DIR', 'CARGO_BUILD_TARGET_DIR', 'CARGO_BUILD_BUILD_DIR')}
+    rows.say('./receiver with variables of cargo', checkout.prints('1.0.1', **TURNED, **other)
+             + [f'{name} was taken' for name, path in other.items() if os.path.exists(path)])
+    checkout.set_version('1.0.2')
+    rows.say('./receiver with CARGO_TARGET_DIR, later',
+             checkout.prints('1.0.2', CARGO_TARGET_DIR=other['CARGO_TARGET_DIR']))
+    rows.say('./receiver without it, later', checkout.prints('1.0.2'))
+
+
+def by_content(rows, folder):
+    """A program is what its sources make, whatever the times of files are."""
+    if not shutil.which('cargo'):
+        return
+    checkout = Checkout(folder)
+    rows.say('./receiver, the first build', checkout.prints('1.0.1'))
+    checkout.set_version('1.0.2')
+    os.utime(checkout.at(LIBRARY), (1e9, 1e9))
+    rows.say('./receiver, a source with an older time', checkout.prints('1.0.2'))
+    # What is newer by its time alone needs no cargo.
+    date_all(checkout.at('crates'), 4e9)
+    rows.say('./receiver, sources of a future time',
+             checkout.prints('1.0.2', PATH=checkout.bare))
+    # As where the clock was put back after the build.
+    date_all(checkout.at('plain'), 4e9)
+    checkout.set_version('1.0.3')
+    rows.say('./receiver, after a build of a future time', checkout.prints('1.0.3'))
+    with open(checkout.at('tools/plain_text.py'), 'a', encoding='utf-8') as file:
+        file.write("\n\nREWRITTEN.append((re.compile('1[.]0[.]3'), '7.0.0'))\n")
+    rows.say('./receiver, another tools/plain_text.py', checkout.prints('7.0.0'))
+    moved = os.path.join(folder, 'moved here')
+    os.rename(checkout.top, moved)
+    checkout.top = moved
+    rows.say('./receiver of a checkout that was moved',
+             checkout.prints('7.0.0', PATH=checkout.bare))
+    shutil.copy('/bin/true', checkout.at(PROGRAM))
+    rows.say('./receiver, another program in its place', checkout.prints('7.0.0'))
+
+
+def failures(rows, folder):
+    """A build that fails says why, in the compiler's words, and that it failed."""
+    if not shutil.which('cargo'):
+        return
+    checkout = Checkout(folder)
+    write(checkout.at('crates/receiver_cli/src/main.rt'), 'fn main() {\n    nothing();\n}\n')
+    outcome = checkout.run('receiver')
+    faults = [] if outcome.status == 1 and not outcome.said else [f'status {outcome.status}']
+    for text in 'cannot find function `nothing`', 'receiver: it could not be built':
+        faults += [f'{text} is missing in {outcome.errors[-200:]!r}'] * (text not in outcome.errors)
+    faults += ['a traceback'] * ('Traceback' in outcome.errors)
+    rows.say('./receiver, a source that does not compile', faults)
+    colon = Checkout(folder, 'a:b')
+    outcome = colon.run('receiver')
+    lines = [it for it in outcome.errors.split('\n') if it.startswith('receiver: ')]
+    rows.say('./receiver in a folder with a colon',
+             ([] if outcome.status == 1 else [f'status {outcome.status}'])
+             + [f'{lines}'] * (not any('colon' in it for it in lines)))
+
+
+def nothing_to_build_with(rows, folder):
+    """Without rt and cargo one line says what is needed; nor can a folder be built in that can't be
+    written."""
+    checkout = Checkout(folder)
+    rows.say('./receiver without rt and cargo',
+             refused(checkout.run('receiver', PATH=checkout.bare), 'receiver: .*`cargo`.*', 1))
+    shutil.rmtree(checkout.at('out'), ignore_errors=True)
+    write(checkout.at('out'), '')
+    rows.say('./receiver with a file in the place of out',
+             refused(checkout.run('receiver'), 'receiver: .*/out: .*', 1))
+    os.remove(checkout.at('out'))
+    if os.geteuid() == 0 and shutil.which('setpriv'):
+        os.chmod(folder, 0o755)
+        nobody = ['setpriv', '--reuid', '65534', '--regid', '65534', '--clear-groups']
+        command = [*nobody, checkout.at('receiver')]
+        outcome = run(command, folder, checkout.environment(PATH=os.defpath, HOME='/'))
+    else:
+        os.chmod(checkout.top, 0o555)
+        outcome = checkout.run('receiver')
+        os.chmod(checkout.top, 0o755)
+    rows.say('./receiver that nobody built, where nothing can be written',
+             refused(outcome, "receiver: it isn't built yet, .*Permission denied", 1))
+    limited = ['bash', '-c', 'ulimit -f 0; exec ./receiver']
+    rows.say('./receiver, no room on the disk',
+             refused(run(limited, checkout.top, checkout.environment()), 'receiver: .*', 1))
+
+
+def words(rows, folder):
+    """Words of tools/build."""
+    checkout = Checkout(folder)
+    for given in [], ['receiver_cli'], ['nothing', 'receiver'], ['../x', 'x'], ['a', 'b', 'c']:
+        before = contents(folder)
+        faults = refused(checkout.run('tools/build', *given), 'build: .*')
+        rows.say(f'tools/build {given}', faults + changes(before, contents(folder)))
+    for given in '-h', '--help':
+        outcome = checkout.run('tools/build', given)
+        is_told = outcome.status == 0 and 'usage: build' in outcome.said and not outcome.errors
+        rows.say(f'tools/build {given}', [] if is_told else [str(outcome)[:200]])
+
+
+def other_rt(rows, folder):
+    """Another `rt` in the PATH is no prover: cargo builds, as where there is no rt."""
+    if not shutil.which('cargo'):
+        return
+    checkout = Checkout(folder)
+    rt = os.path.join(folder, 'other', 'rt')
+    path = f'{os.path.dirname(rt)}:{checkout.path}'
+    for version, status in enumerate((0, 1), 2):
+        write(rt, f'#!/bin/sh\necho "$@" >> "$0.calls"\necho rt 4.{status}\nexit {status}\n',
+              0o755)
+        checkout.set_version(f'{version}.0.0')
+        outcome = checkout.run('receiver', PATH=path)
+        faults = [] if outcome.said == f'receiver {version}.0.0\n' else [str(outcome)[-300:]]
+        said = [it for it in outcome.errors.split('\n') if rt in it]
+        faults += [f'{len(said)} lines name the other rt'] * (len(said) != 1)
+        rows.say(f'./receiver with another rt of status {status}', faults)
+    before = contents(os.path.dirname(rt))
+    rows.say('./receiver with another rt, later', checkout.prints('3.0.0', PATH=path)
+             + ['it was asked again'] * (contents(os.path.dirname(rt)) != before))
+    outcome = checkout.run('receiver', PATH=f'{os.path.dirname(rt)}:{checkout.bare}')
+    rows.say('./receiver with another rt and no cargo, later',
+             [] if outcome.said == 'receiver 3.0.0\n' else [str(outcome)[-300:]])
+
+
+def the_kit(rows, folder):
+    """A kit's `rt` builds, and says how long it takes. Its program stays where there is none."""
+    checkout = Checkout(folder)
+    home = checkout.add_rt('rattle-kit-1')
+    outcome = checkout.run('receiver')
+    wanted = r'receiver: .* about \d+ to \d+ minutes on \d+ processors?\n'
+    faults = refused(type(outcome)(outcome.status, '', outcome.errors.split('\n')[0] + '\n'),
+                     wanted.rstrip('\\n'), 0)
+    has_cargo = shutil.which('cargo') is not None
+    faults += ['the build by cargo is not named'] * (
+        has_cargo and 'RECEIVER_PLAIN=1 ./receiver' not in outcome.errors)
+    faults += [outcome.said] * (outcome.said != 'proved\n')
+    rows.say('./receiver with the kit, first', faults)
+    count = len(checkout.calls())
+    for name, path in (('the kit', checkout.path), ('no rt', checkout.bare)):
+        outcome = checkout.run('receiver', PATH=path)
+        is_silent = (outcome.said, outcome.errors) == ('proved\n', '')
+        rows.say(f'./receiver with {name}, later', [] if is_silent else [str(outcome)[-300:]])
+    other = write(os.path.join(folder, 'other', 'rt'), '#!/bin/sh\necho other\n', 0o755)
+    outcome = checkout.run('receiver', PATH=f'{os.path.dirname(other)}:{checkout.path}')
+    rows.say('./receiver with another rt, which is proved',
+             [] if (outcome.said, outcome.errors) == ('proved\n', '') else [str(outcome)[-300:]])
+    faults = ['it was built again'] * (len(checkout.calls()) != count)
+    write(os.path.join(home, 'line'), 'rattle-kit-2')
+    checkout.run('receiver')
+    faults += ['it was not built by the other kit'] * (len(checkout.calls()) == count)
+    rows.say('./receiver with another version of the kit', faults)
+    checkout.set_version('1.0.2')
+    count = len(checkout.calls())
+    kept = checkout.run('tools/build', '--keep')
+    faults = [str(kept)[-300:]] * bool(kept.status or kept.said or kept.errors)
+    checkout.run('receiver')
+    faults += ['it was built again'] * (len(checkout.calls()) != count)
+    rows.say('tools/build --keep', faults)
+    rows.say('tools/build --keep without the kit',
+             refused(checkout.run('tools/build', '--keep', PATH=checkout.bare), 'build: .*', 1))
+
+
+def odd_places(rows, folder):
+    """Standard error that is closed or full stops no build. Nor does a path of odd letters, or what
+    an editor leaves beside a source."""
+    for number, stream in enumerate(('2>&-', '2>/dev/full', '<&-')):
+        checkout = Checkout(folder, f'kit{number}')
+        checkout.add_rt('rattle-kit-1')
+        line = ['bash', '-c', f'exec ./receiver {stream}']
+        for when in 'first', 'later':
+            outcome = run(line, checkout.top, checkout.environment())
+            is_right = (outcome.status, outcome.said) == (0, 'proved\n')
+            rows.say(f'./receiver {stream}, {when}', [] if is_right else [str(outcome)[-300:]])
+    for name in 'a b', "it's $(x) `y` \\", os.fsdecode(b'a\xffb'), '-x', 'a\nb', '\u00fc':
+        checkout = Checkout(folder, name)
+        checkout.add_rt('rattle-kit-1')
+        outcome = checkout.run('receiver')
+        rows.say(f'./receiver in {name!r}',
+                 [] if outcome.said == 'proved\n' else [str(outcome)[-300:]])
+    checkout = Checkout(folder, 'edited')
+    os.symlink('someone@there.1', checkout.at('crates/version/src/.#lib.rt'))
+    shutil.copy(checkout.at(LIBRARY), checkout.at(f'{LIBRARY}~'))
+    if shutil.which('cargo'):
+        rows.say("./receiver beside an editor's files", checkout.prints('1.0.1'))
+
+
+def environments(rows, folder):
+    """A program that is built starts in any environment, and soon."""
+    checkout = Checkout(folder)
+    checkout.add_rt('rattle-kit-1')
+    checkout.run('receiver')
+    evil = os.path.dirname(write(os.path.join(folder, 'evil', 'hashlib.py'), 'raise SystemExit(9)'))
+    for more in ({'PYTHONSAFEPATH': '1'}, {'PYTHONPATH': evil}, {'PYTHONHOME': '/nowhere'},
+                 {'PYTHONSTARTUP': '/nowhere'}, {'HOME': None}, {'TMPDIR': '/nowhere'},
+                 {'TMPDIR': os.path.join(folder, 'a b')}, {'CDPATH': folder},
+                 {'LC_ALL': 'C', 'PYTHONUTF8': '0'}, {'PYTHONWARNINGS': 'error'}):
+        outcome = checkout.run('receiver', **more)
+        is_silent = (outcome.status, outcome.said, outcome.errors) == (0, 'proved\n', '')
+        rows.say(f'./receiver with {more}', [] if is_silent else [str(outcome)[-300:]])
+    os.symlink(checkout.at('receiver'), os.path.join(folder, 'linked'))
+    outcome = run([os.path.join(folder, 'linked')], '/', checkout.environment())
+    rows.say('./receiver by a link', [] if outcome.said == 'proved\n' else [str(outcome)[-300:]])
+
+
+ROWS = (variables, by_content, failures, nothing_to_build_with, words, other_rt, the_kit,
+        odd_places, environments)

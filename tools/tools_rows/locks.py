@@ -1,0 +1,176 @@
+"""Rows of locks and signals: builds at once, builds that are killed, and what they leave."""
+import fcntl
+import os
+import signal
+import subprocess
+import time
+
+from .commands import write
+from .small_checkout import Checkout
+
+# The seconds in which what has to come soon comes.
+SOON = 10
+
+
+def until(holds, seconds=SOON):
+    """Waits until a condition holds. Gives whether it does."""
+    last = time.monotonic() + seconds
+    while not holds() and time.monotonic() < last:
+        time.sleep(0.05)
+    return holds()
+
+
+def is_alive(process):
+    """Whether a process runs, by its number."""
+    try:
+        with open(f'/proc/{process}/stat', encoding='utf-8') as file:
+            return file.read().rsplit(')', 1)[1].split()[0] != 'Z'
+    except OSError:
+        return False
+
+
+def rooms(checkout):
+    """The rooms of builds and of edits in a checkout."""
+    return sorted(it for it in os.listdir(checkout.at('.git'))
+                  if it.startswith(('crate-', 'edits-')))
+
+
+def with_kit(folder, waits):
+    """A small checkout with a kit, whose proofs wait where they should."""
+    checkout = Checkout(folder)
+    home = checkout.add_rt('rattle-kit-1')
+    if waits:
+        write(os.path.join(home, 'waits'), '')
+    return checkout, os.path.join(home, 'waits')
+
+
+def no_lock(rows, folder):
+    """A program that is built needs no lock, and who can only read the sources can hold none that a
+    build waits for."""
+    checkout, _ = with_kit(folder, False)
+    checkout.run('receiver')
+    held = [open(checkout.at(name), encoding='utf-8') for name in ('tools/build', 'out/lock')]
+    for file in held:
+        fcntl.flock(file, fcntl.LOCK_EX)
+    outcome = checkout.run('receiver', longest=SOON)
+    rows.say('./receiver, built, where others hold locks',
+             [] if outcome.said == 'proved\n' else [str(outcome)])
+    mode = os.stat(checkout.at('out/lock')).st_mode & 0o777
+    rows.say('the lock of a build', [f'its mode is {mode:o}'] * (mode != 0o600))
+    held.pop().close()
+    folders = [os.open(checkout.at(name), os.O_RDONLY) for name in ('.', 'out', 'tools', 'crates')]
+    for it in folders:
+        fcntl.flock(it, fcntl.LOCK_EX)
+    outcome = checkout.run('pack', longest=SOON)
+    rows.say('./pack, not built, where a reader holds locks of sources',
+             [] if outcome.said == 'proved\n' else [str(outcome)])
+    for it in folders:
+        os.close(it)
+    held.pop().close()
+
+
+def waiting(rows, folder):
+    """A build that waits for another says so at once, and goes on where that ends."""
+    checkout, waits = with_kit(folder, True)
+    first = checkout.start('receiver')
+    until(checkout.calls)
+    second = checkout.start('receiver')
+    said = second.stderr.readline()
+    faults = [f'it said {said!r}'] * ('waits' not in said or 'receiver' not in said)
+    os.remove(waits)
+    os.kill(int(checkout.calls()[0][0]), signal.SIGTERM)
+    first.communicate(timeout=SOON)
+    lines, _ = second.communicate(timeout=SOON)
+    faults += [f'it printed {lines!r}'] * (lines != 'proved\n')
+    rows.say('./receiver twice at once', faults)
+
+
+def end_of(rows, name, checkout, started, stop, is_room_gone):
+    """A row in which a build that has begun is ended, and its prover has to end too."""
+    until(lambda: len(checkout.calls()) > 0)
+    prover = int(checkout.calls()[-1][0])
+    stop()
+    faults = ['its prover goes on'] * (not until(lambda: not is_alive(prover)))
+    if is_alive(prover):
+        os.kill(prover, signal.SIGKILL)
+    try:
+        started.communicate(timeout=SOON)
+    except subprocess.TimeoutExpired:
+        started.kill()
+        faults.append('it goes on itself')
+    if is_room_gone:
+        faults += [f'{rooms(checkout)} stay'] * (not until(lambda: not rooms(checkout)))
+    rows.say(name, faults)
+
+
+def signals(rows, folder):
+    """A signal to a build ends all that it has started, and its rooms."""
+    for number in signal.SIGTERM, signal.SIGINT, signal.SIGHUP:
+        home = os.path.join(folder, str(int(number)))
+        checkout, _ = with_kit(home, True)
+        started = checkout.start('tools/build', 'receiver_cli', 'receiver')
+        end_of(rows, f'tools/build, {number.name}', checkout, started,
+               lambda: started.send_signal(number), True)
+        wrong = started.returncode != -number
+        rows.say(f'tools/build, {number.name}, its status',
+                 [f'it is {started.returncode}'] * wrong)
+    checkout, _ = with_kit(os.path.join(folder, 'shell'), True)
+    started = checkout.start('receiver')
+    end_of(rows, './receiver, SIGTERM to the script alone', checkout, started, started.terminate,
+           True)
+
+
+def signal_to_cargo(rows, folder):
+    """A signal to a build by cargo ends what cargo has started."""
+    checkout = Checkout(folder)
+    fake, note = os.path.join(folder, 'fake'), os.path.join(folder, 'number')
+    write(os.path.join(fake, 'rustc'), '#!/bin/sh\necho rustc 1.85.0\n', 0o755)
+    write(os.path.join(fake, 'cargo'), '#!/bin/sh\n[ "$1" = build ] || exit 0\n'
+          f'sleep 60 & echo $! > {note}.new; mv {note}.new {note}; wait\n', 0o755)
+    started = checkout.start('tools/build', 'receiver_cli', 'receiver',
+                             PATH=f'{fake}:{checkout.bare}:{os.defpath}')
+    faults = ['it has not begun'] * (not until(lambda: os.path.exists(note)))
+    started.terminate()
+    started.communicate(timeout=SOON)
+    with open(note, encoding='utf-8') as file:
+        child = int(file.read())
+    faults += ['it goes on'] * (not until(lambda: not is_alive(child)))
+    rows.say('tools/build by cargo, SIGTERM', faults)
+
+
+def killed(rows, folder):
+    """What a build leaves that is killed is cleared by the next one, and nothing else."""
+    checkout, waits = with_kit(folder, True)
+    started = checkout.start('tools/build', 'receiver_cli', 'receiver')
+    end_of(rows, 'tools/build, SIGKILL', checkout, started, started.kill, False)
+    os.makedirs(checkout.at('.git/edits-left/crates'))
+    for name in 'crate-locked', 'crate-used', 'objects':
+        os.makedirs(checkout.at(f'.git/{name}'))
+    os.makedirs(os.path.join(folder, 'outside', 'kept'))
+    os.symlink(os.path.join(folder, 'outside'), checkout.at('.git/crate-link'))
+    locked = os.open(checkout.at('.git/crate-locked'), os.O_RDONLY)
+    fcntl.flock(locked, fcntl.LOCK_EX)
+    os.makedirs(checkout.at('.git/crate-used/crates'))
+    using = subprocess.Popen(['sleep', '60'], cwd=checkout.at('.git/crate-used/crates'))
+    os.remove(waits)
+    outcome = checkout.run('receiver')
+    using.kill()
+    using.wait()
+    os.close(locked)
+    faults = [] if outcome.said == 'proved\n' else [str(outcome)]
+    wanted = ['crate-link', 'crate-locked', 'crate-used']
+    faults += [f'{rooms(checkout)} stay, not {wanted}'] * (rooms(checkout) != wanted)
+    faults += ['more is gone'] * (not os.path.isdir(checkout.at('.git/objects'))
+                                  or not os.path.isdir(os.path.join(folder, 'outside', 'kept')))
+    rows.say('./receiver after a build that was killed', faults)
+
+
+def without_git(rows, folder):
+    """A checkout that isn't git's is built too."""
+    checkout, _ = with_kit(folder, False)
+    os.rmdir(checkout.at('.git'))
+    outcome = checkout.run('receiver')
+    rows.say('./receiver of a tar file', [] if outcome.said == 'proved\n' else [str(outcome)])
+
+
+ROWS = (no_lock, waiting, signals, signal_to_cargo, killed, without_git)
