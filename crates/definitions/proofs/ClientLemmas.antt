@@ -2,7 +2,7 @@
 use Rattle.std.proofs.Common.{◌≡◌, ℕ, zero, suc, ◌+◌, ◌^◌, ◌<◌, ◌≤◌, List, [], ◌∷◌, ◌++◌, length}
 use Rattle.std.proofs.Common.{take, drop, refl, ap, ◌∙◌, sym, arith, true, false}
 use Rattle.std.specs.Prelude.{flat_map, map, nat_eq, Some, slice_get}
-use Rattle.std.specs.List.{AllByRecursion, range_with_len, enumerate_from, starts_with}
+use Rattle.std.specs.List.{range_with_len, enumerate_from, starts_with}
 use Rattle.std.specs.Fmt.{decimal}
 use Rattle.std.proofs.lemmas.Fmt.{decimal_injective}
 use Rattle.std.proofs.lemmas.List.Elements.{filter-append}
@@ -17,7 +17,8 @@ use Rattle.definitions.specs.Receiver.{for_each_client, lines_at, event_lines, a
 use Rattle.definitions.specs.Receiver.{lines_alone_at, body_lines, end_lines, full_lines, end_line}
 use Rattle.definitions.specs.Receiver.{alone, alone_to_end, at_each_time, timed_texts, event_texts}
 use Rattle.definitions.specs.Receiver.{answer_texts}
-use Rattle.definitions.proofs.VerbLemmas.{NoSpace, decimal-word}
+use Rattle.definitions.proofs.MarkLemmas.{Without, IsOther}
+use Rattle.definitions.proofs.VerbLemmas.{decimal-word}
 
 same : (n : ℕ) → nat_eq n n ≡ true
 same n = true_from_ne_false (nat_eq n n) (λ e. eqb-false n n e refl)
@@ -48,9 +49,9 @@ drop-own : (w line : List ℕ) → drop (length (w ++ 32 ∷ [])) (w ++ 32 ∷ l
 drop-own [] line = refl
 drop-own (b ∷ w) line = drop-own w line
 
-begins-other : (w v line : List ℕ) → AllByRecursion NoSpace w → AllByRecursion NoSpace v
+begins-other : (w v line : List ℕ) → Without 32 w → Without 32 v
     → starts_with nat_eq (v ++ 32 ∷ line) (w ++ 32 ∷ []) ≡ true → w ≡ v
-unfolding NoSpace
+unfolding Without IsOther
 begins-other [] [] line hw hv e = refl
 begins-other [] (b ∷ v) line hw hv e =
     absurd (spaced (eqb-true 32 b (and_parts (nat_eq 32 b) _ e).0) hv.0)

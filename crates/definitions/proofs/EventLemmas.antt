@@ -61,7 +61,7 @@ all-at P (y ∷ ys) all zero x there = let it : y ≡ x = cc in rw (sym it) all.
 all-at P (y ∷ ys) all (suc i) x there = all-at P ys all.1 i x there
 
 -- ---- an acquisition
-named : (settings : Settings) (xs : List Sample) (plan : Plan) (start : ℕ)
+pub named : (settings : Settings) (xs : List Sample) (plan : Plan) (start : ℕ)
     → (cell : ℕ) × IsNamed settings xs plan start cell (result_of settings plan xs start)
 unfolding result_of named_cell
 named settings xs plan start =

@@ -6,6 +6,7 @@ pub mod ClientLemmas
 pub mod LifeLemmas
 pub mod SlotLemmas
 pub mod FrameLemmas
+pub mod MarkLemmas
 pub mod LineLemmas
 pub mod TextLemmas
 pub mod RunLemmas

@@ -1,13 +1,13 @@
 -- No line that is written has a line feed in it, so the lines of the text are the lines that were
 -- put into it.
-use Rattle.std.proofs.Common.{◌≡◌, ℕ, suc, zero, ◌+◌, ◌/◌, ◌%◌, List, ◌∷◌, [], ◌++◌, length, take}
-use Rattle.std.proofs.Common.{refl, arith, ap, ◌∙◌, true, false}
-use Rattle.std.specs.Prelude.{Bool, ℤ, pos, negsuc, nat_eq, nat_lt, not, map, flat_map, codes}
+use Rattle.std.proofs.Common.{inl, ◌≡◌, ℕ, ◌+◌, List, ◌∷◌, [], ◌++◌, length, take}
+use Rattle.std.proofs.Common.{refl, arith, ap, ◌∙◌, true}
+use Rattle.std.specs.Prelude.{Bool, ℤ, nat_eq, map, flat_map, codes}
 use Rattle.std.specs.Prelude.{Option, Some, None, Result, Ok, Err, if◌then◌else◌}
 use Rattle.std.specs.List.{AllByRecursion, list_all, range_with_len, enumerate_from}
-use Rattle.std.specs.Fmt.{decimal, signed_decimal, digits, digits_onto, digit_glyph}
+use Rattle.std.specs.Fmt.{decimal, signed_decimal, digits}
 use Rattle.std.specs.Int.{bytes_high_first}
-use Rattle.std.proofs.lemmas.Bool.{ne_eqb, and_parts, not-true}
+use Rattle.std.proofs.lemmas.Bool.{and_parts}
 use Rattle.std.proofs.lemmas.List.{append_assoc}
 use Rattle.definitions.specs.Sums.{natural}
 use Rattle.definitions.specs.Samples.{Sample}
@@ -30,237 +30,175 @@ use Rattle.definitions.specs.Texts.{view_text, refusal_text, answer_text, at_tim
 use Rattle.definitions.specs.Receiver.{Client, entries_of, event_texts, slot_event_texts}
 use Rattle.definitions.specs.Receiver.{answer_texts, entry_answer_texts, reply_text, at_each_time}
 use Rattle.definitions.specs.Receiver.{timed_texts, for_each_client, lines_at, event_lines}
+use Rattle.definitions.proofs.MarkLemmas.{IsMark, IsOther, Without, is_without, all-append}
+use Rattle.definitions.proofs.MarkLemmas.{all-flat_map, by_if, written, without-append}
+use Rattle.definitions.proofs.MarkLemmas.{decimal-without, signed-without, hex-without, first-piece}
 use Rattle.definitions.specs.Receiver.{answer_lines, body_lines, end_lines, full_lines, end_line}
 
 -- ---- lists
 
-module _ {A : Type 0} (P : A → Type 0) where
-  all-append : (xs ys : List A) → AllByRecursion P xs → AllByRecursion P ys
-      → AllByRecursion P (xs ++ ys)
-  all-append [] ys hx hy = hy
-  all-append (x ∷ xs) ys hx hy = (hx.0, all-append xs ys hx.1 hy)
-
-  all-map : {B : Type 0} (f : B → A) (xs : List B) → ((x : B) → P (f x))
-      → AllByRecursion P (map f xs)
-  all-map f [] h = tt
-  all-map f (x ∷ xs) h = (h x, all-map f xs h)
-
-  all-flat_map : {B : Type 0} (f : B → List A) (xs : List B) → ((x : B) → AllByRecursion P (f x))
-      → AllByRecursion P (flat_map f xs)
-  all-flat_map f [] h = tt
-  all-flat_map f (x ∷ xs) h = all-append (f x) (flat_map f xs) (h x) (all-flat_map f xs h)
-
-  by_if : (b : Bool) (x y : A) → P x → P y → P (if b then x else y)
-  by_if true x y hx hy = hx
-  by_if false x y hx hy = hy
+all-map : {A B : Type 0} (P : A → Type 0) (f : B → A) (xs : List B) → ((x : B) → P (f x))
+    → AllByRecursion P (map f xs)
+all-map P f [] h = tt
+all-map P f (x ∷ xs) h = (h x, all-map P f xs h)
 
 -- ---- texts of one line
 
-pub NoFeed : ℕ → Type 0
-NoFeed b = nat_eq b 10 ≡ false
+abbrev OneLine : List ℕ → Type 0
+OneLine text = Without 10 text
 
-pub OneLine : List ℕ → Type 0
-OneLine text = AllByRecursion NoFeed text
-
-pub OneLines : List (List ℕ) → Type 0
+abbrev OneLines : List (List ℕ) → Type 0
 OneLines lines = AllByRecursion OneLine lines
 
-abbrev no_feed : ℕ → Bool
-no_feed b = not (nat_eq b 10)
-
--- a text that is written out
-written : (text : List ℕ) → list_all no_feed text ≡ true → OneLine text
-unfolding OneLine NoFeed
-written [] e = tt
-written (b ∷ text) e =
-    let both = and_parts (no_feed b) (list_all no_feed text) e in
-    (not-true (nat_eq b 10) both.0, written text both.1)
-
-line-append : (s t : List ℕ) → OneLine s → OneLine t → OneLine (s ++ t)
-unfolding OneLine
-line-append s t hs ht = all-append NoFeed s t hs ht
-
-glyph : (d : ℕ) → NoFeed (digit_glyph false d)
-unfolding NoFeed
-glyph d = by_test (nat_lt d 10) d
-  where
-    by_test : (b : Bool) (d : ℕ) → nat_eq (if b then 48 + d else 87 + d) 10 ≡ false
-    by_test true d = ne_eqb (48 + d) 10 (λ e. omega (arith, e))
-    by_test false d = ne_eqb (87 + d) 10 (λ e. omega (arith, e))
-
-onto-line : (k n : ℕ) (acc : List ℕ) → OneLine acc → OneLine (digits_onto k 10 false n acc)
-unfolding OneLine
-onto-line zero n acc h = h
-onto-line (suc k) n acc h =
-    by_if OneLine (nat_eq (n / 10) 0) (digit_glyph false (n % 10) ∷ acc)
-    (digits_onto k 10 false (n / 10) (digit_glyph false (n % 10) ∷ acc)) (glyph (n % 10), h)
-    (onto-line k (n / 10) (digit_glyph false (n % 10) ∷ acc) (glyph (n % 10), h))
-
-decimal-line : (n : ℕ) → OneLine (decimal n)
-unfolding digits OneLine
-decimal-line n = onto-line 64 n [] tt
-
-signed-line : (z : ℤ) → OneLine (signed_decimal z)
-unfolding OneLine NoFeed
-signed-line (pos n) = decimal-line n
-signed-line (negsuc n) = (refl, decimal-line (suc n))
+feed : IsMark 10
+feed = inl (omega arith)
 
 spaced-line : (words : List (List ℕ)) → OneLines words → OneLine (words_text words)
-unfolding OneLine OneLines NoFeed
+unfolding Without IsOther
 spaced-line [] h = tt
 spaced-line (w ∷ []) h = h.0
 spaced-line (w ∷ v ∷ words) h =
-    all-append NoFeed w (32 ∷ words_text (v ∷ words)) h.0 (refl, spaced-line (v ∷ words) h.1)
-
-hex-line : (bytes : List ℕ) → OneLine (hex_of_bytes bytes)
-unfolding OneLine
-hex-line bytes =
-    all-flat_map NoFeed (λ b. digit_glyph false (b / 16) ∷ digit_glyph false (b % 16) ∷ []) bytes
-    (λ b. (glyph (b / 16), (glyph (b % 16), tt)))
+    all-append (IsOther 10) w (32 ∷ words_text (v ∷ words)) h.0 (refl, spaced-line (v ∷ words) h.1)
 
 word-line : (word : Option ℕ) → OneLine (word_text word)
-word-line None = written (codes "------") refl
-word-line (Some word) = hex-line (bytes_high_first 3 word)
+word-line None = written 10 (codes "------") refl
+word-line (Some word) = hex-without 10 feed (bytes_high_first 3 word)
 
 field-line : (f : Field) (value : ℤ) → OneLine f.name → OneLine (field_text f value)
 field-line f value h =
     let equals : OneLine (f.name ++ codes "=") =
-    line-append f.name (codes "=") h (written (codes "=") refl) in
+    without-append 10 f.name (codes "=") h (written 10 (codes "=") refl) in
     let valued : OneLine (f.name ++ codes "=" ++ signed_decimal value) =
-    line-append (f.name ++ codes "=") (signed_decimal value) equals (signed-line value) in
+    without-append 10 (f.name ++ codes "=") (signed_decimal value) equals (signed-without 10 feed value) in
     let colon : OneLine (f.name ++ codes "=" ++ signed_decimal value ++ codes ":") =
-    line-append (f.name ++ codes "=" ++ signed_decimal value) (codes ":") valued
-    (written (codes ":") refl) in
-    line-append (f.name ++ codes "=" ++ signed_decimal value ++ codes ":")
-    (signed_decimal f.exponent) colon (signed-line f.exponent)
+    without-append 10 (f.name ++ codes "=" ++ signed_decimal value) (codes ":") valued
+    (written 10 (codes ":") refl) in
+    without-append 10 (f.name ++ codes "=" ++ signed_decimal value ++ codes ":")
+    (signed_decimal f.exponent) colon (signed-without 10 feed f.exponent)
 
 -- the names in the tables
 abbrev have_names : List Field → Bool
-have_names fields = list_all (λ (f : Field). list_all no_feed f.name) fields
+have_names fields = list_all (λ (f : Field). is_without 10 f.name) fields
 
 fields-lines : (fields : List Field) (values : List ℤ) → have_names fields ≡ true
     → OneLines (field_texts fields values)
-unfolding OneLines
 fields-lines [] values e = tt
 fields-lines (f ∷ fields) [] e = tt
 fields-lines (f ∷ fields) (v ∷ values) e =
-    let both = and_parts (list_all no_feed f.name) (have_names fields) e in
-    (field-line f v (written f.name both.0), fields-lines fields values both.1)
+    let both = and_parts (is_without 10 f.name) (have_names fields) e in
+    (field-line f v (written 10 f.name both.0), fields-lines fields values both.1)
 
 -- a text of words, the second of them a number
 named-line : (name : List ℕ) (slot : ℕ) (words : List (List ℕ)) → OneLine name → OneLines words
     → OneLine (words_text (name ∷ decimal slot ∷ words))
-unfolding OneLines
 named-line name slot words h ws =
-    spaced-line (name ∷ decimal slot ∷ words) (h, (decimal-line slot, ws))
+    spaced-line (name ∷ decimal slot ∷ words) (h, (decimal-without 10 feed slot, ws))
 
 kind-line : (slot : ℕ) (kind : Kind) (values : List ℤ)
     → OneLine (page_text slot (record { kind = kind; values = values }))
-unfolding page_text digits OneLine OneLines
+unfolding page_text digits Without
 kind-line slot clock values = tt
 kind-line slot eph2 values = tt
 kind-line slot eph3 values = tt
 kind-line slot almanac values =
     named-line (codes "alm") slot (field_texts (fields_of almanac) values)
-    (written (codes "alm") refl) (fields-lines (fields_of almanac) values refl)
+    (written 10 (codes "alm") refl) (fields-lines (fields_of almanac) values refl)
 kind-line slot utc values =
-    named-line (codes "utc") slot (field_texts (fields_of utc) values) (written (codes "utc") refl)
+    named-line (codes "utc") slot (field_texts (fields_of utc) values) (written 10 (codes "utc") refl)
     (fields-lines (fields_of utc) values refl)
 kind-line slot health values =
     named-line (codes "hlt") slot (field_texts (fields_of health) values)
-    (written (codes "hlt") refl) (fields-lines (fields_of health) values refl)
+    (written 10 (codes "hlt") refl) (fields-lines (fields_of health) values refl)
 kind-line slot message values =
     named-line (codes "msg") slot (hex_of_bytes (map natural values) ∷ [])
-    (written (codes "msg") refl) (hex-line (map natural values), tt)
+    (written 10 (codes "msg") refl) (hex-without 10 feed (map natural values), tt)
 
 report-line : (slot : ℕ) (report : Report) → OneLine (report_text slot report)
 report-line slot (ephemeris values) =
     named-line (codes "eph") slot (field_texts (clock_fields ++ eph2_fields ++ eph3_fields) values)
-    (written (codes "eph") refl)
+    (written 10 (codes "eph") refl)
     (fields-lines (clock_fields ++ eph2_fields ++ eph3_fields) values refl)
 report-line slot (single page) = kind-line slot page.kind page.values
 
 almanacs-line : (slot : ℕ) (set : AlmanacSet) → OneLine (almanacs_text slot set)
-unfolding OneLines
 almanacs-line slot set =
     named-line (codes "als") slot
     ((codes "toa=" ++ signed_decimal set.toa ++ codes ":12") ∷ map signed_decimal set.health)
-    (written (codes "als") refl) (
-      line-append (codes "toa=" ++ signed_decimal set.toa) (codes ":12")
-          (line-append (codes "toa=") (signed_decimal set.toa) (written (codes "toa=") refl)
-          (signed-line set.toa)) (written (codes ":12") refl),
-      all-map OneLine signed_decimal set.health signed-line,
+    (written 10 (codes "als") refl) (
+      without-append 10 (codes "toa=" ++ signed_decimal set.toa) (codes ":12")
+          (without-append 10 (codes "toa=") (signed_decimal set.toa) (written 10 (codes "toa=") refl)
+          (signed-without 10 feed set.toa)) (written 10 (codes ":12") refl),
+      all-map OneLine signed_decimal set.health (signed-without 10 feed),
     )
 
 -- what a slot emits, whatever it is
 pub event-line : (slot : ℕ) (event : Event) → OneLine (event_text slot event)
-unfolding event_text OneLines
+unfolding event_text
 event-line slot (acquired prn cell) =
     named-line (codes "acq") slot
     (decimal prn ∷ (if cell.found then codes "found" else codes "none") ∷ signed_decimal
     cell.bin ∷ decimal cell.half_chip ∷ decimal cell.power ∷ [])
-    (written (codes "acq") refl) (
-      decimal-line prn,
+    (written 10 (codes "acq") refl) (
+      decimal-without 10 feed prn,
       (
-        by_if OneLine cell.found (codes "found") (codes "none") (written (codes "found") refl)
-            (written (codes "none") refl),
-        (signed-line cell.bin, (decimal-line cell.half_chip, (decimal-line cell.power, tt))),
+        by_if OneLine cell.found (codes "found") (codes "none") (written 10 (codes "found") refl)
+            (written 10 (codes "none") refl),
+        (signed-without 10 feed cell.bin, (decimal-without 10 feed cell.half_chip, (decimal-without 10 feed cell.power, tt))),
       ),
     )
 event-line slot (count c) =
-    named-line (codes "count") slot (counts_texts c) (written (codes "count") refl)
-    (all-map OneLine signed_decimal (c.ie ∷ c.qe ∷ c.ip ∷ c.qp ∷ c.il ∷ c.ql ∷ []) signed-line)
-event-line slot locked = named-line (codes "lock") slot [] (written (codes "lock") refl) tt
-event-line slot unlocked = named-line (codes "unlock") slot [] (written (codes "unlock") refl) tt
-event-line slot signal_lost = named-line (codes "lost") slot [] (written (codes "lost") refl) tt
-event-line slot edge = named-line (codes "bits") slot [] (written (codes "bits") refl) tt
+    named-line (codes "count") slot (counts_texts c) (written 10 (codes "count") refl)
+    (all-map OneLine signed_decimal (c.ie ∷ c.qe ∷ c.ip ∷ c.qp ∷ c.il ∷ c.ql ∷ []) (signed-without 10 feed))
+event-line slot locked = named-line (codes "lock") slot [] (written 10 (codes "lock") refl) tt
+event-line slot unlocked = named-line (codes "unlock") slot [] (written 10 (codes "unlock") refl) tt
+event-line slot signal_lost = named-line (codes "lost") slot [] (written 10 (codes "lost") refl) tt
+event-line slot edge = named-line (codes "bits") slot [] (written 10 (codes "bits") refl) tt
 event-line slot (gap n) =
-    named-line (codes "gap") slot (decimal n ∷ []) (written (codes "gap") refl) (decimal-line n, tt)
+    named-line (codes "gap") slot (decimal n ∷ []) (written 10 (codes "gap") refl) (decimal-without 10 feed n, tt)
 event-line slot (subframe s) =
     named-line (codes "sub") slot (decimal (id_of s) ∷ decimal (tow_of s) ∷ map word_text s.words)
-    (written (codes "sub") refl) (
-      decimal-line (id_of s),
-      (decimal-line (tow_of s), all-map OneLine word_text s.words word-line),
+    (written 10 (codes "sub") refl) (
+      decimal-without 10 feed (id_of s),
+      (decimal-without 10 feed (tow_of s), all-map OneLine word_text s.words word-line),
     )
 event-line slot (reported r) = report-line slot r
 event-line slot (almanacs set) = almanacs-line slot set
 
 view-line : (slot : ℕ) (view : View) → OneLine (view_text slot view)
-unfolding OneLines
 view-line slot idle =
-    named-line (codes "state") slot (codes "idle" ∷ []) (written (codes "state") refl)
-    (written (codes "idle") refl, tt)
+    named-line (codes "state") slot (codes "idle" ∷ []) (written 10 (codes "state") refl)
+    (written 10 (codes "idle") refl, tt)
 view-line slot (acquiring prn done cells) =
     named-line (codes "state") slot
     (codes "acquire" ∷ decimal prn ∷ decimal done ∷ decimal cells ∷ [])
-    (written (codes "state") refl) (
-      written (codes "acquire") refl,
-      (decimal-line prn, (decimal-line done, (decimal-line cells, tt))),
+    (written 10 (codes "state") refl) (
+      written 10 (codes "acquire") refl,
+      (decimal-without 10 feed prn, (decimal-without 10 feed done, (decimal-without 10 feed cells, tt))),
     )
 view-line slot (holding prn dumps) =
     named-line (codes "state") slot (codes "hold" ∷ decimal prn ∷ decimal dumps ∷ [])
-    (written (codes "state") refl)
-    (written (codes "hold") refl, (decimal-line prn, (decimal-line dumps, tt)))
+    (written 10 (codes "state") refl)
+    (written 10 (codes "hold") refl, (decimal-without 10 feed prn, (decimal-without 10 feed dumps, tt)))
 view-line slot (tracking prn dumps shift is_locked has_edge) =
     named-line (codes "state") slot
     (codes "track" ∷ decimal prn ∷ decimal dumps ∷ signed_decimal shift.v ∷ signed_decimal
     shift.w ∷ (if has_edge then codes "bits" else if is_locked then codes "lock" else codes
-    "open") ∷ []) (written (codes "state") refl) (
-      written (codes "track") refl,
+    "open") ∷ []) (written 10 (codes "state") refl) (
+      written 10 (codes "track") refl,
       (
-        decimal-line prn,
+        decimal-without 10 feed prn,
         (
-          decimal-line dumps,
+          decimal-without 10 feed dumps,
           (
-            signed-line shift.v,
+            signed-without 10 feed shift.v,
             (
-              signed-line shift.w,
+              signed-without 10 feed shift.w,
               (
                 by_if OneLine has_edge (codes "bits")
                     (if is_locked then codes "lock" else codes "open")
-                    (written (codes "bits") refl)
+                    (written 10 (codes "bits") refl)
                     (by_if OneLine is_locked (codes "lock") (codes "open")
-                    (written (codes "lock") refl) (written (codes "open") refl)),
+                    (written 10 (codes "lock") refl) (written 10 (codes "open") refl)),
                 tt,
               ),
             ),
@@ -270,29 +208,27 @@ view-line slot (tracking prn dumps shift is_locked has_edge) =
     )
 
 refusal-line : (n : ℕ) → OneLine (refusal_text n)
-unfolding OneLines
 refusal-line n =
-    spaced-line (codes "err" ∷ decimal n ∷ []) (written (codes "err") refl, (decimal-line n, tt))
+    spaced-line (codes "err" ∷ decimal n ∷ []) (written 10 (codes "err") refl, (decimal-without 10 feed n, tt))
 
 answer-line : (slot : ℕ) (answer : Answer) → OneLine (answer_text slot answer)
 unfolding answer_text
-answer-line slot accepted = written (codes "ok") refl
+answer-line slot accepted = written 10 (codes "ok") refl
 answer-line slot (refused n) = refusal-line n
 answer-line slot (shown view) = view-line slot view
 
 -- ---- all lines of a receiver
 
 timed-line : (time : ℕ) (text : List ℕ) → OneLine text → OneLine (at_time time text)
-unfolding OneLine NoFeed
-timed-line time text h = line-append (decimal time) (32 ∷ text) (decimal-line time) (refl, h)
+unfolding Without IsOther
+timed-line time text h = without-append 10 (decimal time) (32 ∷ text) (decimal-without 10 feed time) (refl, h)
 
 client-line : (client : ℕ) (line : List ℕ) → OneLine line → OneLine (for_client client line)
-unfolding OneLine NoFeed
-client-line client line h = line-append (decimal client) (32 ∷ line) (decimal-line client) (refl, h)
+unfolding Without IsOther
+client-line client line h = without-append 10 (decimal client) (32 ∷ line) (decimal-without 10 feed client) (refl, h)
 
 map-lines : (f : List ℕ → List ℕ) (lines : List (List ℕ))
     → ((line : List ℕ) → OneLine line → OneLine (f line)) → OneLines lines → OneLines (map f lines)
-unfolding OneLines
 map-lines f [] keeps h = tt
 map-lines f (l ∷ ls) keeps h = (keeps l h.0, map-lines f ls keeps h.1)
 
@@ -303,7 +239,7 @@ reply-line settings xs before (Err refusal) = refusal-line refusal
 
 told-lines : (settings : Settings) (client : Client) (xs : List Sample)
     → OneLines (event_texts settings client xs)
-unfolding event_texts OneLines
+unfolding event_texts
 told-lines settings client xs =
     all-flat_map OneLine (slot_event_texts settings xs (entries_of client))
     (range_with_len 0 client.slots)
@@ -311,7 +247,7 @@ told-lines settings client xs =
 
 answered-lines : (settings : Settings) (client : Client) (xs : List Sample)
     → OneLines (answer_texts settings client xs)
-unfolding answer_texts OneLines
+unfolding answer_texts
 answered-lines settings client xs =
     all-flat_map OneLine (entry_answer_texts settings xs (entries_of client))
     (enumerate_from 0 (entries_of client))
@@ -325,7 +261,7 @@ timed-lines xs texts h = map-lines (at_time (length xs)) texts (timed-line (leng
 
 each-lines : (lines : Client → List (List ℕ)) (clients : List Client)
     → ((client : Client) → OneLines (lines client)) → OneLines (for_each_client lines clients)
-unfolding for_each_client OneLines
+unfolding for_each_client
 each-lines lines clients h =
     all-flat_map OneLine (λ (p : ℕ × Client). map (for_client p.0) (lines p.1))
     (enumerate_from 1 clients)
@@ -333,7 +269,7 @@ each-lines lines clients h =
 
 pub body-lines : (settings : Settings) (xs : List Sample)
     (clients : List Client) → OneLines (body_lines settings xs clients)
-unfolding body_lines at_each_time lines_at event_lines answer_lines OneLines
+unfolding body_lines at_each_time lines_at event_lines answer_lines
 body-lines settings xs clients =
     all-flat_map OneLine (λ t. lines_at settings clients (take t xs))
     (range_with_len 0 (length xs + 1))
@@ -354,25 +290,19 @@ body-lines settings xs clients =
 
 pub full-lines : (settings : Settings) (xs : List Sample)
     (clients : List Client) → OneLines (full_lines settings xs clients)
-unfolding full_lines end_lines OneLines
+unfolding full_lines end_lines
 full-lines settings xs clients =
     all-append OneLine (body_lines settings xs clients) (end_lines xs clients)
     (body-lines settings xs clients)
     (each-lines (λ client. end_line xs ∷ []) clients
-    (λ client. (timed-line (length xs) (codes "end") (written (codes "end") refl), tt)))
+    (λ client. (timed-line (length xs) (codes "end") (written 10 (codes "end") refl), tt)))
 
 -- ---- the lines of a text
 
-first-line : (line rest : List ℕ) → OneLine line
-    → pieces_ended_by 10 (line ++ 10 ∷ rest) ≡ line ∷ pieces_ended_by 10 rest
-unfolding pieces_ended_by OneLine NoFeed
-first-line [] rest h = refl
-first-line (b ∷ line) rest h = rw (h.0, first-line line rest h.1) refl
-
 -- lines without line feeds, as bytes, are found again
 pub lines-as_bytes : (lines : List (List ℕ)) → OneLines lines → lines_of (as_bytes lines) ≡ lines
-unfolding as_bytes OneLines pieces_ended_by
+unfolding as_bytes pieces_ended_by
 lines-as_bytes [] h = refl
 lines-as_bytes (l ∷ ls) h =
     ap lines_of (append_assoc l (10 ∷ []) (flat_map ended_line ls))
-    ∙ first-line l (flat_map ended_line ls) h.0 ∙ ap (λ r. l ∷ r) (lines-as_bytes ls h.1)
+    ∙ first-piece 10 l (flat_map ended_line ls) h.0 ∙ ap (λ r. l ∷ r) (lines-as_bytes ls h.1)

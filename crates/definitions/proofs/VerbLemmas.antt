@@ -1,11 +1,10 @@
 -- The verb of a line says which event, answer or end it is.
-use Rattle.std.proofs.Common.{inl, inr, ◌≡◌, ℕ, zero, suc, ◌+◌, ◌/◌, ◌%◌, List, [], ◌∷◌, ◌++◌}
+use Rattle.std.proofs.Common.{inl, inr, ◌≡◌, ℕ, zero, suc, ◌/◌, ◌%◌, List, [], ◌∷◌, ◌++◌}
 use Rattle.std.proofs.Common.{length, refl, ap, ◌∙◌, arith}
-use Rattle.std.specs.Prelude.{Bool, true, false, not, nat_eq, nat_lt, slice_get, if◌then◌else◌}
+use Rattle.std.specs.Prelude.{true, false, nat_eq, slice_get}
 use Rattle.std.specs.Prelude.{Option, Some, None, Result, Ok, Err, codes, ◌⊎◌, ℤ}
-use Rattle.std.specs.List.{AllByRecursion, list_all}
 use Rattle.std.specs.Fmt.{decimal, digits, digits_onto, digit_glyph}
-use Rattle.std.proofs.lemmas.Bool.{ne_eqb, and_parts, not-true}
+use Rattle.std.proofs.lemmas.Bool.{ne_eqb}
 use Rattle.definitions.specs.Samples.{Sample}
 use Rattle.definitions.specs.Oscillators.{Settings}
 use Rattle.definitions.specs.Commands.{Command}
@@ -21,85 +20,53 @@ use Rattle.definitions.specs.Texts.{event_text, page_text, view_text, refusal_te
 use Rattle.definitions.specs.Texts.{at_time, for_client}
 use Rattle.definitions.specs.Receiver.{reply_text, end_line}
 use Rattle.definitions.specs.PrintedLaws.{verb_of}
+use Rattle.definitions.proofs.MarkLemmas.{IsMark, Without, is_without, written, by_if, first-piece}
+use Rattle.definitions.proofs.MarkLemmas.{last-piece, decimal-without}
 
 -- ---- words
-
-unfoldable pub NoSpace : ℕ → Type 0
-NoSpace b = nat_eq b 32 ≡ false
 
 -- a word: one byte or more, none of them a space
 pub record IsWord (w : List ℕ) : Type 0 where
   pub some : nat_eq (length w) 0 ≡ false
-  pub whole : AllByRecursion NoSpace w
+  pub whole : Without 32 w
 
-abbrev is_word : List ℕ → Bool
-is_word w = list_all (λ b. not (nat_eq b 32)) w
+space : IsMark 32
+space = inl (omega arith)
 
-written : (w : List ℕ) → is_word w ≡ true → AllByRecursion NoSpace w
-unfolding NoSpace
-written [] e = tt
-written (b ∷ w) e =
-    let both = and_parts (not (nat_eq b 32)) (is_word w) e in
-    (not-true (nat_eq b 32) both.0, written w both.1)
+pub word : (w : List ℕ) → nat_eq (length w) 0 ≡ false → is_without 32 w ≡ true → IsWord w
+word w some e = record { some = some; whole = written 32 w e }
 
-word : (w : List ℕ) → nat_eq (length w) 0 ≡ false → is_word w ≡ true → IsWord w
-word w some e = record { some = some; whole = written w e }
+pub first-word : (w rest : List ℕ) → IsWord w → words_of (w ++ 32 ∷ rest) ≡ w ∷ words_of rest
+first-word w rest is = rw (first-piece 32 w rest is.whole, is.some) refl
 
-first-piece : (w rest : List ℕ) → AllByRecursion NoSpace w
-    → pieces_ended_by 32 (w ++ 32 ∷ rest) ≡ w ∷ pieces_ended_by 32 rest
-unfolding pieces_ended_by NoSpace
-first-piece [] rest h = refl
-first-piece (b ∷ w) rest h = rw (h.0, first-piece w rest h.1) refl
-
-last-piece : (b : ℕ) (w : List ℕ) → AllByRecursion NoSpace (b ∷ w)
-    → pieces_ended_by 32 (b ∷ w) ≡ (b ∷ w) ∷ []
-unfolding pieces_ended_by NoSpace
-last-piece b [] h = rw h.0 refl
-last-piece b (c ∷ w) h = rw (h.0, last-piece c w h.1) refl
-
-first-word : (w rest : List ℕ) → IsWord w → words_of (w ++ 32 ∷ rest) ≡ w ∷ words_of rest
-first-word w rest is = rw (first-piece w rest is.whole, is.some) refl
-
-only-word : (w : List ℕ) → IsWord w → words_of w ≡ w ∷ []
+pub only-word : (w : List ℕ) → IsWord w → words_of w ≡ w ∷ []
 only-word [] is = absurd (clash is.some)
   where
     clash : true ≡ false → ⊥
     clash e = cc
-only-word (b ∷ w) is = rw (last-piece b w is.whole, is.some) refl
+only-word (b ∷ w) is = rw (last-piece 32 b w is.whole, is.some) refl
 
 -- ---- a number is a word
-glyph : (d : ℕ) → NoSpace (digit_glyph false d)
-unfolding NoSpace
-glyph d = by_test (nat_lt d 10) d
-  where
-    by_test : (b : Bool) (d : ℕ) → nat_eq (if b then 48 + d else 87 + d) 32 ≡ false
-    by_test true d = ne_eqb (48 + d) 32 (λ e. omega (arith, e))
-    by_test false d = ne_eqb (87 + d) 32 (λ e. omega (arith, e))
-
-some-cons : (b : ℕ) (w : List ℕ) → AllByRecursion NoSpace (b ∷ w) → IsWord (b ∷ w)
-some-cons b w all = record { some = ne_eqb (suc (length w)) 0 (λ e. omega (arith, e)); whole = all }
-
-by_if : (b : Bool) (x y : List ℕ) → IsWord x → IsWord y → IsWord (if b then x else y)
-by_if true x y hx hy = hx
-by_if false x y hx hy = hy
-
-onto-word : (k n : ℕ) (acc : List ℕ) → IsWord acc → IsWord (digits_onto k 10 false n acc)
-onto-word zero n acc is = is
-onto-word (suc k) n acc is =
-    let more : IsWord (digit_glyph false (n % 10) ∷ acc) =
-    some-cons (digit_glyph false (n % 10)) acc (glyph (n % 10), is.whole) in
-    by_if (nat_eq (n / 10) 0) (digit_glyph false (n % 10) ∷ acc)
-    (digits_onto k 10 false (n / 10) (digit_glyph false (n % 10) ∷ acc)) more
-    (onto-word k (n / 10) (digit_glyph false (n % 10) ∷ acc) more)
+onto-some : (k n : ℕ) (acc : List ℕ) → nat_eq (length acc) 0 ≡ false
+    → nat_eq (length (digits_onto k 10 false n acc)) 0 ≡ false
+onto-some zero n acc some = some
+onto-some (suc k) n acc some =
+    by_if (λ (w : List ℕ). nat_eq (length w) 0 ≡ false) (nat_eq (n / 10) 0)
+    (digit_glyph false (n % 10) ∷ acc)
+    (digits_onto k 10 false (n / 10) (digit_glyph false (n % 10) ∷ acc))
+    (ne_eqb (suc (length acc)) 0 (λ e. omega (arith, e)))
+    (onto-some k (n / 10) (digit_glyph false (n % 10) ∷ acc)
+    (ne_eqb (suc (length acc)) 0 (λ e. omega (arith, e))))
 
 pub decimal-word : (n : ℕ) → IsWord (decimal n)
 unfolding digits
-decimal-word n =
-    let first : IsWord (digit_glyph false (n % 10) ∷ []) =
-    some-cons (digit_glyph false (n % 10)) [] (glyph (n % 10), tt) in
-    by_if (nat_eq (n / 10) 0) (digit_glyph false (n % 10) ∷ [])
-    (digits_onto 63 10 false (n / 10) (digit_glyph false (n % 10) ∷ [])) first
-    (onto-word 63 (n / 10) (digit_glyph false (n % 10) ∷ []) first)
+decimal-word n = record {
+  some = by_if (λ (w : List ℕ). nat_eq (length w) 0 ≡ false) (nat_eq (n / 10) 0)
+      (digit_glyph false (n % 10) ∷ [])
+      (digits_onto 63 10 false (n / 10) (digit_glyph false (n % 10) ∷ [])) refl
+      (onto-some 63 (n / 10) (digit_glyph false (n % 10) ∷ []) refl);
+  whole = decimal-without 32 space n;
+}
 
 -- ---- the verb of a line
 words-of-line : (n t : ℕ) (text : List ℕ)

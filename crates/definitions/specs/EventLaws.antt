@@ -1,17 +1,17 @@
 -- What holds of the events that a slot emits, by what the definitions make of the samples and
 -- commands so far. Each law is promised by a function of the same name in this crate. (This
 -- project's own.)
-use Rattle.std.specs.Prelude.{ℕ, ◌≡◌, ◌+◌, ◌-◌, ◌*◌, ◌^◌, ◌<◌, ◌≤◌, ◌↔◌, Bool, true, false}
-use Rattle.std.specs.Prelude.{ℤ, pos, List, [], ◌++◌, map, sum, length, slice_get, Some}
+use Rattle.std.specs.Prelude.{ℕ, ◌≡◌, ◌+◌, ◌-◌, ◌*◌, ◌<◌, ◌≤◌, ◌↔◌, Bool, true, false}
+use Rattle.std.specs.Prelude.{ℤ, List, [], ◌++◌, map, sum, length, slice_get, Some}
 use Rattle.std.specs.Prelude.{option_and_then}
 use Rattle.std.specs.List.{range_with_len}
 use Rattle.definitions.specs.Samples.{Sample}
-use Rattle.definitions.specs.Oscillators.{Settings, code_step, code_phase_after}
+use Rattle.definitions.specs.Oscillators.{Settings, code_phase_after}
 use Rattle.definitions.specs.Correlation.{Counts}
 use Rattle.definitions.specs.Segments.{Channel, Dump, counts_of, dumps_of}
 use Rattle.definitions.specs.Lock.{lock, unlock, lost, news_of}
 use Rattle.definitions.specs.Acquisition.{Plan, Cell, cell_count, bin_of, half_chip_of, power_of}
-use Rattle.definitions.specs.Acquisition.{bin_shift, result_of, due_time}
+use Rattle.definitions.specs.Acquisition.{cell_shift, cell_phases, result_of, due_time}
 use Rattle.definitions.specs.BitEdge.{has_edge, bits_of}
 use Rattle.definitions.specs.Frames.{Subframe, Found, found_by, subframe_at}
 use Rattle.definitions.specs.Pages.{Kind, Page, clock, eph2, eph3, almanac}
@@ -143,13 +143,18 @@ IsRight settings xs commands event =
     (life : Life) × (life_now settings (front_of xs) commands ≡ Some life)
     × IsOfLife settings xs life event
 
--- the phase of the code at an acquisition's start, and its step, of the cell that is named
-abbrev pub found_phase : Settings → List Sample → Plan → ℕ → ℕ
-found_phase settings xs plan start = (result_of settings plan xs start).half_chip * 2 ^ 31
-
-abbrev pub found_step : Settings → List Sample → Plan → ℕ → ℕ
-found_step settings xs plan start =
-    code_step settings (bin_shift plan (result_of settings plan xs start).bin).v (pos 0)
+-- The channel follows the plan's satellite from the due time on, at first at the shift of a cell.
+-- And the code goes on: j samples later it is at the phase at which the code of the cell's replica,
+-- which began with the acquisition, is by then.
+pub record GoesOnFrom (settings : Settings) (plan : Plan) (start cell : ℕ) (channel : Channel)
+    : Type 0 where
+  pub satellite : channel.prn ≡ plan.prn
+  pub is_due : channel.start ≡ due_time settings plan start
+  pub shift : channel.steering [] ≡ cell_shift plan cell
+  pub code : (j : ℕ)
+      → code_phase_after channel.code (cell_phases settings plan cell).code_step j
+      ≡ code_phase_after (cell_phases settings plan cell).code
+      (cell_phases settings plan cell).code_step (channel.start - start + j)
 
 -- ---- laws
 
@@ -193,15 +198,12 @@ abbrev pub AlmanacSetsAgree : Type 0
 AlmanacSetsAgree = (bits : List Bool) (set : AlmanacSet)
     → (reports_of (pages_among bits)).set ≡ Some set → IsAlmanacSet bits set
 
--- A found signal is tracked from the due time on, at first at the shift of the named cell's bin,
--- and its code goes on: j samples later it has come as far as the replica of the named cell, which
--- began with the acquisition, has by then.
+-- A signal is tracked from its due time on where the plan's first greatest cell has the threshold
+-- or more, and goes on from that cell.
 abbrev pub FoundCodeGoesOn : Type 0
 FoundCodeGoesOn = (settings : Settings) (xs : List Sample) (plan : Plan) (start : ℕ)
     (channel : Channel) → acquired_channel settings xs plan start ≡ Some channel
-    → (channel.prn ≡ plan.prn) × (channel.start ≡ due_time settings plan start)
-    × (due_time settings plan start ≤ length xs)
-    × (channel.steering [] ≡ bin_shift plan (result_of settings plan xs start).bin)
-    × ((j : ℕ) → code_phase_after channel.code (found_step settings xs plan start) j
-    ≡ code_phase_after (found_phase settings xs plan start) (found_step settings xs plan start)
-    (channel.start - start + j))
+    → (due_time settings plan start ≤ length xs) × (named : ℕ)
+    × IsNamed settings xs plan start named (result_of settings plan xs start)
+    × ((result_of settings plan xs start).found ≡ true)
+    × GoesOnFrom settings plan start named channel
