@@ -53,6 +53,22 @@ OneLines lines = AllByRecursion OneLine lines
 feed : IsMark 10
 feed = inl (omega arith)
 
+-- a text that is written out
+verbatim : (text : List ℕ) → is_without 10 text ≡ true → OneLine text
+verbatim text e = written 10 text e
+
+line-append : (s t : List ℕ) → OneLine s → OneLine t → OneLine (s ++ t)
+line-append s t hs ht = without-append 10 s t hs ht
+
+decimal-line : (n : ℕ) → OneLine (decimal n)
+decimal-line n = decimal-without 10 feed n
+
+signed-line : (z : ℤ) → OneLine (signed_decimal z)
+signed-line z = signed-without 10 feed z
+
+hex-line : (bytes : List ℕ) → OneLine (hex_of_bytes bytes)
+hex-line bytes = hex-without 10 feed bytes
+
 spaced-line : (words : List (List ℕ)) → OneLines words → OneLine (words_text words)
 unfolding Without IsOther
 spaced-line [] h = tt
@@ -61,20 +77,20 @@ spaced-line (w ∷ v ∷ words) h =
     all-append (IsOther 10) w (32 ∷ words_text (v ∷ words)) h.0 (refl, spaced-line (v ∷ words) h.1)
 
 word-line : (word : Option ℕ) → OneLine (word_text word)
-word-line None = written 10 (codes "------") refl
-word-line (Some word) = hex-without 10 feed (bytes_high_first 3 word)
+word-line None = verbatim (codes "------") refl
+word-line (Some word) = hex-line (bytes_high_first 3 word)
 
 field-line : (f : Field) (value : ℤ) → OneLine f.name → OneLine (field_text f value)
 field-line f value h =
     let equals : OneLine (f.name ++ codes "=") =
-    without-append 10 f.name (codes "=") h (written 10 (codes "=") refl) in
+    line-append f.name (codes "=") h (verbatim (codes "=") refl) in
     let valued : OneLine (f.name ++ codes "=" ++ signed_decimal value) =
-    without-append 10 (f.name ++ codes "=") (signed_decimal value) equals (signed-without 10 feed value) in
+    line-append (f.name ++ codes "=") (signed_decimal value) equals (signed-line value) in
     let colon : OneLine (f.name ++ codes "=" ++ signed_decimal value ++ codes ":") =
-    without-append 10 (f.name ++ codes "=" ++ signed_decimal value) (codes ":") valued
-    (written 10 (codes ":") refl) in
-    without-append 10 (f.name ++ codes "=" ++ signed_decimal value ++ codes ":")
-    (signed_decimal f.exponent) colon (signed-without 10 feed f.exponent)
+    line-append (f.name ++ codes "=" ++ signed_decimal value) (codes ":") valued
+    (verbatim (codes ":") refl) in
+    line-append (f.name ++ codes "=" ++ signed_decimal value ++ codes ":")
+    (signed_decimal f.exponent) colon (signed-line f.exponent)
 
 -- the names in the tables
 abbrev have_names : List Field → Bool
@@ -86,13 +102,13 @@ fields-lines [] values e = tt
 fields-lines (f ∷ fields) [] e = tt
 fields-lines (f ∷ fields) (v ∷ values) e =
     let both = and_parts (is_without 10 f.name) (have_names fields) e in
-    (field-line f v (written 10 f.name both.0), fields-lines fields values both.1)
+    (field-line f v (verbatim f.name both.0), fields-lines fields values both.1)
 
 -- a text of words, the second of them a number
 named-line : (name : List ℕ) (slot : ℕ) (words : List (List ℕ)) → OneLine name → OneLines words
     → OneLine (words_text (name ∷ decimal slot ∷ words))
 named-line name slot words h ws =
-    spaced-line (name ∷ decimal slot ∷ words) (h, (decimal-without 10 feed slot, ws))
+    spaced-line (name ∷ decimal slot ∷ words) (h, (decimal-line slot, ws))
 
 kind-line : (slot : ℕ) (kind : Kind) (values : List ℤ)
     → OneLine (page_text slot (record { kind = kind; values = values }))
@@ -102,21 +118,21 @@ kind-line slot eph2 values = tt
 kind-line slot eph3 values = tt
 kind-line slot almanac values =
     named-line (codes "alm") slot (field_texts (fields_of almanac) values)
-    (written 10 (codes "alm") refl) (fields-lines (fields_of almanac) values refl)
+    (verbatim (codes "alm") refl) (fields-lines (fields_of almanac) values refl)
 kind-line slot utc values =
-    named-line (codes "utc") slot (field_texts (fields_of utc) values) (written 10 (codes "utc") refl)
+    named-line (codes "utc") slot (field_texts (fields_of utc) values) (verbatim (codes "utc") refl)
     (fields-lines (fields_of utc) values refl)
 kind-line slot health values =
     named-line (codes "hlt") slot (field_texts (fields_of health) values)
-    (written 10 (codes "hlt") refl) (fields-lines (fields_of health) values refl)
+    (verbatim (codes "hlt") refl) (fields-lines (fields_of health) values refl)
 kind-line slot message values =
     named-line (codes "msg") slot (hex_of_bytes (map natural values) ∷ [])
-    (written 10 (codes "msg") refl) (hex-without 10 feed (map natural values), tt)
+    (verbatim (codes "msg") refl) (hex-line (map natural values), tt)
 
 report-line : (slot : ℕ) (report : Report) → OneLine (report_text slot report)
 report-line slot (ephemeris values) =
     named-line (codes "eph") slot (field_texts (clock_fields ++ eph2_fields ++ eph3_fields) values)
-    (written 10 (codes "eph") refl)
+    (verbatim (codes "eph") refl)
     (fields-lines (clock_fields ++ eph2_fields ++ eph3_fields) values refl)
 report-line slot (single page) = kind-line slot page.kind page.values
 
@@ -124,11 +140,11 @@ almanacs-line : (slot : ℕ) (set : AlmanacSet) → OneLine (almanacs_text slot 
 almanacs-line slot set =
     named-line (codes "als") slot
     ((codes "toa=" ++ signed_decimal set.toa ++ codes ":12") ∷ map signed_decimal set.health)
-    (written 10 (codes "als") refl) (
-      without-append 10 (codes "toa=" ++ signed_decimal set.toa) (codes ":12")
-          (without-append 10 (codes "toa=") (signed_decimal set.toa) (written 10 (codes "toa=") refl)
-          (signed-without 10 feed set.toa)) (written 10 (codes ":12") refl),
-      all-map OneLine signed_decimal set.health (signed-without 10 feed),
+    (verbatim (codes "als") refl) (
+      line-append (codes "toa=" ++ signed_decimal set.toa) (codes ":12")
+          (line-append (codes "toa=") (signed_decimal set.toa) (verbatim (codes "toa=") refl)
+          (signed-line set.toa)) (verbatim (codes ":12") refl),
+      all-map OneLine signed_decimal set.health signed-line,
     )
 
 -- what a slot emits, whatever it is
@@ -138,67 +154,68 @@ event-line slot (acquired prn cell) =
     named-line (codes "acq") slot
     (decimal prn ∷ (if cell.found then codes "found" else codes "none") ∷ signed_decimal
     cell.bin ∷ decimal cell.half_chip ∷ decimal cell.power ∷ [])
-    (written 10 (codes "acq") refl) (
-      decimal-without 10 feed prn,
+    (verbatim (codes "acq") refl) (
+      decimal-line prn,
       (
-        by_if OneLine cell.found (codes "found") (codes "none") (written 10 (codes "found") refl)
-            (written 10 (codes "none") refl),
-        (signed-without 10 feed cell.bin, (decimal-without 10 feed cell.half_chip, (decimal-without 10 feed cell.power, tt))),
+        by_if OneLine cell.found (codes "found") (codes "none") (verbatim (codes "found") refl)
+            (verbatim (codes "none") refl),
+        (signed-line cell.bin, (decimal-line cell.half_chip, (decimal-line cell.power, tt))),
       ),
     )
 event-line slot (count c) =
-    named-line (codes "count") slot (counts_texts c) (written 10 (codes "count") refl)
-    (all-map OneLine signed_decimal (c.ie ∷ c.qe ∷ c.ip ∷ c.qp ∷ c.il ∷ c.ql ∷ []) (signed-without 10 feed))
-event-line slot locked = named-line (codes "lock") slot [] (written 10 (codes "lock") refl) tt
-event-line slot unlocked = named-line (codes "unlock") slot [] (written 10 (codes "unlock") refl) tt
-event-line slot signal_lost = named-line (codes "lost") slot [] (written 10 (codes "lost") refl) tt
-event-line slot edge = named-line (codes "bits") slot [] (written 10 (codes "bits") refl) tt
+    named-line (codes "count") slot (counts_texts c) (verbatim (codes "count") refl)
+    (all-map OneLine signed_decimal (c.ie ∷ c.qe ∷ c.ip ∷ c.qp ∷ c.il ∷ c.ql ∷ []) signed-line)
+event-line slot locked = named-line (codes "lock") slot [] (verbatim (codes "lock") refl) tt
+event-line slot unlocked = named-line (codes "unlock") slot [] (verbatim (codes "unlock") refl) tt
+event-line slot signal_lost = named-line (codes "lost") slot [] (verbatim (codes "lost") refl) tt
+event-line slot edge = named-line (codes "bits") slot [] (verbatim (codes "bits") refl) tt
 event-line slot (gap n) =
-    named-line (codes "gap") slot (decimal n ∷ []) (written 10 (codes "gap") refl) (decimal-without 10 feed n, tt)
+    named-line (codes "gap") slot (decimal n ∷ []) (verbatim (codes "gap") refl)
+    (decimal-line n, tt)
 event-line slot (subframe s) =
     named-line (codes "sub") slot (decimal (id_of s) ∷ decimal (tow_of s) ∷ map word_text s.words)
-    (written 10 (codes "sub") refl) (
-      decimal-without 10 feed (id_of s),
-      (decimal-without 10 feed (tow_of s), all-map OneLine word_text s.words word-line),
+    (verbatim (codes "sub") refl) (
+      decimal-line (id_of s),
+      (decimal-line (tow_of s), all-map OneLine word_text s.words word-line),
     )
 event-line slot (reported r) = report-line slot r
 event-line slot (almanacs set) = almanacs-line slot set
 
 view-line : (slot : ℕ) (view : View) → OneLine (view_text slot view)
 view-line slot idle =
-    named-line (codes "state") slot (codes "idle" ∷ []) (written 10 (codes "state") refl)
-    (written 10 (codes "idle") refl, tt)
+    named-line (codes "state") slot (codes "idle" ∷ []) (verbatim (codes "state") refl)
+    (verbatim (codes "idle") refl, tt)
 view-line slot (acquiring prn done cells) =
     named-line (codes "state") slot
     (codes "acquire" ∷ decimal prn ∷ decimal done ∷ decimal cells ∷ [])
-    (written 10 (codes "state") refl) (
-      written 10 (codes "acquire") refl,
-      (decimal-without 10 feed prn, (decimal-without 10 feed done, (decimal-without 10 feed cells, tt))),
+    (verbatim (codes "state") refl) (
+      verbatim (codes "acquire") refl,
+      (decimal-line prn, (decimal-line done, (decimal-line cells, tt))),
     )
 view-line slot (holding prn dumps) =
     named-line (codes "state") slot (codes "hold" ∷ decimal prn ∷ decimal dumps ∷ [])
-    (written 10 (codes "state") refl)
-    (written 10 (codes "hold") refl, (decimal-without 10 feed prn, (decimal-without 10 feed dumps, tt)))
+    (verbatim (codes "state") refl)
+    (verbatim (codes "hold") refl, (decimal-line prn, (decimal-line dumps, tt)))
 view-line slot (tracking prn dumps shift is_locked has_edge) =
     named-line (codes "state") slot
     (codes "track" ∷ decimal prn ∷ decimal dumps ∷ signed_decimal shift.v ∷ signed_decimal
     shift.w ∷ (if has_edge then codes "bits" else if is_locked then codes "lock" else codes
-    "open") ∷ []) (written 10 (codes "state") refl) (
-      written 10 (codes "track") refl,
+    "open") ∷ []) (verbatim (codes "state") refl) (
+      verbatim (codes "track") refl,
       (
-        decimal-without 10 feed prn,
+        decimal-line prn,
         (
-          decimal-without 10 feed dumps,
+          decimal-line dumps,
           (
-            signed-without 10 feed shift.v,
+            signed-line shift.v,
             (
-              signed-without 10 feed shift.w,
+              signed-line shift.w,
               (
                 by_if OneLine has_edge (codes "bits")
                     (if is_locked then codes "lock" else codes "open")
-                    (written 10 (codes "bits") refl)
+                    (verbatim (codes "bits") refl)
                     (by_if OneLine is_locked (codes "lock") (codes "open")
-                    (written 10 (codes "lock") refl) (written 10 (codes "open") refl)),
+                    (verbatim (codes "lock") refl) (verbatim (codes "open") refl)),
                 tt,
               ),
             ),
@@ -209,11 +226,11 @@ view-line slot (tracking prn dumps shift is_locked has_edge) =
 
 refusal-line : (n : ℕ) → OneLine (refusal_text n)
 refusal-line n =
-    spaced-line (codes "err" ∷ decimal n ∷ []) (written 10 (codes "err") refl, (decimal-without 10 feed n, tt))
+    spaced-line (codes "err" ∷ decimal n ∷ []) (verbatim (codes "err") refl, (decimal-line n, tt))
 
 answer-line : (slot : ℕ) (answer : Answer) → OneLine (answer_text slot answer)
 unfolding answer_text
-answer-line slot accepted = written 10 (codes "ok") refl
+answer-line slot accepted = verbatim (codes "ok") refl
 answer-line slot (refused n) = refusal-line n
 answer-line slot (shown view) = view-line slot view
 
@@ -221,11 +238,11 @@ answer-line slot (shown view) = view-line slot view
 
 timed-line : (time : ℕ) (text : List ℕ) → OneLine text → OneLine (at_time time text)
 unfolding Without IsOther
-timed-line time text h = without-append 10 (decimal time) (32 ∷ text) (decimal-without 10 feed time) (refl, h)
+timed-line time text h = line-append (decimal time) (32 ∷ text) (decimal-line time) (refl, h)
 
 client-line : (client : ℕ) (line : List ℕ) → OneLine line → OneLine (for_client client line)
 unfolding Without IsOther
-client-line client line h = without-append 10 (decimal client) (32 ∷ line) (decimal-without 10 feed client) (refl, h)
+client-line client line h = line-append (decimal client) (32 ∷ line) (decimal-line client) (refl, h)
 
 map-lines : (f : List ℕ → List ℕ) (lines : List (List ℕ))
     → ((line : List ℕ) → OneLine line → OneLine (f line)) → OneLines lines → OneLines (map f lines)
@@ -295,7 +312,7 @@ full-lines settings xs clients =
     all-append OneLine (body_lines settings xs clients) (end_lines xs clients)
     (body-lines settings xs clients)
     (each-lines (λ client. end_line xs ∷ []) clients
-    (λ client. (timed-line (length xs) (codes "end") (written 10 (codes "end") refl), tt)))
+    (λ client. (timed-line (length xs) (codes "end") (verbatim (codes "end") refl), tt)))
 
 -- ---- the lines of a text
 

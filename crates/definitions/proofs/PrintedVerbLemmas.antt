@@ -12,11 +12,12 @@ use Rattle.definitions.specs.DataSets.{Report, ephemeris, single, AlmanacSet}
 use Rattle.definitions.specs.Events.{Event, acquired, count, locked, unlocked, signal_lost, edge}
 use Rattle.definitions.specs.Events.{gap, subframe, reported, almanacs}
 use Rattle.definitions.specs.Receiver.{Client, entries_of}
-use Rattle.definitions.specs.PrintedLaws.{verb_of, IsLineOf, IsOneOf, IsPrinted, IsPageVerb}
+use Rattle.definitions.specs.PrintedLaws.{page_verb, verb_of, IsLineOf, IsOneOf, IsPrinted}
+use Rattle.definitions.specs.PrintedLaws.{IsPageVerb}
 use Rattle.definitions.specs.PrintedLaws.{PrintedCountsAreSums, PrintedAcquisitionsNameTheGreatest}
 use Rattle.definitions.specs.PrintedLaws.{PrintedWordsPass, PrintedPagesPass, PrintedAlmanacsAgree}
 use Rattle.definitions.proofs.PrintedLemmas.{lines-come}
-use Rattle.definitions.proofs.VerbLemmas.{event_verb, page_verb, event-verb, IsAnswerVerb}
+use Rattle.definitions.proofs.VerbLemmas.{event_verb, event-verb, IsAnswerVerb}
 use Rattle.definitions.proofs.VerbLemmas.{reply-verb, end-verb}
 
 -- a verb is the one that is asked for
@@ -40,11 +41,11 @@ record IsOfEvents (test : Option (List ℕ) → Bool) : Type 0 where
 
 module _ (settings : Settings) (clients : List Client) (xs : List Sample)
     (line : List ℕ) where
-  -- a line with such a verb is that of an event with it
+  -- a line with such a verb is that of an event with it, and passes the test
   of-event : (verb : List ℕ) (test : Option (List ℕ) → Bool) → test (Some verb) ≡ true
       → IsOfEvents test → IsPrinted settings clients xs line verb
       → (event : Event) × (IsLineOf settings clients xs line event)
-      × (test (event_verb event) ≡ true)
+      × (event_verb event ≡ Some verb) × (test (event_verb event) ≡ true)
   of-event verb test passes only printed =
       by_kind (lines-come settings clients xs printed.0.0 line printed.0.1)
     where
@@ -58,13 +59,15 @@ module _ (settings : Settings) (clients : List Client) (xs : List Sample)
 
       by_kind : IsOneOf settings clients xs line
           → (event : Event) × (IsLineOf settings clients xs line event)
-          × (test (event_verb event) ≡ true)
-      by_kind (inl (event, (t, k, slot, client, within, tells, is))) = (
-        event,
-        (t, k, slot, client, within, tells, is),
-        holds (event_verb event)
-            (sym (event-verb (1 + k) t slot event) ∙ ap verb_of (sym is) ∙ printed.1),
-      )
+          × (event_verb event ≡ Some verb) × (test (event_verb event) ≡ true)
+      by_kind (inl (event, (t, k, slot, client, within, tells, is))) =
+          let its : event_verb event ≡ Some verb =
+          sym (event-verb (1 + k) t slot event) ∙ ap verb_of (sym is) ∙ printed.1 in (
+            event,
+            (t, k, slot, client, within, tells, is),
+            its,
+            holds (event_verb event) its,
+          )
       by_kind (inr (inl (k, i, client, entry, a, b, c, is))) =
           absurd (no_answer _ (holds _ (ap verb_of (sym is) ∙ printed.1))
           (reply-verb (1 + k) entry.time settings (take entry.time xs)
@@ -186,7 +189,7 @@ counts-printed settings clients xs line printed =
     let it =
     of-event settings clients xs line (codes "count") (is_verb (codes "count")) refl
     (record { ok = refl; err = refl; state = refl; end = refl }) printed in
-    let c = is-count it.0 it.2 in
+    let c = is-count it.0 it.3 in
     (c.0, rw c.1 at it.1)
 
 pub acquisitions-printed : PrintedAcquisitionsNameTheGreatest
@@ -194,7 +197,7 @@ acquisitions-printed settings clients xs line printed =
     let it =
     of-event settings clients xs line (codes "acq") (is_verb (codes "acq")) refl
     (record { ok = refl; err = refl; state = refl; end = refl }) printed in
-    let a = is-acq it.0 it.2 in
+    let a = is-acq it.0 it.3 in
     (a.0, a.1, rw a.2 at it.1)
 
 pub words-printed : PrintedWordsPass
@@ -202,7 +205,7 @@ words-printed settings clients xs line printed =
     let it =
     of-event settings clients xs line (codes "sub") (is_verb (codes "sub")) refl
     (record { ok = refl; err = refl; state = refl; end = refl }) printed in
-    let s = is-sub it.0 it.2 in
+    let s = is-sub it.0 it.3 in
     (s.0, rw s.1 at it.1)
 
 pub almanacs-printed : PrintedAlmanacsAgree
@@ -210,7 +213,7 @@ almanacs-printed settings clients xs line printed =
     let it =
     of-event settings clients xs line (codes "als") (is_verb (codes "als")) refl
     (record { ok = refl; err = refl; state = refl; end = refl }) printed in
-    let s = is-als it.0 it.2 in
+    let s = is-als it.0 it.3 in
     (s.0, rw s.1 at it.1)
 
 page-verb : (verb : List ℕ) → IsPageVerb verb → is_page_verb (Some verb) ≡ true
@@ -225,5 +228,5 @@ pages-printed settings clients xs line verb is printed =
     let it =
     of-event settings clients xs line verb is_page_verb (page-verb verb is)
     (record { ok = refl; err = refl; state = refl; end = refl }) printed in
-    let r = is-report it.0 it.2 in
-    (r.0, rw r.1 at it.1)
+    let r = is-report it.0 it.3 in
+    (r.0, rw r.1 at it.2, rw r.1 at it.1)

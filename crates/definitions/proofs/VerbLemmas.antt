@@ -19,7 +19,7 @@ use Rattle.definitions.specs.Lines.{pieces_ended_by, words_of}
 use Rattle.definitions.specs.Texts.{event_text, page_text, view_text, refusal_text, answer_text}
 use Rattle.definitions.specs.Texts.{at_time, for_client}
 use Rattle.definitions.specs.Receiver.{reply_text, end_line}
-use Rattle.definitions.specs.PrintedLaws.{verb_of}
+use Rattle.definitions.specs.PrintedLaws.{page_verb, report_verb, verb_of}
 use Rattle.definitions.proofs.MarkLemmas.{IsMark, Without, is_without, written, by_if, first-piece}
 use Rattle.definitions.proofs.MarkLemmas.{last-piece, decimal-without}
 
@@ -69,7 +69,7 @@ decimal-word n = record {
 }
 
 -- ---- the verb of a line
-words-of-line : (n t : ℕ) (text : List ℕ)
+pub words-of-line : (n t : ℕ) (text : List ℕ)
     → words_of (for_client n (at_time t text)) ≡ decimal n ∷ decimal t ∷ words_of text
 words-of-line n t text =
     first-word (decimal n) (at_time t text) (decimal-word n)
@@ -92,15 +92,6 @@ unfolding first-of
 sole-is w is = ap (λ (ws : List (List ℕ)). slice_get ws 0) (only-word w is)
 
 -- ---- the verb of each event
-abbrev pub page_verb : Kind → Option (List ℕ)
-page_verb clock = None
-page_verb eph2 = None
-page_verb eph3 = None
-page_verb almanac = Some (codes "alm")
-page_verb utc = Some (codes "utc")
-page_verb health = Some (codes "hlt")
-page_verb message = Some (codes "msg")
-
 abbrev pub event_verb : Event → Option (List ℕ)
 event_verb (acquired prn cell) = Some (codes "acq")
 event_verb (count c) = Some (codes "count")
@@ -110,8 +101,7 @@ event_verb signal_lost = Some (codes "lost")
 event_verb edge = Some (codes "bits")
 event_verb (gap n) = Some (codes "gap")
 event_verb (subframe s) = Some (codes "sub")
-event_verb (reported (ephemeris values)) = Some (codes "eph")
-event_verb (reported (single page)) = page_verb page.kind
+event_verb (reported r) = report_verb r
 event_verb (almanacs set) = Some (codes "als")
 
 nothing-first : first-of (words_of []) ≡ None

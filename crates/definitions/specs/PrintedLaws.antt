@@ -1,13 +1,14 @@
 -- What holds of the lines of the whole text, whatever the settings, the samples and the clients
 -- are. Each law is promised by a function of the same name in this crate. (This project's own.)
 use Rattle.std.specs.Prelude.{ℕ, ◌≡◌, ◌+◌, ◌<◌, ◌≤◌, ◌⊎◌, List, length, take, slice_get}
-use Rattle.std.specs.Prelude.{Option, Some, codes}
+use Rattle.std.specs.Prelude.{Option, Some, None, codes}
 use Rattle.definitions.specs.Samples.{Sample}
 use Rattle.definitions.specs.Oscillators.{Settings}
 use Rattle.definitions.specs.Correlation.{Counts}
 use Rattle.definitions.specs.Acquisition.{Cell}
 use Rattle.definitions.specs.Frames.{Subframe}
-use Rattle.definitions.specs.DataSets.{Report, AlmanacSet}
+use Rattle.definitions.specs.Pages.{Kind, clock, eph2, eph3, almanac, utc, health, message}
+use Rattle.definitions.specs.DataSets.{Report, ephemeris, single, AlmanacSet}
 use Rattle.definitions.specs.Commands.{TimedRequest}
 use Rattle.definitions.specs.Lines.{lines_of, words_of}
 use Rattle.definitions.specs.Scripts.{Entry}
@@ -110,7 +111,21 @@ PrintedWordsPass = (settings : Settings) (clients : List Client)
     → IsPrinted settings clients xs line (codes "sub")
     → (s : Subframe) × IsLineOf settings clients xs line (subframe s)
 
--- Each page and each set that is printed is a right report.
+-- the verb of a report's line: a clock or ephemeris page has no line of its own
+abbrev pub page_verb : Kind → Option (List ℕ)
+page_verb clock = None
+page_verb eph2 = None
+page_verb eph3 = None
+page_verb almanac = Some (codes "alm")
+page_verb utc = Some (codes "utc")
+page_verb health = Some (codes "hlt")
+page_verb message = Some (codes "msg")
+
+abbrev pub report_verb : Report → Option (List ℕ)
+report_verb (ephemeris values) = Some (codes "eph")
+report_verb (single page) = page_verb page.kind
+
+-- Each page and each set that is printed is a right report, of the kind that the verb names.
 abbrev pub IsPageVerb : List ℕ → Type 0
 IsPageVerb verb = (verb ≡ codes "eph")
     ⊎ ((verb ≡ codes "alm")
@@ -120,7 +135,8 @@ abbrev pub PrintedPagesPass : Type 0
 PrintedPagesPass = (settings : Settings) (clients : List Client)
     (xs : List Sample) (line verb : List ℕ) → IsPageVerb verb
     → IsPrinted settings clients xs line verb
-    → (r : Report) × IsLineOf settings clients xs line (reported r)
+    → (r : Report) × (report_verb r ≡ Some verb)
+    × IsLineOf settings clients xs line (reported r)
 
 abbrev pub PrintedAlmanacsAgree : Type 0
 PrintedAlmanacsAgree =

@@ -5,6 +5,7 @@ ghost use Rattle.definitions.specs.PrintedLaws.{LinesComeFromEvents, PrintedCoun
 ghost use Rattle.definitions.specs.PrintedLaws.{PrintedAcquisitionsNameTheGreatest};
 ghost use Rattle.definitions.specs.PrintedLaws.{PrintedWordsPass, PrintedPagesPass};
 ghost use Rattle.definitions.specs.PrintedLaws.{PrintedAlmanacsAgree, LinesAreShort};
+ghost use Rattle.definitions.specs.TellingLaws.{LinesTellApart};
 
 /// Each line of the whole text is that of an event that a slot emits, or that of an answer, or an
 /// end.
@@ -43,4 +44,10 @@ pub fn printed_almanacs_agree()
 /// Each line has at most 1,024 bytes.
 pub fn lines_are_short()
     ensures { LinesAreShort }
+{}
+
+/// No two clients, times, slots or events have one line, where their numbers have at most 64 bits.
+/// So what the laws above say of an event with a line is said of the line.
+pub fn lines_tell_apart()
+    ensures { LinesTellApart }
 {}
