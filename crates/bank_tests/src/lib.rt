@@ -1,12 +1,12 @@
 //! Tests of the crates of the bank: slots of all clients, scripts, and what clients get as lines.
-//! The tests of a crate stand in the module of its name, over what the crate makes public.
+//! The tests of a crate stand in a module named after it, over what the crate makes public.
 #![tactic(auto)]
 
 #[cfg(test)]
-mod channel_slots;
+mod channel_slots_tests;
 #[cfg(test)]
-mod client_commands;
+mod client_commands_tests;
 #[cfg(test)]
 mod commands;
 #[cfg(test)]
-mod printed_lines;
+mod printed_lines_tests;

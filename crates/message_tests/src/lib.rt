@@ -1,18 +1,18 @@
 //! Tests of the crates of a satellite's message: its bits, words, subframes, pages and sets. The
-//! tests of a crate stand in the module of its name, over what the crate makes public.
+//! tests of a crate stand in a module named after it, over what the crate makes public.
 #![tactic(auto)]
 
 #[cfg(test)]
-mod bit_sync;
+mod bit_sync_tests;
 #[cfg(test)]
-mod data_sets;
+mod data_sets_tests;
 #[cfg(test)]
-mod frame_sync;
+mod frame_sync_tests;
 #[cfg(test)]
-mod nav_message;
+mod nav_message_tests;
 #[cfg(test)]
-mod nav_parity;
+mod nav_parity_tests;
 #[cfg(test)]
 mod sent;
 #[cfg(test)]
-mod subframes;
+mod subframes_tests;

@@ -1,12 +1,12 @@
 //! Tests of the crates of both programs: runs of the receiver, and recordings that are packed. The
-//! tests of a crate stand in the module of its name, over what the crate makes public.
+//! tests of a crate stand in a module named after it, over what the crate makes public.
 #![tactic(auto)]
 
 #[cfg(test)]
 mod choices;
 #[cfg(test)]
-mod packer;
+mod packer_tests;
 #[cfg(test)]
-mod receiver;
+mod receiver_tests;
 #[cfg(test)]
-mod recordings;
+mod recordings_tests;

@@ -42,7 +42,7 @@ module _ (settings : Settings) (clients : List Client) (xs : List Sample) where
   pages-pass : PagesPass settings clients xs (full settings xs clients)
   pages-pass = λ i line word found verb_is is.
       let e = pages-printed settings clients xs line word is ((i, found), verb_is) in
-      (reported e.0, (e.0, refl), e.1)
+      (reported e.0, (e.0, e.1, refl), e.2)
 
   almanacs-agree : AlmanacsAgree settings clients xs (full settings xs clients)
   almanacs-agree = λ i line word found verb_is is.

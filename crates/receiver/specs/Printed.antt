@@ -9,7 +9,7 @@ use Rattle.definitions.specs.DataSets.{Report, AlmanacSet}
 use Rattle.definitions.specs.Events.{Event, acquired, count, subframe, reported, almanacs}
 use Rattle.definitions.specs.Lines.{lines_of}
 use Rattle.definitions.specs.Receiver.{Client, lines_of_client, alone_to_end}
-use Rattle.definitions.specs.PrintedLaws.{IsLineOf, IsPageVerb, verb_of}
+use Rattle.definitions.specs.PrintedLaws.{IsLineOf, IsPageVerb, report_verb, verb_of}
 
 -- The text has for each client, after its number, the lines of a receiver with that client alone
 -- over these samples, and then its end, whatever the others ask.
@@ -22,39 +22,41 @@ ServesEachAlone settings clients xs text =
 -- slot emits the event with the samples up to the line's time, and the event is right: `IsLineOf`
 -- says what that is for each kind.
 abbrev pub EachLine : Settings → List Client → List Sample → List ℕ
-    → (List ℕ → Type 0) → (Event → Type 0) → Type 0
+    → (List ℕ → Type 0) → (List ℕ → Event → Type 0) → Type 0
 EachLine settings clients xs text verb kind =
     (i : ℕ) (line word : List ℕ) → slice_get (lines_of text) i ≡ Some line
     → verb_of line ≡ Some word → verb word
-    → (event : Event) × kind event × IsLineOf settings clients xs line event
+    → (event : Event) × kind word event × IsLineOf settings clients xs line event
 
 -- Each count is that of a dump: the six plain sums over its samples.
 abbrev pub CountsAreSums : Settings → List Client → List Sample → List ℕ → Type 0
 CountsAreSums settings clients xs text =
     EachLine settings clients xs text (λ word. word ≡ codes "count")
-    (λ event. (c : Counts) × (event ≡ count c))
+    (λ _ event. (c : Counts) × (event ≡ count c))
 
 -- Each acquisition names the first greatest cell of its plan over its dwell.
 abbrev pub AcquisitionsNameTheGreatest : Settings → List Client → List Sample → List ℕ → Type 0
 AcquisitionsNameTheGreatest settings clients xs text =
     EachLine settings clients xs text (λ word. word ≡ codes "acq")
-    (λ event. (prn : ℕ) × (cell : Cell) × (event ≡ acquired prn cell))
+    (λ _ event. (prn : ℕ) × (cell : Cell) × (event ≡ acquired prn cell))
 
 -- Each word of a subframe that is shown passes with the two bits before it.
 abbrev pub WordsPass : Settings → List Client → List Sample → List ℕ → Type 0
 WordsPass settings clients xs text =
     EachLine settings clients xs text (λ word. word ≡ codes "sub")
-    (λ event. (s : Subframe) × (event ≡ subframe s))
+    (λ _ event. (s : Subframe) × (event ≡ subframe s))
 
--- Each page and each set of pages comes from words that all pass.
+-- Each page and each set of pages is of the kind that its line names, and comes from words that all
+-- pass.
 abbrev pub PagesPass : Settings → List Client → List Sample → List ℕ → Type 0
 PagesPass settings clients xs text =
-    EachLine settings clients xs text IsPageVerb (λ event. (r : Report) × (event ≡ reported r))
+    EachLine settings clients xs text IsPageVerb
+    (λ word event. (r : Report) × (report_verb r ≡ Some word) × (event ≡ reported r))
 
 abbrev pub AlmanacsAgree : Settings → List Client → List Sample → List ℕ → Type 0
 AlmanacsAgree settings clients xs text =
     EachLine settings clients xs text (λ word. word ≡ codes "als")
-    (λ event. (set : AlmanacSet) × (event ≡ almanacs set))
+    (λ _ event. (set : AlmanacSet) × (event ≡ almanacs set))
 
 -- What is shown by the lines of a run that came to its end: each client's are those of a receiver
 -- with that client alone, and what each line names is right.

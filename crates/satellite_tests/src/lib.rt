@@ -1,8 +1,8 @@
-//! Tests of the crates of one satellite, searched for or followed. The tests of a crate stand in
-//! the module of its name, over what the crate makes public.
+//! Tests of the crates of one satellite, searched for or followed. The tests of a crate stand in a
+//! module named after it, over what the crate makes public.
 #![tactic(auto)]
 
 #[cfg(test)]
-mod channels;
+mod channels_tests;
 #[cfg(test)]
-mod tracking_loops;
+mod tracking_loops_tests;

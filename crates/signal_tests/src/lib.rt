@@ -1,20 +1,20 @@
 //! Tests of the crates of the signal: bits, samples, codes, replicas, sums, and a search. The tests
-//! of a crate stand in the module of its name, over what the crate makes public.
+//! of a crate stand in a module named after it, over what the crate makes public.
 #![tactic(auto)]
 
 #[cfg(test)]
-mod acquisition;
+mod acquisition_tests;
 #[cfg(test)]
-mod bit_planes;
+mod bit_planes_tests;
 #[cfg(test)]
-mod ca_codes;
+mod ca_codes_tests;
 #[cfg(test)]
-mod lane_correlator;
+mod lane_correlator_tests;
 #[cfg(test)]
 mod noise;
 #[cfg(test)]
-mod oscillators;
+mod oscillators_tests;
 #[cfg(test)]
-mod sample_history;
+mod sample_history_tests;
 #[cfg(test)]
-mod sample_planes;
+mod sample_planes_tests;

@@ -1,0 +1,9 @@
+use Rattle.std.proofs.Common.{arith}
+use Rattle.bank_tests.proofs.channel_slots_tests.held.Goals as goal
+
+pub returns : goal.returns
+returns c = (
+  _,
+  c.command-2.ensures.sound 0 (omega arith)
+      (c.command.ensures.sound 0 (omega arith) (c.new-slot.ensures.sound 0 0 _)),
+)

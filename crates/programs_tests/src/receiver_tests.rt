@@ -1,0 +1,63 @@
+//! Whole runs over readers and writers that count and fail: what they answer, and what they write.
+//! `tools/runs-check` tries what needs no device of its own, over the built program.
+
+ghost use Rattle.std.specs.Prelude.{◌≡◌, ◌≤◌, ◌%◌, ◌^◌};
+
+mod devices;
+mod expected;
+mod fakes;
+mod limits;
+mod runs;
+mod shares;
+mod std_devices;
+
+use crate::receiver_tests::fakes::{Giving, Holding};
+use oscillators::Settings;
+use receiver::{RunFault, run, run_to};
+use sample_planes::Format;
+use std::alloc::Global;
+use std::test::Fail;
+
+/// Holds satellite 1 from the first sample on, and asks for one dump.
+const FIRST_COUNT: &[u8] = b"0 hold 0 1 0 0\n0 counts 0 1\n";
+
+/// What a client alone gets for it over the code file.
+///
+/// Each sample meets its own chip, so the prompt products are 2,046 times +1, and the carrier's
+/// pair is 2 and 1 throughout. The early and the late chip are half a chip away: half of the
+/// samples meet their own chip, the others a neighbouring one. The products of all neighbouring
+/// chips of satellite 1 add up to -1, so 1,023 - 1 is left of these.
+const FIRST_COUNT_LINES: &str = "1 0 ok\n\
+    1 0 ok\n\
+    1 2046 count 0 2044 -1022 4092 -2046 2044 -1022\n\
+    1 2048 end\n";
+
+/// One-bit samples at two samples a chip, with the carrier at 0 Hz.
+fn plain_settings() -> Result<Settings, Fail> {
+    Ok(Settings::new(2_046_000, 0, Format::Real1)?)
+}
+
+/// A run of scripts over plain settings.
+fn run_plain(
+    alloc: Global,
+    scripts: &[&[u8]],
+    reader: &mut Giving,
+    writer: &mut Holding,
+) -> Result<Result<u64, RunFault>, Fail> {
+    Ok(run(alloc, plain_settings()?, scripts, reader, writer))
+}
+
+/// A run of one script over plain settings and at most `limit` samples.
+fn run_one(
+    alloc: Global,
+    script: &[u8],
+    limit: u64,
+    reader: &mut Giving,
+    writer: &mut Holding,
+) -> Result<Result<u64, RunFault>, Fail>
+    requires limit { limit ≤ 2 ^ 40 }
+    requires whole { limit % 8 ≡ 0 }
+{
+    let settings = plain_settings()?;
+    Ok(run_to(alloc, settings, &[script], limit, reader, writer))
+}
