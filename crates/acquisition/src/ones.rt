@@ -7,7 +7,7 @@ ghost use Rattle.ca_codes.specs.declared.book.TheConstants.{CODE_CHIPS};
 use ca_codes::{CODE_CHIPS, CodeBook, Prn};
 
 /// The chips of a satellite's code that are 1, in order.
-#[derive(Drop)]
+#[derive(Debug, Drop)]
 pub(crate) struct Ones {
     prn: Prn,
     chips: [u16; CODE_CHIPS as usize],

@@ -5,3 +5,4 @@ pub mod StreamLemmas
 pub mod WindowLemmas
 pub mod ReadingRows
 pub mod PackedRows
+pub mod ChoiceRows

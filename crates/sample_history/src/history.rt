@@ -1,6 +1,8 @@
 //! The last samples of a stream.
 
-ghost use Rattle.std.specs.Prelude.{◌≡◌, ◌+◌, ◌-◌, ◌*◌, ◌/◌, ◌<◌, ◌≤◌, ℕ, length, min, slice_index};
+ghost use Rattle.std.specs.Prelude.{◌≡◌, ◌+◌, ◌-◌, ◌*◌, ◌/◌, ◌<◌, ◌≤◌, ℕ, length, map, min};
+ghost use Rattle.std.specs.Prelude.{slice_index};
+ghost use Rattle.std.specs.List.{range_with_len};
 ghost use Rattle.definitions.specs.Samples.{sample_count, samples_per_byte};
 ghost use Rattle.sample_planes.specs.Packings.{packing_of};
 ghost use Rattle.sample_planes.specs.declared.planes.TheConstants.{MAX_SAMPLES};
@@ -8,14 +10,15 @@ ghost use Rattle.sample_history.specs.declared.history.TheConstants.{MOST_TAKEN,
 
 use crate::ring_bytes::{copy_out, grow};
 use circular_buffer::HeapCircularBuffer;
-use sample_planes::{Format, PackedSamples, Planes, SampleSource, unpack};
+use sample_planes::{Format, PackedSamples, Planes, SampleSource};
 use std::alloc::{AllocError, Global};
 
 /// The most samples that a history takes.
 pub const MOST_TAKEN: u64 = 1 << 40;
 
-/// The most bytes that `MAX_SAMPLES` samples of any packing lie in.
-const MOST_SPAN_BYTES: usize = 513;
+/// The bytes that `MAX_SAMPLES` samples of any packing lie in, and those that are read with the last
+/// of them.
+const MOST_SPAN_BYTES: usize = 520;
 
 /// The last samples of a stream, packed. The earliest sample of a byte stands in its top bits.
 #[derive(Drop)]
@@ -35,7 +38,7 @@ impl SampleHistory {
     ghost use Rattle.std.specs.Prelude.{List, [], ◌++◌, IfOk};
     ghost use Rattle.definitions.specs.Samples.{Sample, samples_from};
     ghost use Rattle.sample_history.specs.Histories.{StandsFor, packing_in, room_of, taken_of};
-    ghost use Rattle.sample_history.specs.Histories.{first_of, bytes_of};
+    ghost use Rattle.sample_history.specs.Histories.{first_of, bytes_of, held_in};
 
     /// The history of a stream that hasn't begun. It takes its memory at once, and will hold at
     /// least the last `room` samples. An error is memory that it was refused.
@@ -104,6 +107,22 @@ impl SampleHistory {
         self.taken += len as u64;
     }
 
+    /// Unpacks the samples `n` to `n + len - 1`, all of which it holds, into planes that are kept;
+    /// `len` is at most `MAX_SAMPLES`.
+    pub fn unpack_into(&self, n: u64, len: usize, planes: &mut Planes)
+        requires first { first_of self.now ≤ n }
+        requires end { n + len ≤ taken_of self.now }
+        requires short { len ≤ MAX_SAMPLES }
+        ensures { planes.new ≡ map (held_in self.now) (range_with_len n len) }
+    {
+        let per_byte = self.format.per_byte();
+        let width = 8 / per_byte;
+        let place = (n - self.first()) as usize;
+        let start = place % per_byte;
+        let near = self.near_bytes(place / per_byte, (width * (start + len) + 7) / 8);
+        planes.fill(self.format, &near, start, len);
+    }
+
     /// `count` of its bytes from byte `from` of the ring on, and zeros after them. The byte that
     /// isn't full comes after those of the ring.
     fn near_bytes(&self, from: usize, count: usize) -> [u8; MOST_SPAN_BYTES]
@@ -143,11 +162,8 @@ impl SampleSource for SampleHistory {
     }
 
     fn planes(&self, n: u64, len: usize) -> Planes {
-        let per_byte = self.format.per_byte();
-        let width = 8 / per_byte;
-        let place = (n - self.first()) as usize;
-        let start = place % per_byte;
-        let near = self.near_bytes(place / per_byte, (width * (start + len) + 7) / 8);
-        unpack(self.format, &near, start, len)
+        let mut planes = Planes::new();
+        self.unpack_into(n, len, &mut planes);
+        planes
     }
 }

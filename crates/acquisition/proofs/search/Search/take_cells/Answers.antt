@@ -13,7 +13,7 @@ use Rattle.acquisition.proofs.search.Search.take_cells.Goals as goal
 use Rattle.acquisition.proofs.search.Search.take_cells.Goals.{then-first-count-eq-HALF_CHIPS}
 use Rattle.acquisition.proofs.search.Search.take_cells.Goals.{else-first-count-eq-HALF_CHIPS}
 
-module _ (g : Over) (c : goal.After-self-1 g) (settings : Settings) (plan : Plan) (start : ℕ)
+module _ (g : Over) (c : goal.After-self-2-1 g) (settings : Settings) (plan : Plan) (start : ℕ)
     (xs : List Sample) (holds : AreSamplesOf xs start (dwell_end settings plan start)
     (g.S.SampleSource.held c.args.source.now))
     (s : StandsFor settings plan start xs c.args.self.now)
@@ -24,8 +24,8 @@ module _ (g : Over) (c : goal.After-self-1 g) (settings : Settings) (plan : Plan
     few : bin ≤ 2 * plan.bins
     few = omega (arith, rw s.plan_is at c.requires.end, c.requires.some)
 
-    of_plan : c.args.ones.now.prn ≡ plan.prn
-    of_plan = c.requires.ones ∙ ap (λ (p : Plan). p.prn) s.plan_is
+    of_plan : c.in-Some.ones.prn ≡ plan.prn
+    of_plan = c.args.self.now.of_plan c.in-Some.ones c.in-Some.is ∙ ap (λ (p : Plan). p.prn) s.plan_is
 
     so_far : (x : ℕ → Sample)
         → ((j : ℕ) → j < dwell_length settings plan → sample_at xs (start + j) ≡ x j)

@@ -5,7 +5,7 @@ use Rattle.sample_planes.proofs.BitLemmas.{same_sample}
 use Rattle.sample_planes.proofs.PlaneLemmas.{runs_agree, sample_near}
 use Rattle.sample_history.specs.Histories.{first_of, bytes_of, held_in, packing_in}
 use Rattle.sample_history.proofs.PlaceLemmas.{width_from}
-use Rattle.sample_history.proofs.history.SampleHistorySampleSource.planes.Goals as goal
+use Rattle.sample_history.proofs.history.SampleHistory.unpack_into.Goals as goal
 
 pub returns : goal.returns
 unfolding samples_from
@@ -15,7 +15,7 @@ returns c =
     let per : ℕ = c.per_byte-per_byte.result in
     let near = c.near_bytes-near.result in
     let place : ℕ = c.args.n - c.first.result in
-    c.unpack.ensures
+    c.fill.ensures
     ∙ runs_agree (sample packing near) (held_in h) (place % per) c.args.n c.args.len (λ i inside.
     let there : c.args.n - c.first.result + i ≡ c.args.n + i - first_of h =
     rw c.first.ensures (omega (arith, c.requires.first)) in
