@@ -25,7 +25,7 @@ SYMMETRIC = {'min', 'max', 'int_min', 'int_max'}
 
 
 class Turn(NamedTuple):
-    """A definition that is turned: where, what stood there and what does now, and the whole text."""
+    """A turned definition: where, what stood there, what does now, and the whole text."""
     module: str
     name: str
     line: int
