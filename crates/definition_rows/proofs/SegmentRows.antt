@@ -114,31 +114,32 @@ one_sample_least : map (is_through at_end 4) (10 ∷ 11 ∷ []) ≡ false ∷ tr
 unfolding is_through
 one_sample_least = refl
 
--- 100 chips and half a cycle a sample, from chip 2 on: 11 samples, of 4 to 14, end at chip 1102. A
--- program apart has added up the sums, by the code as sections 3.2.1.3 and 3.3.2.3 make it
+-- 550 chips and a quarter of a cycle a sample, from chip 2 on: after two samples, 4 and 5, it is
+-- chip 1102. A program apart has added up the sums, by the code as sections 3.2.1.3 and 3.3.2.3
+-- make it
 abbrev coarse : Settings
-coarse = record { rate = 10230; offset = pos 5115; packing = real1 }
+coarse = record { rate = 1860; offset = pos 465; packing = real1 }
 
 first_dump : progress coarse (record {
   prn = 1;
   start = 3;
   code = 2 ^ 33;
   steering = λ _. record { v = pos 0; w = pos 0 };
-}) (map (λ x. real (pos x)) (range_with_len 1 20))
+}) (map (λ x. real (pos x)) (range_with_len 1 6))
     ≡ record {
       dumps = record {
-        time = 14;
+        time = 5;
         counts =
             record {
-              ie = neg_ℤ (pos 134);
-              qe = pos 67;
-              ip = neg_ℤ (pos 134);
-              qp = pos 67;
-              il = pos 78;
-              ql = neg_ℤ (pos 39);
+              ie = pos 13;
+              qe = pos 6;
+              ip = pos 13;
+              qp = pos 6;
+              il = neg_ℤ (pos 13);
+              ql = neg_ℤ (pos 6);
             };
       } ∷ [];
-      open_segment = record { start = 14; code = 79 * 2 ^ 32; carrier = 2 ^ 31 };
+      open_segment = record { start = 5; code = 79 * 2 ^ 32; carrier = 2 ^ 31 };
     }
 unfolding progress after_segments closed_if_ended next_end end_by is_through closed_at least_below
     counts_over six_sums in_phase_sum quadrature_sum total code_step carrier_step chip chip_after
