@@ -5,8 +5,14 @@ use Rattle.std.specs.Prelude.{◌+◌, ◌-◌, ◌*◌, ◌^◌, pos, negsuc, n
 use Rattle.definitions.specs.Correlation.{Phases}
 use Rattle.definitions.specs.Codes.{chip, chip_after, register_after}
 use Rattle.definitions.specs.Oscillators.{Settings, code_step, carrier_step, early_sign, late_sign}
-use Rattle.definitions.specs.Samples.{real1}
-use Rattle.definitions.specs.Segments.{Segment, next_segment, phases_of}
+use Rattle.definitions.specs.Samples.{real1, real}
+use Rattle.definitions.specs.Segments.{Segment, next_segment, phases_of, is_through, end_by}
+use Rattle.definitions.specs.Segments.{progress, after_segments, closed_if_ended, next_end}
+use Rattle.definitions.specs.Segments.{closed_at}
+use Rattle.std.specs.Prelude.{false, None, Some}
+use Rattle.std.specs.List.{range_with_len}
+use Rattle.definitions.specs.Sums.{least_below, total}
+use Rattle.definitions.specs.Correlation.{counts_over, six_sums, in_phase_sum, quadrature_sum}
 use Rattle.definitions.specs.Loops.{loops_after}
 use Rattle.definitions.specs.Lives.{found_channel, held_channel, tracked_channel}
 
@@ -81,3 +87,61 @@ carrier_without_w : (phases_of usual (record { v = pos 0; w = pos 65536 })
     (record { start = 0; code = 0; carrier = 0 })).carrier_step ≡ 0
 unfolding code_step carrier_step
 carrier_without_w = refl
+
+-- a segment's own phases, and a step of 1,023,000 / 4,092,000 chip
+phases_of_segment : phases_of usual (record { v = pos 0; w = pos 0 }) ending
+    ≡ record { code = 7; carrier = 5; code_step = 2 ^ 30; carrier_step = 0 }
+unfolding code_step carrier_step
+phases_of_segment = refl
+
+-- 12 below the cycle, at a step of 4: through after three samples
+abbrev near_end : Segment
+near_end = record { start = 10; code = 1023 * 2 ^ 32 - 12; carrier = 0 }
+
+through_after_three : map (is_through near_end 4) (12 ∷ 13 ∷ 14 ∷ []) ≡ false ∷ true ∷ true ∷ []
+unfolding is_through
+through_after_three = refl
+
+ends_within : map (end_by near_end 4) (12 ∷ 13 ∷ []) ≡ None ∷ Some 13 ∷ []
+unfolding end_by is_through least_below
+ends_within = refl
+
+-- a segment takes one sample at least
+abbrev at_end : Segment
+at_end = record { start = 10; code = 1023 * 2 ^ 32; carrier = 0 }
+
+one_sample_least : map (is_through at_end 4) (10 ∷ 11 ∷ []) ≡ false ∷ true ∷ []
+unfolding is_through
+one_sample_least = refl
+
+-- 550 chips and a quarter of a cycle a sample, from chip 2 on: after two samples, 4 and 5, it is
+-- chip 1102. A program apart has added up the sums, by the code as sections 3.2.1.3 and 3.3.2.3
+-- make it
+abbrev coarse : Settings
+coarse = record { rate = 1860; offset = pos 465; packing = real1 }
+
+first_dump : progress coarse (record {
+  prn = 1;
+  start = 3;
+  code = 2 ^ 33;
+  steering = λ _. record { v = pos 0; w = pos 0 };
+}) (map (λ x. real (pos x)) (range_with_len 1 6))
+    ≡ record {
+      dumps = record {
+        time = 5;
+        counts =
+            record {
+              ie = pos 13;
+              qe = pos 6;
+              ip = pos 13;
+              qp = pos 6;
+              il = neg_ℤ (pos 13);
+              ql = neg_ℤ (pos 6);
+            };
+      } ∷ [];
+      open_segment = record { start = 5; code = 79 * 2 ^ 32; carrier = 2 ^ 31 };
+    }
+unfolding progress after_segments closed_if_ended next_end end_by is_through closed_at least_below
+    counts_over six_sums in_phase_sum quadrature_sum total code_step carrier_step chip chip_after
+    register_after
+first_dump = refl
