@@ -94,4 +94,30 @@ def a_package(rows, folder):
     rows.say('tools/deb, an author of odd letters', faults)
 
 
-ROWS = (words, a_package)
+def launcher(rows, folder):
+    """The script in the package starts the program for the level that the processor has, or for any
+    where it lacks something or nothing says what it has."""
+    top = copied(folder, 'tools/package')
+    home = os.path.join(top, 'tools', 'package')
+    flags = os.path.join(home, 'x86-64-v3.flags')
+    for level in 'any', 'x86-64-v3':
+        write(os.path.join(home, level, 'receiver'), f'#!/bin/sh\necho {level} "$@"\n', 0o755)
+    called = os.path.join(folder, 'seldomplough-receiver')
+    os.symlink(os.path.join(home, 'launcher'), called)
+    with open(flags, encoding='utf-8') as file:
+        needed = file.read()
+    for name, text, wanted in (('all', '\n', 'x86-64-v3'), ('not all', f'{needed} no_such', 'any'),
+                               ('no list', None, 'any'), ('no higher level', '\n', 'any')):
+        if text is None:
+            os.remove(flags)
+        else:
+            write(flags, text)
+        if name == 'no higher level':
+            shutil.rmtree(os.path.join(home, 'x86-64-v3'))
+        outcome = run([called, 'a b', 'c'], folder)
+        said = (outcome.status, outcome.said)
+        rows.say(f'the launcher, {name}',
+                 [f'{said}, not {wanted}'] * (said != (0, f'{wanted} a b c\n')))
+
+
+ROWS = (words, a_package, launcher)
