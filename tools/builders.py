@@ -8,13 +8,9 @@ import time
 
 import children
 import room_folders
-from built import TOP, clean_environment, find, read, replace, sum_of_sources
+from built import ANY, THIRD, TOP, clean_environment, find, level, read, replace, sum_of_sources
 from crate_order import job_count, read_crates, side_by_side, steps_above, with_those_below
 from rooms import RT, prove as prove_in_room
-
-# What the third level of x86-64 has over the second, and /proc/cpuinfo calls so. The kit's compiler
-# takes no higher level.
-THIRD_LEVEL = {'avx2', 'bmi2', 'fma', 'movbe'}
 
 # How far crates that are one or two steps below the program leave the processors to the others,
 # which have more above them.
@@ -38,13 +34,6 @@ def run(command, folder, **more):
     return said
 
 
-def level():
-    """The level of the processor to build for, as options of rt."""
-    with open('/proc/cpuinfo', encoding='utf-8') as lines:
-        flags = next((set(it.split()) for it in lines if it.startswith('flags')), set())
-    return ['--cpu', 'x86-64-v3'] if THIRD_LEVEL <= flags else []
-
-
 def say_how_long(crate, called, count, say):
     """Says about how long a proof takes, and what answers sooner."""
     cores = job_count()
@@ -57,12 +46,15 @@ def say_how_long(crate, called, count, say):
 
 
 def prove(crate, called, say):
-    """Proves and builds a program, and first the libraries that it stands on. Gives its path."""
+    """Proves and builds a program, and first the libraries that it stands on, for the level of the
+    processor at hand. Gives its path by this level."""
     crates = read_crates()
     names = with_those_below([crate], crates)
     home = os.path.join(TOP, 'crates', crate)
     began = time.monotonic()
-    in_work = set()
+    in_work, of_level = set(), level()
+    # The kit's compiler takes no higher level, and none by the name of `any`.
+    options = [] if of_level == ANY else ['--cpu', of_level]
 
     def build(name):
         in_work.add(name)
@@ -71,7 +63,7 @@ def prove(crate, called, say):
         try:
             if name == crate:
                 # The program says nothing to speak of where it is asked for its help.
-                run([*RT, 'run', '--jobs', str(jobs), *level(), '--', '--help'], home,
+                run([*RT, 'run', '--jobs', str(jobs), *options, '--', '--help'], home,
                     stderr=subprocess.STDOUT)
                 return
             is_proved, said = prove_in_room(name, crates, jobs, NICE.get(steps[name], 0))
@@ -88,7 +80,7 @@ def prove(crate, called, say):
     waits = {name: crates[name] for name in names}
     for done, (name, _) in enumerate(side_by_side(waits, build, job_count()), 1):
         say(f'{name} is proved, {done} of {len(names)}, {(time.monotonic() - began) / 60:.1f} min')
-    return os.path.join(home, 'out', crate)
+    return {of_level: os.path.join(home, 'out', crate)}
 
 
 def executable(messages, crate):
@@ -124,16 +116,27 @@ class Target:
 
 
 def build_plain(crate, sources, line, say):
-    """Builds a program of plain Rust by cargo. Gives its path."""
+    """Builds a program of plain Rust by cargo: for any processor, and on x86-64 for the third level
+    too, side by side. Gives its paths by the levels."""
     folder = os.path.join(TOP, 'plain')
-    run([sys.executable, '-E', '-s', '-S', os.path.join(TOP, 'tools', 'plain'), folder], TOP)
     say('this build is of plain Rust, by cargo, and not proved; it takes about half a minute')
+    run([sys.executable, '-E', '-s', '-S', os.path.join(TOP, 'tools', 'plain'), folder], TOP)
     target = Target(folder, sources, line)
     target.clear()
-    flags = {**clean_environment(), 'RUSTFLAGS': '-C target-cpu=native'}
-    command = ['cargo', 'build', '--offline', '--quiet', '--release', '--target-dir', target.folder,
-               '--message-format', 'json-render-diagnostics', '-p', crate]
-    program = executable(run(command, folder, env=flags), crate)
+    # All builds below share this file.
+    run(['cargo', 'generate-lockfile', '--offline', '--quiet'], folder)
+
+    def build(of_level):
+        flags = clean_environment()
+        if of_level != ANY:
+            flags['RUSTFLAGS'] = f'-C target-cpu={of_level}'
+        command = ['cargo', 'build', '--offline', '--quiet', '--release',
+                   '--target-dir', os.path.join(target.folder, of_level),
+                   '--message-format', 'json-render-diagnostics', '-p', crate]
+        return executable(run(command, folder, env=flags), crate)
+
+    levels = [ANY, THIRD] if 'host: x86_64-' in line else [ANY]
+    paths = dict(side_by_side({it: [] for it in levels}, build, job_count()))
     if sum_of_sources('plain') == sources:
         target.keep()
-    return program
+    return paths

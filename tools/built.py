@@ -1,6 +1,7 @@
 """What makes a built program new: a sum of all that it is made of, by content, and the line of the
 toolchain that made it. Both are kept in the folder `out` beside README.md, with a sum of the
-program itself. A start reads no more than this, so it imports little."""
+program itself; of each, where there is one for any processor and one for a level of it. A start
+reads no more than this, so it imports little."""
 import hashlib
 import os
 import select
@@ -28,6 +29,12 @@ PARTS = {
 TURNING = ('CARGO', '__CARGO', 'PYTHON', 'RUSTC', 'RUSTFLAGS', 'RUSTDOC', 'RUST_TARGET_PATH',
            'RT_ALLOW_C', 'RT_BACKEND')
 KEPT = ('CARGO_HOME', 'CARGO_BUILD_JOBS')
+
+# The levels of processors that programs are built for: the least one, for which a toolchain builds
+# where none is named, and the third one of x86-64. The file has what a processor needs for this, as
+# /proc/cpuinfo calls it. The package's launcher goes by the same file.
+ANY, THIRD = 'any', 'x86-64-v3'
+FLAGS = os.path.join(TOP, 'tools', 'package', f'{THIRD}.flags')
 
 # The seconds after which a command that has said nothing is ended.
 LONGEST = 20
@@ -86,6 +93,16 @@ def sum_of(path):
         return hashlib.sha256(read(path)).hexdigest()
     except OSError:
         return None
+
+
+def level():
+    """The highest level that the processor at hand has; the least where nothing says which."""
+    try:
+        with open('/proc/cpuinfo', 'rb') as lines:
+            flags = next((it.split() for it in lines if it.startswith(b'flags')), [])
+    except OSError:
+        flags = []
+    return THIRD if set(read(FLAGS).split()) <= set(flags) else ANY
 
 
 def clean_environment():
@@ -169,7 +186,7 @@ def replace(path, text):
 
 
 class Built:
-    """A program of a kind, as it was built last."""
+    """A program of a kind, as it was built last: for one level of processors, or for more."""
 
     def __init__(self, crate, kind):
         self.kind = kind
@@ -177,22 +194,25 @@ class Built:
         self.sources = sum_of_sources(kind)
 
     def program(self, line):
-        """The path of the program where it is what the sources are, and the toolchain of this line
-        made it; any toolchain where the line is empty. Nothing where it isn't."""
+        """The path of the program for the processor at hand where it is what the sources are, and
+        the toolchain of this line made it; any toolchain where the line is empty. Nothing where it
+        isn't."""
         try:
-            path, *known = read(self.stamp).decode().split('\n')
-        except (OSError, UnicodeDecodeError):
+            sources, made_by, *rows = read(self.stamp).decode().split('\n')
+            known = {row.split(' ', 2)[0]: row.split(' ', 2)[1:] for row in rows}
+            found, path = known.get(level()) or known[ANY]
+        except (OSError, ValueError, KeyError):
             return None
         path = os.path.join(TOP, path)
-        if known[:1] != [self.sources] or line not in ('', *known[1:2]):
+        if sources != self.sources or line not in ('', made_by):
             return None
-        is_whole = known[2:] == [sum_of(path)] and os.access(path, os.X_OK)
+        is_whole = found == sum_of(path) and os.access(path, os.X_OK)
         return path if is_whole else None
 
-    def keep(self, path, line):
-        """Keeps that the program is built."""
-        rows = os.path.relpath(path, TOP), self.sources, line, sum_of(path)
-        replace(self.stamp, '\n'.join(rows))
+    def keep(self, paths, line):
+        """Keeps that the program is built: its paths by the levels."""
+        rows = [f'{it} {sum_of(path)} {os.path.relpath(path, TOP)}' for it, path in paths.items()]
+        replace(self.stamp, '\n'.join([self.sources, line, *rows]))
 
 
 # The sum of the sources that the last `rt ci` had which was kept.
@@ -200,7 +220,7 @@ OF_CI = os.path.join(OUT, 'rt-ci')
 
 
 def keep_libraries():
-    """Keeps that the libraries of all crates are what the sources make, as `rt ci` has left them."""
+    """Keeps that the libraries of all crates are what the sources make, as `rt ci` left them."""
     replace(OF_CI, sum_of_sources('proved'))
 
 

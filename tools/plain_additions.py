@@ -3,7 +3,7 @@ leave for names that only the prover uses, and what rustc has to be told about l
 import re
 import textwrap
 
-from plain_premises import condition, types_in
+from plain_premises import condition, types_in, types_of
 from plain_text import block_end, code_of
 
 # A function with the comments of its clauses: its head, these lines, and its brace's indentation.
@@ -17,6 +17,29 @@ LOOP = re.compile(r'^ *(?:for|while|loop)\b', re.M)
 LANES = re.compile(r'\b[iu]\d+x\d+\b')
 
 ALWAYS = '#[inline(always)]'
+
+# Sixteen bytes of a table from each of four places on: the text of it, of what it stands on, and of
+# what nothing names any more where the kit reads the bytes by one comparison.
+FOUR_WINDOWS = '''{
+    let low = two_windows(table, at[0], at[1]);
+    let high = two_windows(table, at[2], at[3]);
+    low.shuffle(high, SIXTY_FOUR)
+}'''
+TWO_WINDOWS = '''
+    u8x16::from_slice(&table[first..]).shuffle(u8x16::from_slice(&table[second..]), THIRTY_TWO)
+}'''
+OF_WINDOWS = re.compile(r'^(?=const (?:THIRTY_TWO|SIXTY_FOUR): |fn two_windows\()', re.M)
+
+# Lanes of a slice from a place on.
+FROM_PLACE = re.compile(r'\b([iu]\d+x\d+)::from_slice\(&([\w.]+)\[([^\[\]]*)\.\.\]\)')
+
+# A cold method that stays a call. What `self` refers to has to be in memory for it.
+COLD = re.compile(r'^( *)#\[cold\]\n *#\[inline\(never\)\]\n(?=.*\(&(?:mut )?self\b)', re.M)
+
+# What `laned_text` goes by. Where sources have lanes and one of these is nowhere in them, a source
+# has changed, and the program would be slower without a word.
+BY_TEXT = ('the bodies of `four_windows` and `two_windows`', 'lanes of a slice from a place on',
+           'a cold method', 'a method that gives 64 bytes', 'a structure of lanes')
 
 # A law: a public function with clauses that does nothing.
 LAW = re.compile(r'^(pub fn [^{;/]*\n(?: *// .*\n)+\{\})$', re.M)
@@ -37,21 +60,23 @@ def contract(clauses, indent):
 
 
 def is_inlined(text, found):
-    """Whether a source says of a function in it that it is always inlined."""
-    return re.search(r'inline\(always\)\]\n(?: *///.*\n)*\Z', text[:found.start()]) is not None
+    """Whether a source says of a function in it that it is always inlined, or never."""
+    said = re.search(r'inline\((?:always|never)\)\]\n(?: *///.*\n)*\Z', text[:found.start()])
+    return said is not None
 
 
-def checked_text(text, constants):
+def checked_text(text, constants, values):
     """A source whose functions say what they require, and see to the simple ones by themselves:
     those with a loop and those that take or give lanes in every build, since rustc can then leave
     out more checks after these, and the others in a debug build. It may name constants, whose types
-    are given."""
+    are given, and of some the values."""
     code = code_of(text)
+    of_source = types_of(code, constants, values)
 
     def checked(found):
         head, clauses, indent = found.groups()
         docs = contract(clauses, indent) if head.lstrip().startswith('pub fn') else ''
-        types = types_in(head, code, constants)
+        types = types_in(head, of_source)
         holds = filter(None, (condition(premise, types) for premise in premises(clauses)))
         body = code_of(text[found.end():block_end(text, found.end() - 1)])
         check = 'assert' if LOOP.search(body) or LANES.search(head) else 'debug_assert'
@@ -66,18 +91,40 @@ def types_of_lanes(texts):
     return {name for name, rows in fields if LANES.search(code_of(rows))}
 
 
-def laned_text(text, types):
+def laned_text(text, types, seen):
     """A source of a crate that works on lanes, with the structures of these. An operation on 64
     lanes of words counts as 64 to rustc until it makes vectors of them, which it does last. So it
     leaves as calls what is a few instructions in the end, and keeps in memory what such a call
-    takes by a reference. Here it is told to inline the functions that take or give lanes, and those
-    that take a structure of them."""
+    takes by a reference. Here it is told to inline the functions that take or give lanes or a
+    structure of them, those that give 64 bytes, and cold methods. Then a loop over words has all
+    that it reads in registers, or knows that no turn changes it. Adds to `seen` what of BY_TEXT is
+    in the source."""
+    windows, place, cold, bytes_of_word, structure = BY_TEXT
+    if FOUR_WINDOWS in text and TWO_WINDOWS in text:
+        seen.add(windows)
+        text = text.replace(FOUR_WINDOWS, '{\n    u8x64::from_places(table, at)\n}')
+        text = OF_WINDOWS.sub('#[allow(dead_code)]\n', text)
+
+    def from_place(found):
+        seen.add(place)
+        lanes, values, at = found.groups()
+        return f'{lanes}::from_slice_at({"&" * ("." in values)}{values}, {at})'
+
+    def kept(found):
+        seen.add(cold)
+        return f'{found[1]}{ALWAYS}\n'
+
     def inlined(found):
         head, _, indent = found.groups()
-        taken = types.intersection(re.findall(r'\w+', head.split('->')[0]))
-        is_short = (LANES.search(head) or taken) and not is_inlined(text, found)
-        return f'{indent}{ALWAYS}\n' * bool(is_short) + found[0]
+        taken, _, given = head.partition('->')
+        of_self = given if 'self' in taken else ''
+        is_word, is_structure = '[u8; 64]' in of_self, types.intersection(
+            re.findall(r'\w+', taken + of_self))
+        seen.update([bytes_of_word] * is_word + [structure] * bool(is_structure))
+        is_short = is_word or is_structure or LANES.search(head)
+        return f'{indent}{ALWAYS}\n' * bool(is_short and not is_inlined(text, found)) + found[0]
 
+    text = COLD.sub(kept, FROM_PLACE.sub(from_place, text))
     return FUNCTION.sub(inlined, text)
 
 

@@ -1,11 +1,15 @@
 """The simple premises of functions as conditions of Rust, which a function can check."""
 import re
+from collections import Counter
 
 # A term of a clause that Rust can say: a power, a list's length, a size, a number or a name.
 TERM = re.compile(r'2 \^ (\d+)|length (\w+)\.(?:now|old|entry)|unsigned_abs (\w+)(?![.\w])'
                   r'|(\d+)(?![.\w])|(\w+)(?![.\w])')
 
 CONSTANT = re.compile(r'\bconst (\w+): ([ui]\d+|usize)\b')
+
+# A constant that is a number as it stands.
+VALUE = re.compile(r'\bconst (\w+): (?:[ui]\d+|usize) = (\d[\d_]*);')
 
 
 def constant_types(texts):
@@ -16,11 +20,31 @@ def constant_types(texts):
     return types
 
 
-def types_in(head, code, constants):
-    """The types of the numbers and lists that a function's premises can name."""
-    types = {name: kind for name, kind in constants.items()
-             if re.search(rf'^use [^;]*\b{name}\b', code, re.M)}
+def constant_values(texts):
+    """The values of the constants of sources that are numbers as they stand, where all of one name
+    have one value."""
+    text = '\n'.join(texts)
+    values, types = {}, Counter(name for name, _ in CONSTANT.findall(text))
+    for (name, digits), count in Counter(VALUE.findall(text)).items():
+        if count == types[name]:
+            values[name] = int(digits)
+    return values
+
+
+def types_of(code, constants, values):
+    """The types of the constants that a source's premises can name; and the values of those that
+    only its clauses name."""
+    imports = ' '.join(re.findall(r'^use [^;]*', code, re.M))
+    named = set(re.findall(r'\w+', imports))
+    types = {**values, **{name: kind for name, kind in constants.items() if name in named}}
     types.update(CONSTANT.findall(code))
+    return types
+
+
+def types_in(head, types):
+    """The types of the numbers and lists that a function's premises can name, with those of
+    constants."""
+    types = dict(types)
     types.update(re.findall(r'(\w+): ([ui]\d+|usize)\b', head))
     types.update((name, 'list') for name in re.findall(r"(\w+): &(?:mut )?(?:'\w+ )?\[", head))
     return types
@@ -34,6 +58,8 @@ def term(found, types):
     if digits:
         return digits, int(digits)
     kind = types.get(of_list or of_size or name)
+    if isinstance(kind, int):
+        return (str(kind), kind) if name else None
     if (kind == 'list') != bool(of_list) or not kind:
         return None
     if of_list:
@@ -53,9 +79,28 @@ def wide(said):
     return text if text.isdigit() else f'({text} as i128)' if isinstance(kind, str) else f'({text})'
 
 
+def two_below(premise, terms, kinds, sign):
+    """A premise as `at + LANES ≤ length table.now`, all of one type without a sign, as two
+    comparisons with no sum that could leave the type. So a loop that slices by it has no sums of
+    128 bits, and rustc leaves out what the slice would check. None where the premise isn't one."""
+    if TERM.sub('', premise) not in (' +  ≤ ', ' +  < ') or len(kinds) != 1:
+        return None
+    kind = next(iter(kinds))
+    # Of numbers with a sign, one term may be above the whole.
+    if kind.startswith('i'):
+        return None
+    bound = greatest(kind)
+    if any(isinstance(most, int) and most > bound for _, most in terms):
+        return None
+    (first, _), (second, _), (most, _) = terms
+    most = f'({most})' if ' ' in most else most
+    return f'{second} {sign} {most} && {first} {sign} {most} - {second}'
+
+
 def condition(premise, types):
-    """A premise as `place + 16 ≤ length table.now` as a condition of Rust, in the type of both
-    sides where each is one term. None where Rust can't say it, or it always holds."""
+    """A premise as `place + 16 ≤ length table.now` as a condition of Rust, in the type of its terms
+    where they are two, or three without a sign, all of one type. None where Rust can't say it, or
+    it always holds."""
     sides = re.split(' [≤<] ', premise)
     terms = [term(found, types) for side in sides for found in TERM.finditer(side)]
     if len(sides) != 2 or None in terms or re.search('[^ +*()]', TERM.sub('', ' '.join(sides))):
@@ -66,5 +111,7 @@ def condition(premise, types):
         (left, _), (right, most) = terms
         is_bound = isinstance(most, int) and greatest(kinds.pop()) < most + (sign == '<=')
         return None if is_bound else f'{left} {sign} {right}'
+    if said := two_below(premise, terms, kinds, sign):
+        return said
     left, right = (TERM.sub(lambda found: wide(term(found, types)), side) for side in sides)
     return f'{left} {sign} {right}' if kinds else None

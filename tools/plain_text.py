@@ -24,7 +24,7 @@ REWRITTEN = [(re.compile(pattern, re.M), new) for pattern, new in [
     (r'((?:\n[ \t]*// .*)+)\n;', r';\1'),
     # Tests and programs are given the right to touch the world; Rust's take it.
     (r'^([ \t]*fn \w+)\(rt: HostRuntime\)([^{]*\{)', r'\1()\2\n    let rt = HostRuntime;'),
-    (r'\bexpect\((&?rt, "[^"]*")\)', r'expect((\1).1)'),
+    (r'\bexpect\((&?\$?rt, "[^"]*")\)', r'expect((\1).1)'),
     (r'\bFail::new\(', 'Fail::from('),
     # The stable std has no vectors of numbers.
     (r'\bstd::simd::prelude\b', '::lanes'),

@@ -5,7 +5,10 @@ import shutil
 from .commands import changes, contents, refused, run, write
 from .small_checkout import LIBRARY, Checkout
 
-PROGRAM = 'plain/target/release/receiver_cli'
+PROGRAM = 'plain/target/%s/release/receiver_cli'
+
+# What a processor needs for the higher of two levels.
+FLAGS = 'tools/package/x86-64-v3.flags'
 
 # What would have cargo build elsewhere, for another processor, in another way, or not at all.
 TURNED = {
@@ -64,8 +67,61 @@ def by_content(rows, folder):
     checkout.top = moved
     rows.say('./receiver of a checkout that was moved',
              checkout.prints('7.0.0', PATH=checkout.bare))
-    shutil.copy('/bin/true', checkout.at(PROGRAM))
+    shutil.copy('/bin/true', path_of(checkout))
     rows.say('./receiver, another program in its place', checkout.prints('7.0.0'))
+
+
+def path_of(checkout, **more):
+    """The path of the program for the processor at hand, as tools/build prints it."""
+    return checkout.run('tools/build', 'receiver_cli', 'receiver', **more).said.rstrip('\n')
+
+
+def levels(rows, folder):
+    """On x86-64 one build makes two programs, and a start chooses by what the processor has."""
+    if not shutil.which('cargo') or os.uname().machine != 'x86_64':
+        return
+    checkout = Checkout(folder)
+    rows.say('./receiver, the first build of two', checkout.prints('1.0.1'))
+    least, third = (checkout.at(PROGRAM % it) for it in ('any', 'x86-64-v3'))
+    rows.say('./receiver, its programs',
+             [f'{path} is missing' for path in (least, third) if not os.access(path, os.X_OK)])
+    with open(checkout.at(FLAGS), encoding='utf-8') as file:
+        needed = file.read()
+    # A processor has what nothing needs, none has the second, and the third is part of one.
+    for name, text, wanted in (('all', '', third), ('none', f'{needed} no_such_flag', least),
+                               ('part of one', f'{needed} vx2', least)):
+        write(checkout.at(FLAGS), text)
+        path = path_of(checkout, PATH=checkout.bare)
+        rows.say(f'tools/build, a processor that has {name}',
+                 [f'it gives {path!r}, not {wanted}'] * (path != wanted))
+        rows.say(f'./receiver, a processor that has {name}',
+                 checkout.prints('1.0.1', PATH=checkout.bare))
+    os.remove(least)
+    rows.say('./receiver, one of two programs is gone, without cargo',
+             refused(checkout.run('receiver', PATH=checkout.bare), 'receiver: .*`cargo`.*', 1))
+    rows.say('./receiver, one of two programs is gone', checkout.prints('1.0.1'))
+    rows.say('./receiver, it has come again', checkout.prints('1.0.1', PATH=checkout.bare))
+
+
+def proved_for_more(rows, folder):
+    """A proved program for a higher level than the processor at hand has is never started."""
+    checkout = Checkout(folder)
+    checkout.add_rt('rattle-kit-1')
+    with open(checkout.at(FLAGS), encoding='utf-8') as file:
+        needed = file.read()
+    write(checkout.at(FLAGS), '')
+    checkout.run('receiver')
+    rows.say('./receiver, proved, the processor has all',
+             [] if checkout.run('receiver', PATH=checkout.bare).said == 'proved\n' else ['not run'])
+    write(checkout.at(FLAGS), f'{needed} no_such_flag')
+    rows.say('./receiver, proved for a higher level, without rt and cargo',
+             refused(checkout.run('receiver', PATH=checkout.bare), 'receiver: .*`cargo`.*', 1))
+    outcome = checkout.run('receiver')
+    rows.say('./receiver, proved for a higher level', [] if outcome.said == 'proved\n'
+             else [str(outcome)[-300:]])
+    write(checkout.at(FLAGS), '')
+    rows.say('./receiver, proved for a lower level',
+             [] if checkout.run('receiver', PATH=checkout.bare).said == 'proved\n' else ['not run'])
 
 
 def failures(rows, folder):
@@ -232,5 +288,5 @@ def environments(rows, folder):
     rows.say('./receiver by a link', [] if outcome.said == 'proved\n' else [str(outcome)[-300:]])
 
 
-ROWS = (variables, by_content, failures, nothing_to_build_with, words, other_rt, the_kit,
-        odd_places, environments)
+ROWS = (variables, by_content, levels, proved_for_more, failures, nothing_to_build_with, words,
+        other_rt, the_kit, odd_places, environments)

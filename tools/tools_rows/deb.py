@@ -34,6 +34,13 @@ def fake_path(folder):
     return f'{fake}:{os.environ["PATH"]}'
 
 
+def lintian_path(folder, status):
+    """A PATH whose lintian has this status. The authors of these rows are no contacts to it."""
+    fake = os.path.join(folder, f'lintian{status}')
+    write(os.path.join(fake, 'lintian'), f'#!/bin/sh\nexit {status}\n', 0o755)
+    return f'{fake}:{os.environ["PATH"]}'
+
+
 def deb(checkout, *words, **more):
     """The outcome of tools/deb in the folder of the row."""
     return run([checkout.at('tools/deb'), *words], checkout.folder, more, longest=120)
@@ -58,6 +65,8 @@ def words(rows, folder):
                        ('a <b@c.org>', 'a@b.org'), ('a\x1b[2J', 'a@b.org')):
         refuses(rows, f'maintainer {name!r} {mail!r}', checkout, [],
                 DEBFULLNAME=name, DEBEMAIL=mail)
+    for given in '', 'x', '-1', '1e9', '1 2':
+        refuses(rows, f'the time {given!r}', checkout, [], SOURCE_DATE_EPOCH=given)
     before = contents(folder)
     outcome = deb(checkout, '--help')
     faults = changes(before, contents(folder))
@@ -78,6 +87,7 @@ def a_package(rows, folder):
     os.makedirs(to)
     os.makedirs(temporary)
     outcome = deb(checkout, 'to here', TMPDIR=temporary, DEBEMAIL=None,
+                  PATH=lintian_path(folder, 0),
                   CARGO_BUILD_TARGET='no-such-target', CARGO_ENCODED_RUSTFLAGS='--no-such-flag',
                   CARGO_TARGET_DIR=os.path.join(folder, 'other'), CDPATH='/')
     faults = [] if outcome.status == 0 else [f'status {outcome.status}, {outcome.errors[-300:]!r}']
@@ -92,6 +102,81 @@ def a_package(rows, folder):
     for place in folder, to, checkout.top, temporary:
         faults += [f'a command of the name ran in {place}'] * ('P' in os.listdir(place))
     rows.say('tools/deb, an author of odd letters', faults)
+    outcome = deb(checkout, PATH=lintian_path(folder, 2))
+    rows.say('tools/deb, lintian has an error',
+             [f'status {outcome.status}'] * (outcome.status != 2)
+             + [outcome.errors] * (outcome.errors != 'deb: lintian has an error\n'))
 
 
-ROWS = (words, a_package)
+def same_bytes(rows, folder):
+    """Two checkouts of one commit, in two folders, whose files have other times and modes, give the
+    same package. Another time gives another."""
+    if not all(map(shutil.which, NEEDED)):
+        return
+    checkout = with_commit(folder)
+    write(checkout.at('README.md'), 'See [the pages](docs/PLAIN.md), [none](NONE.md), and\n'
+          '[docs/pack.1](docs/pack.1).\n')
+    other = os.path.join(folder, 'another checkout')
+    shutil.copytree(checkout.top, other, copy_function=shutil.copyfile)
+    for tool in 'deb', 'plain':
+        os.chmod(os.path.join(other, 'tools', tool), 0o700)
+    made = {}
+    for name, top, more in (('first', checkout.top, {}), ('second', other, {'TZ': 'Asia/Tokyo'}),
+                            ('third', other, {'SOURCE_DATE_EPOCH': '1000000000'})):
+        to = os.path.join(folder, name)
+        os.makedirs(to)
+        outcome = run(['bash', '-c', 'umask 077; exec "$0" "$1"', f'{top}/tools/deb', to], folder,
+                      {'TMPDIR': to, 'PATH': lintian_path(folder, 0), **more}, longest=240)
+        packages = [it for it in os.listdir(to) if it.endswith('.deb')]
+        faults = [] if outcome.status == 0 and len(packages) == 1 else [str(outcome)[-300:]]
+        rows.say(f'tools/deb, the {name} package', faults)
+        if faults:
+            return
+        made[name] = os.path.join(to, packages[0])
+    data = {name: contents(os.path.dirname(path)) for name, path in made.items()}
+    rows.say('tools/deb, two checkouts', ['two packages'] * (data['first'] != data['second']))
+    rows.say('tools/deb, another time', ['the same package'] * (data['first'] == data['third']))
+    listed = run(['dpkg-deb', '-c', made['third']], folder, {'TZ': 'UTC'}).said
+    faults = [it for it in listed.splitlines() if ' 2001-09-09 01:46 ' not in it]
+    rows.say('tools/deb, the times in a package', faults or ['it is empty'] * (not listed))
+    root = os.path.join(folder, 'root')
+    run(['dpkg-deb', '-x', made['first'], root], folder)
+    docs = os.path.join(root, 'usr/share/doc/seldomplough')
+    with open(os.path.join(docs, 'README.md'), encoding='utf-8') as file:
+        text = file.read()
+    wanted = 'See [the pages](docs/PLAIN.md), none, and\n`man seldomplough-pack`.\n'
+    rows.say('tools/deb, links of its pages', [text] * (text != wanted))
+    for name in 'receiver', 'pack':
+        said = run([os.path.join(docs, name), '--version'], folder).said
+        rows.say(f'tools/deb, {name} beside its pages', [said] * (said != f'{name} 1.0.1\n'))
+
+
+def launcher(rows, folder):
+    """The script in the package starts the program for the level that the processor has, or for any
+    where it lacks something or nothing says what it has."""
+    top = copied(folder, 'tools/package')
+    home = os.path.join(top, 'tools', 'package')
+    flags = os.path.join(home, 'x86-64-v3.flags')
+    for level in 'any', 'x86-64-v3':
+        write(os.path.join(home, level, 'receiver'), f'#!/bin/sh\necho {level} "$@"\n', 0o755)
+    # It goes by its own name in the package, whatever the link to it is called.
+    shutil.copy(os.path.join(home, 'launcher'), os.path.join(home, 'receiver'))
+    called = os.path.join(folder, 'linked')
+    os.symlink(os.path.join(home, 'receiver'), called)
+    with open(flags, encoding='utf-8') as file:
+        needed = file.read()
+    for name, text, wanted in (('all', '\n', 'x86-64-v3'), ('not all', f'{needed} no_such', 'any'),
+                               ('no list', None, 'any'), ('no higher level', '\n', 'any')):
+        if text is None:
+            os.remove(flags)
+        else:
+            write(flags, text)
+        if name == 'no higher level':
+            shutil.rmtree(os.path.join(home, 'x86-64-v3'))
+        outcome = run([called, 'a b', 'c'], folder)
+        said = (outcome.status, outcome.said)
+        rows.say(f'the launcher, {name}',
+                 [f'{said}, not {wanted}'] * (said != (0, f'{wanted} a b c\n')))
+
+
+ROWS = (words, a_package, same_bytes, launcher)

@@ -78,6 +78,13 @@ impl<T: Copy, const P: usize> Lanes<T, P> {
         Lanes(parts(|p| first(&values[16 * p..])))
     }
 
+    /// The values of a slice from a place on, by one comparison: what `from_slice` gives of the
+    /// slice from there on. Panics where it has too few.
+    #[inline(always)]
+    pub fn from_slice_at(values: &[T], at: usize) -> Self {
+        Lanes(processor::values_at(values, at))
+    }
+
     /// Writes the lanes to the beginning of a slice. Panics where it is too short.
     #[inline(always)]
     pub fn copy_to_slice(self, values: &mut [T]) {
@@ -131,6 +138,16 @@ impl<T: Copy> Lanes<T, 4> {
     pub fn extract<const START: usize, const LEN: usize>(self) -> Lanes<T, 2> {
         const { assert!(LEN == 32 && START % 16 == 0) };
         Lanes(parts(|p| self.0[START / 16 + p]))
+    }
+}
+
+impl u8x64 {
+    /// Sixteen bytes of a table from each of four places on. Panics where one has too few.
+    /// `std::simd` has no such function: the sources put four vectors side by side, and each of
+    /// them would be checked by itself.
+    #[inline(always)]
+    pub fn from_places(table: &[u8], places: [usize; 4]) -> u8x64 {
+        Lanes(processor::windows(table, places))
     }
 }
 

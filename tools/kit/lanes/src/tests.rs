@@ -59,6 +59,38 @@ fn parts_and_slices() {
 }
 
 #[test]
+fn windows() {
+    over_bytes(|a, b| {
+        // Places in any order.
+        let table = &a[..40];
+        let places: [usize; 4] = from_fn(|p| b[p] as usize % 25);
+        let want = from_fn(|k| table[places[k / 16] + k % 16]);
+        assert_eq!(u8x64::from_places(table, places).to_array(), want);
+        let at = places[0] % 9;
+        assert_eq!(u8x32::from_slice_at(table, at).0.as_flattened(), &table[at..at + 32]);
+    });
+}
+
+#[test]
+fn windows_that_end_too_late() {
+    let table = [0; 40];
+    let fails = |places| std::panic::catch_unwind(|| u8x64::from_places(&table, places)).is_err();
+    for wrong in [25, 26, 40, 1 << 62, (1 << 63) - 1, 1 << 63, usize::MAX - 15, usize::MAX] {
+        for p in 0..4 {
+            for other in [0, 3, 24] {
+                let mut places = [other; 4];
+                places[p] = wrong;
+                assert!(fails(places), "{places:?}");
+            }
+        }
+        assert!(fails([wrong; 4]));
+        assert!(std::panic::catch_unwind(|| u8x16::from_slice_at(&table, wrong)).is_err());
+    }
+    assert!(!fails([24; 4]) && !fails([0, 24, 3, 24]) && !fails([24, 0, 24, 0]));
+    assert!(std::panic::catch_unwind(|| u8x64::from_places(&table[..15], [0; 4])).is_err());
+}
+
+#[test]
 fn choices() {
     over_bytes(|a, b| {
         let bits = |is: &dyn Fn(usize) -> bool| (0..64).map(|k| (is(k) as u64) << k).sum::<u64>();
