@@ -1,5 +1,5 @@
 -- Worked examples of what is asked of a recording and of stretches of it, by docs/FORMATS.md.
-use Rattle.std.proofs.Common.{inl, inr, ◌≡◌, ℕ, ◌×◌, List, [], ◌∷◌, refl, arith}
+use Rattle.std.proofs.Common.{inl, inr, ◌≡◌, ℕ, List, [], ◌∷◌, refl, arith}
 use Rattle.std.specs.Prelude.{Bool, true, false, pos}
 use Rattle.sample_planes.specs.declared.format.Format.{Format}
 use Rattle.sample_planes.specs.declared.format.Format.TheVariants.{Real1, Real2, Iq1, Iq2}

@@ -175,7 +175,7 @@ fn a_run_in_parts(rt: HostRuntime) {
     let (front, back) = run.split_at(5);
     let behind = run.split_at(8).1;
     let lens = [run.len(), front.len(), back.len(), behind.len()];
-    assert_same!(rt; lens, [8, 5, 3, 0]);
+    assert_eq!(rt; lens, [8, 5, 3, 0]);
     assert_samples(&rt, &front.unpack(), &[-1, -3, 1, -3, 3]);
     assert_samples(&rt, &back.unpack(), &[-3, 1, 3]);
     // Within a part, samples are counted from its first one.
