@@ -7,6 +7,10 @@ use Rattle.std.specs.Prelude.{slice_get}
 use Rattle.definitions.specs.Fields.{Field, clock_fields, eph2_fields, eph3_fields, almanac_fields}
 use Rattle.definitions.specs.Fields.{field_of}
 use Rattle.definitions.specs.Pages.{Page, page_of}
+use Rattle.std.specs.Prelude.{None, false, true, ◌++◌}
+use Rattle.definitions.specs.Fields.{all_places, bit_at_place, bits, number_of, place_of, signed}
+use Rattle.definitions.specs.Fields.{unsigned, word_at_place}
+use Rattle.std.specs.List.{range_with_len}
 
 -- the field of a table by its name
 abbrev value_in : List Field → List ℕ → Subframe → Option ℤ
@@ -68,3 +72,36 @@ names_of_almanac : map (λ (f : Field). f.name) almanac_fields ≡ codes "data" 
     ∷ codes "e" ∷ codes "toa" ∷ codes "di" ∷ codes "omdot" ∷ codes "health" ∷ codes "sqrta"
     ∷ codes "om0" ∷ codes "w" ∷ codes "m0" ∷ codes "af0" ∷ codes "af1" ∷ []
 names_of_almanac = refl
+
+-- 101 and 011, unsigned and in two's complement
+numbers_of_digits : map (number_of false) ((1 ∷ 0 ∷ 1 ∷ []) ∷ (0 ∷ 1 ∷ 1 ∷ []) ∷ [])
+    ++ map (number_of true)
+    ((1 ∷ 0 ∷ 1 ∷ []) ∷ (0 ∷ 1 ∷ 1 ∷ []) ∷ []) ≡ pos 5 ∷ pos 3 ∷ neg_ℤ (pos 3) ∷ pos 3 ∷ []
+numbers_of_digits = refl
+
+-- word 2 begins with place 31, its last data bit has place 54
+words_at_places : map (word_at_place (record { words = map Some (range_with_len 1 10) }))
+    (1 ∷ 30 ∷ 31 ∷ 60 ∷ 61 ∷ 300 ∷ []) ≡ map Some (1 ∷ 1 ∷ 2 ∷ 2 ∷ 3 ∷ 10 ∷ [])
+words_at_places = refl
+
+bits_at_places : map (bit_at_place (record {
+  words = Some 0x400000 ∷ Some 0x800001 ∷ None ∷ [];
+})) (1 ∷ 2 ∷ 24 ∷ 31 ∷ 32 ∷ 53 ∷ 54 ∷ 84 ∷ []) ≡ 0 ∷ 1 ∷ 0 ∷ 1 ∷ 0 ∷ 0 ∷ 1 ∷ 0 ∷ []
+bits_at_places = refl
+
+-- both parts in their order, each to its last place
+places_of_parts : all_places (signed [] (bits 7 9 ∷ bits 2 2 ∷ []) (pos 0)) ≡ 7 ∷ 8 ∷ 9 ∷ 2 ∷ []
+places_of_parts = refl
+
+-- a field of two words is there where both are
+field_of_two_words : map (λ w. field_of (record { words = Some 0 ∷ Some 1 ∷ w ∷ [] })
+    (unsigned [] (bits 54 54 ∷ bits 61 62 ∷ []) (pos 0))) (Some 0xbfffff ∷ None ∷ [])
+    ≡ Some (pos 6) ∷ None ∷ []
+unfolding field_of
+field_of_two_words = refl
+
+-- places are counted from 0, and a name that isn't there has the place after the last
+places_by_name : map (λ name. place_of name almanac_fields) (codes "data" ∷ codes "toa"
+    ∷ codes "af1"
+    ∷ codes "none" ∷ []) ≡ 0 ∷ 3 ∷ 12 ∷ 13 ∷ []
+places_by_name = refl

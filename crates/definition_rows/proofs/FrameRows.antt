@@ -128,3 +128,14 @@ greatest_time_of_week = refl
 preambles : map has_preamble (0x8b0000 ∷ 0x740000 ∷ 0x8a0000 ∷ 0x8bffff ∷ [])
     ≡ true ∷ false ∷ false ∷ true ∷ []
 preambles = refl
+
+-- the next start is 300 bits after a start, and none is 299 bits after it
+next_start : starts_of (false ∷ false ∷ header ++ replicate 240 false ++ header) ≡ 2 ∷ 302 ∷ []
+unfolding starts_of starts_from is_candidate checked_at checked_data passes holds data_of
+    least_below
+next_start = refl
+
+no_start_before : starts_of (false ∷ false ∷ header ++ replicate 239 false ++ header) ≡ 2 ∷ []
+unfolding starts_of starts_from is_candidate checked_at checked_data passes holds data_of
+    least_below
+no_start_before = refl

@@ -13,6 +13,10 @@ use Rattle.definitions.specs.Events.{subframe, gap, bit_events, pages_among}
 use Rattle.definitions.specs.Pages.{page_of}
 use Rattle.std.specs.Prelude.{true}
 use Rattle.definitions.specs.Frames.{is_header}
+use Rattle.std.specs.Prelude.{length, pos, take}
+use Rattle.definitions.specs.Events.{reported}
+use Rattle.definitions.specs.DataSets.{single}
+use Rattle.definitions.specs.Pages.{utc}
 
 abbrev bits_of_word : ℕ → List Bool
 bits_of_word word = map (λ i. bit_at word (29 - i) == 1) (range_with_len 0 30)
@@ -59,3 +63,24 @@ headers = refl
 priors : map (λ prior. is_header prior (Some 0x8b0000) (Some 0x84) prior) (0 ∷ 1 ∷ 2 ∷ 3 ∷ [])
     ≡ true ∷ false ∷ false ∷ true ∷ []
 priors = refl
+
+-- a page's report comes after its subframe: subframe 4 with SV ID 56, each word with the parity
+-- that a program apart has worked out
+abbrev page_bits : List Bool
+page_bits = false ∷ false ∷ bits_of_word 0x22c00012 ++ bits_of_word 0x00002470
+    ++ bits_of_word 0x1e00003c ++ replicate 210 false
+
+page_comes_last : bit_events page_bits (found_by page_bits)
+    ≡ subframe (words (0x8b0000 ∷ 0x91 ∷ 0x780000 ∷ replicate 7 0))
+    ∷ reported (single (record { kind = utc; values = pos 1 ∷ pos 56 ∷ replicate 16 (pos 0) })) ∷ []
+unfolding found_by starts_of starts_from is_candidate checked_at checked_data passes holds data_of
+    least_below subframe_at page_of pages_among reports_of new_set last_reported
+page_comes_last = refl
+
+-- its page is among the pages once its last bit is there
+pages_by_bits : map (λ bits. length (pages_among bits)) (take 301 page_bits ∷ page_bits
+    ∷ (page_bits ++ false ∷ []) ∷ []) ≡ 0 ∷ 1 ∷ 1 ∷ []
+unfolding starts_of starts_from is_candidate checked_at checked_data passes holds data_of
+    least_below
+    subframe_at page_of pages_among
+pages_by_bits = refl

@@ -3,6 +3,12 @@ use Rattle.std.proofs.Common.{◌≡◌, ℕ, [], ◌∷◌, ◌++◌, refl}
 use Rattle.std.specs.Prelude.{◌*◌, ◌^◌, map, replicate, Some, None}
 use Rattle.definitions.specs.Frames.{Subframe}
 use Rattle.definitions.specs.Pages.{kind_of, clock, eph2, eph3, almanac, utc, health, message}
+use Rattle.definitions.specs.Fields.{Field}
+use Rattle.std.specs.Prelude.{codes, false, length, option_map, slice_get, true}
+use Rattle.definitions.specs.Pages.{fields_of, is_almanac_page, kind_of_page, sv_id}
+use Rattle.std.specs.List.{range_with_len}
+use Rattle.definitions.specs.Pages.{Kind}
+use Rattle.std.specs.Prelude.{List}
 
 -- a subframe of this ID whose page has this SV ID
 abbrev page_of_id : ℕ → ℕ → Subframe
@@ -24,3 +30,47 @@ kinds_of_pages : map kind_of (page_of_id 4 55 ∷ page_of_id 4 56 ∷ page_of_id
     ∷ page_of_id 5 56 ∷ page_of_id 4 51 ∷ [])
     ≡ Some message ∷ Some utc ∷ Some health ∷ None ∷ None ∷ None ∷ []
 kinds_of_pages = refl
+
+-- the IDs and SV IDs one by one
+almanacs_by_id : map (λ id. is_almanac_page id 1) (range_with_len 0 8)
+    ≡ false ∷ false ∷ false ∷ false ∷ true ∷ true ∷ false ∷ false ∷ []
+almanacs_by_id = refl
+
+almanacs_by_satellite : map (is_almanac_page 4) (0 ∷ 1 ∷ 32 ∷ 33 ∷ [])
+    ≡ false ∷ true ∷ true ∷ false ∷ []
+almanacs_by_satellite = refl
+
+others_of_fourth : map (kind_of_page 4) (50 ∷ 51 ∷ 54 ∷ 55 ∷ 56 ∷ 57 ∷ [])
+    ≡ None ∷ None ∷ None ∷ Some message ∷ Some utc ∷ None ∷ []
+others_of_fourth = refl
+
+others_of_fifth : map (kind_of_page 5) (50 ∷ 51 ∷ 52 ∷ 55 ∷ 56 ∷ [])
+    ≡ None ∷ Some health ∷ None ∷ None ∷ None ∷ []
+others_of_fifth = refl
+
+others_of_neither : map (λ id. map (kind_of_page id) (51 ∷ 55 ∷ 56 ∷ [])) (3 ∷ 6 ∷ [])
+    ≡ replicate 2 (replicate 3 None)
+others_of_neither = refl
+
+-- subframes of no known ID
+kinds_of_no_id : map (λ id. kind_of (page_of_id id 0)) (0 ∷ 6 ∷ []) ≡ None ∷ None ∷ []
+kinds_of_no_id = refl
+
+-- the SV ID is 000101 between other ones
+satellite_between_ones : sv_id (record {
+  words = map Some (0xffffff ∷ 0xffffff ∷ 0xc5ffff ∷ replicate 7 0xffffff);
+}) ≡ 5
+satellite_between_ones = refl
+
+-- each kind of page has its fields: the name of its first one, and how many there are
+abbrev kinds : List Kind
+kinds = clock ∷ eph2 ∷ eph3 ∷ almanac ∷ utc ∷ health ∷ message ∷ []
+
+first_fields : map (λ kind. option_map (λ (f : Field). f.name) (slice_get (fields_of kind) 0)) kinds
+    ≡ Some (codes "wn") ∷ Some (codes "iode") ∷ Some (codes "cic") ∷ Some (codes "data")
+    ∷ Some (codes "data") ∷ Some (codes "data") ∷ Some [] ∷ []
+first_fields = refl
+
+numbers_of_fields : map (λ kind. length (fields_of kind)) kinds
+    ≡ 11 ∷ 11 ∷ 9 ∷ 13 ∷ 18 ∷ 28 ∷ 22 ∷ []
+numbers_of_fields = refl

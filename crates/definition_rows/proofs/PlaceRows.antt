@@ -4,6 +4,8 @@ use Rattle.std.proofs.Common.{◌≡◌, ℕ, List, [], ◌∷◌, refl}
 use Rattle.std.specs.Prelude.{ℤ, pos, neg_ℤ, map, if◌then◌else◌}
 use Rattle.definitions.specs.Fields.{Field, Bits, clock_fields, eph2_fields, eph3_fields}
 use Rattle.definitions.specs.Fields.{almanac_fields, utc_fields, health_fields}
+use Rattle.definitions.specs.Fields.{message_fields}
+use Rattle.std.specs.Prelude.{replicate, ◌+◌}
 
 abbrev ends : List Bits → List ℕ
 ends [] = []
@@ -89,3 +91,12 @@ health_exponents : exponents health_fields ≡ pos 0 ∷ pos 0 ∷ pos 12 ∷ po
     ∷ pos 0 ∷ pos 0 ∷ pos 0 ∷ pos 0 ∷ pos 0 ∷ pos 0 ∷ pos 0 ∷ pos 0 ∷ pos 0 ∷ pos 0 ∷ pos 0
     ∷ pos 0 ∷ pos 0 ∷ pos 0 ∷ pos 0 ∷ pos 0 ∷ pos 0 ∷ pos 0 ∷ pos 0 ∷ pos 0 ∷ pos 0 ∷ pos 0 ∷ []
 health_exponents = refl
+
+-- 22 characters, each of a whole byte: two in word 3, three in each of words 4 to 9, two in word 10
+message_places : places message_fields ≡ map (λ first. 0 ∷ first ∷ (first + 7) ∷ [])
+    (69 ∷ 77 ∷ 91 ∷ 99 ∷ 107 ∷ 121 ∷ 129 ∷ 137 ∷ 151 ∷ 159 ∷ 167 ∷ 181 ∷ 189 ∷ 197 ∷ 211 ∷ 219
+    ∷ 227 ∷ 241 ∷ 249 ∷ 257 ∷ 271 ∷ 279 ∷ [])
+message_places = refl
+
+message_exponents : exponents message_fields ≡ replicate 22 (pos 0)
+message_exponents = refl

@@ -15,6 +15,10 @@ use Rattle.std.specs.List.{range_with_len}
 use Rattle.definitions.specs.DataSets.{single}
 use Rattle.definitions.specs.Events.{count}
 use Rattle.definitions.specs.Pages.{almanac}
+use Rattle.definitions.specs.Answers.{accepted, refused}
+use Rattle.definitions.specs.Events.{almanacs}
+use Rattle.definitions.specs.Texts.{at_time, for_client}
+use Rattle.definitions.specs.Pages.{clock, eph2, eph3}
 
 abbrev words : List ℕ → Subframe
 words data_words = record { words = map (λ w. Some w) data_words }
@@ -127,3 +131,25 @@ count_text : event_text 1 (count (record {
 })) ≡ codes "count 1 1 2 3 4 5 6"
 unfolding event_text digits
 count_text = refl
+
+-- a line is its client, its time and its text
+whole_line : for_client 3 (at_time 12 (codes "ok")) ≡ codes "3 12 ok"
+unfolding digits
+whole_line = refl
+
+answers : map (answer_text 2) (accepted ∷ refused 9 ∷ []) ≡ codes "ok" ∷ codes "err 9" ∷ []
+unfolding answer_text digits
+answers = refl
+
+-- pages of a clock and ephemeris have no line of their own
+no_texts : map (λ kind. page_text 0 (record { kind = kind; values = [] })) (clock ∷ eph2 ∷ eph3
+    ∷ [])
+    ≡ replicate 3 []
+unfolding page_text
+no_texts = refl
+
+-- a set of almanacs with its time and each satellite's health
+als_text : event_text 3 (almanacs (record { toa = pos 7; health = pos 8 ∷ pos 9 ∷ [] }))
+    ≡ codes "als 3 toa=7:12 8 9"
+unfolding event_text digits
+als_text = refl
