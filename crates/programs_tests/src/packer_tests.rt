@@ -1,7 +1,6 @@
 //! Runs over devices that fail.
 
 use crate::choices::{recipe_of, signs};
-use assertions::assert_same;
 use packer::{Device, Failure, run, status};
 use recordings::{Kind, Packer, Window};
 use sample_planes::Format;
@@ -93,8 +92,8 @@ fn a_reader_that_fails(rt: HostRuntime) -> Result<(), Fail> {
         &mut Device::new(Breaking { is_broken: false }),
         &mut writer,
     );
-    assert_same!(rt; ended, Err(Failure::Input));
-    assert_same!(rt; writer.inner.as_slice(), [0].as_slice());
+    assert_eq!(rt; ended, Err(Failure::Input));
+    assert_eq!(rt; writer.inner.as_slice(), [0].as_slice());
     Ok(())
 }
 
@@ -111,17 +110,20 @@ fn zeros_into<W: Write + Drop>(
 #[test]
 fn writers_that_fail(rt: HostRuntime) -> Result<(), Fail> {
     let output = Err(Failure::Output);
-    assert_same!(rt; zeros_into(rt.alloc(), &mut Device::new(Full))?, output);
-    assert_same!(rt; zeros_into(rt.alloc(), &mut Device::new(Clogged))?, output);
+    assert_eq!(rt; zeros_into(rt.alloc(), &mut Device::new(Full))?, output);
+    assert_eq!(rt; zeros_into(rt.alloc(), &mut Device::new(Clogged))?, output);
     let mut narrow = Device::new(Narrow {
         bytes: Vec::new(rt.alloc()),
         room: 2,
     });
-    assert_same!(rt; zeros_into(rt.alloc(), &mut narrow)?, output);
-    assert_same!(rt; narrow.inner.bytes.as_slice(), [0, 0].as_slice());
+    assert_eq!(rt; zeros_into(rt.alloc(), &mut narrow)?, output);
+    assert_eq!(rt; narrow.inner.bytes.as_slice(), [0, 0].as_slice());
     narrow.inner.room = 5;
-    assert_same!(rt; zeros_into(rt.alloc(), &mut narrow)?, Ok(()));
-    assert_same!(rt; narrow.inner.bytes.as_slice(), [0; 5].as_slice());
-    assert_same!(rt; (status(output), status(Err(Failure::Centre)), status(Ok(()))), (1, 2, 0));
+    assert_eq!(rt; zeros_into(rt.alloc(), &mut narrow)?, Ok(()));
+    assert_eq!(rt; narrow.inner.bytes.as_slice(), [0; 5].as_slice());
+    assert_eq!(rt;
+        (status(output), status(Err(Failure::Centre)), status(Ok(()))),
+        (1, 2, 0)
+    );
     Ok(())
 }

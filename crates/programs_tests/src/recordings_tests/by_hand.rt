@@ -106,7 +106,7 @@ fn what_is_left(rt: HostRuntime) -> Result<(), Fail> {
         let mut packer = Packer::new(rt.alloc(), recipe)?;
         let mut written = Vec::new(rt.alloc());
         packer.take(&[0; 25], &mut written)?;
-        assert_same!(rt; written.as_slice(), [0xff].as_slice());
+        assert_eq!(rt; written.as_slice(), [0xff].as_slice());
         assert_same!(rt; (packer.samples_held(), packer.ends_inside()), (2, true));
         packer.take(&[0; 3], &mut written)?;
         assert_same!(rt; (packer.samples_held(), packer.ends_inside()), (3, false));
