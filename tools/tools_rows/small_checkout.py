@@ -2,6 +2,7 @@
 its tools are the real ones. A row may give it an `rt` of the kit's kind, which proves nothing."""
 import os
 import shutil
+import signal
 import subprocess
 import sys
 
@@ -54,6 +55,12 @@ def main(words):
 if __name__ == '__main__':
     sys.exit(main(sys.argv[1:]))
 '''
+
+
+def heed_signals():
+    """Takes back that signals are ignored which end a command."""
+    for number in signal.SIGINT, signal.SIGTERM, signal.SIGHUP:
+        signal.signal(number, signal.SIG_DFL)
 
 
 def linked_path(folder, *names):
@@ -126,12 +133,13 @@ class Checkout:
                    longest=longest)
 
     def start(self, *words, **more):
-        """Starts one of its tools, with pipes."""
+        """Starts one of its tools, with pipes. No signal that ends it is ignored from the start, as
+        it would be below nohup."""
         environment = {**os.environ, **self.environment(**more)}
         environment = {name: value for name, value in environment.items() if value is not None}
         return subprocess.Popen([self.at(words[0]), *words[1:]], cwd=self.top, env=environment,
                                 stdin=subprocess.DEVNULL, stdout=subprocess.PIPE,
-                                stderr=subprocess.PIPE, encoding='utf-8')
+                                stderr=subprocess.PIPE, encoding='utf-8', preexec_fn=heed_signals)
 
     def prints(self, version, **more):
         """The faults of ./receiver, which has to print this version."""

@@ -34,7 +34,7 @@ pub mod LifeDumpLemmas
 pub mod EventLemmas
 pub mod PrintedLemmas
 pub mod VerbLemmas
-pub mod TellingLemmas
+pub mod DistinctLemmas
 pub mod PrintedVerbLemmas
 pub mod OnLemmas
 pub mod SixteenthLemmas

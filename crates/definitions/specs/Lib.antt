@@ -29,4 +29,4 @@ pub mod Laws
 pub mod SlotLaws
 pub mod EventLaws
 pub mod PrintedLaws
-pub mod TellingLaws
+pub mod DistinctLaws

@@ -5,7 +5,7 @@ ghost use Rattle.definitions.specs.PrintedLaws.{LinesComeFromEvents, PrintedCoun
 ghost use Rattle.definitions.specs.PrintedLaws.{PrintedAcquisitionsNameTheGreatest};
 ghost use Rattle.definitions.specs.PrintedLaws.{PrintedWordsPass, PrintedPagesPass};
 ghost use Rattle.definitions.specs.PrintedLaws.{PrintedAlmanacsAgree, LinesAreShort};
-ghost use Rattle.definitions.specs.TellingLaws.{LinesTellApart};
+ghost use Rattle.definitions.specs.DistinctLaws.{LinesAreDistinct};
 
 /// Each line of the whole text is that of an event that a slot emits, or that of an answer, or an
 /// end.
@@ -48,6 +48,6 @@ pub fn lines_are_short()
 
 /// No two clients, times, slots or events have one line, where their numbers have at most 64 bits.
 /// So what the laws above say of an event with a line is said of the line.
-pub fn lines_tell_apart()
-    ensures { LinesTellApart }
+pub fn lines_are_distinct()
+    ensures { LinesAreDistinct }
 {}

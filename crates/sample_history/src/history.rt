@@ -16,8 +16,8 @@ use std::alloc::{AllocError, Global};
 /// The most samples that a history takes.
 pub const MOST_TAKEN: u64 = 1 << 40;
 
-/// The bytes that `MAX_SAMPLES` samples of any packing lie in, and those that are read with the last
-/// of them.
+/// The bytes that `MAX_SAMPLES` samples of any packing lie in, and those that are read with the
+/// last of them.
 const MOST_SPAN_BYTES: usize = 520;
 
 /// The last samples of a stream, packed. The earliest sample of a byte stands in its top bits.

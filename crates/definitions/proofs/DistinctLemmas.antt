@@ -1,4 +1,4 @@
--- What a line tells can be read from it, so no two events have one line.
+-- The event of a line can be read from it, so no two events have one line.
 use Rattle.std.proofs.Common.{inl, inr, ◌≡◌, ℕ, suc, ◌+◌, ◌*◌, ◌/◌, ◌%◌, ◌<◌, List, []}
 use Rattle.std.proofs.Common.{◌∷◌, ◌++◌, length, refl, sym, ap, ◌∙◌, arith}
 use Rattle.std.specs.Prelude.{◌&&◌, Bool, true, false, nat_eq, if◌then◌else◌, Option, Some, None}
@@ -24,9 +24,9 @@ use Rattle.definitions.specs.Events.{gap, subframe, reported, almanacs}
 use Rattle.definitions.specs.Lines.{words_of, pieces_ended_by}
 use Rattle.definitions.specs.Texts.{words_text, hex_of_bytes, word_text, field_text, field_texts}
 use Rattle.definitions.specs.Texts.{counts_texts, event_text, page_text}
-use Rattle.definitions.specs.TellingLaws.{IsShort, IsShortSigned, IsDataOfWord, IsCharacter}
-use Rattle.definitions.specs.TellingLaws.{ArePageValues, IsTellable, Told, line_of, CanBeTold}
-use Rattle.definitions.specs.TellingLaws.{LinesTellApart}
+use Rattle.definitions.specs.DistinctLaws.{IsShort, IsShortSigned, IsDataOfWord, IsCharacter}
+use Rattle.definitions.specs.DistinctLaws.{ArePageValues, IsReadable, Origin, line_of, CanBeRead}
+use Rattle.definitions.specs.DistinctLaws.{LinesAreDistinct}
 use Rattle.definitions.proofs.MarkLemmas.{IsMark, IsOther, Without, is_without, written}
 use Rattle.definitions.proofs.MarkLemmas.{without-append, signed-without, hex-without, by_if}
 use Rattle.definitions.proofs.VerbLemmas.{IsWord, word, first-word, only-word, decimal-word}
@@ -316,7 +316,7 @@ page-words slot message (z ∷ values) h = (
   (decimal-word slot, (hex-word (natural z) (map natural values), tt)),
 )
 
-words : (slot : ℕ) (event : Event) → IsTellable event → IsWords (event_words slot event)
+words : (slot : ℕ) (event : Event) → IsReadable event → IsWords (event_words slot event)
 words slot (acquired prn cell) h = (
   word (codes "acq") refl refl,
   (
@@ -375,7 +375,7 @@ words slot (almanacs set) h = (
   ),
 )
 
--- the event that such words tell
+-- the event of such words
 abbrev counts_in : List ℤ → Counts
 counts_in zs = record {
   ie = get_or zs 0 (pos 0);
@@ -470,7 +470,7 @@ toa-back toa short =
         ≡ codes "toa" ++ codes "=" ++ signed_decimal toa ++ codes ":" ++ codes "12"
     order toa = sym (append_assoc (codes "toa=" ++ signed_decimal toa) (codes ":") (codes "12"))
 
-event-back : (slot : ℕ) (event : Event) → IsTellable event
+event-back : (slot : ℕ) (event : Event) → IsReadable event
     → event_in (event_words slot event) ≡ event
 event-back slot (acquired prn cell) h =
     rw (
@@ -505,8 +505,8 @@ event-back slot (almanacs set) h =
 
 -- ---- lines
 
-abbrev told_in : List (List ℕ) → Told
-told_in words = record {
+abbrev origin_in : List (List ℕ) → Origin
+origin_in words = record {
   client = natural_in (get_or words 0 []);
   time = natural_in (get_or words 1 []);
   slot = natural_in (get_or words 3 []);
@@ -524,7 +524,7 @@ page-slot slot utc values h = refl
 page-slot slot health values h = refl
 page-slot slot message values h = refl
 
-event-slot : (slot : ℕ) (event : Event) → IsTellable event
+event-slot : (slot : ℕ) (event : Event) → IsReadable event
     → get_or (event_words slot event) 1 [] ≡ decimal slot
 event-slot slot (acquired prn cell) h = refl
 event-slot slot (count c) h = refl
@@ -538,27 +538,28 @@ event-slot slot (reported (ephemeris values)) h = refl
 event-slot slot (reported (single page)) h = page-slot slot page.kind page.values h
 event-slot slot (almanacs set) h = refl
 
-told-back : (told : Told) → CanBeTold told → told_in (words_of (line_of told)) ≡ told
-told-back told can =
-    let text : event_text told.slot told.event ≡ words_text (event_words told.slot told.event) =
-    event-text told.slot told.event in
-    let all : words_of (line_of told)
-    ≡ decimal told.client ∷ decimal told.time ∷ event_words told.slot told.event =
-    words-of-line told.client told.time (event_text told.slot told.event)
-    ∙ ap (λ (t : List ℕ). decimal told.client ∷ decimal told.time ∷ words_of t) text
-    ∙ ap (λ (ws : List (List ℕ)). decimal told.client ∷ decimal told.time ∷ ws)
-    (words-back (event_words told.slot told.event)
-    (words told.slot told.event can.event)) in
-    ap told_in all
+origin-back : (origin : Origin) → CanBeRead origin → origin_in (words_of (line_of origin)) ≡ origin
+origin-back origin can =
+    let text : event_text origin.slot origin.event
+    ≡ words_text (event_words origin.slot origin.event) =
+    event-text origin.slot origin.event in
+    let all : words_of (line_of origin)
+    ≡ decimal origin.client ∷ decimal origin.time ∷ event_words origin.slot origin.event =
+    words-of-line origin.client origin.time (event_text origin.slot origin.event)
+    ∙ ap (λ (t : List ℕ). decimal origin.client ∷ decimal origin.time ∷ words_of t) text
+    ∙ ap (λ (ws : List (List ℕ)). decimal origin.client ∷ decimal origin.time ∷ ws)
+    (words-back (event_words origin.slot origin.event)
+    (words origin.slot origin.event can.event)) in
+    ap origin_in all
     ∙ rw (
-      natural-back told.client can.client,
-      natural-back told.time can.time,
-      ap natural_in (event-slot told.slot told.event can.event)
-          ∙ natural-back told.slot can.slot,
-      event-back told.slot told.event can.event,
+      natural-back origin.client can.client,
+      natural-back origin.time can.time,
+      ap natural_in (event-slot origin.slot origin.event can.event)
+          ∙ natural-back origin.slot can.slot,
+      event-back origin.slot origin.event can.event,
     ) refl
 
-pub tell-apart : LinesTellApart
-tell-apart a b can_a can_b e =
-    sym (told-back a can_a) ∙ ap (λ (line : List ℕ). told_in (words_of line)) e
-    ∙ told-back b can_b
+pub are-distinct : LinesAreDistinct
+are-distinct a b can_a can_b e =
+    sym (origin-back a can_a) ∙ ap (λ (line : List ℕ). origin_in (words_of line)) e
+    ∙ origin-back b can_b

@@ -1,5 +1,5 @@
--- What a printed line tells: its client, its time, its slot and its event. So what the laws say of
--- an event with such a line, they say of the line. (This project's own.)
+-- What can be read from a printed line: its client, its time, its slot and its event. So what the
+-- laws say of an event with such a line, they say of the line. (This project's own.)
 use Rattle.std.specs.Prelude.{⊤, ℕ, ◌≡◌, ◌^◌, ◌<◌, ℤ, pos, unsigned_abs, List, ◌++◌, length, Option}
 use Rattle.std.specs.Prelude.{unwrap_or}
 use Rattle.std.specs.List.{AllByRecursion}
@@ -13,7 +13,7 @@ use Rattle.definitions.specs.Events.{Event, acquired, count, locked, unlocked, s
 use Rattle.definitions.specs.Events.{gap, subframe, reported, almanacs}
 use Rattle.definitions.specs.Texts.{event_text, at_time, for_client}
 
--- ---- what can be told: numbers of at most 64 bits, since `decimal` has 64 digits at most
+-- ---- what can be read: numbers of at most 64 bits, since `decimal` has 64 digits at most
 
 abbrev pub IsShort : ℕ → Type 0
 IsShort n = n < 2 ^ 64
@@ -52,37 +52,38 @@ abbrev pub AreReportValues : Report → Type 0
 AreReportValues (ephemeris values) = AreValues (clock_fields ++ eph2_fields ++ eph3_fields) values
 AreReportValues (single page) = ArePageValues page.kind page.values
 
--- an event whose line tells it
-abbrev pub IsTellable : Event → Type 0
-IsTellable (acquired prn cell) = IsShort prn × IsShortSigned cell.bin × IsShort cell.half_chip
+-- an event that can be read from its line
+abbrev pub IsReadable : Event → Type 0
+IsReadable (acquired prn cell) = IsShort prn × IsShortSigned cell.bin × IsShort cell.half_chip
     × IsShort cell.power
-IsTellable (count c) = AreShortSums c
-IsTellable locked = ⊤
-IsTellable unlocked = ⊤
-IsTellable signal_lost = ⊤
-IsTellable edge = ⊤
-IsTellable (gap n) = IsShort n
-IsTellable (subframe s) = AllByRecursion IsDataOfWord s.words
-IsTellable (reported r) = AreReportValues r
-IsTellable (almanacs set) = IsShortSigned set.toa × AllByRecursion IsShortSigned set.health
+IsReadable (count c) = AreShortSums c
+IsReadable locked = ⊤
+IsReadable unlocked = ⊤
+IsReadable signal_lost = ⊤
+IsReadable edge = ⊤
+IsReadable (gap n) = IsShort n
+IsReadable (subframe s) = AllByRecursion IsDataOfWord s.words
+IsReadable (reported r) = AreReportValues r
+IsReadable (almanacs set) = IsShortSigned set.toa × AllByRecursion IsShortSigned set.health
 
 -- what a line is of
-pub record Told : Type 0 where
+pub record Origin : Type 0 where
   pub client : ℕ
   pub time : ℕ
   pub slot : ℕ
   pub event : Event
 
-abbrev pub line_of : Told → List ℕ
-line_of told = for_client told.client (at_time told.time (event_text told.slot told.event))
+abbrev pub line_of : Origin → List ℕ
+line_of origin =
+    for_client origin.client (at_time origin.time (event_text origin.slot origin.event))
 
-pub record CanBeTold (told : Told) : Type 0 where
-  pub client : IsShort told.client
-  pub time : IsShort told.time
-  pub slot : IsShort told.slot
-  pub event : IsTellable told.event
+pub record CanBeRead (origin : Origin) : Type 0 where
+  pub client : IsShort origin.client
+  pub time : IsShort origin.time
+  pub slot : IsShort origin.slot
+  pub event : IsReadable origin.event
 
 -- No two clients, times, slots or events have one line.
-abbrev pub LinesTellApart : Type 0
-LinesTellApart =
-    (a b : Told) → CanBeTold a → CanBeTold b → line_of a ≡ line_of b → a ≡ b
+abbrev pub LinesAreDistinct : Type 0
+LinesAreDistinct =
+    (a b : Origin) → CanBeRead a → CanBeRead b → line_of a ≡ line_of b → a ≡ b
