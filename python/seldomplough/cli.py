@@ -1,0 +1,102 @@
+"""The command line: one parser, a subcommand for each command, and one way to fail.
+
+A failure is one line `seldomplough: ..` on standard error. The status is 2 for words of the command
+line and 1 for all else. A closed pipe and Ctrl-C end the program by their signals."""
+
+from __future__ import annotations
+
+import argparse
+import os
+import signal
+import sys
+from typing import NoReturn, Optional, Sequence
+
+from seldomplough import __version__, commands, files
+from seldomplough.failures import WORDS, ClosedPipe, Failure
+
+NAME = 'seldomplough'
+
+
+class Parser(argparse.ArgumentParser):
+    """A parser that fails as all else does, and takes no option by a part of its name."""
+
+    def __init__(self, **options: object) -> None:
+        options.setdefault('allow_abbrev', False)
+        options.setdefault('formatter_class', argparse.RawDescriptionHelpFormatter)
+        super().__init__(**options)  # type: ignore[arg-type]
+
+    def error(self, message: str) -> NoReturn:
+        """Raises a failure instead of printing the usage."""
+        command = self.prog[len(NAME) + 1 :]
+        raise Failure(f'{command}: {message}' if command else message, WORDS)
+
+
+def parser() -> Parser:
+    """The parser of all words."""
+    result = Parser(prog=NAME, description=__doc__)
+    result.description = 'From recordings to answers, and from printed lines to numbers.'
+    result.add_argument('--version', action='version', version=f'{NAME} {__version__}')
+    subparsers = result.add_subparsers(dest='command', metavar='COMMAND', required=True)
+    for module in commands.MODULES:
+        module.add(subparsers)  # type: ignore[arg-type]
+    return result
+
+
+def one_line(text: str) -> str:
+    """A text without line ends and other bytes that a terminal acts on."""
+    return ''.join(it if it.isprintable() else ascii(it)[1:-1] for it in text)
+
+
+def end_by(number: signal.Signals) -> int:
+    """Ends the program by a signal, so that a shell sees its status."""
+    drop_output()
+    signal.signal(number, signal.SIG_DFL)
+    os.kill(os.getpid(), number)
+    return 128 + number
+
+
+def drop_output() -> None:
+    """Leaves out what wasn't written yet, so that Python doesn't try it again at its end."""
+    if sys.stdout is not None:
+        try:
+            empty = os.open(os.devnull, os.O_WRONLY)
+            os.dup2(empty, sys.stdout.fileno())
+            os.close(empty)
+        except (OSError, ValueError):
+            pass
+
+
+def settle_output() -> None:
+    """Writes what wasn't written yet, and leaves it out where that fails."""
+    try:
+        with files.write():
+            pass
+    except (ClosedPipe, Failure):
+        drop_output()
+
+
+def run(words: Sequence[str]) -> int:
+    """Runs the command that these words name, and says its status."""
+    try:
+        arguments = parser().parse_args(words)
+        status: int = arguments.run(arguments)
+    except SystemExit as ended:
+        # Help and the version were printed.
+        status = int(ended.code or 0)
+    with files.write():
+        pass
+    return status
+
+
+def main(words: Optional[Sequence[str]] = None) -> int:
+    """Runs the program by these words, or those of the command line; says its status."""
+    try:
+        return run(sys.argv[1:] if words is None else words)
+    except Failure as failure:
+        settle_output()
+        files.say(one_line(failure.text))
+        return failure.status
+    except (ClosedPipe, BrokenPipeError):
+        return end_by(signal.SIGPIPE)
+    except KeyboardInterrupt:
+        return end_by(signal.SIGINT)

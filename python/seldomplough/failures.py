@@ -1,0 +1,34 @@
+"""The one way to fail: a text of one line and the status that the program ends with."""
+
+from __future__ import annotations
+
+# The status for words of the command line that aren't understood, and the one for all else.
+WORDS = 2
+OTHER = 1
+
+# How much of somebody's text is shown.
+LONGEST_SHOWN = 60
+
+
+class Failure(Exception):
+    """What can't be done: a text of one line, and the status that the program ends with."""
+
+    def __init__(self, text: str, status: int = OTHER) -> None:
+        super().__init__(text)
+        self.text = text
+        self.status = status
+
+
+def shown(text: str, longest: int = LONGEST_SHOWN) -> str:
+    """Somebody's text as printable ASCII on one line, cut where it is longer than `longest`."""
+    cut = text if len(text) <= longest else text[: longest - 3] + '...'
+    return cut if cut.isascii() and cut.isprintable() else ascii(cut)
+
+
+def of_system(name: str, why: OSError) -> Failure:
+    """The failure of a file or stream of a name, in the system's words."""
+    return Failure(f'{shown(name, 200)}: {why.strerror or why}')
+
+
+class ClosedPipe(Exception):
+    """Nobody reads standard output any more. The program ends by the signal SIGPIPE."""

@@ -1,0 +1,145 @@
+"""The one way to open inputs and outputs. What the system refuses is a failure of one line.
+
+A name is that of a file, whatever it looks like. `-` alone, or no name, is a standard stream."""
+
+from __future__ import annotations
+
+import os
+import sys
+from contextlib import contextmanager
+from typing import BinaryIO, Iterator, Optional, TextIO
+
+from seldomplough.failures import ClosedPipe, Failure, of_system
+
+STANDARD_INPUT = 'standard input'
+STANDARD_OUTPUT = 'standard output'
+
+
+class Source:
+    """An input of bytes with its name. A read that fails is a failure with that name."""
+
+    def __init__(self, stream: BinaryIO, name: str) -> None:
+        self.stream = stream
+        self.name = name
+
+    def read(self, size: int = -1) -> bytes:
+        """At most `size` bytes, all where it is below zero, none at the end."""
+        try:
+            return self.stream.read(size)
+        except OSError as why:
+            raise of_system(self.name, why) from why
+
+    def readline(self, size: int = -1) -> bytes:
+        """The bytes up to a line feed, with it, and at most `size` of them; none at the end."""
+        try:
+            return self.stream.readline(size)
+        except OSError as why:
+            raise of_system(self.name, why) from why
+
+
+class Sink:
+    """An output of text with its name. A write that fails is a failure with that name."""
+
+    def __init__(self, stream: TextIO, name: str) -> None:
+        self.stream = stream
+        self.name = name
+
+    def write(self, text: str) -> int:
+        """Writes a text, and says how many characters it has."""
+        try:
+            return self.stream.write(text)
+        except OSError as why:
+            raise self._failure(why) from why
+
+    def flush(self) -> None:
+        """Gives the system what was written so far."""
+        try:
+            self.stream.flush()
+        except OSError as why:
+            raise self._failure(why) from why
+
+    def close(self) -> None:
+        """Flushes, and closes a stream that isn't a standard one."""
+        try:
+            self.flush()
+        finally:
+            if self.name != STANDARD_OUTPUT:
+                _close_silently(self.stream)
+
+    def _failure(self, why: OSError) -> Exception:
+        if isinstance(why, BrokenPipeError):
+            return ClosedPipe()
+        return of_system(self.name, why)
+
+
+def _close_silently(stream: TextIO) -> None:
+    """Closes a stream whose flush has succeeded, or has failed and was said."""
+    try:
+        stream.close()
+    except OSError:
+        pass
+
+
+@contextmanager
+def read(name: Optional[str] = None) -> Iterator[Source]:
+    """A file's bytes, or those of standard input."""
+    if name is None or name == '-':
+        if sys.stdin is None:
+            raise Failure(f'{STANDARD_INPUT} is closed')
+        yield Source(sys.stdin.buffer, STANDARD_INPUT)
+        return
+    try:
+        stream = open(_path(name), 'rb')
+    except OSError as why:
+        raise of_system(name, why) from why
+    with stream:
+        yield Source(stream, name)
+
+
+@contextmanager
+def write(name: Optional[str] = None) -> Iterator[Sink]:
+    """Text of UTF-8 to a file, which is written anew, or to standard output."""
+    sink = _sink(name)
+    try:
+        yield sink
+    except BaseException:
+        if sink.name != STANDARD_OUTPUT:
+            _close_silently(sink.stream)
+        raise
+    sink.close()
+
+
+def _sink(name: Optional[str]) -> Sink:
+    if name is None or name == '-':
+        if sys.stdout is None:
+            raise Failure(f'{STANDARD_OUTPUT} is closed')
+        return Sink(sys.stdout, STANDARD_OUTPUT)
+    try:
+        return Sink(open(_path(name), 'w', encoding='utf-8', newline=''), name)
+    except OSError as why:
+        raise of_system(name, why) from why
+
+
+def _path(name: str) -> str:
+    """A name as the system takes it: it can't be empty or have a null byte."""
+    if not name or '\0' in name:
+        raise Failure(f'{name!r} is no name of a file')
+    return name
+
+
+def folder(name: str) -> str:
+    """A folder of a name, made with those above it where they aren't there."""
+    try:
+        os.makedirs(_path(name), exist_ok=True)
+    except OSError as why:
+        raise of_system(name, why) from why
+    return name
+
+
+def say(text: str) -> None:
+    """A line to standard error. Where that is closed or full, nothing is said."""
+    if sys.stderr is not None:
+        try:
+            print(f'seldomplough: {text}', file=sys.stderr, flush=True)
+        except OSError:
+            pass

@@ -1,0 +1,110 @@
+"""The one reader of printed lines. It streams: its memory doesn't grow with its input.
+
+    for line in read(source):
+        if isinstance(line, StateTrack):
+            print(float(line.seconds(2046000)), float(line.doppler_hz))
+
+A line that the receiver can't print is a failure with its number. A last line without its line feed
+was cut: it is said and left out."""
+
+from __future__ import annotations
+
+from typing import BinaryIO, Callable, Dict, Iterable, Iterator, Mapping, Optional, Tuple, Type
+from typing import Union
+
+from seldomplough import files
+from seldomplough.bases import Exact, Line, Raw, SlotLine, text_of
+from seldomplough.events import Acq, Bits, Count, Gap, Lock, Lost, Sub, Unlock
+from seldomplough.failures import Failure, shown
+from seldomplough.pages import Alm, Als, Eph, Hlt, Msg, Page, Utc
+from seldomplough.replies import End, Err, Ok, State, StateAcquire, StateHold, StateIdle, StateTrack
+from seldomplough.satellites import Satellites
+
+__all__ = [
+    'Acq', 'Alm', 'Als', 'Bits', 'Count', 'End', 'Eph', 'Err', 'Exact', 'Gap', 'Hlt', 'KINDS',
+    'Line', 'Lock', 'Lost', 'Msg', 'Ok', 'Page', 'Raw', 'Satellites', 'SlotLine', 'State',
+    'StateAcquire', 'StateHold', 'StateIdle', 'StateTrack', 'Sub', 'Unlock', 'Utc', 'numbered',
+    'parse', 'parse_record', 'read',
+]  # fmt: skip
+
+# The classes of each kind, by the word after the time. A state has one for each mode.
+_CLASSES: Tuple[Type[Line], ...] = (
+    Ok, Err, Count, Acq, Lock, Unlock, Lost, Bits, Gap, Sub, Eph, Alm, Utc, Hlt, Als, Msg,
+    StateTrack, StateHold, StateAcquire, StateIdle, End,
+)  # fmt: skip
+KINDS: Dict[str, Tuple[Type[Line], ...]] = {}
+for _class in _CLASSES:
+    KINDS[_class.kind] = (*KINDS.get(_class.kind, ()), _class)
+
+# Longer than any line that is printed, in bytes.
+LONGEST = 4096
+
+# What lines are read from: a file of bytes, or lines of text that end with their line feeds.
+Input = Union[files.Source, BinaryIO, Iterable[str]]
+
+
+def parse(text: str) -> Line:
+    """The line of a text, without its line feed."""
+    words = text.split(' ', 3)
+    for kind in KINDS.get(words[2], ()) if len(words) > 2 else ():
+        found = kind.pattern.fullmatch(text)
+        if found:
+            return kind.of_words(found.groups())
+    raise Failure("isn't one that the receiver prints")
+
+
+def parse_record(record: Mapping[str, object]) -> Line:
+    """The line of the raw values of a record: its kind, client and time, and those by its names."""
+    for kind in KINDS.get(str(record.get('kind')), ()):
+        if kind.names[1:2] != ('mode',) or record.get('mode') == getattr(kind, 'mode', None):
+            return parse(_text_of(kind, record))
+    raise Failure("has no kind of the receiver's lines")
+
+
+def _text_of(kind: Type[Line], record: Mapping[str, object]) -> str:
+    try:
+        return text_of(kind, record)
+    except KeyError as why:
+        raise Failure(f'lacks {shown(str(why.args[0]))}, or it has another kind of value') from why
+    except (TypeError, ValueError) as why:
+        raise Failure('has a value of another kind') from why
+
+
+def numbered(source: Input, say: Callable[[str], None] = files.say) -> Iterator[Tuple[int, str]]:
+    """The number of each line, from 1, and its text without its line feed.
+
+    A last line without its line feed is said and left out."""
+    for number, text in enumerate(_texts(source), 1):
+        if text[-1:] != '\n':
+            if len(text) >= LONGEST:
+                raise Failure(f'line {number} is longer than any that the receiver prints')
+            say(f'line {number}, the last one, is cut and was left out: {shown(text)}')
+            return
+        yield number, text[:-1]
+
+
+def _texts(source: Input) -> Iterator[str]:
+    """Lines of text with their line feeds. Other bytes than those of ASCII stay wrong in them."""
+    readline: Optional[Callable[[int], Union[bytes, str]]] = getattr(source, 'readline', None)
+    if readline is None:
+        yield from source  # type: ignore[misc]
+        return
+    while True:
+        piece = readline(LONGEST)
+        if not piece:
+            return
+        yield piece if isinstance(piece, str) else piece.decode('latin-1')
+
+
+def read(source: Input, say: Callable[[str], None] = files.say) -> Iterator[Line]:
+    """The printed lines of a source. `say` gets the text about a last line that was cut."""
+    for number, text in numbered(source, say):
+        try:
+            line = parse(text)
+        except Failure as why:
+            raise Failure(f'line {number} {_about(why)}: {shown(text)}') from why
+        yield line
+
+
+def _about(why: Failure) -> str:
+    return why.text if why.text.startswith(("isn't", 'has', 'lacks')) else f"can't be, {why.text}"

@@ -1,0 +1,54 @@
+"""The numbers of the command line: one parser of words, for argparse's `type`.
+
+Only ASCII digits are digits, and no number has more than thirteen of them."""
+
+from __future__ import annotations
+
+import argparse
+import re
+from typing import Callable
+
+from seldomplough.failures import shown
+
+NUMBER = re.compile('-?[0-9]{1,13}')
+
+# Samples a second: what the receiver takes, and what it takes where no rate is named.
+LEAST_RATE, GREATEST_RATE = 2046000, 20000000
+USUAL_RATE = 2046000
+
+# The latest time of a line, in samples.
+LAST_TIME = 2**40
+
+# The Doppler shifts that the receiver follows, in Hz to each side.
+GREATEST_SHIFT = 16000
+
+
+def integer(low: int, high: int) -> Callable[[str], int]:
+    """A type of argparse: an integer from `low` to `high`, both included."""
+
+    def take(word: str) -> int:
+        if not NUMBER.fullmatch(word):
+            raise argparse.ArgumentTypeError(f"'{shown(word)}' is no number of 1 to 13 digits")
+        value = int(word)
+        if not low <= value <= high:
+            raise argparse.ArgumentTypeError(f'{value} is outside {low} to {high}')
+        return value
+
+    return take
+
+
+rate = integer(LEAST_RATE, GREATEST_RATE)
+"""Samples a second."""
+
+client = integer(1, 8)
+"""The number of a client, as the receiver counts them."""
+
+shift = integer(-GREATEST_SHIFT, GREATEST_SHIFT)
+"""A Doppler shift in Hz."""
+
+
+def offset(word: str) -> int:
+    """The intermediate frequency in Hz, at most half of the greatest rate to either side.
+
+    Here a sign is allowed. The receiver itself takes `--offset 5000 --minus` for -5000."""
+    return integer(-GREATEST_RATE // 2, GREATEST_RATE // 2)(word)
