@@ -12,7 +12,7 @@ import sys
 from typing import NoReturn, Optional, Sequence
 
 from seldomplough import __version__, commands, files
-from seldomplough.failures import WORDS, ClosedPipe, Failure
+from seldomplough.failures import WORDS, ClosedPipe, Failure, one_line
 
 NAME = 'seldomplough'
 
@@ -30,6 +30,11 @@ class Parser(argparse.ArgumentParser):
         command = self.prog[len(NAME) + 1 :]
         raise Failure(f'{command}: {message}' if command else message, WORDS)
 
+    def _print_message(self, message: str, file: object = None) -> None:
+        """Prints help and the version as all else is written."""
+        with files.write() as sink:
+            sink.write(message)
+
 
 def parser() -> Parser:
     """The parser of all words."""
@@ -38,13 +43,8 @@ def parser() -> Parser:
     result.add_argument('--version', action='version', version=f'{NAME} {__version__}')
     subparsers = result.add_subparsers(dest='command', metavar='COMMAND', required=True)
     for module in commands.MODULES:
-        module.add(subparsers)  # type: ignore[arg-type]
+        module.add(subparsers)
     return result
-
-
-def one_line(text: str) -> str:
-    """A text without line ends and other bytes that a terminal acts on."""
-    return ''.join(it if it.isprintable() else ascii(it)[1:-1] for it in text)
 
 
 def end_by(number: signal.Signals) -> int:

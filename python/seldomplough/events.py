@@ -35,6 +35,10 @@ class Count(SlotLine):
     form: ClassVar[str] = f' {SLOT}' + f' {SIGNED}' * 6
     names: ClassVar[Tuple[str, ...]] = ('slot', 'ie', 'qe', 'ip', 'qp', 'il', 'ql')
 
+    def raw(self) -> Tuple[Raw, ...]:
+        """The raw values after the time, by `names`."""
+        return self.slot, self.ie, self.qe, self.ip, self.qp, self.il, self.ql
+
 
 @dataclass(frozen=True)
 class Acq(SlotLine):

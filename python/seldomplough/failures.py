@@ -19,15 +19,20 @@ class Failure(Exception):
         self.status = status
 
 
+def one_line(text: str) -> str:
+    """A text with escapes in the place of line ends and all else that a terminal acts on."""
+    return ''.join(it if it.isprintable() else ascii(it)[1:-1] for it in text)
+
+
 def shown(text: str, longest: int = LONGEST_SHOWN) -> str:
-    """Somebody's text as printable ASCII on one line, cut where it is longer than `longest`."""
+    """Somebody's text on one line, with escapes for what isn't ASCII, cut after `longest`."""
     cut = text if len(text) <= longest else text[: longest - 3] + '...'
-    return cut if cut.isascii() and cut.isprintable() else ascii(cut)
+    return one_line(cut.encode('ascii', 'backslashreplace').decode('ascii'))
 
 
 def of_system(name: str, why: OSError) -> Failure:
     """The failure of a file or stream of a name, in the system's words."""
-    return Failure(f'{shown(name, 200)}: {why.strerror or why}')
+    return Failure(f'{one_line(name)}: {why.strerror or why}')
 
 
 class ClosedPipe(Exception):

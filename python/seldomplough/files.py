@@ -7,7 +7,8 @@ from __future__ import annotations
 import os
 import sys
 from contextlib import contextmanager
-from typing import BinaryIO, Iterator, Optional, TextIO
+from io import BufferedReader
+from typing import Callable, Iterator, Optional, TextIO, cast
 
 from seldomplough.failures import ClosedPipe, Failure, of_system
 
@@ -15,12 +16,18 @@ STANDARD_INPUT = 'standard input'
 STANDARD_OUTPUT = 'standard output'
 
 
+def _nothing() -> None:
+    """Does nothing."""
+
+
 class Source:
     """An input of bytes with its name. A read that fails is a failure with that name."""
 
-    def __init__(self, stream: BinaryIO, name: str) -> None:
+    def __init__(self, stream: BufferedReader, name: str) -> None:
         self.stream = stream
         self.name = name
+        self.before_wait: Callable[[], None] = _nothing
+        """What is done before it may wait for more, such as the flush of an output."""
 
     def read(self, size: int = -1) -> bytes:
         """At most `size` bytes, all where it is below zero, none at the end."""
@@ -29,10 +36,11 @@ class Source:
         except OSError as why:
             raise of_system(self.name, why) from why
 
-    def readline(self, size: int = -1) -> bytes:
-        """The bytes up to a line feed, with it, and at most `size` of them; none at the end."""
+    def read1(self, size: int = -1) -> bytes:
+        """What has come so far, at most `size` bytes; it waits where nothing has come yet."""
+        self.before_wait()
         try:
-            return self.stream.readline(size)
+            return self.stream.read1(size)
         except OSError as why:
             raise of_system(self.name, why) from why
 
@@ -86,7 +94,7 @@ def read(name: Optional[str] = None) -> Iterator[Source]:
     if name is None or name == '-':
         if sys.stdin is None:
             raise Failure(f'{STANDARD_INPUT} is closed')
-        yield Source(sys.stdin.buffer, STANDARD_INPUT)
+        yield Source(cast(BufferedReader, sys.stdin.buffer), STANDARD_INPUT)
         return
     try:
         stream = open(_path(name), 'rb')
@@ -97,9 +105,9 @@ def read(name: Optional[str] = None) -> Iterator[Source]:
 
 
 @contextmanager
-def write(name: Optional[str] = None) -> Iterator[Sink]:
-    """Text of UTF-8 to a file, which is written anew, or to standard output."""
-    sink = _sink(name)
+def write(name: Optional[str] = None, new: bool = False) -> Iterator[Sink]:
+    """Text of UTF-8 to a file, or to standard output. A `new` file is never one that is there."""
+    sink = _sink(name, 'x' if new else 'w')
     try:
         yield sink
     except BaseException:
@@ -109,15 +117,16 @@ def write(name: Optional[str] = None) -> Iterator[Sink]:
     sink.close()
 
 
-def _sink(name: Optional[str]) -> Sink:
+def _sink(name: Optional[str], mode: str) -> Sink:
     if name is None or name == '-':
         if sys.stdout is None:
             raise Failure(f'{STANDARD_OUTPUT} is closed')
         return Sink(sys.stdout, STANDARD_OUTPUT)
     try:
-        return Sink(open(_path(name), 'w', encoding='utf-8', newline=''), name)
+        stream = cast(TextIO, open(_path(name), mode, encoding='utf-8', newline=''))
     except OSError as why:
         raise of_system(name, why) from why
+    return Sink(stream, name)
 
 
 def _path(name: str) -> str:

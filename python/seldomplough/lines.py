@@ -9,7 +9,8 @@ was cut: it is said and left out."""
 
 from __future__ import annotations
 
-from typing import BinaryIO, Callable, Dict, Iterable, Iterator, Mapping, Optional, Tuple, Type
+from io import BufferedReader
+from typing import Callable, Dict, Iterable, Iterator, Mapping, Tuple, Type
 from typing import Union
 
 from seldomplough import files
@@ -36,11 +37,12 @@ KINDS: Dict[str, Tuple[Type[Line], ...]] = {}
 for _class in _CLASSES:
     KINDS[_class.kind] = (*KINDS.get(_class.kind, ()), _class)
 
-# Longer than any line that is printed, in bytes.
+# Longer than any line that is printed, in bytes, and how many bytes are read at once.
 LONGEST = 4096
+PIECE = 1 << 16
 
 # What lines are read from: a file of bytes, or lines of text that end with their line feeds.
-Input = Union[files.Source, BinaryIO, Iterable[str]]
+Input = Union[files.Source, BufferedReader, Iterable[str]]
 
 
 def parse(text: str) -> Line:
@@ -70,30 +72,36 @@ def _text_of(kind: Type[Line], record: Mapping[str, object]) -> str:
         raise Failure('has a value of another kind') from why
 
 
-def numbered(source: Input, say: Callable[[str], None] = files.say) -> Iterator[Tuple[int, str]]:
+def numbered(
+    source: Input, say: Callable[[str], None] = files.say, longest: int = LONGEST
+) -> Iterator[Tuple[int, str]]:
     """The number of each line, from 1, and its text without its line feed.
 
-    A last line without its line feed is said and left out."""
-    for number, text in enumerate(_texts(source), 1):
-        if text[-1:] != '\n':
-            if len(text) >= LONGEST:
-                raise Failure(f'line {number} is longer than any that the receiver prints')
-            say(f'line {number}, the last one, is cut and was left out: {shown(text)}')
-            return
-        yield number, text[:-1]
+    A last line without its line feed is said and left out. No line may be as long as `longest`."""
+    number, rest = 1, ''
+    for piece in _pieces(source):
+        texts = (rest + piece).split('\n')
+        rest = texts.pop()
+        for text in texts:
+            _check_length(number, text, longest)
+            yield number, text
+            number += 1
+        _check_length(number, rest, longest)
+    if rest:
+        say(f'line {number}, the last one, is cut and was left out: {shown(rest)}')
 
 
-def _texts(source: Input) -> Iterator[str]:
-    """Lines of text with their line feeds. Other bytes than those of ASCII stay wrong in them."""
-    readline: Optional[Callable[[int], Union[bytes, str]]] = getattr(source, 'readline', None)
-    if readline is None:
-        yield from source  # type: ignore[misc]
-        return
-    while True:
-        piece = readline(LONGEST)
-        if not piece:
-            return
-        yield piece if isinstance(piece, str) else piece.decode('latin-1')
+def _check_length(number: int, text: str, longest: int) -> None:
+    if len(text) >= longest:
+        raise Failure(f'line {number} is longer than {longest - 1} bytes: {shown(text)}')
+
+
+def _pieces(source: Input) -> Iterable[str]:
+    """The text of a source as it comes. Bytes that aren't ASCII stay what no line has."""
+    if isinstance(source, (files.Source, BufferedReader)):
+        reader = source
+        return (it.decode('latin-1') for it in iter(lambda: reader.read1(PIECE), b''))
+    return source
 
 
 def read(source: Input, say: Callable[[str], None] = files.say) -> Iterator[Line]:
@@ -102,9 +110,5 @@ def read(source: Input, say: Callable[[str], None] = files.say) -> Iterator[Line
         try:
             line = parse(text)
         except Failure as why:
-            raise Failure(f'line {number} {_about(why)}: {shown(text)}') from why
+            raise Failure(f'line {number} {why.text}: {shown(text)}') from why
         yield line
-
-
-def _about(why: Failure) -> str:
-    return why.text if why.text.startswith(("isn't", 'has', 'lacks')) else f"can't be, {why.text}"

@@ -56,7 +56,9 @@ class Page(SlotLine):
         client, time, slot, *values = map(int, words)
         for field, value in zip(cls.table, values):
             if not field.least <= value <= field.greatest:
-                raise Failure(f'{field.name}={value} is outside {field.least} to {field.greatest}')
+                raise Failure(
+                    f'has {field.name}={value}, outside {field.least} to {field.greatest}'
+                )
         return cls(client, time, slot, tuple(values))
 
     @classmethod
@@ -151,7 +153,7 @@ class Als(SlotLine):
         client, time, slot, toa, *healths = map(int, words)
         for value in (toa, *healths):
             if not 0 <= value <= 255:
-                raise Failure(f'{value} is outside 0 to 255')
+                raise Failure(f'has {value}, outside 0 to 255')
         return cls(client, time, slot, toa, tuple(healths))
 
     @classmethod

@@ -2,16 +2,7 @@
 
 from __future__ import annotations
 
-import argparse
-from typing import Callable, Protocol, Tuple
+from seldomplough.commands import answers, cn0, csv, frames, json
 
-
-class Command(Protocol):
-    """A module of a command."""
-
-    add: Callable[[argparse._SubParsersAction[argparse.ArgumentParser]], None]
-    run: Callable[[argparse.Namespace], int]
-
-
-MODULES: Tuple[Command, ...] = ()
-"""All commands, in the order of the help. A new one is one line here."""
+MODULES = (json, csv, frames, answers, cn0)
+"""All commands, in the order of the help. A new one is one import and one name here."""
