@@ -94,6 +94,8 @@ def read(name: Optional[str] = None) -> Iterator[Source]:
     if name is None or name == '-':
         if sys.stdin is None:
             raise Failure(f'{STANDARD_INPUT} is closed')
+        if not _blocks(sys.stdin):
+            raise Failure(f"{STANDARD_INPUT} doesn't block (O_NONBLOCK), so its end can't be seen")
         yield Source(cast(BufferedReader, sys.stdin.buffer), STANDARD_INPUT)
         return
     try:
@@ -102,6 +104,14 @@ def read(name: Optional[str] = None) -> Iterator[Source]:
         raise of_system(name, why) from why
     with stream:
         yield Source(stream, name)
+
+
+def _blocks(stream: TextIO) -> bool:
+    """Whether a read waits for what comes. A stream that isn't the system's does."""
+    try:
+        return os.get_blocking(stream.fileno())
+    except (OSError, ValueError):
+        return True
 
 
 @contextmanager

@@ -36,19 +36,18 @@ def frames(source: Union[str, files.Source], rate: Optional[int] = None) -> Dict
         with files.read(source) as opened:
             return frames(opened, rate)
     module = pandas()
-    tables: Dict[str, List[Sequence[Value]]] = {}
-    names: Dict[str, Sequence[str]] = {}
+    tables: Dict[str, Dict[str, List[Value]]] = {}
     for record in records(source, rate):
         kind = str(record['kind'])
         if kind not in tables:
-            tables[kind], names[kind] = [], columns(kind, rate)
-        tables[kind].append([record.get(it) for it in names[kind]])
-    return {kind: _frame(module, names[kind], rows) for kind, rows in tables.items()}
+            tables[kind] = {name: [] for name in columns(kind, rate)}
+        for name, values in tables[kind].items():
+            values.append(record.get(name))
+    return {kind: _frame(module, table) for kind, table in tables.items()}
 
 
-def _frame(module: Any, names: Sequence[str], rows: Sequence[Sequence[Value]]) -> Any:
-    values = dict(zip(names, zip(*rows)))
-    return module.DataFrame({name: _column(module, it) for name, it in values.items()})
+def _frame(module: Any, table: Dict[str, List[Value]]) -> Any:
+    return module.DataFrame({name: _column(module, it) for name, it in table.items()})
 
 
 def _column(module: Any, values: Sequence[Value]) -> Any:

@@ -57,10 +57,16 @@ def _nearest(value: Exact) -> Value:
     return float(value) if isinstance(value, Fraction) else value
 
 
-def records(source: Input, rate: Optional[int] = None) -> Iterator[Record]:
-    """The records of the printed lines of a source."""
+def records(
+    source: Input, rate: Optional[int] = None, kind: Optional[str] = None
+) -> Iterator[Record]:
+    """The records of the printed lines of a source, or of those of one kind."""
     maker = Records(rate)
-    return (maker.of(line) for line in read(source))
+    for line in read(source):
+        if kind is None or line.kind == kind:
+            yield maker.of(line)
+        else:
+            maker.satellites.feed(line)
 
 
 def columns(kind: str, rate: Optional[int] = None) -> Tuple[str, ...]:

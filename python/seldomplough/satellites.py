@@ -15,7 +15,10 @@ class Satellites:
     A slot has the satellite of an `acq` line that found one, or of a `state` line of a slot that
     tracks or holds. It has none that is known from then on where an `acq` line found none, a line
     says that the signal was lost, or a `state` line that the slot is idle or searches. Such a line
-    itself is still of the satellite that the slot had."""
+    itself is still of the satellite that the slot had.
+
+    No line says that a slot was stopped. Where a script stops a slot and names another satellite for
+    it by `hold` or `track`, this one is known from the next `state` line of the slot on."""
 
     def __init__(self) -> None:
         self.known: Dict[Tuple[int, int], int] = {}

@@ -51,9 +51,8 @@ def write_one(source: files.Source, kind: str, rate: Optional[int], stack: ExitS
     sink = stack.enter_context(files.write())
     source.before_wait = sink.flush
     write = table(sink, columns(kind, rate))
-    for record in records(source, rate):
-        if record['kind'] == kind:
-            write(record)
+    for record in records(source, rate, kind):
+        write(record)
 
 
 def write_all(source: files.Source, folder: str, rate: Optional[int], stack: ExitStack) -> None:

@@ -1,0 +1,76 @@
+"""What the tests share: a command of the companion, run in this process or by its launcher."""
+
+from __future__ import annotations
+
+import io
+import os
+import subprocess
+import sys
+from typing import Callable, NamedTuple
+
+import pytest
+
+from seldomplough.cli import main
+
+TOP = os.path.realpath(os.path.join(os.path.dirname(__file__), '..', '..'))
+LAUNCHER = os.path.join(TOP, 'seldomplough')
+EXAMPLES = os.path.join(TOP, 'examples')
+
+# Names that a shell, an awk or a parser of words takes for something else than a file's.
+NAMES = ('run=1.lines', 'a b', "x';y", '$(touch made)', 'a\nb', '<x', '|x', '*', '\u00e4\u20ac')
+
+
+class Outcome(NamedTuple):
+    """How a command ended."""
+
+    status: int
+    said: str
+    errors: str
+
+
+Command = Callable[..., Outcome]
+
+
+@pytest.fixture
+def run(capsys: pytest.CaptureFixture[str], monkeypatch: pytest.MonkeyPatch) -> Command:
+    """Runs a command in this process."""
+
+    def command(*words: str, given: bytes = b'') -> Outcome:
+        monkeypatch.setattr(sys, 'stdin', io.TextIOWrapper(io.BytesIO(given)))
+        status = main(words)
+        return Outcome(status, *capsys.readouterr())
+
+    return command
+
+
+@pytest.fixture
+def launch(tmp_path: os.PathLike[str]) -> Callable[..., subprocess.CompletedProcess[bytes]]:
+    """Runs the launcher in a folder of the test's own."""
+
+    def command(*words: str, **options: object) -> subprocess.CompletedProcess[bytes]:
+        options.setdefault('capture_output', True)
+        options.setdefault('cwd', tmp_path)
+        if 'input' not in options:
+            options.setdefault('stdin', subprocess.DEVNULL)
+        return subprocess.run([LAUNCHER, *words], check=False, timeout=60, **options)
+
+    return command
+
+
+def refused(outcome: Outcome, status: int, text: str) -> None:
+    """Sees that a command failed by one line that says this."""
+    assert outcome.status == status
+    assert outcome.errors.startswith('seldomplough: ') and outcome.errors.count('\n') == 1
+    assert text in outcome.errors
+    assert outcome.said == ''
+
+
+def expected_lines() -> str:
+    """The lines of all examples that come out whole."""
+    texts = []
+    for name in sorted(os.listdir(EXAMPLES)):
+        if name.endswith('.expected'):
+            with open(os.path.join(EXAMPLES, name), encoding='ascii') as file:
+                texts.append(file.read())
+    assert len(texts) == 8
+    return ''.join(texts)
