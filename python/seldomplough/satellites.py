@@ -17,8 +17,8 @@ class Satellites:
     says that the signal was lost, or a `state` line that the slot is idle or searches. Such a line
     itself is still of the satellite that the slot had.
 
-    No line says that a slot was stopped. Where a script stops a slot and names another satellite for
-    it by `hold` or `track`, this one is known from the next `state` line of the slot on."""
+    No line says that a slot was stopped. Where a script stops a slot and names another satellite
+    for it by `hold` or `track`, this one is known from the next `state` line of the slot on."""
 
     def __init__(self) -> None:
         self.known: Dict[Tuple[int, int], int] = {}
