@@ -6,6 +6,7 @@ line and 1 for all else. A closed pipe and Ctrl-C end the program by their signa
 from __future__ import annotations
 
 import argparse
+import io
 import os
 import signal
 import sys
@@ -90,6 +91,9 @@ def run(words: Sequence[str]) -> int:
 
 def main(words: Optional[Sequence[str]] = None) -> int:
     """Runs the program by these words, or those of the command line; says its status."""
+    if isinstance(sys.stdout, io.TextIOWrapper):
+        # The same bytes in each locale.
+        sys.stdout.reconfigure(encoding='utf-8', errors='backslashreplace', newline='\n')
     try:
         return run(sys.argv[1:] if words is None else words)
     except Failure as failure:

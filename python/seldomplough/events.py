@@ -69,8 +69,9 @@ class Acq(SlotLine):
     def words_of(cls, values: Sequence[Any]) -> Sequence[str]:
         """The words that show these raw values after the kind."""
         slot, satellite, found, *rest = values
-        found = {True: 'found', False: 'none'}[found]
-        return [str(it) for it in (slot, satellite, found, *rest)]
+        if not isinstance(found, bool):
+            raise TypeError('found')
+        return [str(it) for it in (slot, satellite, 'found' if found else 'none', *rest)]
 
     @property
     def doppler_from_centre_hz(self) -> int:

@@ -24,10 +24,14 @@ def one_line(text: str) -> str:
     return ''.join(it if it.isprintable() else ascii(it)[1:-1] for it in text)
 
 
+def escaped(text: str) -> str:
+    """Somebody's text on one line, with escapes for what isn't printable ASCII."""
+    return one_line(text.encode('ascii', 'backslashreplace').decode('ascii'))
+
+
 def shown(text: str, longest: int = LONGEST_SHOWN) -> str:
-    """Somebody's text on one line, with escapes for what isn't ASCII, cut after `longest`."""
-    cut = text if len(text) <= longest else text[: longest - 3] + '...'
-    return one_line(cut.encode('ascii', 'backslashreplace').decode('ascii'))
+    """The same, cut where it is longer than `longest`."""
+    return escaped(text if len(text) <= longest else text[: longest - 3] + '...')
 
 
 def of_system(name: str, why: OSError) -> Failure:

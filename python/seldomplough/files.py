@@ -48,9 +48,10 @@ class Source:
 class Sink:
     """An output of text with its name. A write that fails is a failure with that name."""
 
-    def __init__(self, stream: TextIO, name: str) -> None:
+    def __init__(self, stream: TextIO, name: str, is_standard: bool = False) -> None:
         self.stream = stream
         self.name = name
+        self.is_standard = is_standard
 
     def write(self, text: str) -> int:
         """Writes a text, and says how many characters it has."""
@@ -71,7 +72,7 @@ class Sink:
         try:
             self.flush()
         finally:
-            if self.name != STANDARD_OUTPUT:
+            if not self.is_standard:
                 _close_silently(self.stream)
 
     def _failure(self, why: OSError) -> Exception:
@@ -121,7 +122,7 @@ def write(name: Optional[str] = None, new: bool = False) -> Iterator[Sink]:
     try:
         yield sink
     except BaseException:
-        if sink.name != STANDARD_OUTPUT:
+        if not sink.is_standard:
             _close_silently(sink.stream)
         raise
     sink.close()
@@ -131,7 +132,7 @@ def _sink(name: Optional[str], mode: str) -> Sink:
     if name is None or name == '-':
         if sys.stdout is None:
             raise Failure(f'{STANDARD_OUTPUT} is closed')
-        return Sink(sys.stdout, STANDARD_OUTPUT)
+        return Sink(sys.stdout, STANDARD_OUTPUT, is_standard=True)
     try:
         stream = cast(TextIO, open(_path(name), mode, encoding='utf-8', newline=''))
     except OSError as why:

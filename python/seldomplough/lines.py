@@ -9,9 +9,8 @@ was cut: it is said and left out."""
 
 from __future__ import annotations
 
-from io import BufferedReader
-from typing import Callable, Dict, Iterable, Iterator, Mapping, Tuple, Type
-from typing import Union
+from typing import Callable, Dict, Iterable, Iterator, Mapping, Protocol, Tuple, Type, Union
+from typing import runtime_checkable
 
 from seldomplough import files
 from seldomplough.bases import Exact, Line, Raw, SlotLine, text_of
@@ -41,8 +40,17 @@ for _class in _CLASSES:
 LONGEST = 4096
 PIECE = 1 << 16
 
-# What lines are read from: a file of bytes, or lines of text that end with their line feeds.
-Input = Union[files.Source, BufferedReader, Iterable[str]]
+
+@runtime_checkable
+class Reader(Protocol):
+    """A file of bytes, such as one that `open(name, 'rb')` gives."""
+
+    def read1(self, size: int, /) -> bytes:
+        """What has come so far, at most `size` bytes; none at the end."""
+
+
+# What lines are read from: bytes, or pieces of text.
+Input = Union[Reader, Iterable[str]]
 
 
 def parse(text: str) -> Line:
@@ -67,7 +75,7 @@ def _text_of(kind: Type[Line], record: Mapping[str, object]) -> str:
     try:
         return text_of(kind, record)
     except KeyError as why:
-        raise Failure(f'lacks {shown(str(why.args[0]))}, or it has another kind of value') from why
+        raise Failure(f'lacks {why.args[0]}') from why
     except (TypeError, ValueError) as why:
         raise Failure('has a value of another kind') from why
 
@@ -98,10 +106,10 @@ def _check_length(number: int, text: str, longest: int) -> None:
 
 def _pieces(source: Input) -> Iterable[str]:
     """The text of a source as it comes. Bytes that aren't ASCII stay what no line has."""
-    if isinstance(source, (files.Source, BufferedReader)):
-        reader = source
-        return (it.decode('latin-1') for it in iter(lambda: reader.read1(PIECE), b''))
-    return source
+    if not isinstance(source, Reader):
+        return source
+    reader = source
+    return (it.decode('latin-1') for it in iter(lambda: reader.read1(PIECE), b''))
 
 
 def read(source: Input, say: Callable[[str], None] = files.say) -> Iterator[Line]:

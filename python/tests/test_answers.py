@@ -48,12 +48,12 @@ def test_another_client(run: Command, script: str) -> None:
 
 
 def test_lines_that_the_receiver_does_not_look_at(run: Command, tmp_path: os.PathLike[str]) -> None:
-    script = write(tmp_path, 's', '9 state 0\n' + ' ' * 81 + '\nx\n\t\n8 stop 0\n')
+    script = write(tmp_path, 's', '9 state 0\n' + ' ' * 81 + '\nx\n\t\u00e4\n8 stop 0\n')
     given = '1 9 state 0 idle\n1 9 err 1\n1 9 err 3\n1 9 err 2\n1 9 err 4\n'
     said = run('answers', script, given=given.encode()).said.splitlines()
     assert said[1].endswith('-> err 1: the line is longer than 80 bytes')
     assert said[2] == "3: x -> err 3: the first word isn't a time, 1 to 13 digits, at most 2^40"
-    assert said[3].startswith('4: \\t -> err 2')
+    assert said[3].startswith('4: \\t\\xc3\\xa4 -> err 2')
 
 
 def test_another_script_is_refused(run: Command, tmp_path: os.PathLike[str]) -> None:

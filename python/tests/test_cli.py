@@ -98,6 +98,17 @@ def test_the_module_runs(tmp_path: os.PathLike[str]) -> None:
     assert outcome.stdout == f'seldomplough {seldomplough.__version__}\n'.encode()
 
 
+def test_text_is_utf_8_in_each_locale(launch: Launch) -> None:
+    text = bytes([0o370]) * 22
+    for encoding in ('ascii', 'latin-1'):
+        environment = {**os.environ, 'PYTHONIOENCODING': encoding}
+        outcome = launch(
+            'csv', '--kind', 'msg', input=f'1 5 msg 0 {text.hex()}\n'.encode(), env=environment
+        )
+        row = f"1,5,0,,{text.hex()}," + "\u00b0" * 22
+        assert outcome.stdout.decode().splitlines()[1] == row
+
+
 def test_the_launcher_takes_no_module_of_the_folder(
     launch: Launch, tmp_path: os.PathLike[str]
 ) -> None:

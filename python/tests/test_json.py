@@ -89,6 +89,8 @@ OK = '{"kind": "ok", "client": 1, "time": 5}\n'
         ('{"kind": "ok", "client": 1, "time": -5}', "isn't one that"),
         ('{"kind": "ok", "client": 1, "time": ' + '9' * 5000 + '}', "isn't"),
         ('{"kind": "lock", "client": 1, "time": 5, "slot": 8}', "isn't one that"),
+        ('{"kind": "acq", "client": 1, "time": 5, "slot": 0, "satellite": 1, "found": 1, '
+         '"bin": 0, "half_chip": 0, "power": 0}', 'another kind'),
         ('{"kind": "acq", "client": 1, "time": 5, "slot": 0, "satellite": 1, "found": "yes", '
          '"bin": 0, "half_chip": 0, "power": 0}', 'another kind'),
         ('{"kind": "acq", "client": 1, "time": 5, "slot": 0, "satellite": 1, "found": [1], '

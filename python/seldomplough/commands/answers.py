@@ -2,7 +2,7 @@
 
 LINES is what the receiver printed for the script, and standard input if not given. Lines of the
 script without words get no answer and are left out. What comes after the end of the samples wasn't
-reached. Bytes that a terminal acts on are shown as escapes.
+reached. Bytes that aren't printable ASCII are shown as escapes.
 
     receiver my.script < my.real1 | seldomplough answers my.script
 """
@@ -14,7 +14,7 @@ from typing import Iterable, Iterator, List, NamedTuple
 
 from seldomplough import files, numbers
 from seldomplough.commands import options
-from seldomplough.failures import Failure, one_line
+from seldomplough.failures import Failure, escaped
 from seldomplough.lines import End, Err, Line, Ok, State, read
 
 # What a refusal of a line has to do with its time: these may have another than the line's.
@@ -95,4 +95,4 @@ def answer(line: Line) -> str:
 
 def beside(asked: Asked, text: str) -> str:
     """A line of a script with its number and an answer."""
-    return f'{asked.number}: {one_line(asked.text)} -> {text}'
+    return f'{asked.number}: {escaped(asked.text)} -> {text}'
