@@ -16,9 +16,10 @@ TIME = '(0|[1-9][0-9]{0,12})'
 SLOT = '([0-7])'
 SATELLITE = '([1-9]|[12][0-9]|3[0-2])'
 
-# A raw value of a line, and an exact one that follows from it.
+# A raw value of a line, an exact one that follows from it, and that as the nearest float.
 Raw = Union[int, str, bool, None]
 Exact = Union[int, Fraction, str]
+Nearest = Union[int, float, str]
 
 
 @dataclass(frozen=True)
@@ -63,6 +64,10 @@ class Line:
     def derived(self) -> Tuple[Exact, ...]:
         """The values that follow from the raw ones, by `derived_names`."""
         return tuple(getattr(self, it) for it in self.derived_names)
+
+    def nearest(self) -> Tuple[Nearest, ...]:
+        """The same as the nearest floats, where they aren't whole numbers or texts."""
+        return tuple(float(it) if isinstance(it, Fraction) else it for it in self.derived())
 
     def text(self) -> str:
         """The line as it is printed, without its line feed."""

@@ -16,7 +16,8 @@ from seldomplough import files
 from seldomplough.bases import Exact, Line, Raw, SlotLine, text_of
 from seldomplough.events import Acq, Bits, Count, Gap, Lock, Lost, Sub, Unlock
 from seldomplough.failures import Failure, shown
-from seldomplough.pages import Alm, Als, Eph, Hlt, Msg, Page, Utc
+from seldomplough.messages import Als, Msg
+from seldomplough.pages import Alm, Eph, Hlt, Page, Utc
 from seldomplough.replies import End, Err, Ok, State, StateAcquire, StateHold, StateIdle, StateTrack
 from seldomplough.satellites import Satellites
 

@@ -1,31 +1,32 @@
-"""The lines of pages: clock and ephemeris, almanacs, UTC, health, messages."""
+"""The lines of fields: clock and ephemeris, almanacs, UTC, health."""
 
 from __future__ import annotations
 
 from dataclasses import dataclass
 from fractions import Fraction
-from typing import Any, ClassVar, Mapping, Sequence, Tuple
+from typing import Any, ClassVar, Iterator, List, Mapping, NamedTuple, Sequence, Tuple
 
 from seldomplough import fields
-from seldomplough.bases import SIGNED, SLOT, Exact, Line, Raw, SlotLine
+from seldomplough.bases import SIGNED, SLOT, Exact, Line, Nearest, Raw, SlotLine
 from seldomplough.failures import Failure
 from seldomplough.fields import RADIANS, Field
 
-# The characters of a special message that aren't those of ASCII (IS-GPS-200, 20.3.3.5.1.8).
-CHARACTERS = {0o370: '\u00b0'}
-SATELLITES = range(1, 33)
-TOA_SCALE = 4096
+
+class Derived(NamedTuple):
+    """A value that follows from a field: its name with its unit, and what it is of an integer."""
+
+    name: str
+    place: int
+    scale: Fraction
 
 
-def _names_of(table: Sequence[Field]) -> Tuple[str, ...]:
-    """The names of the values of these fields, each with its unit; angles in radians too."""
-    result = []
-    for field in table:
+def _derived_of(table: Sequence[Field]) -> Iterator[Derived]:
+    """The values that follow from these fields. Angles are in radians too."""
+    for place, field in enumerate(table):
         if field.unit:
-            result.append(f'{field.name}_{field.unit}')
+            yield Derived(f'{field.name}_{field.unit}', place, field.scale)
         if field.unit in RADIANS:
-            result.append(f'{field.name}_{RADIANS[field.unit]}')
-    return tuple(result)
+            yield Derived(f'{field.name}_{RADIANS[field.unit]}', place, field.radians(1))
 
 
 @dataclass(frozen=True)
@@ -40,13 +41,22 @@ class Page(SlotLine):
     """The fields."""
     places: ClassVar[Mapping[str, int]]
     """The place of each field in `table` and `values`, by its name."""
+    ranges: ClassVar[List[Tuple[int, int]]]
+    """The least and the greatest integer of each field."""
+    scaled: ClassVar[Tuple[Derived, ...]]
+    """What follows from the fields, as `derived_names` say."""
+    ratios: ClassVar[List[Tuple[int, int, int]]]
+    """The place, numerator and denominator of each of these."""
 
     def __init_subclass__(cls) -> None:
         """Makes the form and the names of a kind of page by its fields."""
         words = ''.join(f' {it.name}={SIGNED}:{it.exponent}' for it in cls.table)
         cls.form = f' {SLOT}{words}'
         cls.names = ('slot', *(it.name for it in cls.table))
-        cls.derived_names = _names_of(cls.table)
+        cls.ranges = [(it.least, it.greatest) for it in cls.table]
+        cls.scaled = tuple(_derived_of(cls.table))
+        cls.ratios = [(it.place, *it.scale.as_integer_ratio()) for it in cls.scaled]
+        cls.derived_names = tuple(it.name for it in cls.scaled)
         cls.places = {it.name: at for at, it in enumerate(cls.table)}
         super().__init_subclass__()
 
@@ -54,11 +64,9 @@ class Page(SlotLine):
     def of_words(cls, words: Sequence[str]) -> Line:
         """The line of the groups of its pattern. A field keeps to its bits."""
         client, time, slot, *values = map(int, words)
-        for field, value in zip(cls.table, values):
-            if not field.least <= value <= field.greatest:
-                raise Failure(
-                    f'has {field.name}={value}, outside {field.least} to {field.greatest}'
-                )
+        for value, (least, greatest), field in zip(values, cls.ranges, cls.table):
+            if not least <= value <= greatest:
+                raise Failure(f'has {field.name}={value}, outside {least} to {greatest}')
         return cls(client, time, slot, tuple(values))
 
     @classmethod
@@ -88,13 +96,12 @@ class Page(SlotLine):
 
     def derived(self) -> Tuple[Exact, ...]:
         """The values that follow from the raw ones, by `derived_names`."""
-        result = []
-        for field, integer in zip(self.table, self.values):
-            if field.unit:
-                result.append(field.value(integer))
-            if field.unit in RADIANS:
-                result.append(field.radians(integer))
-        return tuple(result)
+        return tuple(self.values[it.place] * it.scale for it in self.scaled)
+
+    def nearest(self) -> Tuple[Nearest, ...]:
+        """The same as the nearest floats."""
+        # A division of whole numbers gives the nearest float.
+        return tuple(self.values[at] * above / below for at, above, below in self.ratios)
 
 
 @dataclass(frozen=True)
@@ -131,70 +138,3 @@ class Hlt(Page):
     __slots__ = ()
     kind = 'hlt'
     table = fields.HLT
-
-
-@dataclass(frozen=True)
-class Als(SlotLine):
-    """`als`: almanacs of all satellites for one time, `toa` in 4096 s; their healths from 1 on."""
-
-    __slots__ = ('toa', 'healths')
-
-    toa: int
-    healths: Tuple[int, ...]
-
-    kind = 'als'
-    form: ClassVar[str] = f' {SLOT} toa={SIGNED}:12' + f' {SIGNED}' * 32
-    names: ClassVar[Tuple[str, ...]] = ('slot', 'toa', *(f'h{it}' for it in SATELLITES))
-    derived_names: ClassVar[Tuple[str, ...]] = ('toa_s',)
-
-    @classmethod
-    def of_words(cls, words: Sequence[str]) -> Als:
-        """The line of the groups of its pattern. All its values have eight bits."""
-        client, time, slot, toa, *healths = map(int, words)
-        for value in (toa, *healths):
-            if not 0 <= value <= 255:
-                raise Failure(f'has {value}, outside 0 to 255')
-        return cls(client, time, slot, toa, tuple(healths))
-
-    @classmethod
-    def words_of(cls, values: Sequence[Any]) -> Sequence[str]:
-        """The words that show these raw values after the kind."""
-        slot, toa, *healths = values
-        return [str(slot), f'toa={toa}:12', *map(str, healths)]
-
-    def raw(self) -> Tuple[Raw, ...]:
-        """The raw values after the time, by `names`."""
-        return self.slot, self.toa, *self.healths
-
-    @property
-    def toa_s(self) -> int:
-        """The time of applicability, in seconds of its week."""
-        return TOA_SCALE * self.toa
-
-
-@dataclass(frozen=True)
-class Msg(SlotLine):
-    """`msg`: a special message, its 22 characters as 44 hexadecimal digits."""
-
-    __slots__ = ('hex',)
-
-    hex: str
-
-    kind = 'msg'
-    form: ClassVar[str] = f' {SLOT} ([0-9a-f]{{44}})'
-    names: ClassVar[Tuple[str, ...]] = ('slot', 'hex')
-    derived_names: ClassVar[Tuple[str, ...]] = ('characters',)
-
-    @classmethod
-    def of_words(cls, words: Sequence[str]) -> Msg:
-        """The line of the groups of its pattern."""
-        return cls(int(words[0]), int(words[1]), int(words[2]), words[3])
-
-    @property
-    def characters(self) -> str:
-        """The message as text. A byte that the standard has no character for is U+FFFD."""
-        return ''.join(_character(it) for it in bytes.fromhex(self.hex))
-
-
-def _character(code: int) -> str:
-    return CHARACTERS.get(code, chr(code) if 0x20 <= code < 0x7F else '\ufffd')

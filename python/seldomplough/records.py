@@ -5,10 +5,9 @@ from them under names with units, as the nearest floats."""
 
 from __future__ import annotations
 
-from fractions import Fraction
 from typing import Dict, Iterator, List, Optional, Tuple, Type, Union
 
-from seldomplough.lines import KINDS, Exact, Input, Line, Satellites, read
+from seldomplough.lines import KINDS, Input, Line, Satellites, read
 
 Value = Union[int, float, str, bool, None]
 Record = Dict[str, Value]
@@ -33,7 +32,7 @@ class Records:
             values += (line.time / self.rate,)
         values += line.raw()
         if line.derived_names:
-            values += tuple(map(_nearest, line.derived()))
+            values += line.nearest()
         return names, values if len(names) == len(values) else (*values, satellite)
 
     def of(self, line: Line) -> Record:
@@ -50,11 +49,6 @@ class Records:
             known = ('client', 'time', *seconds, *kind.names, *kind.derived_names, *satellite)
             self.names[kind, has_satellite] = known
         return known
-
-
-def _nearest(value: Exact) -> Value:
-    """An exact value as the nearest float, where it isn't a whole number or a text."""
-    return float(value) if isinstance(value, Fraction) else value
 
 
 def records(

@@ -36,6 +36,9 @@ def test_made_lines_of_each_kind_come_back(kind: str) -> None:
         assert (line.kind, line.time, line.text()) == (kind, time, text)
         assert len(line.raw()) == len(line.names)
         assert len(line.derived()) == len(line.derived_names)
+        exact = [it for it in line.derived() if not isinstance(it, str)]
+        nearest = [it for it in line.nearest() if not isinstance(it, str)]
+        assert nearest == [float(it) for it in exact]
 
 
 def test_all_kinds_are_made() -> None:
