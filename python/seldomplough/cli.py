@@ -58,20 +58,26 @@ def end_by(number: signal.Signals) -> int:
 
 def drop_output() -> None:
     """Leaves out what wasn't written yet, so that Python doesn't try it again at its end."""
-    if sys.stdout is not None:
+    if sys.stdout is None:
+        return
+    with open(os.devnull, 'wb') as empty:
         try:
-            empty = os.open(os.devnull, os.O_WRONLY)
-            os.dup2(empty, sys.stdout.fileno())
-            os.close(empty)
+            os.dup2(empty.fileno(), sys.stdout.fileno())
         except (OSError, ValueError):
+            pass
+
+
+def flush_output() -> None:
+    """Writes what wasn't written yet."""
+    if sys.stdout is not None:
+        with files.write():
             pass
 
 
 def settle_output() -> None:
     """Writes what wasn't written yet, and leaves it out where that fails."""
     try:
-        with files.write():
-            pass
+        flush_output()
     except (ClosedPipe, Failure):
         drop_output()
 
@@ -84,8 +90,7 @@ def run(words: Sequence[str]) -> int:
     except SystemExit as ended:
         # Help and the version were printed.
         status = int(ended.code or 0)
-    with files.write():
-        pass
+    flush_output()
     return status
 
 
@@ -103,4 +108,5 @@ def main(words: Optional[Sequence[str]] = None) -> int:
     except (ClosedPipe, BrokenPipeError):
         return end_by(signal.SIGPIPE)
     except KeyboardInterrupt:
+        settle_output()
         return end_by(signal.SIGINT)

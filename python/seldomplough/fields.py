@@ -8,7 +8,7 @@ from __future__ import annotations
 from fractions import Fraction
 from typing import NamedTuple, Optional
 
-# The value of pi that the standard gives for these angles (IS-GPS-200, section 20.3.3.4.3.3).
+# The value of pi that the standard gives for these angles (IS-GPS-200, section 20.3.3.4.3).
 PI = Fraction(31415926535898, 10**13)
 
 # The units of angles, and what they are called in radians.

@@ -6,7 +6,7 @@ import io
 import os
 import subprocess
 import sys
-from typing import Callable, NamedTuple
+from typing import Any, Callable, NamedTuple
 
 import pytest
 
@@ -47,12 +47,14 @@ def run(capsys: pytest.CaptureFixture[str], monkeypatch: pytest.MonkeyPatch) -> 
 def launch(tmp_path: os.PathLike[str]) -> Callable[..., subprocess.CompletedProcess[bytes]]:
     """Runs the launcher in a folder of the test's own."""
 
-    def command(*words: str, **options: object) -> subprocess.CompletedProcess[bytes]:
+    def command(*words: str, **options: Any) -> subprocess.CompletedProcess[bytes]:
         options.setdefault('capture_output', True)
         options.setdefault('cwd', tmp_path)
         if 'input' not in options:
             options.setdefault('stdin', subprocess.DEVNULL)
-        return subprocess.run([LAUNCHER, *words], check=False, timeout=60, **options)
+        outcome: subprocess.CompletedProcess[bytes]
+        outcome = subprocess.run([LAUNCHER, *words], check=False, timeout=60, **options)
+        return outcome
 
     return command
 

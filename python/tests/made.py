@@ -60,8 +60,8 @@ FIELDS = defined()
 
 def integer(field: Defined, chance: random.Random) -> int:
     """An integer that a field can have, often one at an end."""
-    low = -(2 ** (field.bits - 1)) if field.is_signed else 0
-    high = low + 2**field.bits - 1
+    low = -(1 << field.bits - 1) if field.is_signed else 0
+    high = low + (1 << field.bits) - 1
     return chance.choice((low, high, 0, chance.randint(low, high), chance.randint(low, high)))
 
 

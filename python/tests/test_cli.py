@@ -91,6 +91,20 @@ def test_streams_that_are_closed(run: Command, monkeypatch: pytest.MonkeyPatch) 
         files.say('nobody hears it')
 
 
+def test_no_output_is_needed_where_none_is_written(
+    run: Command, monkeypatch: pytest.MonkeyPatch, tmp_path: os.PathLike[str]
+) -> None:
+    monkeypatch.setattr(sys, 'stdout', None)
+    folder = os.path.join(tmp_path, 'tables')
+    assert run('csv', '--folder', folder, given=b'1 5 ok\n').status == 0
+    assert os.listdir(folder) == ['ok.csv']
+    outcome = run('json', given=b'1 5 ok\n')
+    assert (outcome.status, outcome.errors) == (
+        1,
+        'seldomplough: standard output is closed\n',
+    )
+
+
 def test_the_module_runs(tmp_path: os.PathLike[str]) -> None:
     command = [sys.executable, '-m', 'seldomplough', '--version']
     environment = {**os.environ, 'PYTHONPATH': os.path.join(TOP, 'python')}
@@ -150,6 +164,20 @@ def test_a_stream_that_does_not_block_is_refused(launch: Launch) -> None:
     os.close(reader)
     os.close(writer)
     assert outcome.returncode == 1 and b"standard input doesn't block" in outcome.stderr
+
+
+def test_control_c_leaves_whole_lines(tmp_path: os.PathLike[str]) -> None:
+    launcher = os.path.join(TOP, 'seldomplough')
+    with subprocess.Popen(
+        [launcher, 'json'], stdin=subprocess.PIPE, stdout=subprocess.PIPE, stderr=subprocess.PIPE
+    ) as process:
+        assert process.stdin and process.stdout and process.stderr
+        process.stdin.write(b'1 5 ok\n')
+        process.stdin.flush()
+        assert process.stdout.readline().endswith(b'}\n')
+        process.send_signal(signal.SIGINT)
+        assert process.wait() == -signal.SIGINT
+        assert process.stdout.read() == process.stderr.read() == b''
 
 
 def test_any_name_of_a_file(launch: Launch, tmp_path: os.PathLike[str]) -> None:
