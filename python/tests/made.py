@@ -6,6 +6,7 @@ from __future__ import annotations
 import os
 import random
 import re
+from functools import partial
 from typing import Callable, Dict, Iterator, List, NamedTuple
 
 TOP = os.path.realpath(os.path.join(os.path.dirname(__file__), '..', '..'))
@@ -129,7 +130,7 @@ SLOT_TEXTS: Dict[str, Callable[[random.Random], str]] = {
     'bits': lambda chance: '',
     'gap': lambda chance: str(chance.randrange(300)),
     'sub': sub,
-    **{kind: (lambda chance, kind=kind: page(kind, chance)) for kind in FIELDS},
+    **{kind: partial(page, kind) for kind in FIELDS},
     'als': als,
     'msg': msg,
     'state': state,

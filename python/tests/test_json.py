@@ -5,6 +5,7 @@ from __future__ import annotations
 import json
 import math
 import os
+from typing import Dict
 
 import made
 import pytest
@@ -44,13 +45,13 @@ def test_an_object_has_raw_values_and_si_values(run: Command) -> None:
 def test_counts_have_the_satellite_that_is_known(run: Command) -> None:
     count = '1 2046 count 0 1 -2 3 -4 5 -6\n'
     sums = {'ie': 1, 'qe': -2, 'ip': 3, 'qp': -4, 'il': 5, 'ql': -6}
-    plain = {'kind': 'count', 'client': 1, 'time': 2046, 'slot': 0, **sums}
+    plain: Dict[str, object] = {'kind': 'count', 'client': 1, 'time': 2046, 'slot': 0, **sums}
     outcome = run('json', given=count.encode())
     assert json.loads(outcome.said) == plain
     given = '1 0 state 0 hold 9 0\n' + count
     outcome = run('json', '--rate', '2046000', given=given.encode())
     second = outcome.said.splitlines()[1]
-    assert json.loads(second) == {**plain, 'seconds': 0.001, 'satellite': 9}
+    assert json.loads(second) == dict(plain, seconds=0.001, satellite=9)
 
 
 def test_pages_have_units(run: Command) -> None:

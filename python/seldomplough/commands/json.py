@@ -2,8 +2,10 @@
 
 Each line becomes an object on a line of its own. It has the kind, the client, the time in samples
 and the raw integers by the names of docs/FORMATS.md. Values in SI units follow from them, under
-names with their units. A line of a slot has the satellite where the lines before say it. With
---rate there is the time in seconds too.
+names with their units. With --rate there is the time in seconds too.
+
+A line of a slot has the satellite where the lines before say it. No line says that a slot was
+stopped: a script that then gives it another satellite should ask for its state.
 
 With --back it takes such objects and prints the lines again. Only the raw values count then.
 
