@@ -7,9 +7,9 @@ from dataclasses import dataclass, fields
 from fractions import Fraction
 from typing import Any, ClassVar, Mapping, Pattern, Sequence, Tuple, Union
 
-# An integer as it is printed: no zeros in front, no sign of zero.
-NATURAL = '(0|[1-9][0-9]{0,19})'
-SIGNED = '(0|-?[1-9][0-9]{0,19})'
+# An integer as it is printed: no zeros in front, no sign of zero. All that is printed fits 64 bits.
+NATURAL = '(0|[1-9][0-9]{0,17})'
+SIGNED = '(0|-?[1-9][0-9]{0,17})'
 # Merged lines have clients above 8 too.
 CLIENT = '([1-9][0-9]{0,8})'
 TIME = '(0|[1-9][0-9]{0,12})'

@@ -38,6 +38,15 @@ def test_frames_have_whole_numbers_floats_and_texts(path: str) -> None:
     assert 'seconds' not in frames(path)['state']
 
 
+def test_the_largest_numbers_fit(run: Command, tmp_path: os.PathLike[str]) -> None:
+    path = os.path.join(tmp_path, 'x')
+    nines = '9' * 18
+    with open(path, 'w', encoding='ascii') as file:
+        file.write(f'1 5 state 0 idle\n1 5 state 0 track 1 {nines} -{nines} 0 open\n')
+    state = frames(path)['state']
+    assert state['dumps'][1] == int(nines) and state['v'][1] == -int(nines)
+
+
 def test_the_summary(run: Command, path: str) -> None:
     outcome = run('frames', path)
     assert (outcome.status, outcome.errors) == (0, '')

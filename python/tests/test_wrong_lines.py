@@ -51,6 +51,7 @@ WRONG = [
     '1 5 state 0 track 3 5 0 0',
     '1 5 state 0 track',
     '1 5 gap 0 -1',
+    '1 5 gap 0 1' + '0' * 18,
     SUB[:-1],
     SUB[:-6],
     SUB.replace('8b0114', '0x8b01'),
