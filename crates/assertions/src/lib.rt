@@ -5,6 +5,8 @@
 //! what it found is printed as its error. An assertion that fails names its own line.
 #![tactic(auto)]
 
+ghost use Rattle.std.specs.Prelude.{◌≡◌, ◌↔◌, true, IsOk};
+
 use std::fmt::Debug;
 
 /// Two values that differ.
@@ -27,7 +29,9 @@ pub struct DifferenceAt<'a, P, T> {
 /// # Errors
 ///
 /// Both values, where they differ.
-pub fn same<'a, T: PartialEq>(found: &'a T, expected: &'a T) -> Result<(), Difference<'a, T>> {
+pub fn same<'a, T: PartialEq>(found: &'a T, expected: &'a T) -> Result<(), Difference<'a, T>>
+    ensures { IsOk result ↔ (T.eq found.now expected.now ≡ true) }
+{
     if *found == *expected {
         Ok(())
     } else {
@@ -44,7 +48,9 @@ pub fn same_at<'a, P, T: PartialEq>(
     place: &'a P,
     found: &'a T,
     expected: &'a T,
-) -> Result<(), DifferenceAt<'a, P, T>> {
+) -> Result<(), DifferenceAt<'a, P, T>>
+    ensures { IsOk result ↔ (T.eq found.now expected.now ≡ true) }
+{
     if *found == *expected {
         Ok(())
     } else {
