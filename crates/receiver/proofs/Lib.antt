@@ -14,3 +14,4 @@ pub mod TellingLemmas
 pub mod EntryAnswers
 pub mod OpeningLemmas
 mod PrintedLemmas
+pub mod RunRows

@@ -1,9 +1,9 @@
 -- The lines of a whole text, one by one.
-use Rattle.std.proofs.Common.{◌≡◌, ◌≤◌, length, ℕ, List, refl, ap, ◌∙◌, arith}
-use Rattle.std.specs.Prelude.{slice_get, Some}
+use Rattle.std.proofs.Common.{◌≤◌, length, ℕ, List, refl, ap, ◌∙◌, arith}
+use Rattle.std.specs.Prelude.{Some}
 use Rattle.definitions.specs.Oscillators.{Settings}
 use Rattle.definitions.specs.Samples.{Sample}
-use Rattle.definitions.specs.Events.{Event, acquired, count, subframe, reported, almanacs}
+use Rattle.definitions.specs.Events.{acquired, count, subframe, reported, almanacs}
 use Rattle.definitions.specs.Receiver.{Client, full}
 use Rattle.definitions.proofs.TextLemmas.{client-alone}
 use Rattle.definitions.proofs.PrintedVerbLemmas.{counts-printed, acquisitions-printed}

@@ -1,5 +1,5 @@
 -- A run from its parts.
-use Rattle.std.proofs.Common.{◌≡◌, ◌≤◌, ◌<◌, ℕ, List, [], length, take, refl, sym, ap, ◌∙◌, subst}
+use Rattle.std.proofs.Common.{◌≡◌, ◌≤◌, ◌<◌, ℕ, List, [], take, refl, sym, ap, ◌∙◌, subst}
 use Rattle.std.proofs.Common.{arith, ◌⊎◌, inl, inr, ◌++◌, append-nil}
 use Rattle.std.specs.Prelude.{Option}
 use Rattle.std.specs.Io.KnownBytes.{Appends, Keeps}
@@ -10,7 +10,7 @@ use Rattle.definitions.specs.Samples.{Sample, Packing, real1, real2, iq1, iq2, s
 use Rattle.definitions.specs.Samples.{samples_from}
 use Rattle.definitions.specs.Receiver.{Client}
 use Rattle.definitions.specs.Lines.{as_bytes}
-use Rattle.definitions.specs.Receiver.{body, full}
+use Rattle.definitions.specs.Receiver.{body}
 use Rattle.receiver.specs.declared.session.Session.{Session}
 use Rattle.receiver.specs.declared.faults.Stop.{Stop}
 use Rattle.receiver.specs.declared.faults.Stop.TheVariants.{AtEnd, ReadFailed, PastLimit}
@@ -27,7 +27,7 @@ use Rattle.definitions.specs.Receiver.{answer_lines}
 use Rattle.receiver.specs.Sessions.{StandsFor, time_of}
 use Rattle.std.specs.Prelude.{Result, Ok, Err, ◌↔◌}
 use Rattle.std.proofs.lemmas.Bool.{cases_lt}
-use Rattle.receiver.specs.Runs.{Ran, Devices, IsOpen, IsWrittenTo, samples_read}
+use Rattle.receiver.specs.Runs.{IsOpen, IsWrittenTo, samples_read}
 use Rattle.receiver.specs.Runs.{text_for}
 use Rattle.receiver.proofs.TextLemmas.{wrote-all, wrote-text, wrote-part, wrote-front}
 

@@ -1,4 +1,4 @@
-use Rattle.std.proofs.Common.{rules, ◌≡◌, refl, List, [], ap, sym, subst}
+use Rattle.std.proofs.Common.{rules, refl, List, [], ap, sym, subst}
 use Rattle.std.specs.Io.KnownBytes.{Appends}
 use Rattle.std.proofs.KnownBytes.{Consumes-nil}
 use Rattle.definitions.specs.Samples.{Sample}

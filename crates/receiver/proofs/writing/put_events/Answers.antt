@@ -1,4 +1,4 @@
-use Rattle.std.proofs.Common.{◌≡◌, ap, sym, ◌∙◌, ◌+◌, ◌++◌, ℕ, List, drop}
+use Rattle.std.proofs.Common.{ap, sym, ◌∙◌, ◌+◌, ◌++◌, ℕ, List, drop}
 use Rattle.std.specs.Prelude.{map}
 use Rattle.definitions.specs.Lines.{as_bytes, ended_line}
 use Rattle.slot_protocol.specs.declared.event.SlotEvent.{SlotEvent}
