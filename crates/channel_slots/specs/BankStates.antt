@@ -1,5 +1,7 @@
 -- What a bank stands for.
-use Rattle.std.specs.Prelude.{◌≡◌, ◌≤◌, ◌+◌, ◌-◌, ◌/◌, ◌++◌, ℕ, List, length, get_or, Option, Some}
+use Rattle.std.specs.Prelude.{◌≡◌, ◌≤◌, ◌<◌, ◌+◌, ◌-◌, ◌/◌, ◌++◌, ◌⊎◌, ℕ, List, length, get_or}
+use Rattle.std.specs.Prelude.{Option, Some}
+use Rattle.std.specs.Box.{boxed_slice_items}
 use Rattle.definitions.specs.Samples.{Sample}
 use Rattle.definitions.specs.Receiver.{at_each_sample}
 use Rattle.definitions.specs.Banks.{bank_events_at_end, layout}
@@ -23,6 +25,14 @@ shares_of bank = bank.shares.items
 abbrev pub share_of : Bank → ℕ → ℕ
 share_of bank client = get_or (shares_of bank) (client - 1) 0
 
+-- a client has a slot of that number: the slots of each are numbered from 0
+abbrev pub HasSlot : Bank → ℕ → ℕ → Type 0
+HasSlot bank client slot = (1 ≤ client) × (slot < share_of bank client)
+
+-- no client has that number, or the slot is none of its share
+abbrev pub LacksSlot : Bank → ℕ → ℕ → Type 0
+LacksSlot bank client slot = (client ≡ 0) ⊎ (share_of bank client ≤ slot)
+
 -- what is known of the recording
 abbrev pub settings_of : Bank → Settings
 settings_of bank = bank.settings
@@ -30,7 +40,7 @@ settings_of bank = bank.settings
 -- how many cells the search of a client's slot has done: none where it isn't acquiring, or no
 -- client has that number
 abbrev pub cells_done_in : Bank → ℕ → ℕ → Option ℕ
-cells_done_in bank client slot = cells_done_at bank.seats.items client slot
+cells_done_in bank client slot = cells_done_at (boxed_slice_items bank.seats) client slot
 
 -- the settings, the samples so far, and for each client and slot its commands so far
 pub record StandsFor (settings : Settings) (xs : List Sample)
@@ -38,7 +48,7 @@ pub record StandsFor (settings : Settings) (xs : List Sample)
   pub recorded : bank.settings ≡ settings
   pub now : bank.time ≡ length xs
   pub history : histories.StandsFor xs bank.history
-  pub slots : BankStands settings xs asked bank.time bank.seats.items
+  pub slots : BankStands settings xs asked bank.time (boxed_slice_items bank.seats)
 
 -- whatever a bank stood for: these events are what its slots emit over a run of samples
 abbrev pub Emits : Bank → List Sample → List SlotEvent → Type 0

@@ -2,6 +2,7 @@
 
 ghost use Rattle.std.specs.Prelude.{◌≡◌, ◌≤◌, ◌<◌, ◌+◌, ◌*◌, ◌^◌, ℕ, length, [], IfOk, OnOk};
 ghost use Rattle.std.specs.Prelude.{true, ◌↔◌};
+ghost use Rattle.std.specs.Box.{boxed_slice_items};
 ghost use Rattle.std.specs.List.{AllByRecursion};
 ghost use Rattle.definitions.specs.Oscillators.{Settings as DefinedSettings};
 ghost use Rattle.definitions.specs.Banks.{layout};
@@ -39,6 +40,7 @@ use oscillators::Settings;
 use sample_planes::{PackedSamples, Planes, SampleSource};
 use slot_protocol::{Answer, Command, Event, MOST_SLOTS, SlotEvent};
 use std::alloc::{AllocError, Global};
+use std::boxed::BoxedSlice;
 use tracking_loops::News;
 
 /// The most clients.
@@ -289,17 +291,17 @@ fn is_silent(is_shown: bool, dump: &Dump) -> bool
 }
 
 /// Idle slots for clients that have these shares of them, by client and then by slot.
-pub fn idle_seats(alloc: Global, shares: &[u8]) -> Result<Vec<Seat>, AllocError>
+pub fn idle_seats(alloc: Global, shares: &[u8]) -> Result<BoxedSlice<Seat>, AllocError>
     requires clients { length shares.now ≤ MOST_CLIENTS }
     requires few { AllByRecursion (λ share. share ≤ MOST_SLOTS) shares.now }
-    ensures keys { IfOk result (λ seats. keys_of seats.items ≡ layout shares.now) }
-    ensures idle { IfOk result (λ seats. AllIdle seats.items) }
+    ensures keys { IfOk result (λ seats. keys_of (boxed_slice_items seats) ≡ layout shares.now) }
+    ensures idle { IfOk result (λ seats. AllIdle (boxed_slice_items seats)) }
 {
     let mut seats = Vec::with_capacity(alloc, slots_in(shares))?;
     for index in 0..shares.len() {
         add_idle(&mut seats, index as u8 + 1, shares[index])?;
     }
-    Ok(seats)
+    Ok(seats.into_boxed_slice())
 }
 
 /// The number of slots that clients with some shares have together.

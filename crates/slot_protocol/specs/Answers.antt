@@ -33,6 +33,7 @@ view_in (states.Track prn dumps v w phase) =
 abbrev pub number_of : Refusal → ℕ
 number_of refusals.Busy = 9
 number_of refusals.Idle = 10
+number_of refusals.NoSuchSlot = 8
 
 abbrev pub answer_in : Answer → DefinedAnswer
 answer_in Accepted = accepted

@@ -59,23 +59,27 @@ pub enum SlotState {
     },
 }
 
-/// Why a slot refuses a command.
+/// Why a command is refused.
 #[derive(Clone, Copy, Debug, PartialEq, Eq)]
 pub enum Refusal {
     /// The command wants an idle slot, and this one isn't.
     Busy,
     /// The command wants a slot that isn't idle, and this one is.
     Idle,
+    /// No client has that number, or the slot is none of its share.
+    NoSuchSlot,
 }
 
 impl Refusal {
-    /// The number that is printed: 9 or 10. A script's lines have the numbers below.
+    /// The number that is printed: 9 or 10, and 8 where there is no such slot, as for a script's
+    /// line whose slot is out of its range.
     pub fn number(self) -> u8
         ensures { result ≡ number_of self }
     {
         match self {
             Refusal::Busy => 9,
             Refusal::Idle => 10,
+            Refusal::NoSuchSlot => 8,
         }
     }
 }

@@ -4,9 +4,10 @@ ghost use Rattle.std.specs.Prelude.{◌≡◌, IfOk};
 ghost use Rattle.channel_slots.specs.BankStates.{settings_of, time_of};
 ghost use Rattle.definitions.specs.Samples.{real1};
 
-use super::{hold, one_count, plain_settings, sums};
-use assertions::assert_same;
-use channel_slots::{Bank, Event, OpenFault, SlotEvent};
+use super::{IDLE, hold, one_count, plain_settings, sums};
+use crate::commands;
+use assertions::{assert_same, assert_same_at};
+use channel_slots::{Answer, Bank, Command, Event, OpenFault, Refusal, SlotEvent, SlotNo};
 use sample_planes::{Format, PackedSamples};
 use std::alloc::{Alloc, Global};
 use std::process::Abort;
@@ -76,6 +77,42 @@ static REFUSED_SHARES: [(&[u8], Result<u64, OpenFault>); 5] = [
 #[test]
 fn one_to_eight_slots(rt: HostRuntime) -> Result<(), Fail> {
     open(&rt, &REFUSED_SHARES)
+}
+
+// The clients have four slots and two.
+static STOPS: [(u8, u8, Refusal); 8] = [
+    (1, 3, Refusal::Idle),
+    (2, 1, Refusal::Idle),
+    (1, 4, Refusal::NoSuchSlot),
+    (1, 5, Refusal::NoSuchSlot),
+    (2, 2, Refusal::NoSuchSlot),
+    (0, 0, Refusal::NoSuchSlot),
+    (3, 0, Refusal::NoSuchSlot),
+    (255, 7, Refusal::NoSuchSlot),
+];
+
+#[test]
+fn slots_of_nobody_and_of_others_are_refused(rt: HostRuntime) -> Result<(), Fail> {
+    let mut bank = Bank::open(rt.alloc(), plain_settings()?, &[4, 2])?;
+    for &(client, number, refusal) in &STOPS {
+        let slot = SlotNo::new(number).ok_or("a slot")?;
+        let answer = bank.command(client, Command::Stop { slot });
+        assert_same_at!(rt; (client, number), answer, Answer::Refused(refusal));
+    }
+    Ok(())
+}
+
+// The slot after a client's last one is the next client's first, by the list of all slots.
+#[test]
+fn a_slot_of_another_client_stays_idle(rt: HostRuntime) -> Result<(), Fail> {
+    let mut bank = Bank::open(rt.alloc(), plain_settings()?, &[4, 2])?;
+    let hold = commands::hold(5, 1, 0, 2_045).ok_or("a hold")?;
+    assert_same!(rt; bank.command(1, hold), Answer::Refused(Refusal::NoSuchSlot));
+    let stop = Command::Stop {
+        slot: SlotNo::new(1).ok_or("a slot")?,
+    };
+    assert_same!(rt; bank.command(2, stop), IDLE);
+    Ok(())
 }
 
 static TEXTS: [(OpenFault, &str); 3] = [

@@ -1,4 +1,4 @@
-//! A value on the heap, whose memory may be refused.
+//! Values on the heap, whose memory may be refused.
 
 use crate::alloc::{AllocFailed, Global};
 use ::std::ops::{Deref, DerefMut};
@@ -35,5 +35,24 @@ impl<T> Deref for Box<T> {
 impl<T> DerefMut for Box<T> {
     fn deref_mut(&mut self) -> &mut T {
         self.as_mut()
+    }
+}
+
+/// Values on the heap, whose number stays. It is held in the list that it was made of, so that no
+/// memory is asked for.
+#[derive(Debug, PartialEq, Eq)]
+pub struct BoxedSlice<T>(pub(crate) ::std::vec::Vec<T>);
+
+impl<T> Deref for BoxedSlice<T> {
+    type Target = [T];
+
+    fn deref(&self) -> &[T] {
+        &self.0
+    }
+}
+
+impl<T> DerefMut for BoxedSlice<T> {
+    fn deref_mut(&mut self) -> &mut [T] {
+        &mut self.0
     }
 }

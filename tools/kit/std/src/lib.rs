@@ -19,6 +19,11 @@ pub mod vec;
 
 pub use runtime::HostRuntime;
 
+pub mod boxed {
+    pub use crate::boxes::BoxedSlice;
+    pub use ::std::boxed::*;
+}
+
 /// What each module sees with no `use`.
 pub mod prelude {
     pub mod rust_2024 {

@@ -1,6 +1,7 @@
 //! Lists whose memory is asked of an allocator.
 
 use crate::alloc::{AllocError, AllocFailed, Global};
+use crate::boxes::BoxedSlice;
 use ::std::io::{self, Write};
 use ::std::ops::{Deref, DerefMut};
 pub use ::std::vec::{Drain, IntoIter};
@@ -37,6 +38,10 @@ impl<T> Vec<T> {
         }
         self.0.push(item);
         Ok(())
+    }
+
+    pub fn into_boxed_slice(self) -> BoxedSlice<T> {
+        BoxedSlice(self.0)
     }
 }
 

@@ -25,25 +25,22 @@ done own settings time command taken ps qs at answer known same e =
     subst (λ (l : List Seat). IsCommanded settings time (request_in command) l qs at answer) same
     (subst (λ (r : Settings). IsCommanded r time (request_in command) taken qs at answer) known e)
 
-pub seat_index-at-requires-clause-slot : goal.seat_index-at-requires-clause-slot
-seat_index-at-requires-clause-slot c = rw (c.get.ensures.same ∙ c.slot.ensures) c.requires.slot
-
 pub command_at-answer-requires-clause-at : goal.command_at-answer-requires-clause-at
-command_at-answer-requires-clause-at c = rw c.deref_mut.ensures.value c.seat_index-at.ensures.within
+command_at-answer-requires-clause-at c = rw c.deref_mut.ensures.value c.in-Some.ensures.within
 
 pub invariant_of-self : goal.invariant_of-self
 invariant_of-self c =
-    let ps : List Seat = c.args.self.now.seats.items in
-    let at : ℕ = c.seat_index-at.result in
+    let ps : List Seat = c.args.self.now.seats.items.items in
+    let at : ℕ = c.in-Some.at in
     let e =
     done _ c.args.self.now.settings _ c.args.command _ ps
     c.command_at-answer.new.seats at c.command_at-answer.result refl c.deref_mut.ensures.value
     c.command_at-answer.ensures in
-    let b : at < length ps = c.seat_index-at.ensures.within in
+    let b : at < length ps = c.in-Some.ensures.within in
     let k =
     keeps ps at e.old e.new e.is e.client e.number in
     let whole =
-    refilled c.args.self.now.seats.len ps (slice_set ps at e.new)
+    refilled c.args.self.now.seats.items.len ps (slice_set ps at e.new)
     (k.size ∙ sym (ap length c.deref_mut.ensures.value) ∙ c.deref_mut.ensures.len) in
     let reach : ℕ = most_wait c.args.self.now.settings in
     let time : ℕ = c.args.self.now.time in
@@ -72,29 +69,29 @@ invariant_of-self c =
     }
 
 pub returns-clause-answer : goal.returns-clause-answer
-returns-clause-answer c settings xs asked s =
-    let ps : List Seat = c.args.self.now.seats.items in
-    let at : ℕ = c.seat_index-at.result in
+returns-clause-answer c settings xs asked s has =
+    let ps : List Seat = c.args.self.now.seats.items.items in
+    let at : ℕ = c.in-Some.at in
     let e =
     done _ settings _ c.args.command _ ps c.command_at-answer.new.seats at
     c.command_at-answer.result s.recorded c.deref_mut.ensures.value c.command_at-answer.ensures in
-    let n : c.get.result ≡ slot_of c.args.command = c.get.ensures.same ∙ c.slot.ensures in
+    let n : c.slot.result ≡ slot_of c.args.command = c.slot.ensures in
     e.answers xs _ (sym s.now) (subst
     (λ (m : ℕ). StandsFor settings xs (asked c.args.client m) e.old.slot) n
-    (stands-at settings xs asked ps at c.args.client c.get.result c.args.self.now.time e.old
+    (stands-at settings xs asked ps at c.args.client c.slot.result c.args.self.now.time e.old
     e.old (once-of c.args.self.now.shares.items ps c.args.self.now.keys)
-    c.seat_index-at.ensures.there e.is s.slots))
+    c.in-Some.ensures.there e.is s.slots))
 
 pub returns-clause-stands : goal.returns-clause-stands
-returns-clause-stands c settings xs asked s =
-    let ps : List Seat = c.args.self.now.seats.items in
-    let at : ℕ = c.seat_index-at.result in
+returns-clause-stands c settings xs asked s has =
+    let ps : List Seat = c.args.self.now.seats.items.items in
+    let at : ℕ = c.in-Some.at in
     let e =
     done _ settings _ c.args.command _ ps c.command_at-answer.new.seats at
     c.command_at-answer.result s.recorded c.deref_mut.ensures.value c.command_at-answer.ensures in
-    let n : c.get.result ≡ slot_of c.args.command = c.get.ensures.same ∙ c.slot.ensures in
+    let n : c.slot.result ≡ slot_of c.args.command = c.slot.ensures in
     let whole =
-    refilled c.args.self.now.seats.len ps (slice_set ps at e.new)
+    refilled c.args.self.now.seats.items.len ps (slice_set ps at e.new)
     (length-set ps at e.new ∙ sym (ap length c.deref_mut.ensures.value)
     ∙ c.deref_mut.ensures.len) in
     record {
@@ -103,9 +100,9 @@ returns-clause-stands c settings xs asked s =
       history = s.history;
       slots =
           rw (e.set, whole, ← n)
-          (commanded settings xs asked ps at c.args.client c.get.result c.args.self.now.time
+          (commanded settings xs asked ps at c.args.client c.slot.result c.args.self.now.time
           e.old e.new (once-of c.args.self.now.shares.items ps c.args.self.now.keys)
-          c.seat_index-at.ensures.there e.is
+          c.in-Some.ensures.there e.is
           (request_in c.args.command) s.slots e.client e.number
           (λ commands t. e.stands xs commands (sym s.now) t));
     }

@@ -26,7 +26,7 @@ invariant_of-result c =
       taken = c.in-Ok-open.ensures.taken;
       clients = rw c.in-Ok.ensures.0 c.in-Ok.ensures.1;
       shared = ap (list_all is_share) c.in-Ok.ensures.0 ∙ shared;
-      rests = rests-at-first c.in-Ok-idle_seats.seats.items;
+      rests = rests-at-first c.in-Ok-idle_seats.seats.items.items;
       keys = c.in-Ok-idle_seats.ensures.keys ∙ ap layout (sym c.in-Ok.ensures.0);
     }
 

@@ -1,12 +1,12 @@
-use Rattle.std.proofs.Common.{◌≡◌, ℕ, List, length, refl, sym, ap, ◌∙◌, subst}
+use Rattle.std.proofs.Common.{◌≡◌, ◌<◌, ℕ, List, length, refl, sym, ap, ◌∙◌, subst}
 use Rattle.std.specs.Prelude.{Result, Ok, Err}
 use Rattle.definitions.specs.Commands.{Command as DefinedCommand, TimedRequest}
 use Rattle.definitions.specs.Lines.{ended_line}
 use Rattle.definitions.specs.Texts.{for_client, at_time, answer_text, refusal_text}
 use Rattle.definitions.specs.Answers.{answer_at_end}
 use Rattle.definitions.specs.Receiver.{reply_text}
-use Rattle.slot_protocol.specs.Commands.{command_in}
-use Rattle.channel_slots.specs.BankStates.{StandsFor}
+use Rattle.slot_protocol.specs.Commands.{command_in, slot_of}
+use Rattle.channel_slots.specs.BankStates.{StandsFor, share_of}
 use Rattle.client_commands.specs.Entries.{result_in, number_of}
 use Rattle.receiver.specs.Sessions.{asked_of, with_entry}
 use Rattle.receiver.proofs.EntryAnswers.{refused-same, command-added}
@@ -28,18 +28,22 @@ returns-in-Ok c = record {
   line = λ settings xs done s.
       let command : DefinedCommand = command_in c.in-Ok.command in
       let client = c.args.self.client in
+      let few : slot_of c.in-Ok.command < share_of c.args.bank.now client =
+      rw c.in-Ok.is at c.requires.slot in
       let what : result_in c.args.self.what ≡ Ok command = ap result_in c.in-Ok.is in
       let slot : c.get-slot.result ≡ command.slot = c.get-slot.ensures.same ∙ c.slot.ensures in
       c.make_answer.ensures
       ∙ same-line client c.time-time.result (length xs) _ _ (c.time-time.ensures ∙ s.now)
       (ap (answer_text c.get-slot.result)
-      (c.command-answer.ensures.answer settings xs (asked_of done) s)
+      (c.command-answer.ensures.answer settings xs (asked_of done) s (c.requires.first, few))
       ∙ ap (λ (k : ℕ). answer_text k (answer_at_end settings xs
       (asked_of done client command.slot) command.request)) slot
       ∙ ap (reply_text settings xs (done client)) (sym what));
   stands = λ settings xs done s.
       let command : DefinedCommand = command_in c.in-Ok.command in
       let client = c.args.self.client in
+      let few : slot_of c.in-Ok.command < share_of c.args.bank.now client =
+      rw c.in-Ok.is at c.requires.slot in
       let what : Ok command ≡ result_in c.args.self.what = sym (ap result_in c.in-Ok.is) in
       subst (λ (r : Result DefinedCommand ℕ). StandsFor settings xs
       (asked_of (with_entry done client (record { time = length xs; what = r })))
@@ -47,7 +51,7 @@ returns-in-Ok c = record {
       what
       (subst (λ (a : ℕ → ℕ → List TimedRequest). StandsFor settings xs a c.command-answer.new.self)
       (command-added done client (length xs) command)
-      (c.command-answer.ensures.stands settings xs (asked_of done) s));
+      (c.command-answer.ensures.stands settings xs (asked_of done) s (c.requires.first, few)));
 }
 
 pub returns-in-Err : goal.returns-in-Err
