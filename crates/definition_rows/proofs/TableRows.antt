@@ -28,10 +28,10 @@ first_chips : map (λ prn. number_from_digits 2 (map (chip prn) (range_with_len 
 unfolding chip chip_after register_after
 first_chips = refl
 
--- chips 500 to 519 of satellites 1, 17 and 32, as a program has them that delays G2 by 5, 469 and
+-- chips 500 to 507 of satellites 1, 17 and 32, as a program has them that delays G2 by 5, 469 and
 -- 862 chips, as in the column of delays of table 3-Ia, where the definition has two stages
-middle_chips : map (λ prn. number_from_digits 2 (map (chip prn) (range_with_len 500 20)))
-    (1 ∷ 17 ∷ 32 ∷ []) ≡ 0xc6ee0 ∷ 0xe4d4b ∷ 0x934ea ∷ []
+middle_chips : map (λ prn. number_from_digits 2 (map (chip prn) (range_with_len 500 8)))
+    (1 ∷ 17 ∷ 32 ∷ []) ≡ 0xc6 ∷ 0xe4 ∷ 0x93 ∷ []
 unfolding chip chip_after register_after
 middle_chips = refl
 
