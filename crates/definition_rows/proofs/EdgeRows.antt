@@ -15,7 +15,10 @@ use Rattle.std.proofs.lemmas.Bool.{cases_lt, and_parts, eqb-true}
 use Rattle.definitions.specs.BitEdge.{changes_at, is_change, is_edge}
 use Rattle.definitions.proofs.SixteenthLemmas.{sixteenth}
 use Rattle.std.specs.Prelude.{nat_lt}
-use Rattle.definitions.specs.BitEdge.{is_crowded}
+use Rattle.definitions.specs.BitEdge.{is_crowded, push_at, reset_up_to}
+use Rattle.std.specs.Int.{is_negative}
+use Rattle.std.specs.Prelude.{nat_le}
+use Rattle.std.specs.Prelude.{◌-◌, ◌&&◌}
 
 -- pushes begin with the dump after a lock
 abbrev dump : ℤ → ℤ → Counts
@@ -101,3 +104,48 @@ changes_at_zero = refl
 change_at_reset : map (changes_at (pos 0 ∷ negsuc 0 ∷ pos 0 ∷ []) 1 1) (1 ∷ 2 ∷ []) ≡ 0 ∷ 0 ∷ []
 unfolding xor
 change_at_reset = refl
+
+-- early changes are no edge, however many there are
+no_early_edge : map (is_edge (pos 1 ∷ negsuc 0 ∷ pos 1 ∷ pos 1 ∷ [])) (range_with_len 0 4)
+    ≡ replicate 4 false
+unfolding xor reset_up_to
+no_early_edge = refl
+
+-- the first reset is at push 0, and a push that is crowded since the last one is the next
+first_reset : (pushes : List ℤ) → reset_up_to pushes 0 ≡ 0
+unfolding reset_up_to
+first_reset pushes = refl
+
+next_reset : (pushes : List ℤ) (k : ℕ) → is_crowded pushes (reset_up_to pushes k) (suc k) ≡ true
+    → reset_up_to pushes (suc k) ≡ suc k
+unfolding reset_up_to
+next_reset pushes k crowded =
+    if_true (is_crowded pushes (reset_up_to pushes k) (suc k)) (suc k) (reset_up_to pushes k)
+    crowded
+  where
+    if_true : (b : Bool) (m n : ℕ) → b ≡ true → (if b then m else n) ≡ m
+    if_true true m n e = refl
+    if_true false m n e = cc
+
+-- a change with the push after a reset is no edge, since those before the reset don't count
+no_edge_after_reset : (pushes : List ℤ) (k : ℕ)
+    → is_crowded pushes (reset_up_to pushes k) (suc k) ≡ true
+    → is_edge pushes (suc (suc k)) ≡ false
+no_edge_after_reset pushes k crowded =
+    let here : suc (suc k) - 1 ≡ suc k = omega arith in
+    rw here (after (suc k) (reset_up_to pushes (suc k)) (next_reset pushes k crowded))
+  where
+    few : (b c : Bool) → (b && (0 + (if c then 1 else 0) == 16)) ≡ false
+    few true true = refl
+    few true false = refl
+    few false c = refl
+
+    after : (n r : ℕ) → r ≡ n → ((nat_le 1 (suc n)
+        && xor (is_negative (push_at pushes n)) (is_negative (push_at pushes (suc n))))
+        && (changes_at pushes (suc n % 20) r (suc n) == 16)) ≡ false
+    after n r e =
+        let one : suc n - n ≡ 1 = omega arith in
+        rw (e, one)
+        (few (nat_le 1 (suc n)
+        && xor (is_negative (push_at pushes n)) (is_negative (push_at pushes (suc n))))
+        ((n + 1) % 20 == suc n % 20 && is_change pushes (n + 1)))
