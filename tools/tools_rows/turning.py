@@ -32,7 +32,13 @@ TURNS = (
     ('feed : ℕ\nfeed = 0x0a\n', ((2, '0x0a', '11'), (2, '0x0a', '9'))),
     # The branches of a condition, and the values of a record's fields.
     ('span : ℕ → ℕ → Span\nspan a b = if a == b then empty else record { first = a; last = b }\n', (
-        (2, '==', 'nat_le'), (2, 'a == b', 'not (a == b)'), (2, 'a; last = b', 'b; last = a'))),
+        (2, 'a == b', 'not (a == b)'), (2, 'a == b', 'nat_le (a) (b)'),
+        (2, 'a == b', 'nat_le (b) (a)'), (2, 'a; last = b', 'b; last = a'))),
+    # Each side of an equation ends at its bracket, or at a word that binds less.
+    ('meets : ℕ → ℕ → Bool\nmeets a b = a && (f (b + c) == d) || e\n', (
+        (2, '&&', '||'), (2, '+', '-'), (2, '||', '&&'),
+        (2, 'f (b + c) == d', 'nat_le (f (b + c)) (d)'),
+        (2, 'f (b + c) == d', 'nat_le (d) (f (b + c))'))),
     # The last letter of a text, and the pieces of one that is joined.
     ('named : List ℕ\nnamed = codes "no" ++ tail\n', (
         (2, '"no"', '"nn"'), (2, 'codes "no" ++ tail', 'tail ++ codes "no"'))),
