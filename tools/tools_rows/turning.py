@@ -1,4 +1,6 @@
 """Rows of tools/turned: the turns of small definitions, worked out by hand, and its words."""
+import importlib.machinery
+import importlib.util
 import os
 import sys
 
@@ -79,6 +81,46 @@ def texts(rows, _):
                                     if found.get(it) != wanted[it]])
 
 
+# A file of rows: two that are computed, and one that is proved by a lemma with a part of its own.
+ROWS_FILE = '''-- Rows.
+use Rattle.definitions.specs.Spans.{feed, span}
+
+feed_is_ten : feed ≡ 10
+feed_is_ten = refl
+
+-- A comment.
+span_of_two : span 1 2 ≡ two
+unfolding span
+span_of_two = refl
+
+lemma : (n : ℕ) → n ≡ n
+lemma n = same n
+  where
+    other : ℕ
+    other = 1
+
+    same : (n : ℕ) → n ≡ n
+    same n = refl
+
+pair : span 1 1 ≡ two
+pair = lemma 1
+'''
+
+
+def kept_rows(rows, _):
+    """Of a file of rows stays what rests on a name, and all that isn't computed, whole."""
+    loader = importlib.machinery.SourceFileLoader('turned', TURNED)
+    turned = importlib.util.module_from_spec(importlib.util.spec_from_loader('turned', loader))
+    loader.exec_module(turned)
+    feed, span = (ROWS_FILE[ROWS_FILE.index(it):ROWS_FILE.index(end)] for it, end in (
+        ('feed_is_ten', '-- A comment'), ('span_of_two', 'lemma')))
+    for name, gone in (('feed_is_ten', span), ('span_of_two', feed)):
+        wanted = ROWS_FILE.replace(gone, '').split()
+        found = turned.rows_on(ROWS_FILE, {name}).split()
+        rows.say(f'the rows on {name}', [f'it is {found}'] * (
+            found != [it for it in wanted if it not in ('--', 'Rows.', 'A', 'comment.')]))
+
+
 def words(rows, folder):
     """Definitions that are named are turned alone, and what there isn't is refused."""
     outcome = run([TURNED, '--list', '--names', 'chip_sign,selection_of', 'Codes'], folder)
@@ -95,4 +137,4 @@ def words(rows, folder):
                  * (outcome.status != 2 or not is_said))
 
 
-ROWS = (turns, texts, words)
+ROWS = (turns, texts, kept_rows, words)
