@@ -80,6 +80,11 @@ zero_sums : bits_after (replicate 10 (pos 1) ++ replicate 10 (negsuc 0) ++ repli
     ++ negsuc 0 ∷ []) (Some 0) ≡ false ∷ true ∷ []
 zero_sums = refl
 
+-- the first push of a bit counts for it, and not for the bit before
+first_pushes : bits_after (replicate 20 (pos 0) ++ negsuc 0 ∷ replicate 19 (pos 0)) (Some 0)
+    ≡ false ∷ true ∷ []
+first_pushes = refl
+
 -- two places with four changes each reset the counts, four and three don't
 abbrev changing : List ℕ → ℕ → List ℤ
 changing places n = map (λ k. at places k true) (range_with_len 0 n)
@@ -93,6 +98,13 @@ crowds : map (λ k. is_crowded (changing (1 ∷ 10 ∷ 21 ∷ 30 ∷ 41 ∷ 50 �
     (69 ∷ 70 ∷ []) ≡ false ∷ true ∷ []
 unfolding xor
 crowds = refl
+
+-- so it is at the first place, 0, and the last, 19
+crowds_at_ends : map (λ k. is_crowded (changing (20 ∷ 39 ∷ 40 ∷ 59 ∷ 60 ∷ 79 ∷ 80 ∷ 99 ∷ []) 101) 0
+    k)
+    (98 ∷ 99 ∷ []) ≡ false ∷ true ∷ []
+unfolding xor
+crowds_at_ends = refl
 
 -- 0 isn't below zero
 changes_at_zero : map (is_change (pos 0 ∷ negsuc 0 ∷ pos 0 ∷ pos 1 ∷ [])) (range_with_len 0 4)
