@@ -85,6 +85,16 @@ first_pushes : bits_after (replicate 20 (pos 0) ++ negsuc 0 ∷ replicate 19 (po
     ≡ false ∷ true ∷ []
 first_pushes = refl
 
+-- a bit of zeros between two pushes below zero, each of which counts for its own bit
+bit_between : bits_after (replicate 19 (pos 0) ++ negsuc 0 ∷ replicate 20 (pos 0)
+    ++ negsuc 0 ∷ replicate 19 (pos 0)) (Some 0) ≡ true ∷ false ∷ true ∷ []
+bit_between = refl
+
+-- no bit is whole without its last push
+whole_bits : map (λ n. bits_after (replicate n (pos 0)) (Some 0)) (19 ∷ 20 ∷ 39 ∷ [])
+    ≡ [] ∷ (false ∷ []) ∷ (false ∷ []) ∷ []
+whole_bits = refl
+
 -- two places with four changes each reset the counts, four and three don't
 abbrev changing : List ℕ → ℕ → List ℤ
 changing places n = map (λ k. at places k true) (range_with_len 0 n)
