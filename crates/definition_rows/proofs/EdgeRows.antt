@@ -127,7 +127,13 @@ change_at_reset : map (changes_at (pos 0 ∷ negsuc 0 ∷ pos 0 ∷ []) 1 1) (1 
 unfolding xor
 change_at_reset = refl
 
--- early changes are no edge, however many there are
+-- nor is one after the push up to which they are counted: push 21 here
+change_after_push : map (changes_at (replicate 21 (pos 0) ++ negsuc 0 ∷ []) 1 20) (20 ∷ 21 ∷ [])
+    ≡ 0 ∷ 1 ∷ []
+unfolding xor
+change_after_push = refl
+
+-- changes before the sixteenth are no edge
 no_early_edge : map (is_edge (pos 1 ∷ negsuc 0 ∷ pos 1 ∷ pos 1 ∷ [])) (range_with_len 0 4)
     ≡ replicate 4 false
 unfolding xor reset_up_to
