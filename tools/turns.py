@@ -7,9 +7,12 @@ TOKEN = re.compile(r'--[^\n]*|"[^"\n]*"|[()\[\]{};,]|[^\s()\[\]{};,"]+')
 CLOSING = {'(': ')', '[': ']', '{': '}'}
 KEYWORDS = {'let', 'in', 'if', 'then', 'else', 'elim', 'λ'}
 
+# What no side of an equation reaches over.
+PARTING = KEYWORDS | {'&&', '||', '=', ';', '|', '↦', ',', '∷', '++'}
+
 # A word, and those that it is turned into.
 OTHERS = {
-    'nat_le': ['nat_lt'], 'nat_lt': ['nat_le'], '==': ['nat_le'], '&&': ['||'], '||': ['&&'],
+    'nat_le': ['nat_lt'], 'nat_lt': ['nat_le'], '&&': ['||'], '||': ['&&'],
     '+': ['-'], '-': ['+'], '*': ['+'], '/': ['%'], '%': ['/'], '+ℤ': ['-ℤ'], '-ℤ': ['+ℤ'],
     'pos': ['negsuc'], 'negsuc': ['pos'], 'neg_ℤ': [''], 'not': [''], 'min': ['max'],
     'max': ['min'], 'int_min': ['int_max'], 'int_max': ['int_min'], 'true': ['false'],
@@ -186,6 +189,21 @@ def negations(words: list[Word]) -> Iterator[Change]:
             yield (((a, a), 'not ('), ((b, b), ')'))
 
 
+def bounds(text: str, words: list[Word]) -> Iterator[Change]:
+    """Each equation of two numbers as a bound, the one way and the other."""
+    for i, word in enumerate([Word('(', 0, 0), *words]):
+        if word.text in CLOSING:
+            end = closing(words, i - 1) if i else len(words)
+            places = list(level(words, i, end))
+            marks = [i - 1, *(k for k in places if words[k].text in PARTING), end]
+            for k in (k for k in places if words[k].text == '=='):
+                first = words[max(it for it in marks if it < k) + 1].start
+                last = words[min(it for it in marks if it > k) - 1].end
+                left, right = text[first:words[k - 1].end], text[words[k + 1].start:last]
+                yield (((first, last), f'nat_le ({left}) ({right})'),)
+                yield (((first, last), f'nat_le ({right}) ({left})'),)
+
+
 def exchanged(text: str, a: Span, b: Span) -> Change:
     """Two parts of a text exchanged."""
     return ((a, text[b[0]:b[1]]), (b, text[a[0]:a[1]]))
@@ -199,7 +217,7 @@ def changes(text: str, fields: dict[str, list[str]]) -> Iterator[tuple[str, Chan
         for word in words:
             for change in single_changes(word, fields):
                 yield name, change
-        for change in negations(words):
+        for change in [*negations(words), *bounds(text, words)]:
             yield name, change
         for (a, b), (c, d) in neighbours(words):
             yield name, exchanged(text, (words[a].start, words[b].end),

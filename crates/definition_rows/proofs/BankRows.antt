@@ -55,8 +55,9 @@ abbrev stop_at_five : TimedRequest
 stop_at_five = record { time = 5; request = stop }
 
 command_to_slot : with_command asked 2 1 5 stop 2 1 ∷ with_command asked 2 1 5 stop 2 0
-    ∷ with_command asked 2 1 5 stop 1 1 ∷ []
-    ≡ (asked 2 1 ++ stop_at_five ∷ []) ∷ asked 2 0 ∷ asked 1 1 ∷ []
+    ∷ with_command asked 2 1 5 stop 1 1 ∷ with_command asked 2 1 5 stop 2 2
+    ∷ with_command asked 2 1 5 stop 3 1 ∷ []
+    ≡ (asked 2 1 ++ stop_at_five ∷ []) ∷ asked 2 0 ∷ asked 1 1 ∷ asked 2 2 ∷ asked 3 1 ∷ []
 command_to_slot = refl
 
 -- at one sample a millisecond each sample is a dump: of satellite 1, whose chip 0 is 1 and whose

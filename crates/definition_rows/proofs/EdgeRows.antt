@@ -15,7 +15,10 @@ use Rattle.std.proofs.lemmas.Bool.{cases_lt, and_parts, eqb-true}
 use Rattle.definitions.specs.BitEdge.{changes_at, is_change, is_edge}
 use Rattle.definitions.proofs.SixteenthLemmas.{sixteenth}
 use Rattle.std.specs.Prelude.{nat_lt}
-use Rattle.definitions.specs.BitEdge.{is_crowded}
+use Rattle.definitions.specs.BitEdge.{is_crowded, push_at, reset_up_to}
+use Rattle.std.specs.Int.{is_negative}
+use Rattle.std.specs.Prelude.{nat_le}
+use Rattle.std.specs.Prelude.{◌-◌, ◌&&◌}
 
 -- pushes begin with the dump after a lock
 abbrev dump : ℤ → ℤ → Counts
@@ -77,6 +80,21 @@ zero_sums : bits_after (replicate 10 (pos 1) ++ replicate 10 (negsuc 0) ++ repli
     ++ negsuc 0 ∷ []) (Some 0) ≡ false ∷ true ∷ []
 zero_sums = refl
 
+-- the first push of a bit counts for it, and not for the bit before
+first_pushes : bits_after (replicate 20 (pos 0) ++ negsuc 0 ∷ replicate 19 (pos 0)) (Some 0)
+    ≡ false ∷ true ∷ []
+first_pushes = refl
+
+-- a bit of zeros between two pushes below zero, each of which counts for its own bit
+bit_between : bits_after (replicate 19 (pos 0) ++ negsuc 0 ∷ replicate 20 (pos 0)
+    ++ negsuc 0 ∷ replicate 19 (pos 0)) (Some 0) ≡ true ∷ false ∷ true ∷ []
+bit_between = refl
+
+-- no bit is whole without its last push
+whole_bits : map (λ n. bits_after (replicate n (pos 0)) (Some 0)) (19 ∷ 20 ∷ 39 ∷ [])
+    ≡ [] ∷ (false ∷ []) ∷ (false ∷ []) ∷ []
+whole_bits = refl
+
 -- two places with four changes each reset the counts, four and three don't
 abbrev changing : List ℕ → ℕ → List ℤ
 changing places n = map (λ k. at places k true) (range_with_len 0 n)
@@ -91,6 +109,13 @@ crowds : map (λ k. is_crowded (changing (1 ∷ 10 ∷ 21 ∷ 30 ∷ 41 ∷ 50 �
 unfolding xor
 crowds = refl
 
+-- so it is at the first place, 0, and the last, 19
+crowds_at_ends : map (λ k. is_crowded (changing (20 ∷ 39 ∷ 40 ∷ 59 ∷ 60 ∷ 79 ∷ 80 ∷ 99 ∷ []) 101) 0
+    k)
+    (98 ∷ 99 ∷ []) ≡ false ∷ true ∷ []
+unfolding xor
+crowds_at_ends = refl
+
 -- 0 isn't below zero
 changes_at_zero : map (is_change (pos 0 ∷ negsuc 0 ∷ pos 0 ∷ pos 1 ∷ [])) (range_with_len 0 4)
     ≡ false ∷ true ∷ true ∷ false ∷ []
@@ -101,3 +126,54 @@ changes_at_zero = refl
 change_at_reset : map (changes_at (pos 0 ∷ negsuc 0 ∷ pos 0 ∷ []) 1 1) (1 ∷ 2 ∷ []) ≡ 0 ∷ 0 ∷ []
 unfolding xor
 change_at_reset = refl
+
+-- nor is one after the push up to which they are counted: push 21 here
+change_after_push : map (changes_at (replicate 21 (pos 0) ++ negsuc 0 ∷ []) 1 20) (20 ∷ 21 ∷ [])
+    ≡ 0 ∷ 1 ∷ []
+unfolding xor
+change_after_push = refl
+
+-- changes before the sixteenth are no edge
+no_early_edge : map (is_edge (pos 1 ∷ negsuc 0 ∷ pos 1 ∷ pos 1 ∷ [])) (range_with_len 0 4)
+    ≡ replicate 4 false
+unfolding xor reset_up_to
+no_early_edge = refl
+
+-- the first reset is at push 0, and a push that is crowded since the last one is the next
+first_reset : (pushes : List ℤ) → reset_up_to pushes 0 ≡ 0
+unfolding reset_up_to
+first_reset pushes = refl
+
+next_reset : (pushes : List ℤ) (k : ℕ) → is_crowded pushes (reset_up_to pushes k) (suc k) ≡ true
+    → reset_up_to pushes (suc k) ≡ suc k
+unfolding reset_up_to
+next_reset pushes k crowded =
+    if_true (is_crowded pushes (reset_up_to pushes k) (suc k)) (suc k) (reset_up_to pushes k)
+    crowded
+  where
+    if_true : (b : Bool) (m n : ℕ) → b ≡ true → (if b then m else n) ≡ m
+    if_true true m n e = refl
+    if_true false m n e = cc
+
+-- a change with the push after a reset is no edge, since those before the reset don't count
+no_edge_after_reset : (pushes : List ℤ) (k : ℕ)
+    → is_crowded pushes (reset_up_to pushes k) (suc k) ≡ true
+    → is_edge pushes (suc (suc k)) ≡ false
+no_edge_after_reset pushes k crowded =
+    let here : suc (suc k) - 1 ≡ suc k = omega arith in
+    rw here (after (suc k) (reset_up_to pushes (suc k)) (next_reset pushes k crowded))
+  where
+    few : (b c : Bool) → (b && (0 + (if c then 1 else 0) == 16)) ≡ false
+    few true true = refl
+    few true false = refl
+    few false c = refl
+
+    after : (n r : ℕ) → r ≡ n → ((nat_le 1 (suc n)
+        && xor (is_negative (push_at pushes n)) (is_negative (push_at pushes (suc n))))
+        && (changes_at pushes (suc n % 20) r (suc n) == 16)) ≡ false
+    after n r e =
+        let one : suc n - n ≡ 1 = omega arith in
+        rw (e, one)
+        (few (nat_le 1 (suc n)
+        && xor (is_negative (push_at pushes n)) (is_negative (push_at pushes (suc n))))
+        ((n + 1) % 20 == suc n % 20 && is_change pushes (n + 1)))

@@ -12,8 +12,11 @@ use Rattle.definitions.specs.Events.{front_of, gap, last_dump_events, last_of, l
 use Rattle.definitions.specs.Events.{signal_lost, unlocked, unprinted_count, when}
 use Rattle.definitions.specs.Lock.{lock, lost, nothing, unlock}
 use Rattle.definitions.specs.Samples.{real, real1}
-use Rattle.std.proofs.Common.{[], ℕ}
-use Rattle.definitions.specs.BitEdge.{bits_of, edge_of, reset_up_to}
+use Rattle.std.proofs.Common.{[], ℕ, List, ◌++◌, ◌<◌, length, arith}
+use Rattle.std.specs.Prelude.{ℤ, Bool, ◌&&◌, not, nat_lt, if◌then◌else◌}
+use Rattle.std.proofs.lemmas.Bool.Decides.{nat_tests}
+use Rattle.definitions.specs.Events.{Event, bit_events}
+use Rattle.definitions.specs.BitEdge.{bits_of, edge_of, has_edge, reset_up_to}
 use Rattle.definitions.specs.Lives.{dumps_of_life}
 use Rattle.definitions.specs.Frames.{found_by, starts_from, starts_of}
 use Rattle.definitions.specs.Lock.{is_locked, news_of}
@@ -107,6 +110,63 @@ count_before_lock : dump_events tracked (replicate 219 good_dump) good_dump
 unfolding unprinted_count front_of steered_events news_of push_events pushes_of pushes_by is_locked
     bits_of edge_of found_by starts_of starts_from least_below
 count_before_lock = refl
+
+-- what a push brings, by whether there is an edge with it and before it, and how many bits there
+-- are before it and with it
+abbrev brought : List Event → Bool → Bool → ℕ → ℕ → List Event
+brought by_bits has had before now =
+    when (has && not had) edge ++ (if nat_lt before now then by_bits else [])
+
+abbrev by_bits : List ℤ → List Event
+by_bits pushes = bit_events (bits_of pushes) (found_by (bits_of pushes))
+
+-- with the push that brings the edge comes the edge alone: no bit is whole by then
+edge_comes : (pushes : List ℤ) → has_edge pushes ≡ true → has_edge (front_of pushes) ≡ false
+    → length (bits_of pushes) ≡ 0 → push_events pushes ≡ edge ∷ []
+unfolding push_events
+edge_comes pushes has had none =
+    comes (by_bits pushes) (has_edge pushes) (has_edge (front_of pushes))
+    (length (bits_of (front_of pushes))) (length (bits_of pushes)) has had none
+  where
+    comes : (events : List Event) (b c : Bool) (n m : ℕ) → b ≡ true → c ≡ false → m ≡ 0
+        → brought events b c n m ≡ edge ∷ []
+    comes events true false n m b c none =
+        let is_none : nat_lt n m ≡ false = grind (arith, nat_tests, none) in rw is_none refl
+    comes events false false n m b c none = cc
+    comes events b true n m eb c none = cc
+
+-- a push after the edge that makes a bit whole brings what the bits report
+bit_comes : (pushes : List ℤ) → has_edge (front_of pushes) ≡ true
+    → length (bits_of (front_of pushes)) < length (bits_of pushes)
+    → push_events pushes ≡ by_bits pushes
+unfolding push_events
+bit_comes pushes had more =
+    comes (by_bits pushes) (has_edge pushes) (has_edge (front_of pushes))
+    (length (bits_of (front_of pushes))) (length (bits_of pushes)) had more
+  where
+    comes : (events : List Event) (b c : Bool) (n m : ℕ) → c ≡ true → n < m
+        → brought events b c n m ≡ events
+    comes events true true n m c more =
+        let is_more : nat_lt n m ≡ true = grind (arith, nat_tests, more) in rw is_more refl
+    comes events false true n m c more =
+        let is_more : nat_lt n m ≡ true = grind (arith, nat_tests, more) in rw is_more refl
+    comes events b false n m c more = cc
+
+-- and any other push after the edge brings nothing
+nothing_comes : (pushes : List ℤ) → has_edge (front_of pushes) ≡ true
+    → length (bits_of (front_of pushes)) ≡ length (bits_of pushes) → push_events pushes ≡ []
+unfolding push_events
+nothing_comes pushes had same =
+    comes (by_bits pushes) (has_edge pushes) (has_edge (front_of pushes))
+    (length (bits_of (front_of pushes))) (length (bits_of pushes)) had same
+  where
+    comes : (events : List Event) (b c : Bool) (n m : ℕ) → c ≡ true → n ≡ m
+        → brought events b c n m ≡ []
+    comes events true true n m c same =
+        let is_same : nat_lt n m ≡ false = grind (arith, nat_tests, same) in rw is_same refl
+    comes events false true n m c same =
+        let is_same : nat_lt n m ≡ false = grind (arith, nat_tests, same) in rw is_same refl
+    comes events b false n m c same = cc
 
 -- two pushes bring nothing
 no_push_events : push_events (pos 1 ∷ negsuc 0 ∷ []) ≡ []

@@ -10,7 +10,8 @@ use Rattle.definitions.specs.Parity.{checked_data, passes, holds, data_of}
 use Rattle.definitions.specs.Frames.{found_by, Found, starts_of, starts_from, is_candidate}
 use Rattle.definitions.specs.Frames.{candidate_from, checked_at, subframe_at, id_of, tow_of}
 use Rattle.definitions.specs.Pages.{page_of}
-use Rattle.definitions.specs.Frames.{tow_in, id_in, has_preamble}
+use Rattle.definitions.specs.Frames.{tow_in, id_in, has_preamble, found_among}
+use Rattle.std.specs.Option.{is_some}
 
 abbrev bits_of_word : ℕ → List Bool
 bits_of_word word = map (λ i. bit_at word (29 - i) == 1) (range_with_len 0 30)
@@ -125,9 +126,16 @@ greatest_time_of_week = refl
 
 -- data have the preamble 10001011 as it is, since the inversion of a word is taken off before; the
 -- other sixteen bits are free (20.3.3.1)
-preambles : map has_preamble (0x8b0000 ∷ 0x740000 ∷ 0x8a0000 ∷ 0x8bffff ∷ [])
-    ≡ true ∷ false ∷ false ∷ true ∷ []
+preambles : map has_preamble (0x8b0000 ∷ 0x740000 ∷ 0x8a0000 ∷ 0x8bffff ∷ 0x8c0000 ∷ [])
+    ≡ true ∷ false ∷ false ∷ true ∷ false ∷ []
 preambles = refl
+
+-- a subframe of 300 bits from place 2 on is found with the last of them, and with no bit before or
+-- after it
+found_with_last_bit : map (λ n. is_some (found_among (replicate n false) None (2 ∷ [])))
+    (301 ∷ 302 ∷ 303 ∷ []) ≡ false ∷ true ∷ false ∷ []
+unfolding subframe_at checked_at
+found_with_last_bit = refl
 
 -- the next start is 300 bits after a start, and none is 299 bits after it
 next_start : starts_of (false ∷ false ∷ header ++ replicate 240 false ++ header) ≡ 2 ∷ 302 ∷ []

@@ -88,6 +88,14 @@ refusals : map (λ (e : Entry). e.what) (script verbs 4 (as_bytes (codes "0" ∷
 unfolding script entry_of entries_after pieces_ended_by values_in as_bytes
 refusals = refl
 
+-- too few words after a verb, or too many
+other_numbers_of_words : map (λ (e : Entry). e.what) (script verbs 4 (as_bytes (codes "0 hold 0 1 5"
+    ∷ codes "0 hold 0 1 5 7 9" ∷ codes "0 acquire 0 1 0 0 1" ∷ codes "0 counts 0"
+    ∷ codes "0 counts 0 1 2" ∷ codes "0 state" ∷ [])))
+    ≡ replicate 6 (Err 6)
+unfolding script entry_of entries_after pieces_ended_by values_in as_bytes
+other_numbers_of_words = refl
+
 -- a line refused for its time has that of the line before, and a line without words has none
 abbrev asked : ℕ → ℕ → Request → Entry
 asked time slot request = record {

@@ -1,7 +1,7 @@
 -- Worked examples of the tables: the carrier, the codes of all satellites, and the end of a
 -- segment.
 use Rattle.std.proofs.Common.{◌≡◌, [], ◌∷◌, refl}
-use Rattle.std.specs.Prelude.{◌%◌, pos, negsuc, map, Some, ◌*◌, ◌^◌}
+use Rattle.std.specs.Prelude.{ℕ, ◌%◌, ◌/◌, pos, negsuc, map, Some, ◌*◌, ◌^◌}
 use Rattle.std.specs.List.{range_with_len}
 use Rattle.definitions.specs.Sums.{total, least_below}
 use Rattle.definitions.specs.Samples.{real}
@@ -16,14 +16,24 @@ cosine_table : map (λ i. cosine (i * 2 ^ 29)) (range_with_len 0 8)
     ≡ pos 2 ∷ pos 1 ∷ negsuc 0 ∷ negsuc 1 ∷ negsuc 1 ∷ negsuc 0 ∷ pos 1 ∷ pos 2 ∷ []
 cosine_table = refl
 
--- the first ten chips of each satellite, as a number
+-- the first ten chips of each satellite, in octal as in table 3-Ia of IS-GPS-200
+abbrev octal : ℕ → ℕ
+octal n = number_from_digits 8 (n / 1000 ∷ n / 100 % 10 ∷ n / 10 % 10 ∷ n % 10 ∷ [])
+
 first_chips : map (λ prn. number_from_digits 2 (map (chip prn) (range_with_len 0 10)))
     (range_with_len 1 32)
-    ≡ 800 ∷ 912 ∷ 968 ∷ 996 ∷ 603 ∷ 813 ∷ 601 ∷ 812 ∷ 918 ∷ 836 ∷ 930 ∷ 1000 ∷ 1012 ∷ 1018 ∷ 1021
-    ∷ 1022 ∷ 622 ∷ 823 ∷ 923 ∷ 973 ∷ 998 ∷ 1011 ∷ 563 ∷ 966 ∷ 995 ∷ 1009 ∷ 1016 ∷ 1020 ∷ 599 ∷ 811
-    ∷ 917 ∷ 970 ∷ []
+    ≡ map octal (1440 ∷ 1620 ∷ 1710 ∷ 1744 ∷ 1133 ∷ 1455 ∷ 1131 ∷ 1454 ∷ 1626 ∷ 1504 ∷ 1642 ∷ 1750
+    ∷ 1764 ∷ 1772 ∷ 1775 ∷ 1776 ∷ 1156 ∷ 1467 ∷ 1633 ∷ 1715 ∷ 1746 ∷ 1763 ∷ 1063 ∷ 1706 ∷ 1743
+    ∷ 1761 ∷ 1770 ∷ 1774 ∷ 1127 ∷ 1453 ∷ 1625 ∷ 1712 ∷ [])
 unfolding chip chip_after register_after
 first_chips = refl
+
+-- chips 500 to 507 of satellites 1, 17 and 32, as a program has them that delays G2 by 5, 469 and
+-- 862 chips, as in the column of delays of table 3-Ia, where the definition has two stages
+middle_chips : map (λ prn. number_from_digits 2 (map (chip prn) (range_with_len 500 8)))
+    (1 ∷ 17 ∷ 32 ∷ []) ≡ 0xc6 ∷ 0xe4 ∷ 0x93 ∷ []
+unfolding chip chip_after register_after
+middle_chips = refl
 
 -- chips 1021 to 1032 of satellite 1, across the end of the code
 window_of_one : map (chip 1) (range_with_len 1021 12)

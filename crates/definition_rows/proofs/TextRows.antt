@@ -32,6 +32,13 @@ sub_text : event_text 0 (subframe (record {
 unfolding event_text digits
 sub_text = refl
 
+-- the subframe's ID comes before the count of the time of week: 3 before 100, which are 3 * 2 ^ 2
+-- and 100 * 2 ^ 7 in the data of the handover word
+id_before_count : event_text 1 (subframe (words (0x8b0000 ∷ 0x00320c ∷ replicate 8 0)))
+    ≡ codes "sub 1 3 100 8b0000 00320c 000000 000000 000000 000000 000000 000000 000000 000000"
+unfolding event_text digits
+id_before_count = refl
+
 -- a clock and ephemeris of zeros
 eph_text : event_text 0 (reported (ephemeris (replicate 31 (pos 0))))
     ≡ codes "eph 0 wn=0:0 l2=0:0 ura=0:0 health=0:0 iodc=0:0 l2p=0:0 tgd=0:-31 toc=0:4 "
