@@ -13,10 +13,10 @@ import tempfile
 from contextlib import ExitStack, contextmanager
 from functools import lru_cache
 from io import BufferedReader
-from threading import Thread
-from typing import IO, Callable, Iterator, List, NamedTuple, Optional, Sequence, cast
+from typing import IO, Iterator, List, NamedTuple, Optional, Sequence, cast
 
-from seldomplough.failures import WORDS, ClosedPipe, Failure, of_system, one_line
+from seldomplough.failures import WORDS, Failure, of_system, one_line
+from seldomplough.feeds import Feed, Feeder, close
 from seldomplough.refusals import in_words
 
 RECEIVER, PACK = 'receiver', 'pack'
@@ -25,9 +25,8 @@ CRATES = {RECEIVER: 'receiver_cli', PACK: 'packer_cli'}
 TOP = os.path.dirname(os.path.dirname(os.path.dirname(os.path.realpath(__file__))))
 # The most of what a program says on standard error that is taken, in bytes.
 LONGEST_SAID = 1 << 16
-
-Feed = Callable[[IO[bytes]], None]
-"""Writes the samples that a program reads."""
+# How many seconds a program has to end when it is asked to.
+PATIENCE = 5
 
 
 class Program(NamedTuple):
@@ -92,14 +91,14 @@ def running(stages: Sequence[Stage], feed: Feed) -> Iterator[BufferedReader]:
         started: List[subprocess.Popen[bytes]] = []
         said = [stack.enter_context(tempfile.TemporaryFile()) for _ in stages]
         # These are undone in the opposite order: the programs end first.
-        feeder = _Feeder(feed)
+        feeder = Feeder(feed)
         stack.callback(feeder.end)
         stack.callback(_end, started)
         for stage, errors in zip(stages, said):
             source = started[-1].stdout if started else subprocess.PIPE
             started.append(_start(stage, source, errors))
             if len(started) > 1:
-                _close(started[-2].stdout)
+                close(started[-2].stdout)
         feeder.begin(cast(IO[bytes], started[0].stdin))
         output = cast(BufferedReader, started[-1].stdout)
         yield output
@@ -130,22 +129,18 @@ def _start(stage: Stage, source: object, errors: IO[bytes]) -> subprocess.Popen[
         raise Failure(f'{stage.program.name}: a word has a null byte', WORDS) from why
 
 
-def _close(stream: Optional[IO[bytes]]) -> None:
-    try:
-        if stream is not None:
-            stream.close()
-    except OSError:
-        pass
-
-
 def _end(started: Sequence[subprocess.Popen[bytes]]) -> None:
     """Ends programs that still run, and closes what leads to and from them."""
     for process in started:
         if process.poll() is None:
             process.terminate()
     for process in started:
-        process.wait()
-        _close(process.stdout)
+        try:
+            process.wait(PATIENCE)
+        except subprocess.TimeoutExpired:
+            process.kill()
+            process.wait()
+        close(process.stdout)
 
 
 def _failure(stage: Stage, status: int, errors: IO[bytes]) -> Failure:
@@ -154,51 +149,7 @@ def _failure(stage: Stage, status: int, errors: IO[bytes]) -> Failure:
     return Failure(in_words(stage.program.name, status, said, stage.scripts))
 
 
-class _Feeder:
-    """Writes to a program beside the one that reads from it, so that neither waits for good."""
-
-    def __init__(self, feed: Feed) -> None:
-        self.feed = feed
-        self.thread: Optional[Thread] = None
-        self.failure: Optional[BaseException] = None
-
-    def begin(self, sink: IO[bytes]) -> None:
-        """Begins to write."""
-        self.thread = Thread(target=self._write, args=(sink,), daemon=True)
-        self.thread.start()
-
-    def _write(self, sink: IO[bytes]) -> None:
-        try:
-            self.feed(sink)
-        except (BrokenPipeError, ClosedPipe):
-            # The program ended; its status says why.
-            pass
-        except BaseException as why:  # noqa: B902: it is raised again by `check`
-            self.failure = why
-        finally:
-            _close(sink)
-
-    def end(self) -> None:
-        """Waits until all is written. A source that still waits for its own input is left."""
-        if self.thread is not None:
-            self.thread.join(1)
-
-    def check(self) -> None:
-        """Raises what the writing failed with."""
-        if self.failure is not None:
-            raise self.failure
-
-
 def output(stages: Sequence[Stage], feed: Feed) -> bytes:
     """All that the last of these programs writes, over what `feed` writes."""
     with running(stages, feed) as stream:
         return stream.read()
-
-
-def bytes_feed(data: bytes) -> Feed:
-    """Writes these bytes."""
-
-    def feed(sink: IO[bytes]) -> None:
-        sink.write(data)
-
-    return feed
