@@ -1,4 +1,4 @@
-"""Writes samples to a program beside the one who reads its lines, so that neither waits for good."""
+"""Writes samples to a program in a thread, so that its lines can be read meanwhile."""
 
 from __future__ import annotations
 

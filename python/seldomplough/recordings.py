@@ -11,7 +11,6 @@ from io import BufferedReader
 from typing import Dict, Iterator, List, Optional, Sequence, Tuple
 
 from seldomplough import feeds, files
-from seldomplough.failures import of_system
 from seldomplough.programs import Program, Stage, running
 
 # The bits of a value of each kind that `pack` reads, and those of a sample of each packing.
@@ -112,7 +111,4 @@ def opened(stages: Sequence[Stage], name: str, size: int) -> Iterator[BufferedRe
 def beginning(name: str, size: int) -> bytes:
     """At most so many bytes at the beginning of a file."""
     with files.read(name) as source:
-        try:
-            return source.read(size)
-        except OSError as why:
-            raise of_system(name, why) from why
+        return source.read(size)

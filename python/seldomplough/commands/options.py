@@ -29,12 +29,14 @@ def add_rate(parser: argparse.ArgumentParser, what: str = 'adds the time in seco
     parser.add_argument('--rate', type=numbers.rate, metavar='HZ', help=f'samples a second; {what}')
 
 
-def add_search(parser: argparse.ArgumentParser, usual: Search) -> None:
-    """What a search asks for."""
+def add_search(
+    parser: argparse.ArgumentParser, usual: Search, threshold: str = 'threshold'
+) -> None:
+    """What a search asks for. `threshold` is the name of that word."""
     for name, low, high, value, what in (
         ('bins', 0, 40, usual.bins, 'bins of 250 Hz to each side of the centre'),
         ('ms', 1, 10, usual.periods, 'milliseconds of samples that are added up'),
-        ('threshold', 1, 1000, usual.threshold, 'tenths of the mean power, from which it is found'),
+        (threshold, 1, 1000, usual.threshold, 'tenths of the mean power, from which it is found'),
     ):
         parser.add_argument(
             f'--{name}',
