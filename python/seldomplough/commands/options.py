@@ -3,6 +3,7 @@
 from __future__ import annotations
 
 import argparse
+import os
 from typing import TYPE_CHECKING
 
 from seldomplough import numbers
@@ -53,3 +54,15 @@ def add_programs(parser: argparse.ArgumentParser, pack: bool = True) -> None:
         parser.add_argument(
             f'--{name}', metavar='FILE', help=f'the program {name}, where another is wanted'
         )
+
+
+def add_jobs(parser: argparse.ArgumentParser) -> None:
+    """How many programs run at once."""
+    count = len(os.sched_getaffinity(0)) if hasattr(os, 'sched_getaffinity') else os.cpu_count()
+    parser.add_argument(
+        '--jobs',
+        type=numbers.integer(1, 256),
+        default=min(count or 1, 256),
+        metavar='N',
+        help='runs at once; one for each processor if not given',
+    )
