@@ -89,14 +89,14 @@ class Recording:
 
     def command(self, script: str) -> str:
         """The command that makes lines of it, as it is typed in a shell."""
-        source = '' if self.name == '-' else f' < {shlex.quote(_path_word(self.name))}'
+        source = '' if self.name == '-' else f' < {shlex.quote(path_word(self.name))}'
         receiver = shlex.join(['receiver', *self.receiver_words()]) + f' {script}'
         if self.kind is None:
             return receiver + source
         return shlex.join(['pack', *self.pack_words()]) + f'{source} | {receiver}'
 
 
-def _path_word(name: str) -> str:
+def path_word(name: str) -> str:
     """A file's name as a shell opens it."""
     return f'./{name}' if name.startswith('-') else name
 

@@ -73,17 +73,17 @@ def signed_offset(arguments: argparse.Namespace) -> int:
 
 def recording(arguments: argparse.Namespace) -> Recording:
     """The recording that the words say."""
-    words = _packing(arguments)
+    words = packing(arguments)
     if arguments.kind is None and words:
         raise Failure(f'{arguments.command}: {words[0]} needs --kind', WORDS)
-    packing = arguments.format or usual_format(arguments.kind or '')
-    if arguments.kind and packing.startswith(PAIRS) and not arguments.kind.startswith(PAIRS):
+    form = arguments.format or usual_format(arguments.kind or '')
+    if arguments.kind and form.startswith(PAIRS) and not arguments.kind.startswith(PAIRS):
         raise Failure(f'{arguments.command}: {arguments.kind} is no kind of pairs', WORDS)
     tuning = Tuning(arguments.rate, signed_offset(arguments))
-    return Recording(arguments.recording, arguments.kind, packing, tuning, tuple(words))
+    return Recording(arguments.recording, arguments.kind, form, tuning, tuple(words))
 
 
-def _packing(arguments: argparse.Namespace) -> List[str]:
+def packing(arguments: argparse.Namespace) -> List[str]:
     """The words for `pack` but for the kind and the packing."""
     words = []
     for name in ('threshold', 'centre', 'centre_q', 'part'):
