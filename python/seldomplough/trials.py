@@ -17,8 +17,8 @@ from seldomplough.lines import StateTrack
 from seldomplough.recordings import PAIRS, Recording, Tuning
 from seldomplough.scripts import SATELLITES, Search
 
-# A search about the offset: satellites, and a crystal that is off by 3 ppm. And one about the offset
-# of a crystal that is off by more. Both reach 10 kHz to each side.
+# A search about the offset: satellites, and a crystal that is off by 3 ppm. And one about the
+# offset of a crystal that is off by more. Both reach 10 kHz to each side.
 NEAR, WIDE = Search(bins=40), Search(bins=40, periods=6, threshold=55)
 # How much farther than satellites a shift may be without a crystal that is off, in Hz.
 SLACK = 2000
