@@ -1,14 +1,14 @@
 """Which kinds of values the bytes of a recording may have, by their distribution.
 
 A radio's values are noise about a centre. Read as another kind, they lie at the ends of a range, or
-are spread evenly over it. Bits that are packed have no centre, and so all bytes are about as
-frequent. Whether values are alone or in pairs can't be seen: both are given."""
+are spread evenly over it. Bits that are packed are alike at all places of the bytes. Whether values are alone or in pairs can't be seen: both are given."""
 
 from __future__ import annotations
 
 import math
 import sys
 from array import array
+from collections import Counter
 from typing import List, NamedTuple, Sequence
 
 # The root mean square of even values from -1 to 1. What is more than this part of it is spread.
@@ -16,13 +16,16 @@ EVEN = 1 / math.sqrt(3)
 SPREAD = 0.93
 # Floats beyond these sizes are no samples.
 LEAST, GREATEST = 1e-9, 1e9
-# How far a share of bits may be from one half, and two shares from each other.
-NEAR = 0.04
+# How far a share of bits may be from one half, and shares at two places of bytes from each other.
+NEAR, SAME = 0.04, 0.02
+# The places of two bits in a byte, the high ones first.
+PLACES = (6, 4, 2, 0)
+ONE_BIT = ['real1', 'iq1', 'bits1-low', 'iq-bits1-low']
 
 
 class Look(NamedTuple):
-    """What bytes look like in words, and the kinds that they may have, the likeliest first. A kind
-    of None stands for a packing of the receiver, which `format` names then."""
+    """What bytes look like in words, and the kinds that they may have, the likeliest first. A packing of
+    the receiver is among them by its name."""
 
     text: str
     kinds: Sequence[str]
@@ -35,6 +38,8 @@ def look(data: bytes) -> Look:
         return Look('there are fewer than eight bytes', ())
     if len(set(data)) == 1:
         return Look(f'all bytes are {data[0]}: nothing was recorded', ())
+    if _are_bits(data):
+        return _look_at_bits(data)
     if _are_floats(data):
         return Look('the bytes look like floats of 32 bits', _both('f32'))
     words = _words(data)
@@ -44,10 +49,10 @@ def look(data: bytes) -> Look:
         return Look(text, _both(words))
     sizes = {'i8': _size_of_signed(data), 'u8': _size_of_unsigned(data)}
     best = min(sizes, key=lambda it: sizes[it])
-    if sizes[best] < SPREAD * EVEN:
-        sign = 'signed' if best == 'i8' else 'unsigned'
-        return Look(f'the bytes look like {sign} bytes', _both(best))
-    return _look_at_bits(data)
+    if sizes[best] > SPREAD * EVEN:
+        return Look('the bytes are spread over their range as no samples are', ())
+    sign = 'signed' if best == 'i8' else 'unsigned'
+    return Look(f'the bytes look like {sign} bytes', _both(best))
 
 
 def _both(kind: str) -> List[str]:
@@ -90,17 +95,30 @@ def _words(data: bytes) -> str:
     return ''
 
 
+def _shares(data: bytes, places: Sequence[int]) -> List[float]:
+    """The shares of 00, 01, 10 and 11 at some places of the bytes."""
+    counts = [0] * 4
+    for byte, count in Counter(data).items():
+        for place in places:
+            counts[byte >> place & 3] += count
+    return [it / len(data) / len(places) for it in counts]
+
+
+def _are_bits(data: bytes) -> bool:
+    """Whether the bits are alike at all places of the bytes, as those of numbers never are."""
+    rows = [_shares(data, [it]) for it in PLACES]
+    return all(max(column) - min(column) < SAME for column in zip(*rows))
+
+
 def _look_at_bits(data: bytes) -> Look:
-    """Bytes without a centre: which packing of bits they may have."""
-    pairs = [it >> at & 3 for it in data for at in (6, 4, 2, 0)]
-    shares = [pairs.count(it) / len(pairs) for it in range(4)]
+    """Which packing of bits bytes may have."""
+    shares = _shares(data, PLACES)
     if all(abs(it - 0.25) < NEAR for it in shares):
-        kinds = ['real1', 'iq1', 'bits1-low', 'iq-bits1-low']
-        return Look('the bytes look like bits of one bit a value, or like no samples', kinds)
-    # Of sign and size the size differs from one half; of two's complement the two bits together do.
-    size = shares[1] + shares[3]
-    if abs(size - 0.5) > NEAR:
+        return Look('the bytes look like bits of one bit a value, or like no samples', ONE_BIT)
+    # Of sign and size the size differs from one half. Of two's complement the two bits together do,
+    # and so they do of one bit where samples are like those before.
+    if abs(shares[1] + shares[3] - 0.5) > NEAR:
         kinds = ['real2', 'iq2', 'bits2-sm-low', 'iq-bits2-sm-low']
         return Look('the bytes look like values of two bits, a sign and a size', kinds)
-    kinds = ['bits2-low', 'iq-bits2-low']
+    kinds = ['bits2-low', 'iq-bits2-low', *ONE_BIT]
     return Look("the bytes look like values of two bits of two's complement", kinds)
