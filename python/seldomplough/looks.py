@@ -1,7 +1,8 @@
 """Which kinds of values the bytes of a recording may have, by their distribution.
 
 A radio's values are noise about a centre. Read as another kind, they lie at the ends of a range, or
-are spread evenly over it. Bits that are packed are alike at all places of the bytes. Whether values are alone or in pairs can't be seen: both are given."""
+are spread evenly over it. Bits that are packed are alike at all places of the bytes. Whether values
+are alone or in pairs can't be seen: both are given."""
 
 from __future__ import annotations
 
@@ -24,8 +25,8 @@ ONE_BIT = ['real1', 'iq1', 'bits1-low', 'iq-bits1-low']
 
 
 class Look(NamedTuple):
-    """What bytes look like in words, and the kinds that they may have, the likeliest first. A packing of
-    the receiver is among them by its name."""
+    """What bytes look like in words, and the kinds that they may have, the likeliest first. A packing
+    of the receiver is among them by its name."""
 
     text: str
     kinds: Sequence[str]
@@ -105,8 +106,8 @@ def _shares(data: bytes, places: Sequence[int]) -> List[float]:
 
 
 def _are_bits(data: bytes) -> bool:
-    """Whether the bits are alike at all places of the bytes, as those of numbers never are."""
-    rows = [_shares(data, [it]) for it in PLACES]
+    """Whether bits are alike at all places of even and of odd bytes, as those of no numbers are."""
+    rows = [_shares(part, [it]) for part in (data[::2], data[1::2]) for it in PLACES]
     return all(max(column) - min(column) < SAME for column in zip(*rows))
 
 
