@@ -2,6 +2,7 @@
 
 from __future__ import annotations
 
+from collections import Counter
 from concurrent.futures import ThreadPoolExecutor
 from dataclasses import dataclass
 from typing import Dict, List, NamedTuple, Sequence
@@ -44,6 +45,18 @@ class Bench:
     def samples(self) -> int:
         """How many samples there are."""
         return len(self.packed) * 8 // FORMATS[self.format]
+
+    @property
+    def energy(self) -> float:
+        """The mean square of the samples, of both parts together."""
+        bits = FORMATS[self.format]
+        places = range(0, 8, bits)
+        total = 0
+        for byte, count in Counter(self.packed).items():
+            total += count * sum(
+                _square(byte >> at & (1 << bits) - 1, self.format) for at in places
+            )
+        return total / (self.samples or 1)
 
     def lines(self, tuning: Tuning, asked: Sequence[Script], samples: int) -> List[Line]:
         """The lines that scripts get of so many samples."""
@@ -91,6 +104,14 @@ class Bench:
 def has_bits(state: StateTrack) -> bool:
     """Whether the edge of the data bits is found."""
     return state.stage == 'bits'
+
+
+def _square(code: int, form: str) -> int:
+    """The square of the sample of some bits, of both parts together."""
+    if form.endswith('1'):
+        return FORMATS[form]
+    # A magnitude is the low bit of two.
+    return sum(9 if code >> at & 1 else 1 for at in range(0, FORMATS[form], 2))
 
 
 def by_four(rows: Script) -> List[Script]:

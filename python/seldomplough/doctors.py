@@ -7,7 +7,6 @@ from __future__ import annotations
 
 import time
 from dataclasses import dataclass, field
-from itertools import islice
 from typing import Callable, Dict, Iterator, List, Optional, Tuple
 
 from seldomplough import levels, looks, recordings
@@ -30,6 +29,9 @@ PPM = (12, -12, 24, -24, 36, -36, 48, -48)
 ENOUGH = 2
 # How many of the readings are tried with other crystals and rates.
 LIKELIEST = 2
+
+
+Plan = Iterator[Tuple[Trial, float]]
 
 
 @dataclass(frozen=True)
@@ -72,25 +74,37 @@ class Doctor:
     benches: Dict[Tuple[Reading, int], Bench] = field(default_factory=dict)
     best: Optional[Outcome] = None
     tries: int = 0
+    has_bits_alone: bool = False
+    """Whether the bytes are bits, whose order can't be seen."""
 
     def examine(self) -> Optional[Outcome]:
         """The best of what was tried, None where no satellite had bits."""
         end = time.monotonic() + self.limit
         readings = self.readings()
-        for trial, ppm in self.plan(readings):
-            if time.monotonic() > end:
-                self.say(f'the time of {self.limit:g} s is over: --limit S gives more')
-                break
-            self.attempt(trial, ppm)
-            if self.best and len(self.best.states) >= ENOUGH:
+        for stage in (self.as_meant, self.with_crystals, self.with_rates):
+            for trial, ppm in stage(readings):
+                if time.monotonic() > end:
+                    self.say(f'the time of {self.limit:g} s is over: --limit S gives more')
+                    return self.best
+                self.attempt(trial, ppm)
+                # Bits in another order may have bits too, so that all orders are tried.
+                if self.is_certain and not (self.has_bits_alone and stage == self.as_meant):
+                    return self.best
+            if self.is_certain:
                 break
         return self.best
+
+    @property
+    def is_certain(self) -> bool:
+        """Whether as many satellites have bits as by no chance."""
+        return self.best is not None and len(self.best.states) >= ENOUGH
 
     def readings(self) -> List[Reading]:
         """The ways to read the bytes, the likeliest first. Says what they look like."""
         data = recordings.beginning(self.belief.name, MEASURED)
         seen = looks.look(data[:LOOKED_AT])
         self.say(seen.text)
+        self.has_bits_alone = any('bits' in it for it in seen.kinds)
         names = list(seen.kinds)
         believed = self.belief.kind or self.belief.format
         if believed in names:
@@ -115,21 +129,28 @@ class Doctor:
         for form, words in levels.packings(level):
             yield Reading(name, form, words)
 
-    def plan(self, readings: List[Reading]) -> Iterator[Tuple[Trial, float]]:
-        """The trials and their crystals' ppm, in the order in which they are tried."""
+    def as_meant(self, readings: List[Reading]) -> Plan:
+        """The trials of all readings, and their crystals' ppm."""
         rate = self.belief.rate or RATES[0]
         for reading in readings:
             for offset in self.offsets(reading, rate):
                 yield self.trial(reading, Tuning(rate, offset)), 0.0
+
+    def with_crystals(self, readings: List[Reading]) -> Plan:
+        """The trials of the likeliest readings with a crystal that is off."""
+        rate = self.belief.rate or RATES[0]
         for reading in readings[:LIKELIEST]:
-            for offset in islice(self.offsets(reading, rate), 1):
-                for ppm in PPM:
-                    if is_taken(tuned(Tuning(rate, offset), ppm)):
-                        yield self.trial(reading, Tuning(rate, offset)), ppm
-        for other in RATES:
-            for reading in readings[:LIKELIEST] if other != rate else ():
-                for offset in islice(self.offsets(reading, other), 1):
-                    yield self.trial(reading, Tuning(other, offset)), 0.0
+            tuning = Tuning(rate, self.offsets(reading, rate)[0])
+            for ppm in PPM:
+                if is_taken(tuned(tuning, ppm)):
+                    yield self.trial(reading, tuning), ppm
+
+    def with_rates(self, readings: List[Reading]) -> Plan:
+        """The trials of the likeliest readings with other rates."""
+        for rate in RATES:
+            for reading in readings[:LIKELIEST] if rate != self.belief.rate else ():
+                for offset in self.offsets(reading, rate)[:1]:
+                    yield self.trial(reading, Tuning(rate, offset)), 0.0
 
     def offsets(self, reading: Reading, rate: int) -> List[int]:
         """The offsets to try, the believed one first. Real samples have both signs at once."""
@@ -167,5 +188,5 @@ class Doctor:
             self.say(f'{what}: {none}')
             return
         self.say(f'{what}: {len(found)} found, {len(outcome.states)} with bits')
-        if self.best is None or len(outcome.states) > len(self.best.states):
+        if self.best is None or outcome.rank > self.best.rank:
             self.best = outcome

@@ -17,7 +17,8 @@ EVEN = 1 / math.sqrt(3)
 SPREAD = 0.93
 # Floats beyond these sizes are no samples.
 LEAST, GREATEST = 1e-9, 1e9
-# How far a share of bits may be from one half, and shares at two places of bytes from each other.
+# How far a share of bits may be from one half, and how far shares at two places of many bytes may
+# be from each other.
 NEAR, SAME = 0.04, 0.02
 # The places of two bits in a byte, the high ones first.
 PLACES = (6, 4, 2, 0)
@@ -108,7 +109,8 @@ def _shares(data: bytes, places: Sequence[int]) -> List[float]:
 def _are_bits(data: bytes) -> bool:
     """Whether bits are alike at all places of even and of odd bytes, as those of no numbers are."""
     rows = [_shares(part, [it]) for part in (data[::2], data[1::2]) for it in PLACES]
-    return all(max(column) - min(column) < SAME for column in zip(*rows))
+    same = SAME + 2 / math.sqrt(len(data))
+    return all(max(column) - min(column) < same for column in zip(*rows))
 
 
 def _look_at_bits(data: bytes) -> Look:

@@ -9,7 +9,7 @@ from __future__ import annotations
 
 from dataclasses import dataclass, replace
 from statistics import fmean
-from typing import Dict, NamedTuple, Optional
+from typing import Dict, NamedTuple, Optional, Tuple
 
 from seldomplough.benches import Bench, Found, Start
 from seldomplough.crystals import CARRIER, MILLION, SHIFT, is_taken, middle, tuned
@@ -34,6 +34,13 @@ class Outcome(NamedTuple):
     recording: Recording
     states: Dict[int, StateTrack]
     ppm: float = 0.0
+    strength: float = 0.0
+    """The powers that these satellites were found with, in parts of the samples' mean square."""
+
+    @property
+    def rank(self) -> Tuple[int, float]:
+        """The greater, the better: how many have bits, and how strong they are."""
+        return len(self.states), self.strength
 
     @property
     def correction(self) -> float:
@@ -91,7 +98,8 @@ class Trial:
             if abs(at - tuning.offset) <= 2 * SHIFT
         ]
         states = bench.track(tuning, starts)
-        return Outcome(replace(recording, tuning=tuning), states, ppm)
+        strength = sum(found[it].power for it in states) / (bench.energy or 1.0)
+        return Outcome(replace(recording, tuning=tuning), states, ppm, strength)
 
 
 def better(plain: Outcome, turned: Outcome) -> Optional[Outcome]:

@@ -68,7 +68,10 @@ def run(arguments: argparse.Namespace) -> int:
             raise Failure(f'{name}: no satellite has bits after {doctor.tries} trials')
         for text in conclusion(belief, outcome):
             say(text)
-        sink.write(command(outcome) + '\n')
+        if is_packed_anew(outcome):
+            say('the packed samples are mirrored: pack the recording anew with --conjugate')
+        else:
+            sink.write(command(outcome) + '\n')
     return 0
 
 
@@ -107,9 +110,12 @@ def conclusion(belief: Belief, outcome: Outcome) -> List[str]:
         said.append(f'the crystal is {way} by about {abs(outcome.ppm):g} ppm')
     elif belief.rate is not None and belief.rate != recording.tuning.rate:
         said.append(f'the rate is {recording.tuning.rate}, not {belief.rate}')
-    if recording.kind is None and recording.packing:
-        said.append('pack the recording anew with --conjugate: its spectrum is mirrored')
     return said
+
+
+def is_packed_anew(outcome: Outcome) -> bool:
+    """Whether no command can read the packed samples as they are."""
+    return outcome.recording.kind is None and bool(outcome.recording.packing)
 
 
 def listed(numbers_: List[int]) -> str:
