@@ -26,8 +26,9 @@ ONE_BIT = ['real1', 'iq1', 'bits1-low', 'iq-bits1-low']
 
 
 class Look(NamedTuple):
-    """What bytes look like in words, and the kinds that they may have, the likeliest first. A packing
-    of the receiver is among them by its name."""
+    """What bytes look like in words, and the kinds that they may have, the likeliest first.
+
+    A packing of the receiver is among them by its name."""
 
     text: str
     kinds: Sequence[str]
