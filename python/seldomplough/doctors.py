@@ -179,6 +179,8 @@ class Doctor:
         self.tries += 1
         found = trial.found(ppm)
         outcome = trial.tracked(found, ppm) if found else None
+        if outcome is not None and outcome.ppm:
+            outcome = trial.refined(outcome)
         recording = trial.recording
         reading = Reading(recording.kind, recording.format, recording.packing)
         crystal = f', crystal {ppm:+g} ppm' if ppm else ''

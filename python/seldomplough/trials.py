@@ -20,8 +20,6 @@ from seldomplough.scripts import SATELLITES, Search
 # A search about the offset: satellites, and a crystal that is off by 3 ppm. And one about the
 # offset of a crystal that is off by more. Both reach 10 kHz to each side.
 NEAR, WIDE = Search(bins=40), Search(bins=40, periods=6, threshold=55)
-# How much farther than satellites a shift may be without a crystal that is off, in Hz.
-SLACK = 2000
 # The mirrored one is preferred where its corrections are so much smaller.
 SMALLER = 2.0
 # The most that are tracked: the strongest.
@@ -76,18 +74,35 @@ class Trial:
         turned = self._track(other, bench, {it: -at for it, at in places.items()}, found)
         return better(plain, turned)
 
+    def refined(self, outcome: Outcome) -> Outcome:
+        """The outcome with all satellites about its offset, which a search beside it may miss."""
+        recording, bench = outcome.recording, self.bench
+        if recording.packing != self.recording.packing:
+            bench = replace(bench, packed=conjugate(bench.packed, bench.format))
+        found = Trial(recording, bench, self.jobs).found()
+        if not found:
+            return outcome
+        places = {it: recording.tuning.offset + at.shift for it, at in found.items()}
+        again = self._track(recording, bench, places, found, 0)
+        again = again._replace(ppm=round(outcome.ppm + again.ppm, 1))
+        return again if len(again.states) >= len(outcome.states) else outcome
+
     def _track(
         self,
         recording: Recording,
         bench: Bench,
         places: Dict[int, int],
         found: Dict[int, Found],
+        farthest: int = SHIFT,
     ) -> Outcome:
-        """Tracks satellites at their places in the spectrum, in Hz, and finds the crystal's ppm."""
+        """Tracks satellites at their places in the spectrum, in Hz.
+
+        Where one is farther from the offset than `farthest`, the crystal is off by what lays all
+        evenly about it."""
         meant = recording.tuning
         off = middle(it - meant.offset for it in places.values())
         ppm = 0.0
-        if max(abs(it - meant.offset) for it in places.values()) > SHIFT + SLACK:
+        if max(abs(it - meant.offset) for it in places.values()) > farthest:
             ppm = round(-off * MILLION / (CARRIER - meant.offset), 1)
         tuning = tuned(meant, ppm)
         if not is_taken(tuning):
