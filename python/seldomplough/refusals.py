@@ -34,7 +34,8 @@ def in_words(name: str, status: int, said: str, scripts: Sequence[str] = ()) -> 
     if not lines:
         return f'{name} ended with status {status} and said nothing'
     if name != 'receiver':
-        return one_line(lines[-1])
+        own = [it for it in lines if it.startswith(f'{name}: ')]
+        return one_line(own[-1]) if own else f'{name}: {one_line(lines[0])}'
     if any(SIGN in it for it in lines):
         return 'receiver: a negative offset is `--offset 5000 --minus`'
     text = lines[-1].replace('receiver: ', '', 1)

@@ -30,6 +30,7 @@ def test_other_texts_stay() -> None:
     assert in_words('receiver', 2, 'error: what is this\n\nUsage: ..\n') == (
         'receiver: error: what is this'
     )
+    assert in_words('pack', 2, 'error: what?\n\nUsage: ..\n') == 'pack: error: what?'
     assert in_words('pack', 2, 'pack: --to is missing\n') == 'pack: --to is missing'
 
 
