@@ -13,7 +13,7 @@ import tempfile
 from contextlib import ExitStack, contextmanager
 from functools import lru_cache
 from io import BufferedReader
-from typing import IO, Iterator, List, NamedTuple, Optional, Sequence, cast
+from typing import IO, Callable, Iterator, List, NamedTuple, Optional, Sequence, cast
 
 from seldomplough.failures import WORDS, Failure, of_system, one_line
 from seldomplough.feeds import Feed, Feeder, close
@@ -82,11 +82,14 @@ def _of_checkout(name: str, top: str) -> Optional[str]:
 
 
 @contextmanager
-def running(stages: Sequence[Stage], feed: Feed) -> Iterator[BufferedReader]:
+def running(
+    stages: Sequence[Stage], feed: Feed, note: Optional[Callable[[str], None]] = None
+) -> Iterator[BufferedReader]:
     """Runs programs in a pipe over what `feed` writes, and gives what the last one writes.
 
     Whoever leaves before its end ends the programs. At its end a program that failed is a failure
-    in words: that of the last one that failed, since the earlier ones fail by the closed pipe."""
+    in words: that of the last one that failed, since the earlier ones fail by the closed pipe. `note`
+    gets each line of standard error of those that ended well, such as what `pack` left out."""
     with ExitStack() as stack:
         started: List[subprocess.Popen[bytes]] = []
         said = [stack.enter_context(tempfile.TemporaryFile()) for _ in stages]
@@ -112,6 +115,9 @@ def running(stages: Sequence[Stage], feed: Feed) -> Iterator[BufferedReader]:
             if process.returncode:
                 raise _failure(stage, process.returncode, errors)
         feeder.check()
+        for line in (it for errors in said for it in _said(errors).splitlines()):
+            if note is not None:
+                note(one_line(line))
 
 
 def _start(stage: Stage, source: object, errors: IO[bytes]) -> subprocess.Popen[bytes]:
@@ -144,9 +150,13 @@ def _end(started: Sequence[subprocess.Popen[bytes]]) -> None:
 
 
 def _failure(stage: Stage, status: int, errors: IO[bytes]) -> Failure:
+    return Failure(in_words(stage.program.name, status, _said(errors), stage.scripts))
+
+
+def _said(errors: IO[bytes]) -> str:
+    """What a program said on standard error."""
     errors.seek(0)
-    said = errors.read(LONGEST_SAID).decode('utf-8', 'replace')
-    return Failure(in_words(stage.program.name, status, said, stage.scripts))
+    return errors.read(LONGEST_SAID).decode('utf-8', 'replace')
 
 
 def output(stages: Sequence[Stage], feed: Feed) -> bytes:

@@ -8,7 +8,7 @@ import stat
 from contextlib import contextmanager
 from dataclasses import dataclass
 from io import BufferedReader
-from typing import Dict, Iterator, List, Optional, Sequence, Tuple
+from typing import Callable, Dict, Iterator, List, Optional, Sequence, Tuple
 
 from seldomplough import feeds, files
 from seldomplough.programs import Program, Stage, running
@@ -102,10 +102,13 @@ def path_word(name: str) -> str:
 
 
 @contextmanager
-def opened(stages: Sequence[Stage], name: str, size: int) -> Iterator[BufferedReader]:
+def opened(
+    stages: Sequence[Stage], name: str, size: int, note: Optional[Callable[[str], None]] = None
+) -> Iterator[BufferedReader]:
     """What the last of these programs writes, over at most so many bytes of a file."""
-    with files.read(name) as source, running(stages, feeds.of_source(source, size)) as stream:
-        yield stream
+    with files.read(name) as source:
+        with running(stages, feeds.of_source(source, size), note) as stream:
+            yield stream
 
 
 def beginning(name: str, size: int) -> bytes:

@@ -4,7 +4,7 @@ from __future__ import annotations
 
 import os
 from pathlib import Path
-from typing import Dict
+from typing import Dict, List
 
 import pytest
 from conftest import EXAMPLES, program
@@ -117,6 +117,14 @@ def test_feed_that_fails_is_said(tmp_path: Path) -> None:
 
     with pytest.raises(Failure, match='the device is gone'):
         output([stage(path)], feed)
+
+
+def test_what_programs_say_is_noted(tmp_path: Path) -> None:
+    path = program(tmp_path, 'pack', 'cat; echo "pack: left out: 3" >&2')
+    noted: List[str] = []
+    with running([stage(path, name='pack')], feeds.of_bytes(b'a'), noted.append) as stream:
+        assert stream.read() == b'a'
+    assert noted == ['pack: left out: 3']
 
 
 def test_program_that_cannot_start(tmp_path: Path) -> None:

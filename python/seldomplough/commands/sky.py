@@ -86,7 +86,7 @@ def watch(recording: Recording, search: Search, arguments: argparse.Namespace) -
     sky = Sky(search, rate)
     with scripts.written(sky_scripts(search, rate, seconds, last)) as paths:
         stages = recording.stages(receiver, pack, paths)
-        with opened(stages, recording.name, recording.bytes_of(longest)) as stream:
+        with opened(stages, recording.name, recording.bytes_of(longest), files.say) as stream:
             for line in read(stream):
                 sky.feed(line)
     return sky
