@@ -88,8 +88,8 @@ def running(
     """Runs programs in a pipe over what `feed` writes, and gives what the last one writes.
 
     Whoever leaves before its end ends the programs. At its end a program that failed is a failure
-    in words: that of the last one that failed, since the earlier ones fail by the closed pipe. `note`
-    gets each line of standard error of those that ended well, such as what `pack` left out."""
+    in words: that of the last one that failed, since the earlier ones fail by the closed pipe.
+    `note` gets each line of standard error of those that ended well, as of what was left out."""
     with ExitStack() as stack:
         started: List[subprocess.Popen[bytes]] = []
         said = [stack.enter_context(tempfile.TemporaryFile()) for _ in stages]
