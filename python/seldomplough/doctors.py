@@ -113,15 +113,15 @@ class Doctor:
         elif believed is not None and names:
             self.say(f'they do not look like {believed}')
             names.append(believed)
-        return [it for name in names for it in self._readings_of(name, data)]
+        return [it for name in names for it in self._readings_of(name, data, name in seen.kinds)]
 
-    def _readings_of(self, name: str, data: bytes) -> Iterator[Reading]:
-        """The packings of a kind to try, or of a packing itself."""
+    def _readings_of(self, name: str, data: bytes, is_likely: bool) -> Iterator[Reading]:
+        """The packings of a kind to try, or a packing itself. Says the level of a likely kind."""
         if name in FORMATS:
             yield Reading(None, name)
             return
         level = levels.measured(self.pack, name, data)
-        for text in level.texts():
+        for text in level.texts() if is_likely else ():
             self.say(f'as {name}: {text}')
         if name == self.belief.kind and self.belief.packing:
             form = self.belief.format or recordings.usual_format(name)

@@ -66,6 +66,11 @@ class Trial:
         offset = tuned(self.recording.tuning, ppm).offset
         strongest = sorted(found, key=lambda it: -found[it].power)[:MOST]
         places = {it: offset + found[it].shift for it in strongest}
+        # What lies near the believed offset comes first: noise may have been found elsewhere.
+        near = {
+            it: at for it, at in places.items() if abs(at - self.recording.tuning.offset) <= SHIFT
+        }
+        places = near or places
         plain = self._track(self.recording, self.bench, places, found)
         other = mirrored(self.recording)
         bench = self.bench
@@ -100,10 +105,10 @@ class Trial:
         Where one is farther from the offset than `farthest`, the crystal is off by what lays all
         evenly about it."""
         meant = recording.tuning
-        off = middle(it - meant.offset for it in places.values())
+        shifts = [it - meant.offset for it in places.values()]
         ppm = 0.0
-        if max(abs(it - meant.offset) for it in places.values()) > farthest:
-            ppm = round(-off * MILLION / (CARRIER - meant.offset), 1)
+        if max(max(shifts), -min(shifts)) > farthest:
+            ppm = round(-middle(shifts) * MILLION / (CARRIER - meant.offset), 1)
         tuning = tuned(meant, ppm)
         if not is_taken(tuning):
             return Outcome(recording, {}, ppm)
