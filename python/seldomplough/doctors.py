@@ -95,6 +95,11 @@ class Doctor:
         return self.best
 
     @property
+    def likeliest(self) -> int:
+        """How many readings are tried with other crystals and rates: that which is believed."""
+        return LIKELIEST if self.belief.kind is None and self.belief.format is None else 1
+
+    @property
     def is_certain(self) -> bool:
         """Whether as many satellites have bits as by no chance."""
         return self.best is not None and len(self.best.states) >= ENOUGH
@@ -139,7 +144,7 @@ class Doctor:
     def with_crystals(self, readings: List[Reading]) -> Plan:
         """The trials of the likeliest readings with a crystal that is off."""
         rate = self.belief.rate or RATES[0]
-        for reading in readings[:LIKELIEST]:
+        for reading in readings[: self.likeliest]:
             tuning = Tuning(rate, self.offsets(reading, rate)[0])
             for ppm in PPM:
                 if is_taken(tuned(tuning, ppm)):
@@ -148,7 +153,7 @@ class Doctor:
     def with_rates(self, readings: List[Reading]) -> Plan:
         """The trials of the likeliest readings with other rates."""
         for rate in RATES:
-            for reading in readings[:LIKELIEST] if rate != self.belief.rate else ():
+            for reading in readings[: self.likeliest] if rate != self.belief.rate else ():
                 for offset in self.offsets(reading, rate)[:1]:
                     yield self.trial(reading, Tuning(rate, offset)), 0.0
 

@@ -15,6 +15,8 @@ from typing import List, NamedTuple, Sequence
 # The root mean square of even values from -1 to 1. What is more than this part of it is spread.
 EVEN = 1 / math.sqrt(3)
 SPREAD = 0.93
+# Noise of more than this part of the range has less than that share at its two middle values.
+FAR, PEAK = 0.08, 0.3
 # Floats beyond these sizes are no samples.
 LEAST, GREATEST = 1e-9, 1e9
 # How far a share of bits may be from one half, and how far shares at two places of many bytes may
@@ -54,6 +56,9 @@ def look(data: bytes) -> Look:
     best = min(sizes, key=lambda it: sizes[it])
     if sizes[best] > SPREAD * EVEN:
         return Look('the bytes are spread over their range as no samples are', ())
+    if _is_peak(data, best):
+        # Values that lie at the ends of one range lie at the centre of the other.
+        best = 'u8' if best == 'i8' else 'i8'
     sign = 'signed' if best == 'i8' else 'unsigned'
     return Look(f'the bytes look like {sign} bytes', _both(best))
 
@@ -82,6 +87,13 @@ def _size_of_signed(data: bytes) -> float:
 
 def _size_of_unsigned(data: bytes) -> float:
     return _rms(data, 127.5, 128)
+
+
+def _is_peak(data: bytes, kind: str) -> bool:
+    """Whether many values are the two at the centre while others lie far off, as no noise is."""
+    centre = (0, 255) if kind == 'i8' else (127, 128)
+    size = _size_of_signed(data) if kind == 'i8' else _size_of_unsigned(data)
+    return size > FAR and sum(map(data.count, centre)) > PEAK * len(data)
 
 
 def _words(data: bytes) -> str:

@@ -118,7 +118,8 @@ def test_gain_too_low(patient: Patient) -> None:
 
 
 def test_gain_too_high(patient: Patient) -> None:
-    patient.cured(signals.scaled(signals.made(), 10), '--kind', 'iq-i8', *RATE)
+    command = patient.cured(signals.scaled(signals.made(), 10), '--kind', 'iq-i8', *RATE)
+    assert command[:2] == ['--kind', 'iq-i8']
     assert 'clipped: the gain is too high' in patient.said
 
 
