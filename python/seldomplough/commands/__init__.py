@@ -2,7 +2,7 @@
 
 from __future__ import annotations
 
-from seldomplough.commands import answers, cn0, csv, frames, json
+from seldomplough.commands import answers, cn0, crystal, csv, doctor, frames, json, search, sky
 
-MODULES = (json, csv, frames, answers, cn0)
+MODULES = (json, csv, frames, answers, cn0, search, sky, doctor, crystal)
 """All commands, in the order of the help. A new one is one import and one name here."""
