@@ -79,6 +79,26 @@ def test_a_pipe_is_a_run_like_any_other(
     assert run('merge', '-', 'other', given=RUN.encode()) == (0, MERGED, '')
 
 
+def test_a_pipe_is_stored_while_it_is_read(run: Command, here: Callable[..., None]) -> None:
+    here(other=OTHER)
+    reader, writer = os.pipe()
+    with os.fdopen(writer, 'wb') as sent:
+        sent.write(RUN.encode())
+    with os.fdopen(reader, 'rb'):
+        assert run('merge', f'/dev/fd/{reader}', 'other') == (0, MERGED, '')
+
+
+def test_a_system_that_allows_no_more_files(
+    run: Command, here: Callable[..., None], monkeypatch: pytest.MonkeyPatch
+) -> None:
+    def refuse(*_: Any) -> None:
+        raise ValueError
+
+    here(run=RUN, other=OTHER)
+    monkeypatch.setattr('resource.setrlimit', refuse)
+    assert run('merge', 'run', 'other') == (0, MERGED, '')
+
+
 def test_as_many_files_as_one_likes(run: Command, here: Callable[..., None]) -> None:
     names = [f'f{it}' for it in range(1, 101)]
     here(**{name: '1 5 end\n' for name in names})
