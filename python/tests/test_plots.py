@@ -194,7 +194,8 @@ def test_files_of_any_name(draw: Command) -> None:
         with open(path, 'rb') as file:
             data = file.read()
         assert name.replace('\n', ' ') in texts(data) if at else data.startswith(PNG)
-    assert not os.path.exists('made')
+    assert draw('--to=-x.png') == (0, '', '')
+    assert os.path.exists('-x.png') and not os.path.exists('made')
 
 
 def test_lines_of_any_name(run: Command, draw: Command, monkeypatch: pytest.MonkeyPatch) -> None:
