@@ -78,6 +78,16 @@ def test_a_pipe_is_a_run_like_any_other(
     assert run('merge', '-', 'other', given=RUN.encode()) == (0, MERGED, '')
 
 
+def test_a_relative_temporary_folder_is_left_empty(launch: Any, here: Callable[..., None]) -> None:
+    os.mkdir('sub')
+    here(other=OTHER)
+    for name in ('.', 'sub'):
+        environment = {**os.environ, 'TMPDIR': name}
+        outcome = launch('merge', '-', 'other', input=RUN.encode(), env=environment)
+        assert (outcome.stdout, outcome.stderr) == (MERGED.encode(), b'')
+        assert sorted(os.listdir('.')) == ['other', 'sub'] and os.listdir('sub') == []
+
+
 def test_a_pipe_is_stored_while_it_is_read(run: Command, here: Callable[..., None]) -> None:
     here(other=OTHER)
     reader, writer = os.pipe()
