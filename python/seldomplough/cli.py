@@ -1,7 +1,8 @@
 """The command line: one parser, a subcommand for each command, and one way to fail.
 
 A failure is one line `seldomplough: ..` on standard error. The status is 2 for words of the command
-line and 1 for all else. A closed pipe and Ctrl-C end the program by their signals."""
+line and 1 for all else. A closed pipe, Ctrl-C and SIGTERM end the program by their signals, after
+what it started has ended and its temporary files are removed."""
 
 from __future__ import annotations
 
@@ -70,6 +71,16 @@ def parser() -> Parser:
     return result
 
 
+class Terminated(BaseException):
+    """The program got SIGTERM."""
+
+
+def raise_terminated(number: int, frame: object) -> NoReturn:
+    """Ends what is done by SIGTERM, as Ctrl-C does. A second one doesn't stop what is undone."""
+    signal.signal(signal.SIGTERM, signal.SIG_IGN)
+    raise Terminated
+
+
 def end_by(number: signal.Signals) -> int:
     """Ends the program by a signal, so that a shell sees its status."""
     drop_output()
@@ -122,6 +133,8 @@ def main(words: Optional[Sequence[str]] = None) -> int:
         # The same bytes in each locale.
         sys.stdout.reconfigure(encoding='utf-8', errors='backslashreplace', newline='\n')
     try:
+        if words is None and signal.getsignal(signal.SIGTERM) is signal.SIG_DFL:
+            signal.signal(signal.SIGTERM, raise_terminated)
         return run(sys.argv[1:] if words is None else words)
     except Failure as failure:
         settle_output()
@@ -132,3 +145,6 @@ def main(words: Optional[Sequence[str]] = None) -> int:
     except KeyboardInterrupt:
         settle_output()
         return end_by(signal.SIGINT)
+    except Terminated:
+        settle_output()
+        return end_by(signal.SIGTERM)

@@ -78,6 +78,7 @@ def test_a_failure_is_one_line(run: Command, monkeypatch: pytest.MonkeyPatch) ->
         (ClosedPipe, signal.SIGPIPE),
         (BrokenPipeError, signal.SIGPIPE),
         (KeyboardInterrupt, signal.SIGINT),
+        (cli.Terminated, signal.SIGTERM),
     ],
 )
 def test_ends_by_a_signal(
