@@ -45,8 +45,8 @@ def made(
 
 def scaled(data: bytes, factor: float, added: int = 0) -> bytes:
     """Signed bytes times a factor and with a mean, clipped at the ends of the range."""
-    values = (round(factor * it) + added for it in array('b', data))
-    return array('b', (max(-128, min(127, it)) for it in values)).tobytes()
+    values = (round(factor * (it - 256 * (it > 127))) + added for it in range(256))
+    return data.translate(bytes(max(-128, min(127, it)) % 256 for it in values))
 
 
 def unsigned(data: bytes) -> bytes:
@@ -82,5 +82,8 @@ def bits(data: bytes, width: int, code: Tuple[int, int, int, int]) -> bytes:
     table = bytes(coded(it - 256 if it > 127 else it) for it in range(256))
     codes = data.translate(table)
     places = 8 // width
-    rows = zip(*(codes[at::places] for at in range(places)))
-    return bytes(sum(it << width * at for at, it in enumerate(row)) for row in rows)
+    size = len(data) // places
+    columns = (codes[at : size * places : places] for at in range(places))
+    # No code leaves its byte, so that all bytes are shifted at once.
+    whole = sum(int.from_bytes(it, 'little') << width * at for at, it in enumerate(columns))
+    return whole.to_bytes(size, 'little')

@@ -10,7 +10,13 @@ import pytest
 import signals
 from conftest import Command, Outcome, refused
 
+from seldomplough import trials
+
 BITS = 'satellites 3, 6 and 17 have bits'
+# Those that are there, and one that isn't. A search of all takes eight times as long.
+FEW = (*signals.SHIFTS, 22)
+# Bins of 250 Hz that reach all shifts.
+BINS = '14'
 
 
 def named(plain: Dict[str, str]) -> List[str]:
@@ -39,7 +45,8 @@ class Patient:
         assert 'found' not in lines[-1]
         command = shlex.split(lines[-1])
         assert command[0] == 'seldomplough' and command[-1] == str(self.path)
-        rows = self.run(*command[1:-1], *named(self.plain)[2:], '--csv', command[-1]).said
+        words = [*command[1:-1], *named(self.plain)[2:], '--bins', BINS, '--csv', command[-1]]
+        rows = self.run(*words).said
         assert [it.split(',')[0] for it in rows.splitlines()[1:]] == ['3', '6', '17']
         self.said = outcome.said
         return command[2:-1]
@@ -48,6 +55,15 @@ class Patient:
 @pytest.fixture
 def patient(run: Command, plain: Dict[str, str], tmp_path: Path) -> Patient:
     return Patient(run, plain, tmp_path / 'a b=c;d')
+
+
+@pytest.fixture
+def few(monkeypatch: pytest.MonkeyPatch) -> None:
+    """The doctor searches for few satellites."""
+    monkeypatch.setattr(trials, 'SATELLITES', FEW)
+
+
+needs_few = pytest.mark.usefixtures('few')
 
 
 def words(text: str) -> List[str]:
@@ -62,6 +78,7 @@ def test_what_is_right_stays(patient: Patient) -> None:
     assert command == words('--kind iq-i8 --format iq1 --rate 2048000 --offset 0')
 
 
+@needs_few
 def test_other_kind(patient: Patient) -> None:
     data = signals.words16(signals.made(), 'big')
     command = patient.cured(data, '--kind', 'iq-i16', *RATE)
@@ -69,10 +86,12 @@ def test_other_kind(patient: Patient) -> None:
     assert 'the kind is iq-i16be, not iq-i16' in patient.said
 
 
+@needs_few
 def test_nothing_believed_of_floats(patient: Patient) -> None:
     assert patient.cured(signals.floats(signals.made()))[:2] == ['--kind', 'iq-f32']
 
 
+@needs_few
 def test_other_sign(patient: Patient) -> None:
     data = signals.made(-500000)
     command = patient.cured(data, '--kind', 'iq-i8', *RATE, '--offset', '500000')
@@ -80,18 +99,21 @@ def test_other_sign(patient: Patient) -> None:
     assert 'the offset has the other sign' in patient.said
 
 
+@needs_few
 def test_mirrored_pairs(patient: Patient) -> None:
     data = signals.conjugate(signals.made())
     assert '--conjugate' in patient.cured(data, '--kind', 'iq-i8', *RATE)
     assert 'the spectrum is mirrored' in patient.said
 
 
+@needs_few
 def test_mirrored_real_samples(patient: Patient) -> None:
     data = signals.made(-512000, 'i8')
     command = patient.cured(data, '--kind', 'i8', *RATE, '--offset', '512000')
     assert command[-1] == '--minus'
 
 
+@needs_few
 @pytest.mark.parametrize('ppm, way', [(30, 'fast'), (-30, 'slow')])
 def test_crystal(patient: Patient, ppm: int, way: str) -> None:
     # By the definition of ppm: the rate is so much greater, and the carrier lies so much lower.
@@ -104,12 +126,14 @@ def test_crystal(patient: Patient, ppm: int, way: str) -> None:
     assert abs(float(line.split()[-2]) - 30) < (5000 - 3300) / 1575.42 + 1
 
 
+@needs_few
 def test_mean(patient: Patient) -> None:
     data = signals.scaled(signals.made(), 1, 15)
     command = patient.cured(data, '--kind', 'iq-i8', *RATE)
     assert float(command[command.index('--centre') + 1]) in (14.5, 15, 15.5)
 
 
+@needs_few
 def test_gain_too_low(patient: Patient) -> None:
     data = signals.scaled(signals.made(), 0.47 / 20)
     command = patient.cured(data, '--kind', 'iq-i8', *RATE)
@@ -117,24 +141,27 @@ def test_gain_too_low(patient: Patient) -> None:
     assert command[2:4] == ['--format', 'iq2'] and '--threshold' in command
 
 
+@needs_few
 def test_gain_too_high(patient: Patient) -> None:
     command = patient.cured(signals.scaled(signals.made(), 10), '--kind', 'iq-i8', *RATE)
     assert command[:2] == ['--kind', 'iq-i8']
     assert 'clipped: the gain is too high' in patient.said
 
 
+@needs_few
 def test_bits_in_either_order(patient: Patient) -> None:
     data = signals.bits(signals.made(), 2, (0, 1, 2, 3))
     command = patient.cured(data, *RATE)
     assert command[:2] == ['--kind', 'iq-bits2-sm-low']
 
 
+@needs_few
 def test_noise_is_no_satellite(patient: Patient) -> None:
     outcome = patient.seen(
-        signals.made(satellites=()), '--kind', 'iq-i8', *RATE, '--limit', '4', '--seconds', '1'
+        signals.made(satellites=()), '--kind', 'iq-i8', *RATE, '--limit', '2', '--seconds', '1'
     )
     assert outcome.status == 1
-    assert 'the time of 4 s is over' in outcome.said
+    assert 'the time of 2 s is over' in outcome.said
     assert 'no satellite has bits after' in outcome.errors
 
 

@@ -145,7 +145,7 @@ def test_from_a_pipe(launch: Callable[..., Any], plain: Dict[str, str]) -> None:
     outcome = launch('sky', '--csv', '--offset', '511500', *named(plain), '-', input=data)
     assert outcome.returncode == 0
     rows = csv.DictReader(io.StringIO(outcome.stdout.decode()))
-    assert {it['satellite'] for it in rows if it['bits_s']} <= {'5', '17', '29'}
+    assert {it['satellite'] for it in rows if it['bits_s']} == {'5', '17', '29'}
 
 
 def test_nothing_is_not_met_with_silence(
