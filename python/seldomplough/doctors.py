@@ -13,7 +13,7 @@ from seldomplough import levels, looks, recordings
 from seldomplough.benches import Bench, bench_of
 from seldomplough.crystals import is_taken, tuned
 from seldomplough.programs import Program
-from seldomplough.recordings import FORMATS, PAIRS, Recording, Tuning
+from seldomplough.recordings import ALIASES, FORMATS, PAIRS, Recording, Tuning
 from seldomplough.trials import Outcome, Trial
 
 # What is looked at of a file, in bytes, and how much of it is measured.
@@ -29,7 +29,6 @@ PPM = (12, -12, 24, -24, 36, -36, 48, -48)
 ENOUGH = 2
 # How many of the readings are tried with other crystals and rates.
 LIKELIEST = 2
-
 
 Plan = Iterator[Tuple[Trial, float]]
 
@@ -110,8 +109,8 @@ class Doctor:
         seen = looks.look(data[:LOOKED_AT])
         self.say(seen.text)
         self.has_bits_alone = any('bits' in it for it in seen.kinds)
-        names = list(seen.kinds)
         believed = self.belief.kind or self.belief.format
+        names = [believed if believed and ALIASES.get(it) == believed else it for it in seen.kinds]
         if believed in names:
             names.remove(believed)
             names.insert(0, believed)

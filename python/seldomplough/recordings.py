@@ -20,6 +20,8 @@ VALUES: Dict[str, int] = {
 }  # fmt: skip
 KINDS: Dict[str, int] = {**VALUES, **{f'iq-{it}': 2 * bits for it, bits in VALUES.items()}}
 FORMATS: Dict[str, int] = {'real1': 1, 'real2': 2, 'iq1': 2, 'iq2': 4}
+# What `pack` calls the packings that are kinds too.
+ALIASES: Dict[str, str] = {'real1': 'bits1-high', 'iq1': 'iq-bits1-high'}
 PAIRS = 'iq'
 
 

@@ -14,7 +14,7 @@ from typing import Dict, NamedTuple, Optional, Tuple
 from seldomplough.benches import Bench, Found, Start
 from seldomplough.crystals import CARRIER, MILLION, SHIFT, is_taken, middle, tuned
 from seldomplough.lines import StateTrack
-from seldomplough.recordings import PAIRS, Recording, Tuning
+from seldomplough.recordings import ALIASES, PAIRS, Recording, Tuning
 from seldomplough.scripts import SATELLITES, Search
 
 # A search about the offset: satellites, and a crystal that is off by 3 ppm. And one about the
@@ -135,9 +135,9 @@ def mirrored(recording: Recording) -> Recording:
     """The recording with its spectrum turned round: a frequency F becomes -F."""
     tuning = Tuning(recording.tuning.rate, -recording.tuning.offset)
     packing, kind = recording.packing, recording.kind
-    if kind is None and recording.format == 'iq1':
-        # The packing is a kind too, so that `pack` can turn it round.
-        kind = 'iq-bits1-high'
+    if kind is None and recording.format.startswith(PAIRS):
+        # Where the packing is a kind too `pack` can turn it round.
+        kind = ALIASES.get(recording.format)
     if recording.format.startswith(PAIRS):
         word = '--conjugate'
         rest = tuple(it for it in packing if it != word)

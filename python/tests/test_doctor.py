@@ -156,6 +156,17 @@ def test_bits_in_either_order(patient: Patient) -> None:
 
 
 @needs_few
+def test_packing_by_its_kind(patient: Patient) -> None:
+    data = signals.bits(signals.made(), 1, (0, 0, 1, 1))
+    # The order of the bits in each byte is turned round, since the receiver's packing has the
+    # earliest sample in the high bits.
+    turned = bytes(int(f'{it:08b}'[::-1], 2) for it in range(256))
+    command = patient.cured(data.translate(turned), '--kind', 'iq-bits1-high', *RATE)
+    assert command[:2] == ['--kind', 'iq-bits1-high']
+    assert 'the kind is' not in patient.said and 'do not look like' not in patient.said
+
+
+@needs_few
 def test_noise_is_no_satellite(patient: Patient) -> None:
     outcome = patient.seen(
         signals.made(satellites=()), '--kind', 'iq-i8', *RATE, '--limit', '2', '--seconds', '1'
