@@ -99,13 +99,14 @@ def _is_peak(data: bytes, kind: str) -> bool:
 def _words(data: bytes) -> str:
     """`i16` or `i16be` where the bytes are such numbers, else nothing.
 
-    The high bytes of noise that doesn't fill the range are alike or lie about 0, and the low ones
-    are spread, or as with small numbers both differ from one another."""
+    The high bytes of noise that doesn't fill the range are alike or lie about 0. The low ones are
+    spread over their range, or as with small numbers they have more or fewer values."""
     even, odd = data[::2], data[1::2]
     sizes = _size_of_signed(even), _size_of_signed(odd)
     kinds = len(set(even)), len(set(odd))
     low, high = min(sizes), max(sizes)
-    if low < 0.5 * high and min(kinds) < max(kinds):
+    is_other = min(kinds) < max(kinds) or high > SPREAD * EVEN
+    if low < 0.5 * high and is_other:
         return 'i16' if sizes[1] < sizes[0] else 'i16be'
     return ''
 

@@ -39,6 +39,18 @@ def test_numbers_of_16_bits(deviation: float) -> None:
     assert list(look(scaled.tobytes()).kinds) == ['iq-i16be', 'i16be']
 
 
+def test_numbers_whose_bytes_have_as_many_values() -> None:
+    """The bytes of numbers of 14 bits, shifted up by two, have 64 values each."""
+    chance = random.Random(2)
+    high = [max(-32, min(31, round(chance.gauss(0, 12)))) for _ in range(32768)]
+    numbers = array('h', [256 * it + 4 * chance.randrange(64) for it in high])
+    data = numbers.tobytes()
+    assert len(set(data[::2])) == len(set(data[1::2])) == 64
+    assert list(look(data).kinds) == ['iq-i16', 'i16']
+    numbers.byteswap()
+    assert list(look(numbers.tobytes()).kinds) == ['iq-i16be', 'i16be']
+
+
 def test_floats() -> None:
     assert list(look(signals.floats(NOISE)).kinds) == ['iq-f32', 'f32']
 
