@@ -27,3 +27,11 @@ def test_states_name_it() -> None:
     text = '1 1 state 0 hold 3 5\n1 2 count 0 1 2 3 4 5 6\n1 3 state 0 acquire 4 1 2\n1 4 gap 0 1'
     assert satellites_of(text) == [3, 3, 4, None]
     assert satellites_of('1 1 state 0 track 9 5 0 0 open\n1 2 lock 0') == [9, 9]
+
+
+def test_a_stop_is_followed_by_no_line() -> None:
+    """A slot that tracks 7, is stopped and tracks 9: the state alone says so."""
+    asked = '5 stop 0', '6 track 0 9 0 0', '8 state 0'
+    lines = ['1 2 acq 0 7 found 0 0 9', *(f'1 {it.split()[0]} ok' for it in asked[:2])]
+    lines += ['1 7 lock 0', '1 8 state 0 track 9 5 0 0 lock', '1 9 bits 0']
+    assert satellites_of('\n'.join(lines)) == [7, None, None, 7, 9, 9]

@@ -3,7 +3,8 @@
 The columns are the raw integers by the names of docs/FORMATS.md, and the values that follow from
 them, named with their units. A cell is empty where a line hasn't the value. With --kind the table
 of one kind goes to standard output. With --folder each kind that comes has a file KIND.csv there;
-one that is there already isn't written over.
+one that is there already isn't written over. A slot has the satellite that the lines before say. No
+line says that a slot was stopped: a script that then gives it another should ask for its state.
 
     seldomplough csv --kind state --rate 4092000 my.lines > my.csv
     seldomplough csv --folder tables my.lines

@@ -2,7 +2,9 @@
 
 It prints a line for each kind: its rows and its columns. With --csv or --parquet it writes them,
 one file KIND.csv or KIND.parquet for each kind in a folder. A file that is there already isn't
-written over. In Python the same frames come from
+written over. A slot has the satellite that the lines before say. No line says that a slot was
+stopped: a script that then gives it another should ask for its state. In Python the same frames
+come from
 
     seldomplough.frames.frames('my.lines', rate=4092000)
 
