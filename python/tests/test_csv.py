@@ -6,7 +6,7 @@ import csv
 import os
 import random
 
-import made
+import printed
 import pytest
 from conftest import NAMES, Command, refused
 
@@ -41,9 +41,9 @@ def test_the_table_of_a_kind(run: Command) -> None:
     assert run('csv', '--kind', 'end', given=TEXT.encode()).said == 'client,time\n'
 
 
-@pytest.mark.parametrize('kind', made.FIELDS)
+@pytest.mark.parametrize('kind', printed.FIELDS)
 def test_pages_have_a_column_for_each_field(kind: str) -> None:
-    names = [it.name for it in made.FIELDS[kind]]
+    names = [it.name for it in printed.FIELDS[kind]]
     assert list(columns(kind))[:4] == ['client', 'time', 'slot', 'satellite']
     assert list(columns(kind))[4 : 4 + len(names)] == names
 
@@ -60,9 +60,9 @@ def test_a_file_for_each_kind(run: Command, tmp_path: os.PathLike[str]) -> None:
 
 def test_tables_of_all_kinds_have_all_values(run: Command, tmp_path: os.PathLike[str]) -> None:
     chance = random.Random(2)
-    text = ''.join(made.line(it, 5, chance) + '\n' for it in made.ALL_KINDS)
+    text = ''.join(printed.line(it, 5, chance) + '\n' for it in printed.ALL_KINDS)
     assert run('csv', '--folder', os.fspath(tmp_path), given=text.encode()).status == 0
-    for kind in made.ALL_KINDS:
+    for kind in printed.ALL_KINDS:
         with open(os.path.join(tmp_path, f'{kind}.csv'), encoding='utf-8', newline='') as file:
             rows = list(csv.reader(file))
         assert len(rows) == 2 and len(rows[0]) == len(rows[1]) == len(set(rows[0]))

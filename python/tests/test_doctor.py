@@ -7,14 +7,14 @@ from pathlib import Path
 from typing import Dict, List
 
 import pytest
-import signals
+import made_samples
 from conftest import Command, Outcome, refused
 
 from seldomplough import trials
 
 BITS = 'satellites 3, 6 and 17 have bits'
 # Those that are there, and one that isn't. A search of all takes eight times as long.
-FEW = (*signals.SHIFTS, 22)
+FEW = (*made_samples.SHIFTS, 22)
 # Bins of 250 Hz that reach all shifts.
 BINS = '14'
 
@@ -70,17 +70,17 @@ def words(text: str) -> List[str]:
     return text.split()
 
 
-RATE = ['--rate', str(signals.RATE)]
+RATE = ['--rate', str(made_samples.RATE)]
 
 
 def test_what_is_right_stays(patient: Patient) -> None:
-    command = patient.cured(signals.made(), '--kind', 'iq-i8', *RATE)
+    command = patient.cured(made_samples.made(), '--kind', 'iq-i8', *RATE)
     assert command == words('--kind iq-i8 --format iq1 --rate 2048000 --offset 0')
 
 
 @needs_few
 def test_other_kind(patient: Patient) -> None:
-    data = signals.words16(signals.made(), 'big')
+    data = made_samples.words16(made_samples.made(), 'big')
     command = patient.cured(data, '--kind', 'iq-i16', *RATE)
     assert command[:2] == ['--kind', 'iq-i16be']
     assert 'the kind is iq-i16be, not iq-i16' in patient.said
@@ -88,12 +88,12 @@ def test_other_kind(patient: Patient) -> None:
 
 @needs_few
 def test_nothing_believed_of_floats(patient: Patient) -> None:
-    assert patient.cured(signals.floats(signals.made()))[:2] == ['--kind', 'iq-f32']
+    assert patient.cured(made_samples.floats(made_samples.made()))[:2] == ['--kind', 'iq-f32']
 
 
 @needs_few
 def test_other_sign(patient: Patient) -> None:
-    data = signals.made(-500000)
+    data = made_samples.made(-500000)
     command = patient.cured(data, '--kind', 'iq-i8', *RATE, '--offset', '500000')
     assert command[-3:] == ['--offset', '500000', '--minus']
     assert 'the offset has the other sign' in patient.said
@@ -101,14 +101,14 @@ def test_other_sign(patient: Patient) -> None:
 
 @needs_few
 def test_mirrored_pairs(patient: Patient) -> None:
-    data = signals.conjugate(signals.made())
+    data = made_samples.conjugate(made_samples.made())
     assert '--conjugate' in patient.cured(data, '--kind', 'iq-i8', *RATE)
     assert 'the spectrum is mirrored' in patient.said
 
 
 @needs_few
 def test_mirrored_real_samples(patient: Patient) -> None:
-    data = signals.made(-512000, 'i8')
+    data = made_samples.made(-512000, 'i8')
     command = patient.cured(data, '--kind', 'i8', *RATE, '--offset', '512000')
     assert command[-1] == '--minus'
 
@@ -117,8 +117,8 @@ def test_mirrored_real_samples(patient: Patient) -> None:
 @pytest.mark.parametrize('ppm, way', [(30, 'fast'), (-30, 'slow')])
 def test_crystal(patient: Patient, ppm: int, way: str) -> None:
     # By the definition of ppm: the rate is so much greater, and the carrier lies so much lower.
-    rate = round(signals.RATE * (1 + ppm / 1e6))
-    data = signals.unsigned(signals.made(round(-1575.42 * ppm), rate=rate))
+    rate = round(made_samples.RATE * (1 + ppm / 1e6))
+    data = made_samples.unsigned(made_samples.made(round(-1575.42 * ppm), rate=rate))
     patient.cured(data, '--kind', 'iq-u8', *RATE)
     (line,) = [it for it in patient.said.splitlines() if 'the crystal is' in it]
     assert way in line
@@ -128,14 +128,14 @@ def test_crystal(patient: Patient, ppm: int, way: str) -> None:
 
 @needs_few
 def test_mean(patient: Patient) -> None:
-    data = signals.scaled(signals.made(), 1, 15)
+    data = made_samples.scaled(made_samples.made(), 1, 15)
     command = patient.cured(data, '--kind', 'iq-i8', *RATE)
     assert float(command[command.index('--centre') + 1]) in (14.5, 15, 15.5)
 
 
 @needs_few
 def test_gain_too_low(patient: Patient) -> None:
-    data = signals.scaled(signals.made(), 0.47 / 20)
+    data = made_samples.scaled(made_samples.made(), 0.47 / 20)
     command = patient.cured(data, '--kind', 'iq-i8', *RATE)
     assert 'the gain is too low' in patient.said
     assert command[2:4] == ['--format', 'iq2'] and '--threshold' in command
@@ -143,21 +143,21 @@ def test_gain_too_low(patient: Patient) -> None:
 
 @needs_few
 def test_gain_too_high(patient: Patient) -> None:
-    command = patient.cured(signals.scaled(signals.made(), 10), '--kind', 'iq-i8', *RATE)
+    command = patient.cured(made_samples.scaled(made_samples.made(), 10), '--kind', 'iq-i8', *RATE)
     assert command[:2] == ['--kind', 'iq-i8']
     assert 'clipped: the gain is too high' in patient.said
 
 
 @needs_few
 def test_bits_in_either_order(patient: Patient) -> None:
-    data = signals.bits(signals.made(), 2, (0, 1, 2, 3))
+    data = made_samples.bits(made_samples.made(), 2, (0, 1, 2, 3))
     command = patient.cured(data, *RATE)
     assert command[:2] == ['--kind', 'iq-bits2-sm-low']
 
 
 @needs_few
 def test_packing_by_its_kind(patient: Patient) -> None:
-    data = signals.bits(signals.made(), 1, (0, 0, 1, 1))
+    data = made_samples.bits(made_samples.made(), 1, (0, 0, 1, 1))
     # The order of the bits in each byte is turned round, since the receiver's packing has the
     # earliest sample in the high bits.
     turned = bytes(int(f'{it:08b}'[::-1], 2) for it in range(256))
@@ -169,7 +169,7 @@ def test_packing_by_its_kind(patient: Patient) -> None:
 @needs_few
 def test_noise_is_no_satellite(patient: Patient) -> None:
     outcome = patient.seen(
-        signals.made(satellites=()), '--kind', 'iq-i8', *RATE, '--limit', '2', '--seconds', '1'
+        made_samples.made(satellites=()), '--kind', 'iq-i8', *RATE, '--limit', '2', '--seconds', '1'
     )
     assert outcome.status == 1
     assert 'the time of 2 s is over' in outcome.said

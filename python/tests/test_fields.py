@@ -5,7 +5,7 @@ from __future__ import annotations
 import math
 from fractions import Fraction
 
-import made
+import printed
 import pytest
 
 from seldomplough import fields
@@ -16,7 +16,7 @@ TABLES = {'eph': fields.EPH, 'alm': fields.ALM, 'utc': fields.UTC, 'hlt': fields
 @pytest.mark.parametrize('kind', TABLES)
 def test_fields_are_those_of_the_definitions(kind: str) -> None:
     ours = [(it.name, it.bits, it.is_signed, it.exponent) for it in TABLES[kind]]
-    assert ours == [tuple(it) for it in made.FIELDS[kind]]
+    assert ours == [tuple(it) for it in printed.FIELDS[kind]]
 
 
 def test_there_are_90_fields() -> None:

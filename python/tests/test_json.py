@@ -7,13 +7,13 @@ import math
 import os
 from typing import Dict
 
-import made
+import printed
 import pytest
 from conftest import Command, expected_lines, refused
 
 
 def test_lines_come_back_byte_for_byte(run: Command) -> None:
-    text = expected_lines() + ''.join(it + '\n' for it in made.lines(6000, 7))
+    text = expected_lines() + ''.join(it + '\n' for it in printed.lines(6000, 7))
     for words in ((), ('--rate', '4092000')):
         objects = run('json', *words, given=text.encode())
         assert (objects.status, objects.errors) == (0, '')
@@ -55,7 +55,7 @@ def test_counts_have_the_satellite_that_is_known(run: Command) -> None:
 
 
 def test_pages_have_units(run: Command) -> None:
-    fields = ' '.join(f'{it.name}=1:{it.exponent}' for it in made.FIELDS['alm'])
+    fields = ' '.join(f'{it.name}=1:{it.exponent}' for it in printed.FIELDS['alm'])
     outcome = run('json', given=f'1 5 alm 0 {fields}\n'.encode())
     record = json.loads(outcome.said)
     assert record['toa'] == 1 and record['toa_s'] == 4096

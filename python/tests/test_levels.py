@@ -6,7 +6,7 @@ from pathlib import Path
 from typing import Dict
 
 import pytest
-import signals
+import made_samples
 from conftest import program
 
 from seldomplough.levels import Level, measured, packings
@@ -73,7 +73,10 @@ def test_packings_of_a_gain_too_low() -> None:
 
 def test_real_measures(plain: Dict[str, str]) -> None:
     pack = Program('pack', plain['--pack'])
-    level = measured(pack, 'iq-i8', signals.scaled(signals.made(), 1, 15))
+    level = measured(pack, 'iq-i8', made_samples.scaled(made_samples.made(), 1, 15))
     # The noise has a deviation of 20, and 15 was added.
     assert abs(level.mean - 0.75) < 0.03 and abs(level.rms - 20.5) < 0.5
-    assert measured(pack, 'iq-i8', signals.scaled(signals.made(), 10)).figure('at-the-ends') > 40
+    assert (
+        measured(pack, 'iq-i8', made_samples.scaled(made_samples.made(), 10)).figure('at-the-ends')
+        > 40
+    )

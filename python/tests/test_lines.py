@@ -9,7 +9,7 @@ import random
 from fractions import Fraction
 from typing import Iterator, List
 
-import made
+import printed
 import pytest
 from conftest import expected_lines
 
@@ -27,11 +27,11 @@ def test_lines_of_the_examples_come_back() -> None:
     assert ''.join(it.text() + '\n' for it in lines.read(source)) == text
 
 
-@pytest.mark.parametrize('kind', made.ALL_KINDS)
+@pytest.mark.parametrize('kind', printed.ALL_KINDS)
 def test_made_lines_of_each_kind_come_back(kind: str) -> None:
     chance = random.Random(kind)
     for time in range(50):
-        text = made.line(kind, time, chance)
+        text = printed.line(kind, time, chance)
         line = lines.parse(text)
         assert (line.kind, line.time, line.text()) == (kind, time, text)
         assert len(line.raw()) == len(line.names)
@@ -42,7 +42,7 @@ def test_made_lines_of_each_kind_come_back(kind: str) -> None:
 
 
 def test_all_kinds_are_made() -> None:
-    assert set(made.ALL_KINDS) == set(lines.KINDS)
+    assert set(printed.ALL_KINDS) == set(lines.KINDS)
 
 
 def test_values_of_lines() -> None:
@@ -68,7 +68,7 @@ def test_doppler_of_a_state() -> None:
 
 def test_values_of_pages() -> None:
     chance = random.Random(1)
-    line = lines.parse(made.line('eph', 5, chance))
+    line = lines.parse(printed.line('eph', 5, chance))
     assert isinstance(line, lines.Eph)
     assert line.value('toe') == 16 * line.integer('toe')
     assert line.radians('m0') == line.value('m0') * Fraction('3.1415926535898')
@@ -94,7 +94,7 @@ def test_values_of_subframes_sets_and_messages() -> None:
 
 
 def test_lines_are_values() -> None:
-    for text in made.lines(100, 3):
+    for text in printed.lines(100, 3):
         line = lines.parse(text)
         assert pickle.loads(pickle.dumps(line)) == line == copy.copy(line)
         assert hash(line) == hash(lines.parse(text))

@@ -7,7 +7,7 @@ from array import array
 from typing import Tuple
 
 import pytest
-import signals
+import made_samples
 
 from seldomplough.looks import look
 
@@ -27,7 +27,7 @@ def test_bytes(deviation: float) -> None:
     data = noise(deviation)
     assert list(look(data).kinds) == ['iq-i8', 'i8']
     assert look(data).text == 'the bytes look like signed bytes'
-    assert list(look(signals.unsigned(data)).kinds) == ['iq-u8', 'u8']
+    assert list(look(made_samples.unsigned(data)).kinds) == ['iq-u8', 'u8']
 
 
 @pytest.mark.parametrize('deviation', [0.05, 1, 20])
@@ -52,7 +52,7 @@ def test_numbers_whose_bytes_have_as_many_values() -> None:
 
 
 def test_floats() -> None:
-    assert list(look(signals.floats(NOISE)).kinds) == ['iq-f32', 'f32']
+    assert list(look(made_samples.floats(NOISE)).kinds) == ['iq-f32', 'f32']
 
 
 @pytest.mark.parametrize(
@@ -64,7 +64,7 @@ def test_floats() -> None:
     ],
 )
 def test_bits(width: int, code: Tuple[int, int, int, int], kind: str) -> None:
-    kinds = look(signals.bits(NOISE, width, code)).kinds
+    kinds = look(made_samples.bits(NOISE, width, code)).kinds
     assert kind in kinds and f'iq-{kind}' in kinds
     assert not {'i8', 'u8', 'i16', 'f32'} & set(kinds)
 

@@ -11,7 +11,7 @@ from pathlib import Path
 from typing import Any, Callable, Dict, List
 
 import pytest
-import signals
+import made_samples
 from conftest import EXAMPLES, Command, refused
 
 from seldomplough.lines import parse
@@ -125,17 +125,17 @@ def test_real_message(run: Command, plain: Dict[str, str]) -> None:
 
 def test_made_satellites(run: Command, plain: Dict[str, str], tmp_path: Path) -> None:
     path = tmp_path / '-a=b c'
-    path.write_bytes(signals.made())
-    words = ['--kind', 'iq-i8', '--rate', str(signals.RATE), *named(plain)]
+    path.write_bytes(made_samples.made())
+    words = ['--kind', 'iq-i8', '--rate', str(made_samples.RATE), *named(plain)]
     rows = rows_of(run('sky', '--json', *words, '--', str(path)).said)
-    assert set(rows) == set(signals.SHIFTS)
-    for satellite, shift in signals.SHIFTS.items():
+    assert set(rows) == set(made_samples.SHIFTS)
+    for satellite, shift in made_samples.SHIFTS.items():
         assert abs(rows[satellite]['doppler_hz'] - shift) < 15
         # 48 and 47 dB-Hz were made, and one bit a part loses 2.3 to 2.4.
         assert 43.5 < rows[satellite]['cn0_db_hz'] < 47
         assert rows[satellite]['bits_s'] > rows[satellite]['locked_s'] > 0
     table = list(csv.DictReader(io.StringIO(run('sky', '--csv', *words, '--', str(path)).said)))
-    assert [int(it['satellite']) for it in table] == sorted(signals.SHIFTS)
+    assert [int(it['satellite']) for it in table] == sorted(made_samples.SHIFTS)
     assert os.listdir(tmp_path) == ['-a=b c']
 
 

@@ -5,7 +5,7 @@ from __future__ import annotations
 import random
 from typing import List
 
-import made
+import printed
 import pytest
 
 from seldomplough import lines
@@ -78,10 +78,10 @@ def test_what_no_line_is(text: str) -> None:
     assert caught.value.text.isascii() and caught.value.text.isprintable()
 
 
-@pytest.mark.parametrize('kind', made.FIELDS)
+@pytest.mark.parametrize('kind', printed.FIELDS)
 def test_fields_keep_to_their_names_places_and_bits(kind: str) -> None:
-    text = made.line(kind, 5, random.Random(kind))
-    first, last = made.FIELDS[kind][0], made.FIELDS[kind][-1]
+    text = printed.line(kind, 5, random.Random(kind))
+    first, last = printed.FIELDS[kind][0], printed.FIELDS[kind][-1]
     words = text.split()
     for field, at in ((first, 4), (last, -1)):
         high = 2 ** (field.bits - field.is_signed)
