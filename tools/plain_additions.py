@@ -3,8 +3,9 @@ leave for names that only the prover uses, and what rustc has to be told about l
 import re
 import textwrap
 
-from plain_premises import condition, types_in, types_of
+from plain_premises import HOLDS, Scope, condition, parameters
 from plain_text import block_end, code_of
+from plain_words import READERS, owner
 
 # A function with the comments of its clauses: its head, these lines, and its brace's indentation.
 FUNCTION = re.compile(
@@ -18,9 +19,17 @@ LANES = re.compile(r'\b[iu]\d+x\d+\b')
 
 ALWAYS = '#[inline(always)]'
 
+# How long a line may be.
+MOST_COLUMNS = 100
+
+# Functions that are called for a whole run, command, dump or bit at most, by their names.
+SELDOM = ('advance', 'check', 'command', 'encode', 'feed', 'feed_into', 'follow', 'measure', 'new',
+          'open', 'pack', 'push', 'run_shares', 'run_to', 'start', 'start_after', 'steer', 'take',
+          'word')
+
 # Sixteen bytes of a table from each of four places on: the text of it, of what it stands on, and of
 # what nothing names any more where the kit reads the bytes by one comparison.
-FOUR_WINDOWS = '''{
+FOUR_WINDOWS = '''
     let low = two_windows(table, at[0], at[1]);
     let high = two_windows(table, at[2], at[3]);
     low.shuffle(high, SIXTY_FOUR)
@@ -65,24 +74,121 @@ def is_inlined(text, found):
     return said is not None
 
 
-def checked_text(text, constants, values):
-    """A source whose functions say what they require, and see to the simple ones by themselves:
-    those with a loop and those that take or give lanes in every build, since rustc can then leave
-    out more checks after these, and the others in a debug build. It may name constants, whose types
-    are given, and of some the values."""
-    code = code_of(text)
-    of_source = types_of(code, constants, values)
+def owner_of(text, found):
+    """The type that a function of a source belongs to; None where it belongs to none."""
+    return owner(text, found.start()) if found[1].startswith(' ') else None
 
+
+def has_numbers_alone(premise, scope):
+    """Whether a premise is about numbers and the lengths of slices alone, and not about each of
+    several."""
+    hold = condition(premise, scope.without_words())
+    return hold is not None and '.all(' not in hold
+
+
+def is_seldom(text, found, scope):
+    """Whether a function of a source is one that users of its crate call, for a whole run, command,
+    dump or bit at most: it is exported, stays a call, and isn't one that a bank asks for each slot
+    and each run, with a source of samples."""
+    name = re.search(r'fn (\w+)', found[1])[1]
+    exported = owner_of(text, found) or name
+    return (is_public(found[1]) and name in SELDOM and not is_inlined(text, found)
+            and exported in scope.source.exported
+            and 'SampleSource' not in scope.parameters.values())
+
+
+def checks_of(text, found, source):
+    """What a function of a source requires: each premise with its condition in Rust, or None where
+    there is none, and the macro that checks it. What the types alone see to isn't among them.
+
+    Functions that users call seldom check all in every build. Those with a loop and those that take
+    or give lanes so check what is about numbers and slices alone, since rustc can leave out more
+    checks after it. All else is checked in a debug build."""
+    head, clauses, _ = found.groups()
+    scope = Scope(parameters(head, owner_of(text, found)), source)
+    body = code_of(text[found.end():block_end(text, found.end() - 1)])
+    seldom, has_loop = is_seldom(text, found, scope), LANES.search(head) or LOOP.search(body)
+    checks = []
+    for premise in premises(clauses):
+        hold = condition(premise, scope)
+        is_always = seldom or has_loop and has_numbers_alone(premise, scope)
+        if hold != HOLDS:
+            checks.append((premise, hold, 'assert' if is_always else 'debug_assert'))
+    return checks
+
+
+def is_public(head):
+    """Whether a function is public."""
+    return head.lstrip().startswith('pub fn')
+
+
+def listed(start, premises_of, end):
+    """A sentence of a documentation about one premise or several."""
+    if len(premises_of) == 1:
+        return ['', f'{start} `{premises_of[0]}`{end}.']
+    return ['', f'{start} one of these{end}:', '', *(f'- `{premise}`' for premise in premises_of)]
+
+
+def panics(checks, indent):
+    """What a function requires as a part of its documentation: what is checked, and what isn't.
+    Each premise is given with its condition and the macro that checks it."""
+    always = [premise for premise, hold, check in checks if hold and check == 'assert']
+    in_debug = [premise for premise, hold, check in checks if hold and check == 'debug_assert']
+    unsaid = [premise for premise, hold, _ in checks if not hold]
+    rows = ['', '# Panics'] if checks else []
+    if always:
+        rows += listed('Panics if', always, " isn't so")
+    if in_debug:
+        rows += listed('A debug build panics if', in_debug, " isn't so")
+    if unsaid:
+        rows += listed("The caller sees to what isn't checked:", unsaid, '')
+    return ''.join(f'{indent}/// {row}'.rstrip() + '\n' for row in rows)
+
+
+def asserted(premise, hold, check, name, indent):
+    """A check of a premise as a row of Rust, or as several where it is long. That of a function
+    with a name says in its message what the function requires."""
+    message = f'{name} requires {premise}'.replace('{', '{{').replace('}', '}}')
+    arguments = [hold, f'"{message}"'] if name else [hold]
+    row = f'{indent}{check}!({", ".join(arguments)});'
+    if len(row) <= MOST_COLUMNS:
+        return row
+    arguments[0] = hold.replace(' && ', f'\n{indent}        && ')
+    rows = ''.join(f'{indent}    {argument},\n' for argument in arguments)
+    return f'{indent}{check}!(\n{rows}{indent});'
+
+
+def name_in(text, found):
+    """The name of a public function of a source, with its type's; None of one that isn't public."""
+    head = found[1]
+    if not is_public(head):
+        return None
+    of = owner_of(text, found)
+    return f'{of}::' * bool(of) + re.search(r'fn (\w+)', head)[1]
+
+
+def checked_text(text, source):
+    """A source whose functions say what they require, and see to it by themselves where Rust can
+    say it. What its premises can name is given."""
     def checked(found):
-        head, clauses, indent = found.groups()
-        docs = contract(clauses, indent) if head.lstrip().startswith('pub fn') else ''
-        types = types_in(head, of_source)
-        holds = filter(None, (condition(premise, types) for premise in premises(clauses)))
-        body = code_of(text[found.end():block_end(text, found.end() - 1)])
-        check = 'assert' if LOOP.search(body) or LANES.search(head) else 'debug_assert'
-        return docs + found[0] + ''.join(f'\n    {indent}{check}!({hold});' for hold in holds)
+        _, clauses, indent = found.groups()
+        checks, name = checks_of(text, found, source), name_in(text, found)
+        docs = panics(checks, indent) + contract(clauses, indent) if name else ''
+        rows = [asserted(*it, name, f'{indent}    ') for it in checks if it[1]]
+        return '\n'.join([docs + found[0], *rows])
 
     return LAW.sub(r'#[doc(hidden)]\n\1', FUNCTION.sub(checked, text))
+
+
+def read_text(text):
+    """A source with the methods that checks need beside those of the sources."""
+    for of, _, name, kind, body in READERS:
+        head = re.search(rf'^impl(?:<[^{{]*>)? {of}(?:<.*>)? \{{\n', text, re.M)
+        if head and not re.search(rf'\bfn {name}\(', text):
+            added = (f'    #[doc(hidden)]\n    pub fn {name}(&self) -> {kind} {{\n'
+                     f'        {body}\n    }}\n\n')
+            text = text[:head.end()] + added + text[head.end():]
+    return text
 
 
 def types_of_lanes(texts):
@@ -102,7 +208,7 @@ def laned_text(text, types, seen):
     windows, place, cold, bytes_of_word, structure = BY_TEXT
     if FOUR_WINDOWS in text and TWO_WINDOWS in text:
         seen.add(windows)
-        text = text.replace(FOUR_WINDOWS, '{\n    u8x64::from_places(table, at)\n}')
+        text = text.replace(FOUR_WINDOWS, '\n    u8x64::from_places(table, at)\n}')
         text = OF_WINDOWS.sub('#[allow(dead_code)]\n', text)
 
     def from_place(found):
