@@ -1,11 +1,13 @@
 """Rows of what tools/plain adds to the sources: premises as conditions, and what goes by a text."""
 import os
 import sys
+from dataclasses import replace
+from itertools import zip_longest
 
 from .commands import TOP, copied, refused, run, write
 
 sys.path.insert(0, os.path.join(TOP, 'tools'))
-from plain_additions import FUNCTION, checks_of, name_in
+from plain_checks import FUNCTION, checked_text, checks_of, name_in
 from plain_premises import HOLDS, Scope, condition
 from plain_text import plain_text
 from plain_words import Meaning, Source, sources_of
@@ -131,6 +133,120 @@ def conditions(rows, _):
         rows.say(f'the premise {premise}', [f'{said}, not {wanted}'] * (said != wanted))
 
 
+# Functions of a source, and what is written of them: `feed` is called seldom, `read` isn't, `all`
+# has a loop, and `own` isn't public.
+PLAIN = '''impl Bank {
+    /// Takes a run.
+    pub fn feed(&mut self, n: u64)
+        // requires few { n ≤ 8 }
+        // requires sound { IsSound n self.old }
+    {
+    }
+
+    /// Reads at a place.
+    pub fn read(&self, list: &[u8], at: usize) -> u8
+        // requires { at < length list.now }
+    {
+        list[at]
+    }
+
+    /// Sums up.
+    pub fn all(&self, list: &[u8], n: usize)
+        // requires within { n ≤ length list.now }
+        // requires begun { n ≤ time_of self.now }
+        // requires small { n < 2 ^ 64 }
+    {
+        for _ in 0..n {}
+    }
+
+    fn own(&self, n: u64)
+        // requires { n ≤ 8 }
+    {
+    }
+}
+'''
+CHECKED = '''impl Bank {
+    /// Takes a run.
+    ///
+    /// # Panics
+    ///
+    /// Panics if `n ≤ 8` isn't so.
+    ///
+    /// The caller sees to `IsSound n self.old`, which isn't checked.
+    ///
+    /// # Contract
+    /// ```text
+    /// requires few { n ≤ 8 }
+    /// requires sound { IsSound n self.old }
+    /// ```
+    pub fn feed(&mut self, n: u64)
+        // requires few { n ≤ 8 }
+        // requires sound { IsSound n self.old }
+    {
+        assert!(n <= 8, "Bank::feed requires n ≤ 8");
+    }
+
+    /// Reads at a place.
+    ///
+    /// # Panics
+    ///
+    /// A debug build panics if `at < length list.now` isn't so.
+    ///
+    /// # Contract
+    /// ```text
+    /// requires { at < length list.now }
+    /// ```
+    pub fn read(&self, list: &[u8], at: usize) -> u8
+        // requires { at < length list.now }
+    {
+        debug_assert!(at < list.len(), "Bank::read requires at < length list.now");
+        list[at]
+    }
+
+    /// Sums up.
+    ///
+    /// # Panics
+    ///
+    /// Panics if `n ≤ length list.now` isn't so.
+    ///
+    /// A debug build panics if `n ≤ time_of self.now` isn't so.
+    ///
+    /// # Contract
+    /// ```text
+    /// requires within { n ≤ length list.now }
+    /// requires begun { n ≤ time_of self.now }
+    /// requires small { n < 2 ^ 64 }
+    /// ```
+    pub fn all(&self, list: &[u8], n: usize)
+        // requires within { n ≤ length list.now }
+        // requires begun { n ≤ time_of self.now }
+        // requires small { n < 2 ^ 64 }
+    {
+        assert!(n <= list.len(), "Bank::all requires n ≤ length list.now");
+        debug_assert!(
+            (n as u128) <= (self.time() as u128),
+            "Bank::all requires n ≤ time_of self.now",
+        );
+        for _ in 0..n {}
+    }
+
+    fn own(&self, n: u64)
+        // requires { n ≤ 8 }
+    {
+        debug_assert!(n <= 8);
+    }
+}
+'''
+
+
+def checks(rows, _):
+    """What functions require is checked and documented so."""
+    said = checked_text(PLAIN, replace(SCOPE.source, exported=frozenset(['Bank'])))
+    pairs = zip_longest(said.split('\n'), CHECKED.split('\n'))
+    rows.say('checks of what functions require',
+             [f'{one!r}, not {other!r}' for one, other in pairs if one != other][:1])
+
+
 def read_sources():
     """The sources of all crates, by crate and module."""
     crates = {}
@@ -194,4 +310,4 @@ def texts(rows, folder):
         rows.say(f'tools/plain, sources with {other!r} for {text!r}', faults)
 
 
-ROWS = (conditions, all_checked, texts)
+ROWS = (conditions, checks, all_checked, texts)
