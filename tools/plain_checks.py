@@ -21,8 +21,8 @@ LANES = re.compile(r'\b[iu]\d+x\d+\b')
 MOST_COLUMNS = 100
 
 # Functions that are called for a whole run, command, dump or bit at most, by their names.
-SELDOM = ('check', 'command', 'encode', 'feed', 'feed_into', 'follow', 'measure', 'new', 'pack',
-          'push', 'run_shares', 'run_to', 'start', 'start_after', 'steer', 'take', 'word')
+SELDOM = ('check', 'command', 'encode', 'feed', 'follow', 'measure', 'new', 'pack', 'push',
+          'run_shares', 'run_to', 'start', 'start_after', 'steer', 'take', 'word')
 
 # What a documentation says of premises: of one, and before several.
 ALWAYS_PANICS = 'Panics if {} isn\'t so.', 'Panics if one of these isn\'t so:'

@@ -12,7 +12,6 @@ NUMBER = re.compile(r'[ui](?:8|16|32|64)\b|usize\b')
 # Methods that premises need beside those of the sources: the type, what is said of its value `_`,
 # the method, its type, and its body. Where a source has a method of that name by now, none is added.
 READERS = [
-    ('PackedSamples', '_.packing', 'format', 'Format', 'self.format'),
     ('SampleHistory', 'taken_of _', 'taken', 'u64', 'self.taken'),
     ('SampleHistory', 'first_of _', 'first_held', 'u64', 'self.first()'),
     ('Search', 'start_of _', 'dwell_start', 'u64', 'self.dwell.start'),
@@ -27,6 +26,7 @@ READERS = [
     ('Held', 'next_dump _', 'next_dump', 'u64', 'self.follower.ends()'),
     ('Tracked', 'taken_of _', 'taken', 'u64', 'self.follower.taken()'),
     ('Tracked', 'next_dump _', 'next_dump', 'u64', 'self.follower.ends()'),
+    ('Timeline', 'count_of _', 'count', 'usize', 'self.events.len()'),
     ('Message', 'bit_count _', 'bit_count', 'u64', 'self.frames.pushed()'),
     ('LockedMessage', 'bit_count _', 'bit_count', 'u64',
      'self.message.as_ref().map_or(0, Message::bit_count)'),

@@ -6,7 +6,7 @@ from __future__ import annotations
 
 import argparse
 import re
-from typing import Callable
+from typing import Callable, List, Set
 
 from seldomplough.failures import shown
 
@@ -52,3 +52,32 @@ def offset(word: str) -> int:
 
     Here a sign is allowed. The receiver itself takes `--offset 5000 --minus` for -5000."""
     return integer(-GREATEST_RATE // 2, GREATEST_RATE // 2)(word)
+
+
+DECIMAL = re.compile(r'-?[0-9]{1,6}(\.[0-9]{1,6})?')
+
+
+def decimal(low: float, high: float) -> Callable[[str], float]:
+    """A type of argparse: a decimal number from `low` to `high`, both included."""
+
+    def take(word: str) -> float:
+        if not DECIMAL.fullmatch(word):
+            raise argparse.ArgumentTypeError(f"'{shown(word)}' is no decimal number")
+        value = float(word)
+        if not low <= value <= high:
+            raise argparse.ArgumentTypeError(f'{value:g} is outside {low:g} to {high:g}')
+        return value
+
+    return take
+
+
+def satellites(word: str) -> List[int]:
+    """The numbers of satellites in a list such as `1,5,8-12`, in their order."""
+    take = integer(1, 32)
+    numbers: Set[int] = set()
+    for part in word.split(','):
+        first, dash, last = part.partition('-')
+        numbers.update(range(take(first), take(last if dash else first) + 1))
+    if not numbers:
+        raise argparse.ArgumentTypeError(f"'{shown(word)}' has no satellite")
+    return sorted(numbers)

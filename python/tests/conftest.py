@@ -4,9 +4,11 @@ from __future__ import annotations
 
 import io
 import os
+import shutil
 import subprocess
 import sys
-from typing import Any, Callable, NamedTuple
+from pathlib import Path
+from typing import Any, Callable, Dict, NamedTuple
 
 import pytest
 
@@ -76,3 +78,29 @@ def expected_lines() -> str:
                 texts.append(file.read())
     assert len(texts) == 8
     return ''.join(texts)
+
+
+@pytest.fixture(scope='session')
+def plain() -> Dict[str, str]:
+    """The words that name the programs of the checkout, built as plain Rust."""
+    if shutil.which('cargo') is None:
+        pytest.skip('cargo is not in the PATH, so that the programs cannot be built')
+    words = {}
+    for name, crate in (('receiver', 'receiver_cli'), ('pack', 'packer_cli')):
+        ran = subprocess.run(
+            [os.path.join(TOP, 'tools', 'build'), crate, name],
+            env={**os.environ, 'RECEIVER_PLAIN': '1'},
+            stdin=subprocess.DEVNULL,
+            stdout=subprocess.PIPE,
+            check=True,
+        )
+        words[f'--{name}'] = os.fsdecode(ran.stdout).rstrip('\n')
+    return words
+
+
+def program(folder: Path, name: str, text: str) -> str:
+    """The path of a stand-in for a program: a script of the shell."""
+    path = folder / name
+    path.write_text(f'#!/bin/sh\n{text}\n')
+    path.chmod(0o755)
+    return str(path)

@@ -3,9 +3,11 @@
 from __future__ import annotations
 
 import argparse
+import os
 from typing import TYPE_CHECKING
 
 from seldomplough import numbers
+from seldomplough.scripts import Search
 
 if TYPE_CHECKING:
     Subparsers = argparse._SubParsersAction[argparse.ArgumentParser]
@@ -26,3 +28,41 @@ def add_lines(parser: argparse.ArgumentParser) -> None:
 def add_rate(parser: argparse.ArgumentParser, what: str = 'adds the time in seconds') -> None:
     """The samples a second, without which there are no seconds."""
     parser.add_argument('--rate', type=numbers.rate, metavar='HZ', help=f'samples a second; {what}')
+
+
+def add_search(
+    parser: argparse.ArgumentParser, usual: Search, threshold: str = 'threshold'
+) -> None:
+    """What a search asks for. `threshold` is the name of that word."""
+    for name, low, high, value, what in (
+        ('bins', 0, 40, usual.bins, 'bins of 250 Hz to each side of the centre'),
+        ('ms', 1, 10, usual.periods, 'milliseconds of samples that are added up'),
+        (threshold, 1, 1000, usual.threshold, 'tenths of the mean power, from which it is found'),
+    ):
+        parser.add_argument(
+            f'--{name}',
+            type=numbers.integer(low, high),
+            default=value,
+            metavar='N',
+            help=f'{what}, {low} to {high}; {value} if not given',
+        )
+
+
+def add_programs(parser: argparse.ArgumentParser, pack: bool = True) -> None:
+    """The files of the programs."""
+    for name in ('receiver', 'pack') if pack else ('receiver',):
+        parser.add_argument(
+            f'--{name}', metavar='FILE', help=f'the program {name}, where another is wanted'
+        )
+
+
+def add_jobs(parser: argparse.ArgumentParser) -> None:
+    """How many programs run at once."""
+    count = len(os.sched_getaffinity(0)) if hasattr(os, 'sched_getaffinity') else os.cpu_count()
+    parser.add_argument(
+        '--jobs',
+        type=numbers.integer(1, 256),
+        default=min(count or 1, 256),
+        metavar='N',
+        help='runs at once; one for each processor if not given',
+    )

@@ -2,7 +2,7 @@
 //! a panic that names it.
 
 use bit_sync::BitSync;
-use channel_slots::Bank;
+use channel_slots::{Bank, Timeline};
 use lane_correlator::Counts;
 use oscillators::Settings;
 use sample_planes::{Format, PackedSamples, Planes};
@@ -29,7 +29,7 @@ fn sums(of_each: i32) -> Counts {
 
 #[test]
 fn as_much_as_may_be() {
-    bank().feed(&PackedSamples::new(Format::Real1, &[0; 128]));
+    bank().feed(&PackedSamples::new(Format::Real1, &[0; 128]), &mut Timeline::new());
     BitSync::new().push(-(1 << 18));
     Loops::start(1 << 30).take(sums(1 << 18));
     nav_parity::check((1 << 30) - 1, 3);
@@ -39,13 +39,13 @@ fn as_much_as_may_be() {
 #[should_panic(expected = "Bank::feed requires length run.now.samples ≤ MAX_SAMPLES")]
 fn a_run_of_1025_samples() {
     let run = PackedSamples::new(Format::Real1, &[0; 129]).part(0, 1_025);
-    bank().feed(&run);
+    bank().feed(&run, &mut Timeline::new());
 }
 
 #[test]
 #[should_panic(expected = "Bank::feed requires run.now.packing ≡ (settings_of self.old).packing")]
 fn a_run_in_another_packing() {
-    bank().feed(&PackedSamples::new(Format::Iq2, &[0; 128]));
+    bank().feed(&PackedSamples::new(Format::Iq2, &[0; 128]), &mut Timeline::new());
 }
 
 #[test]

@@ -1,0 +1,86 @@
+"""Makes recordings: the bytes of `benchmarks/maker`, in other kinds of values."""
+
+from __future__ import annotations
+
+import os
+import shutil
+import subprocess
+from array import array
+from functools import lru_cache
+from typing import Tuple
+
+import pytest
+from conftest import TOP
+
+MAKER = os.path.join(TOP, 'benchmarks', 'maker')
+RATE = 2048000
+# Satellite, Doppler shift in Hz, half chip, C/N0 in dB-Hz, and periods of its message.
+SATELLITES = ('3:1250:700:48:0', '6:-2100:67:47:3', '17:3300:1510:47:5')
+SHIFTS = {3: 1250, 6: -2100, 17: 3300}
+
+
+@lru_cache(maxsize=None)
+def maker() -> str:
+    """The path of the maker, which is built where it isn't."""
+    if shutil.which('cargo') is None:
+        pytest.skip('cargo is not in the PATH, so that recordings cannot be made')
+    words = ['cargo', 'build', '--release', '--quiet', '--offline']
+    subprocess.run(words, cwd=MAKER, check=True)
+    return os.path.join(MAKER, 'target', 'release', 'maker')
+
+
+@lru_cache(maxsize=None)
+def made(
+    offset: int = 0,
+    kind: str = 'iq-i8',
+    rate: int = RATE,
+    seconds: float = 2,
+    satellites: Tuple[str, ...] = SATELLITES,
+) -> bytes:
+    """Signed bytes of a made recording: noise with a deviation of 20, and satellites."""
+    words = ['--samples', str(int(rate * seconds)), '--rate', str(rate), '--offset', str(offset)]
+    command = [maker(), *words, '--kind', kind, *satellites]
+    return subprocess.run(command, stdout=subprocess.PIPE, check=True).stdout
+
+
+def scaled(data: bytes, factor: float, added: int = 0) -> bytes:
+    """Signed bytes times a factor and with a mean, clipped at the ends of the range."""
+    values = (round(factor * it) + added for it in array('b', data))
+    return array('b', (max(-128, min(127, it)) for it in values)).tobytes()
+
+
+def unsigned(data: bytes) -> bytes:
+    """Signed bytes as unsigned ones about 128."""
+    return bytes(it ^ 128 for it in data)
+
+
+def words16(data: bytes, order: str) -> bytes:
+    """Signed bytes times 100 as numbers of 16 bits."""
+    values = [(100 * it).to_bytes(2, 'little', signed=True) for it in range(-128, 128)]
+    ordered = values if order == 'little' else [it[::-1] for it in values]
+    return b''.join(ordered[it + 128] for it in array('b', data))
+
+
+def floats(data: bytes) -> bytes:
+    """Signed bytes over 128 as floats."""
+    return array('f', [it / 128 for it in array('b', data)]).tobytes()
+
+
+def conjugate(data: bytes) -> bytes:
+    """Pairs of signed bytes with their spectrum turned round."""
+    values = array('b', data)
+    values[1::2] = array('b', [min(127, -it) for it in values[1::2]])
+    return values.tobytes()
+
+
+def bits(data: bytes, width: int, code: Tuple[int, int, int, int]) -> bytes:
+    """Bits of signed bytes, the earliest in the low ones: the codes of +1, +3, -1 and -3."""
+
+    def coded(it: int) -> int:
+        return code[2 * (it < 0) + (abs(it) > 20)]
+
+    table = bytes(coded(it - 256 if it > 127 else it) for it in range(256))
+    codes = data.translate(table)
+    places = 8 // width
+    rows = zip(*(codes[at::places] for at in range(places)))
+    return bytes(sum(it << width * at for at, it in enumerate(row)) for row in rows)
