@@ -176,8 +176,8 @@ impl<'a> Session<'a> {
     }
 }
 
-/// A timeline without events, on the heap. It stands apart, so that it is on the stack for no longer
-/// than it takes to move it.
+/// A timeline without events, on the heap. It stands apart, so that it is on the stack for no
+/// longer than it takes to move it.
 #[cold]
 #[inline(never)]
 fn boxed_timeline(alloc: Global) -> Result<Box<Timeline>, AllocError> {
