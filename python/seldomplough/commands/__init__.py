@@ -2,7 +2,8 @@
 
 from __future__ import annotations
 
-from seldomplough.commands import answers, cn0, crystal, csv, doctor, frames, json, search, sky
+from seldomplough.commands import answers, cn0, crystal, csv, doctor, frames, json, merge, search
+from seldomplough.commands import sky
 
-MODULES = (json, csv, frames, answers, cn0, search, sky, doctor, crystal)
+MODULES = (json, csv, frames, answers, cn0, search, sky, doctor, crystal, merge)
 """All commands, in the order of the help. A new one is one import and one name here."""
