@@ -3,7 +3,7 @@
 from __future__ import annotations
 
 from seldomplough.commands import answers, cn0, crystal, csv, doctor, frames, json, merge, search
-from seldomplough.commands import sky
+from seldomplough.commands import sigmf, sky, ubx
 
-MODULES = (json, csv, frames, answers, cn0, search, sky, doctor, crystal, merge)
+MODULES = (json, csv, frames, answers, cn0, search, sky, doctor, crystal, merge, ubx, sigmf)
 """All commands, in the order of the help. A new one is one import and one name here."""
