@@ -2,8 +2,22 @@
 
 from __future__ import annotations
 
-from seldomplough.commands import answers, cn0, crystal, csv, doctor, frames, json, merge, search
-from seldomplough.commands import sigmf, sky, ubx
+from seldomplough.commands import answers, cn0, crystal, csv, doctor, frames, json, merge
+from seldomplough.commands import rinex_check, search, sigmf, sky, ubx
 
-MODULES = (json, csv, frames, answers, cn0, search, sky, doctor, crystal, merge, ubx, sigmf)
+MODULES = (
+    json,
+    csv,
+    frames,
+    answers,
+    cn0,
+    search,
+    sky,
+    doctor,
+    crystal,
+    merge,
+    ubx,
+    sigmf,
+    rinex_check,
+)
 """All commands, in the order of the help. A new one is one import and one name here."""
