@@ -18,12 +18,23 @@ from seldomplough.failures import WORDS, ClosedPipe, Failure, one_line
 NAME = 'seldomplough'
 
 
+class Formatter(argparse.RawDescriptionHelpFormatter):
+    """Shows descriptions as they are, and the help of a command beside its name."""
+
+    def add_argument(self, action: argparse.Action) -> None:
+        """Adds a word. argparse forgets that the names of commands are indented further."""
+        super().add_argument(action)
+        if isinstance(action, argparse._SubParsersAction):
+            longest = max(map(len, action.choices))
+            self._action_max_length = max(self._action_max_length, longest + 4)
+
+
 class Parser(argparse.ArgumentParser):
     """A parser that fails as all else does, and takes no option by a part of its name."""
 
     def __init__(self, **options: object) -> None:
         options.setdefault('allow_abbrev', False)
-        options.setdefault('formatter_class', argparse.RawDescriptionHelpFormatter)
+        options.setdefault('formatter_class', Formatter)
         super().__init__(**options)  # type: ignore[arg-type]
 
     def error(self, message: str) -> NoReturn:
