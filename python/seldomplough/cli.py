@@ -10,7 +10,7 @@ import io
 import os
 import signal
 import sys
-from typing import NoReturn, Optional, Sequence
+from typing import List, NoReturn, Optional, Sequence
 
 from seldomplough import __version__, commands, files
 from seldomplough.failures import WORDS, ClosedPipe, Failure, one_line
@@ -41,6 +41,17 @@ class Parser(argparse.ArgumentParser):
         """Raises a failure instead of printing the usage."""
         command = self.prog[len(NAME) + 1 :]
         raise Failure(f'{command}: {message}' if command else message, WORDS)
+
+    def _match_arguments_partial(
+        self, actions: Sequence[argparse.Action], arg_strings_pattern: str
+    ) -> List[int]:
+        """How many words each positional takes. Options may stand between these.
+
+        argparse itself gives the optional last one no word as soon as an option (O) follows."""
+        counts: List[int] = super()._match_arguments_partial(actions, arg_strings_pattern)
+        while counts and counts[-1] == 0 and 'O' in arg_strings_pattern:
+            counts.pop()
+        return counts
 
     def _print_message(self, message: str, file: object = None) -> None:
         """Prints help and the version as all else is written."""

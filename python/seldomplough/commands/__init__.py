@@ -2,7 +2,7 @@
 
 from __future__ import annotations
 
-from seldomplough.commands import answers, cn0, crystal, csv, doctor, frames, json, merge
+from seldomplough.commands import answers, cn0, crystal, csv, doctor, frames, json, merge, plots
 from seldomplough.commands import rinex_check, search, sigmf, sky, ubx
 
 MODULES = (
@@ -19,5 +19,6 @@ MODULES = (
     ubx,
     sigmf,
     rinex_check,
+    plots,
 )
 """All commands, in the order of the help. A new one is one import and one name here."""
