@@ -3,7 +3,7 @@
 from __future__ import annotations
 
 from seldomplough.commands import answers, cn0, crystal, csv, doctor, frames, json, merge, plots
-from seldomplough.commands import rinex_check, search, sigmf, sky, ubx
+from seldomplough.commands import rinex_check, search, sigmf, sky, ubx, watch
 
 MODULES = (
     json,
@@ -20,5 +20,6 @@ MODULES = (
     sigmf,
     rinex_check,
     plots,
+    watch,
 )
 """All commands, in the order of the help. A new one is one import and one name here."""
