@@ -42,8 +42,12 @@ def _is_terminal(sink: Sink) -> bool:
 
 
 def text_lines(columns: Sequence[str], rows: Sequence[Sequence[str]]) -> List[str]:
-    """The lines of a table: columns side by side, their values on the right."""
-    whole: List[Sequence[str]] = [columns, *rows]
+    """The lines of a table: columns side by side, their values on the right.
+
+    A name of a column may have two lines, which are then two lines of the table."""
+    names = [it.partition('\n') for it in columns]
+    heads = [[it[at] for it in names] for at in (0, 2)]
+    whole = [*(it for it in heads if any(it)), *rows]
     widths = [max(map(len, column)) for column in zip(*whole)]
     return ['  '.join(it.rjust(width) for it, width in zip(row, widths)) for row in whole]
 
@@ -115,10 +119,10 @@ class Rich:
 
     def show(self, head: str, columns: Sequence[str], rows: Sequence[Sequence[str]]) -> None:
         """Draws a table in the place of the one before."""
-        table = self.module.table.Table(title=head, title_justify='left')
+        table = self.module.table.Table(title=head, title_justify='left', box=None, pad_edge=False)
         for name in columns:
             # Names have brackets, which rich would take for a style.
-            table.add_column(name.replace('[', r'\['), justify='right')
+            table.add_column(name.replace('[', r'\['), justify='right', no_wrap=True)
         for row in rows:
             table.add_row(*row)
         try:

@@ -9,9 +9,10 @@ from seldomplough.cn0 import FEWEST, Estimator
 from seldomplough.lines import Acq, Bits, Count, End, Err, Line, Lock, Lost, Satellites, SlotLine
 from seldomplough.lines import State, StateAcquire, StateTrack, Sub, Unlock
 
+# The columns of a table, each with its unit on a second line.
 COLUMNS = (
-    'client', 'slot', 'satellite', 'state', 'loops', 'Doppler [Hz]', 'dumps', 'subframe',
-    'next at [s]', 'C/N0 [dB-Hz]',
+    'client', 'slot', 'satellite', 'state', 'loops', 'Doppler\n[Hz]', 'dumps', 'sub-\nframe',
+    'next at\n[s]', 'C/N0\n[dB-Hz]',
 )  # fmt: skip
 Row = Tuple[str, ...]
 
@@ -61,11 +62,14 @@ class Slots:
         """Takes the next line."""
         self.lines += 1
         self.time = line.time
-        self.refused += isinstance(line, Err)
-        self.ended += isinstance(line, End)
         satellite = self.satellites.feed(line)
-        if isinstance(line, SlotLine):
-            slot = self.slots.setdefault((line.client, line.slot), Slot())
+        if not isinstance(line, SlotLine):
+            self.refused += isinstance(line, Err)
+            self.ended += isinstance(line, End)
+        else:
+            slot = self.slots.get((line.client, line.slot))
+            if slot is None:
+                slot = self.slots[line.client, line.slot] = Slot()
             if satellite is not None and slot.satellite not in (None, satellite):
                 slot.forget()
             slot.satellite = satellite
@@ -77,12 +81,12 @@ class Slots:
         elif isinstance(line, State):
             _take_state(slot, line)
         elif isinstance(line, Acq):
-            slot.rest('track' if line.found else 'none found')
+            slot.rest('track' if line.found else 'none')
         elif isinstance(line, Lost):
             slot.rest('lost')
         elif isinstance(line, Sub):
             damaged = line.words.count(None)
-            slot.subframe = f'{line.id}, {damaged} damaged' if damaged else str(line.id)
+            slot.subframe = f'{line.id}, {damaged} bad' if damaged else str(line.id)
             slot.next_subframe_s = line.next_subframe_s
         elif line.kind in LOOPS:
             slot.state, slot.loops = 'track', LOOPS[line.kind]

@@ -11,6 +11,7 @@ from conftest import EXAMPLES, NAMES, Command, refused
 
 from seldomplough import files, merging
 from seldomplough.failures import Failure
+from seldomplough.programs import RECEIVER, find
 
 RUN = '1 0 state 0 idle\n1 5 state 1 idle\n1 8 lost 1\n1 10 end\n'
 OTHER = '2 5 bits 1\n1 5 ok\n1 10 end\n2 10 end\n'
@@ -155,3 +156,23 @@ def test_stored_lines_are_taken_as_they_are(run: Command) -> None:
         path = os.path.join(EXAMPLES, name)
         with open(path, encoding='ascii') as file:
             assert run('merge', path) == (0, file.read(), '')
+
+
+def test_clients_of_two_processes_print_the_lines_of_one(
+    run: Command, here: Callable[..., None]
+) -> None:
+    # The second answer of the first client comes at the time of the third client's first count.
+    here(others='0 hold 3 3 -1750 826\n1222 state 3\n1222 counts 3 4\n5000 wait\n')
+    program = find(RECEIVER).path
+    scripts = [os.path.join(EXAMPLES, f'{it}.script') for it in ('real_message', 'track_message')]
+    with open(os.path.join(EXAMPLES, 'real_message.real1'), 'rb') as file:
+        samples = file.read()
+    texts = []
+    for chosen in (['others', *scripts], ['others'], scripts):
+        words = [program, '--offset', '511500', *chosen]
+        outcome = subprocess.run(words, input=samples, capture_output=True, check=True)
+        texts.append(outcome.stdout.decode())
+    one, first, second = texts
+    here(first=first, second=second)
+    assert one.count('\n') == 36 and ' count 3 ' in one and ' err 5\n' in one
+    assert run('merge', 'first', 'second') == (0, one, '')

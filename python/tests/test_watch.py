@@ -31,14 +31,15 @@ def row(text: str, rate: int = 2046000) -> Dict[str, str]:
     for line in lines.read([text]):
         slots.feed(line)
     [values] = slots.rows()
-    return {name: it for name, it in zip(COLUMNS[2:], values[2:]) if it != '-'}
+    names = [it.replace('-\n', '').replace('\n', ' ') for it in COLUMNS]
+    return {name: it for name, it in zip(names[2:], values[2:]) if it != '-'}
 
 
 @pytest.mark.parametrize(
     'text, known',
     [
         ('1 5 acq 0 3 found 1 2 3', {'satellite': '3', 'state': 'track'}),
-        ('1 5 acq 0 3 none 1 2 3', {'satellite': '3', 'state': 'none found'}),
+        ('1 5 acq 0 3 none 1 2 3', {'satellite': '3', 'state': 'none'}),
         ('1 5 state 0 acquire 3 1 4', {'satellite': '3', 'state': 'search 25 %'}),
         ('1 5 state 0 hold 3 7', {'satellite': '3', 'state': 'hold', 'dumps': '7'}),
         ('1 5 state 0 idle', {'state': 'idle'}),
@@ -49,7 +50,7 @@ def row(text: str, rate: int = 2046000) -> Dict[str, str]:
         (f'1 5 sub 0 1 100 {WORDS}', {'subframe': '1', 'next at [s]': '600'}),
         (
             f'1 5 sub 0 1 100 {WORDS}'.replace('dd9255', '------').replace('8b0114', '------'),
-            {'subframe': '1, 2 damaged', 'next at [s]': '600'},
+            {'subframe': '1, 2 bad', 'next at [s]': '600'},
         ),
     ],
 )
@@ -96,12 +97,10 @@ def test_the_table_of_what_is_no_terminal(run: Command) -> None:
     assert outcome == (
         0,
         '2.000 s, 5 lines, 1 commands refused, 2 clients at their end\n'
-        'client  slot  satellite  state  loops  Doppler [Hz]  dumps  subframe  next at [s]'
-        '  C/N0 [dB-Hz]\n'
-        '     1     0          3  track   open          -1.0   1000         -            -'
-        '             -\n'
-        '     2     7          -  track   lock             -      -         -            -'
-        '             -\n',
+        'client  slot  satellite  state  loops  Doppler  dumps   sub-  next at     C/N0\n'
+        '                                          [Hz]         frame      [s]  [dB-Hz]\n'
+        '     1     0          3  track   open     -1.0   1000      -        -        -\n'
+        '     2     7          -  track   lock        -      -      -        -        -\n',
         '',
     )
     assert run('watch', '--rate', '4092000', given=text.encode()).said.startswith('1.000 s, ')
