@@ -6,11 +6,10 @@ import json
 import math
 from typing import Any, Dict, List, NamedTuple, NoReturn
 
+from seldomplough.crystals import CARRIER
 from seldomplough.failures import Failure, shown
 from seldomplough.numbers import GREATEST_RATE, LEAST_RATE
 
-# The frequency of L1, in Hz.
-CARRIER = 1575420000
 # What pack calls the numbers of a core:datatype, after its first letter.
 NUMBERS = {'u8': 'u8', 'i8': 'i8', 'i16_le': 'i16', 'i16_be': 'i16be', 'f32_le': 'f32'}
 # More bytes than metadata has, and more digits than one of its numbers has.

@@ -2,8 +2,8 @@
 
 from __future__ import annotations
 
-from seldomplough.commands import answers, cn0, crystal, csv, doctor, frames, json, merge, plots
-from seldomplough.commands import rinex_check, search, sigmf, sky, ubx, watch
+from seldomplough.commands import answers, cn0, crystal, csv, doctor, frames, json, made, merge
+from seldomplough.commands import plots, rinex_check, search, sigmf, sky, ubx, watch
 
 MODULES = (
     json,
@@ -21,5 +21,6 @@ MODULES = (
     rinex_check,
     plots,
     watch,
+    made,
 )
 """All commands, in the order of the help. A new one is one import and one name here."""
