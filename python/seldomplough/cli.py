@@ -10,7 +10,7 @@ import io
 import os
 import signal
 import sys
-from typing import NoReturn, Optional, Sequence
+from typing import List, NoReturn, Optional, Sequence
 
 from seldomplough import __version__, commands, files
 from seldomplough.failures import WORDS, ClosedPipe, Failure, one_line
@@ -18,18 +18,40 @@ from seldomplough.failures import WORDS, ClosedPipe, Failure, one_line
 NAME = 'seldomplough'
 
 
+class Formatter(argparse.RawDescriptionHelpFormatter):
+    """Shows descriptions as they are, and the help of a command beside its name."""
+
+    def add_argument(self, action: argparse.Action) -> None:
+        """Adds a word. argparse forgets that the names of commands are indented further."""
+        super().add_argument(action)
+        if isinstance(action, argparse._SubParsersAction):
+            longest = max(map(len, action.choices))
+            self._action_max_length = max(self._action_max_length, longest + 4)
+
+
 class Parser(argparse.ArgumentParser):
     """A parser that fails as all else does, and takes no option by a part of its name."""
 
     def __init__(self, **options: object) -> None:
         options.setdefault('allow_abbrev', False)
-        options.setdefault('formatter_class', argparse.RawDescriptionHelpFormatter)
+        options.setdefault('formatter_class', Formatter)
         super().__init__(**options)  # type: ignore[arg-type]
 
     def error(self, message: str) -> NoReturn:
         """Raises a failure instead of printing the usage."""
         command = self.prog[len(NAME) + 1 :]
         raise Failure(f'{command}: {message}' if command else message, WORDS)
+
+    def _match_arguments_partial(
+        self, actions: Sequence[argparse.Action], arg_strings_pattern: str
+    ) -> List[int]:
+        """How many words each positional takes. Options may stand between these.
+
+        argparse itself gives the optional last one no word as soon as an option (O) follows."""
+        counts: List[int] = super()._match_arguments_partial(actions, arg_strings_pattern)
+        while counts and counts[-1] == 0 and 'O' in arg_strings_pattern:
+            counts.pop()
+        return counts
 
     def _print_message(self, message: str, file: object = None) -> None:
         """Prints help and the version as all else is written."""

@@ -100,7 +100,7 @@ def read(name: Optional[str] = None) -> Iterator[Source]:
         yield Source(cast(BufferedReader, sys.stdin.buffer), STANDARD_INPUT)
         return
     try:
-        stream = open(_path(name), 'rb')
+        stream = open(path(name), 'rb')
     except OSError as why:
         raise of_system(name, why) from why
     with stream:
@@ -134,13 +134,13 @@ def _sink(name: Optional[str], mode: str) -> Sink:
             raise Failure(f'{STANDARD_OUTPUT} is closed')
         return Sink(sys.stdout, STANDARD_OUTPUT, is_standard=True)
     try:
-        stream = cast(TextIO, open(_path(name), mode, encoding='utf-8', newline=''))
+        stream = cast(TextIO, open(path(name), mode, encoding='utf-8', newline=''))
     except OSError as why:
         raise of_system(name, why) from why
     return Sink(stream, name)
 
 
-def _path(name: str) -> str:
+def path(name: str) -> str:
     """A name as the system takes it: it can't be empty or have a null byte."""
     if not name or '\0' in name:
         raise Failure(f'{name!r} is no name of a file')
@@ -150,7 +150,7 @@ def _path(name: str) -> str:
 def folder(name: str) -> str:
     """A folder of a name, made with those above it where they aren't there."""
     try:
-        os.makedirs(_path(name), exist_ok=True)
+        os.makedirs(path(name), exist_ok=True)
     except OSError as why:
         raise of_system(name, why) from why
     return name

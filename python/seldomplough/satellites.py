@@ -1,8 +1,9 @@
-"""The satellite of a slot, from the lines before."""
+"""The satellite of a slot, from the lines before, and from those after where they are there."""
 
 from __future__ import annotations
 
-from typing import Dict, Optional, Tuple
+from collections import deque
+from typing import Deque, Dict, Generic, Iterable, Iterator, List, Optional, Tuple, Type, TypeVar
 
 from seldomplough.bases import Line, SlotLine
 from seldomplough.events import Acq, Lost
@@ -44,3 +45,50 @@ class Satellites:
             self.known.pop(place, None)
         else:
             self.known[place] = satellite
+
+
+S = TypeVar('S', bound=SlotLine)
+
+
+class _Waiting(Generic[S]):
+    """A line whose satellite is settled by the next line that says what its slot does."""
+
+    def __init__(self, line: S, before: Optional[int]) -> None:
+        self.line = line
+        self.named = {before} - {None}
+        self.is_settled = False
+
+    def settle(self, after: Optional[int] = None) -> None:
+        """Takes the satellite that is named after the line, or None."""
+        self.named |= {after} - {None}
+        self.is_settled = True
+
+    @property
+    def satellite(self) -> Optional[int]:
+        """The satellite, None where none is named or where there are two."""
+        return next(iter(self.named)) if len(self.named) == 1 else None
+
+
+def with_satellites(lines: Iterable[Line], kind: Type[S]) -> Iterator[Tuple[S, Optional[int]]]:
+    """The lines of a kind, in their order, each with its satellite or None.
+
+    It is the one that the lines before say, as `Satellites` does, or else the one that the next
+    `acq`, `lost` or `state` line of the slot names by saying that the slot tracks or holds it. It
+    isn't known where these are two."""
+    satellites = Satellites()
+    waiting: Deque[_Waiting[S]] = deque()
+    of_slots: Dict[Tuple[int, int], List[_Waiting[S]]] = {}
+    for line in lines:
+        before = satellites.feed(line)
+        if isinstance(line, kind):
+            it = _Waiting(line, before)
+            waiting.append(it)
+            of_slots.setdefault((line.client, line.slot), []).append(it)
+        elif isinstance(line, (Acq, Lost, State)):
+            after = line.satellite if isinstance(line, (StateHold, StateTrack)) else None
+            for it in of_slots.pop((line.client, line.slot), ()):
+                it.settle(after)
+        while waiting and waiting[0].is_settled:
+            first = waiting.popleft()
+            yield first.line, first.satellite
+    yield from ((it.line, it.satellite) for it in waiting)

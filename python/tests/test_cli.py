@@ -48,6 +48,22 @@ def test_words_that_are_refused(run: Command) -> None:
     refused(run('json', 'a', 'b'), 2, 'b')
 
 
+def test_options_may_stand_anywhere(run: Command, tmp_path: os.PathLike[str]) -> None:
+    script, lines = (os.path.join(tmp_path, it) for it in ('script', 'lines'))
+    for path, text in ((script, '5 state 1\n'), (lines, '2 5 state 1 idle\n')):
+        with open(path, 'w', encoding='ascii') as file:
+            file.write(text)
+    words, client = [script, lines], ['--client', '2']
+    for at in range(3):
+        outcome = run('answers', *words[:at], *client, *words[at:])
+        assert outcome == (0, '1: 5 state 1 -> state 1 idle\n', '')
+    for at in range(2):
+        outcome = run('answers', *words[:at], *client, *words[at:1], given=b'2 5 state 1 idle\n')
+        assert outcome == (0, '1: 5 state 1 -> state 1 idle\n', '')
+    assert run('answers', script, *client, '--', lines).status == 0
+    refused(run('answers', script, *client, lines, 'x'), 2, 'x')
+
+
 def test_a_failure_is_one_line(run: Command, monkeypatch: pytest.MonkeyPatch) -> None:
     def fail(arguments: Any) -> int:
         raise Failure('a\nb\x1b\udcff\u20ac', 7)

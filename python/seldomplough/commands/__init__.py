@@ -2,7 +2,25 @@
 
 from __future__ import annotations
 
-from seldomplough.commands import answers, cn0, crystal, csv, doctor, frames, json, search, sky
+from seldomplough.commands import answers, cn0, crystal, csv, doctor, frames, json, made, merge
+from seldomplough.commands import plots, rinex_check, search, sigmf, sky, ubx, watch
 
-MODULES = (json, csv, frames, answers, cn0, search, sky, doctor, crystal)
+MODULES = (
+    json,
+    csv,
+    frames,
+    answers,
+    cn0,
+    search,
+    sky,
+    doctor,
+    crystal,
+    merge,
+    ubx,
+    sigmf,
+    rinex_check,
+    plots,
+    watch,
+    made,
+)
 """All commands, in the order of the help. A new one is one import and one name here."""
