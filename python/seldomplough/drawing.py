@@ -14,6 +14,8 @@ GREY, LIGHT, DARK = '#777777', '#dddddd', '#555555'
 # The sizes of pictures in inches, and the dots of an inch in PNG.
 WIDE, SQUARE = (7.6, 4.2), (5.2, 5.2)
 DOTS = 150
+# The names of curves beside each other, and how high a row of them is, in points.
+NAMES_A_ROW, ROW = 5, 17
 
 SETTINGS = {
     'font.family': 'DejaVu Sans',
@@ -56,7 +58,8 @@ def drawn(picture: Picture, form: str) -> bytes:
 def _draw(axes: Any, picture: Picture) -> None:
     for at, curve in enumerate(picture.curves):
         _draw_curve(axes, curve, COLOURS[at % len(COLOURS)], picture.is_joined)
-    axes.set_title(_plain(picture.title), pad=30)
+    rows = -(-len(picture.curves) // NAMES_A_ROW)
+    axes.set_title(_plain(picture.title), pad=ROW * rows + 10)
     axes.set_xlabel(_plain(picture.x_title))
     axes.set_ylabel(_plain(picture.y_title))
     axes.grid(True)
@@ -75,7 +78,7 @@ def _draw(axes: Any, picture: Picture) -> None:
         axes.set_ylim(bottom=0)
     if picture.is_plane:
         _centre(axes, picture)
-    columns = min(len(picture.curves), 4)
+    columns = min(len(picture.curves), NAMES_A_ROW)
     axes.legend(loc='lower center', bbox_to_anchor=(0.5, 1), ncol=columns, frameon=False)
 
 

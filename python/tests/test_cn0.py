@@ -32,6 +32,12 @@ def test_other_rates_and_seconds(run: Command) -> None:
     assert outcome.said.splitlines()[1:] == ['0 1 7 999 36.0', '1 1 7 400 36.0']
 
 
+def test_merged_lines_have_clients_above_eight(run: Command) -> None:
+    text = counts([4, 2] * 100 + [4]).replace('1 ', '12 ', 1).replace('\n1 ', '\n12 ')
+    said = run('cn0', given=text.encode()).said.splitlines()
+    assert said[1:] == ['0 12 0 200 36.0']
+
+
 def test_no_signal_and_no_noise_have_no_density() -> None:
     assert Moments().density is None
     silent, steady, rare = Moments(), Moments(), Moments()

@@ -13,7 +13,6 @@ from conftest import EXAMPLES, Command, refused
 
 from seldomplough import samples, signals
 from seldomplough.cli import main
-from seldomplough.programs import PACK, RECEIVER, find
 
 # The first ten chips of each satellite, the first one on top (IS-GPS-200, table 3-Ia).
 FIRST_CHIPS = (
@@ -103,22 +102,22 @@ def make(capfdbinary: pytest.CaptureFixture[bytes], tmp_path: os.PathLike[str]) 
     yield make
 
 
-def test_the_stored_recording_is_the_one_that_is_made(make: Any) -> None:
+def test_the_stored_recording_is_the_one_that_is_made(make: Any, plain: Dict[str, str]) -> None:
     words = [':'.join(map(str, (it, *numbers))) for it, numbers in MADE.items()]
     data = make('--crystal', str(PPM), '--rate', str(RATE), '--seconds', '2', *words)
-    pack = [find(PACK).path, '--from', 'iq-i8', '--to', 'iq1']
+    pack = [plain['--pack'], '--from', 'iq-i8', '--to', 'iq1']
     packed = subprocess.run(pack, input=data, stdout=subprocess.PIPE, check=True).stdout
     with open(os.path.join(EXAMPLES, 'crystal.iq1'), 'rb') as file:
         assert packed == file.read()
 
 
-def test_the_stored_lines_are_true() -> None:
+def test_the_stored_lines_are_true(plain: Dict[str, str]) -> None:
     # By the definition of ppm: the crystal is fast, so the signal lies below 0.
     rate, offset = round(RATE * (1 + PPM / 1e6)), round(CARRIER * PPM / 1e6)
     words = ['--rate', str(rate), '--offset', str(offset), '--minus', '--format', 'iq1']
     path = os.path.join(EXAMPLES, 'crystal')
     with open(f'{path}.iq1', 'rb') as file:
-        command = [find(RECEIVER).path, *words, f'{path}.script']
+        command = [plain['--receiver'], *words, f'{path}.script']
         printed = subprocess.run(command, stdin=file, stdout=subprocess.PIPE, check=True).stdout
     with open(f'{path}.expected', 'rb') as file:
         assert printed == file.read()

@@ -4,14 +4,13 @@ from __future__ import annotations
 
 import os
 import subprocess
-from typing import Any, Callable, List
+from typing import Any, Callable, Dict, List
 
 import pytest
 from conftest import EXAMPLES, NAMES, Command, refused
 
 from seldomplough import files, merging
 from seldomplough.failures import Failure
-from seldomplough.programs import RECEIVER, find
 
 RUN = '1 0 state 0 idle\n1 5 state 1 idle\n1 8 lost 1\n1 10 end\n'
 OTHER = '2 5 bits 1\n1 5 ok\n1 10 end\n2 10 end\n'
@@ -77,6 +76,36 @@ def test_a_pipe_is_a_run_like_any_other(
     with open('run', 'rb') as file:
         assert launch('merge', '-', 'other', stdin=file).stdout == MERGED.encode()
     assert run('merge', '-', 'other', given=RUN.encode()) == (0, MERGED, '')
+
+
+def test_a_relative_temporary_folder_is_left_empty(launch: Any, here: Callable[..., None]) -> None:
+    os.mkdir('sub')
+    here(other=OTHER)
+    for name in ('.', 'sub'):
+        environment = {**os.environ, 'TMPDIR': name}
+        outcome = launch('merge', '-', 'other', input=RUN.encode(), env=environment)
+        assert (outcome.stdout, outcome.stderr) == (MERGED.encode(), b'')
+        assert sorted(os.listdir('.')) == ['other', 'sub'] and os.listdir('sub') == []
+
+
+def test_a_pipe_is_stored_while_it_is_read(run: Command, here: Callable[..., None]) -> None:
+    here(other=OTHER)
+    reader, writer = os.pipe()
+    with os.fdopen(writer, 'wb') as sent:
+        sent.write(RUN.encode())
+    with os.fdopen(reader, 'rb'):
+        assert run('merge', f'/dev/fd/{reader}', 'other') == (0, MERGED, '')
+
+
+def test_a_system_that_allows_no_more_files(
+    run: Command, here: Callable[..., None], monkeypatch: pytest.MonkeyPatch
+) -> None:
+    def refuse(*_: Any) -> None:
+        raise ValueError
+
+    here(run=RUN, other=OTHER)
+    monkeypatch.setattr('resource.setrlimit', refuse)
+    assert run('merge', 'run', 'other') == (0, MERGED, '')
 
 
 def test_as_many_files_as_one_likes(run: Command, here: Callable[..., None]) -> None:
@@ -159,17 +188,16 @@ def test_stored_lines_are_taken_as_they_are(run: Command) -> None:
 
 
 def test_clients_of_two_processes_print_the_lines_of_one(
-    run: Command, here: Callable[..., None]
+    run: Command, here: Callable[..., None], plain: Dict[str, str]
 ) -> None:
     # The second answer of the first client comes at the time of the third client's first count.
     here(others='0 hold 3 3 -1750 826\n1222 state 3\n1222 counts 3 4\n5000 wait\n')
-    program = find(RECEIVER).path
     scripts = [os.path.join(EXAMPLES, f'{it}.script') for it in ('real_message', 'track_message')]
     with open(os.path.join(EXAMPLES, 'real_message.real1'), 'rb') as file:
         samples = file.read()
     texts = []
     for chosen in (['others', *scripts], ['others'], scripts):
-        words = [program, '--offset', '511500', *chosen]
+        words = [plain['--receiver'], '--offset', '511500', *chosen]
         outcome = subprocess.run(words, input=samples, capture_output=True, check=True)
         texts.append(outcome.stdout.decode())
     one, first, second = texts

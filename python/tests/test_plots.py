@@ -11,6 +11,7 @@ import pytest
 from conftest import NAMES, Command, refused
 
 from seldomplough import commanded, lines
+from seldomplough.commands import plots
 from seldomplough.curves import Curve, Mark, Picture, Wanted
 from seldomplough.drawing import drawn
 from seldomplough.failures import Failure
@@ -172,7 +173,8 @@ def test_a_picture_is_the_same_each_time() -> None:
     for form, start in (('svg', b'<?xml'), ('png', PNG)):
         first = drawn(DRAWN, form)
         assert first.startswith(start) and drawn(DRAWN, form) == first
-    assert drawn(Picture('a', 'b', 'c', [Curve('\u4e2d\0')], is_plane=True), 'png').startswith(PNG)
+    plane = Picture('a', 'b', 'c', [Curve('\u4e2d\0')], is_plane=True, from_zero=True)
+    assert drawn(plane, 'png').startswith(PNG)
 
 
 @pytest.fixture
@@ -183,28 +185,32 @@ def draw(run: Command, tmp_path: os.PathLike[str], monkeypatch: pytest.MonkeyPat
 
 
 def test_files_of_any_name(draw: Command) -> None:
-    for name in (*NAMES[:4], *NAMES[5:], *HOSTILE):
-        name = name.replace('/', '')
-        for form in ('png', 'svg'):
-            os.makedirs(name, exist_ok=True)
-            path = os.path.join(name, f'{name}.{form}')
-            assert draw('--to', path, '--title', name) == (0, '', '')
-            assert os.listdir(name) == [f'{name}.{form}']
-            with open(path, 'rb') as file:
-                data = file.read()
-            assert name in texts(data) if form == 'svg' else data.startswith(PNG)
-            os.remove(path)
-    assert not os.path.exists('made')
+    for at, name in enumerate((*NAMES, *HOSTILE)):
+        form = 'svg' if at else 'png'
+        path = os.path.join(name, f'{name}.{form}')
+        os.mkdir(name)
+        assert draw('--to', path, '--title', name.replace('\n', ' ')) == (0, '', '')
+        assert os.listdir(name) == [f'{name}.{form}']
+        with open(path, 'rb') as file:
+            data = file.read()
+        assert name.replace('\n', ' ') in texts(data) if at else data.startswith(PNG)
+    assert draw('--to=-x.png') == (0, '', '')
+    assert os.path.exists('-x.png') and not os.path.exists('made')
 
 
-def test_lines_of_any_name(run: Command, draw: Command) -> None:
+def test_lines_of_any_name(run: Command, draw: Command, monkeypatch: pytest.MonkeyPatch) -> None:
+    monkeypatch.setattr(plots, 'drawn', lambda picture, form: f'{picture}{form}'.encode())
+    usual = draw('--to', 'a.svg')
+    with open('a.svg', 'rb') as file:
+        wanted = file.read()
     for name in (*NAMES, *HOSTILE, '<touch made', '|touch made'):
         with open(name, 'w', encoding='ascii') as file:
             file.write(LINES)
-        assert run('plots', 'prompt', name, '--to', 'a.svg') == (0, '', '')
+        assert run('plots', 'prompt', name, '--to', 'b.svg') == usual == (0, '', '')
+        with open('b.svg', 'rb') as file:
+            assert file.read() == wanted
         os.remove(name)
-        os.remove('a.svg')
-    assert os.listdir('.') == []
+    assert sorted(os.listdir('.')) == ['a.svg', 'b.svg']
 
 
 def test_what_cannot_be_drawn_leaves_the_old_picture(draw: Command) -> None:

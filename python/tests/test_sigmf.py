@@ -12,8 +12,6 @@ from typing import Any, Dict, List, Tuple
 import pytest
 from conftest import NAMES, Command, Outcome, refused
 
-from seldomplough.programs import PACK, find
-
 # core:datatype's numbers: how struct writes them, the least and the greatest, and the centre.
 NUMBERS: Dict[str, Tuple[str, float, float, float]] = {
     'u8': ('<B', 0, 255, 127.5),
@@ -54,7 +52,9 @@ def signs(numbers: List[float], centre: float) -> bytes:
 
 @pytest.mark.parametrize('kind', NUMBERS)
 @pytest.mark.parametrize('first', ['c', 'r'])
-def test_pack_with_the_options_makes_the_signs(run: Command, kind: str, first: str) -> None:
+def test_pack_with_the_options_makes_the_signs(
+    run: Command, plain: Dict[str, str], kind: str, first: str
+) -> None:
     capture = {'core:sample_start': 0, 'core:frequency': 1575120000}
     about = {'core:datatype': first + kind, 'core:sample_rate': 2048000}
     outcome = of(run, text_of(about, capture))
@@ -63,8 +63,8 @@ def test_pack_with_the_options_makes_the_signs(run: Command, kind: str, first: s
     packing = 'iq1' if first == 'c' else 'real1'
     assert receiver == f'--rate 2048000 --offset 300000 --format {packing}'
     written, numbers = values(kind, 8000)
-    program = find(PACK).path
-    packed = subprocess.run([program, *pack.split()], input=written, stdout=subprocess.PIPE)
+    command = [plain['--pack'], *pack.split()]
+    packed = subprocess.run(command, input=written, stdout=subprocess.PIPE)
     assert packed.stdout == signs(numbers, NUMBERS[kind][3])
 
 
