@@ -91,7 +91,8 @@ def _draw_curve(axes: Any, curve: Curve, colour: str, is_joined: bool) -> None:
         label=_plain(curve.name),
         linestyle=line,
         marker='o',
-        markersize=2.5,
+        markersize=3,
+        markeredgewidth=0,
         linewidth=1,
     )
 
