@@ -173,8 +173,8 @@ def companion(rows, folder, root):
     wanted = ' '.join(f'{bin_}/seldomplough-{it}' for it in ('receiver', 'pack'))
     rows.say("tools/deb, the companion's programs",
              [str(outcome)] * (outcome.said != wanted + '\n'))
-    source = {name: data for name, data in contents(os.path.join(TOP, 'python/seldomplough')).items()
-              if '__pycache__' not in name}
+    modules = contents(os.path.join(TOP, 'python/seldomplough'))
+    source = {name: it for name, it in modules.items() if '__pycache__' not in name}
     rows.say("tools/deb, the companion's modules",
              changes(source, contents(os.path.join(packages, 'seldomplough'))))
     with gzip.open(os.path.join(usr, 'share/man/man1/seldomplough.1.gz'), 'rt') as file:
