@@ -75,8 +75,8 @@ def in_turn(work, tasks):
 def draw(script, folder, picture, names=''):
     """Draws by a script of gnuplot, which runs in the folder of what it draws. No path is a part of
     its program."""
-    for path in (os.path.join(HERE, script), os.path.join(TOP, 'examples', 'plots', 'style.gp')):
-        shutil.copy(path, folder)
+    for name_of_file in (script, 'style.gp'):
+        shutil.copy(os.path.join(HERE, name_of_file), folder)
     drawn = os.path.join(folder, 'picture.svg')
     with open(drawn, 'wb') as file:
         subprocess.run(['gnuplot', '-d', '-e', f'names="{names}"', script], check=True, cwd=folder,

@@ -3,7 +3,6 @@ import os
 import random
 import statistics
 import subprocess
-import sys
 
 from made_runs import TOP, RATE, in_turn, lines_of, name, table
 from theory import packing_loss, replica_loss
@@ -43,10 +42,9 @@ def code_errors(times, satellite):
 
 
 def densities_of(lines):
-    """What examples/tools/cn0 prints of these lines, in dB-Hz."""
-    tool = os.path.join(TOP, 'examples', 'tools', 'cn0')
-    ran = subprocess.run([sys.executable, tool, '--rate', str(ODD_RATE)], check=True,
-                         input=''.join(' '.join(words) + '\n' for words in lines),
+    """What `seldomplough cn0` prints of these lines, in dB-Hz."""
+    ran = subprocess.run([os.path.join(TOP, 'seldomplough'), 'cn0', '--rate', str(ODD_RATE)],
+                         check=True, input=''.join(' '.join(words) + '\n' for words in lines),
                          stdout=subprocess.PIPE, encoding='ascii')
     rows = [text.split() for text in ran.stdout.splitlines()[1:]]
     return [float(row[4]) for row in rows if row[4] != '-']

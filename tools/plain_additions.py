@@ -1,26 +1,15 @@
-"""What Rust wants beside a source that was made plain: premises that are checked, the usual traits,
-leave for names that only the prover uses, and what rustc has to be told about lanes."""
+"""What Rust wants beside a source that was made plain: the usual traits, leave for names that only
+the prover uses, and what rustc has to be told about lanes."""
 import re
-import textwrap
 
-from plain_premises import condition, types_in, types_of
+from plain_checks import FUNCTION, LANES, is_inlined
 from plain_text import block_end, code_of
-
-# A function with the comments of its clauses: its head, these lines, and its brace's indentation.
-FUNCTION = re.compile(
-    r'^( *(?:pub(?:\([a-z]+\))? )?fn (?:[^{;/\[]|\[[^\]]*\])*)\n((?: *// .*\n)+)( *)\{$', re.M)
-
-# A loop of a function.
-LOOP = re.compile(r'^ *(?:for|while|loop)\b', re.M)
-
-# The types of lanes.
-LANES = re.compile(r'\b[iu]\d+x\d+\b')
 
 ALWAYS = '#[inline(always)]'
 
 # Sixteen bytes of a table from each of four places on: the text of it, of what it stands on, and of
 # what nothing names any more where the kit reads the bytes by one comparison.
-FOUR_WINDOWS = '''{
+FOUR_WINDOWS = '''
     let low = two_windows(table, at[0], at[1]);
     let high = two_windows(table, at[2], at[3]);
     low.shuffle(high, SIXTY_FOUR)
@@ -41,50 +30,6 @@ COLD = re.compile(r'^( *)#\[cold\]\n *#\[inline\(never\)\]\n(?=.*\(&(?:mut )?sel
 BY_TEXT = ('the bodies of `four_windows` and `two_windows`', 'lanes of a slice from a place on',
            'a cold method', 'a method that gives 64 bytes', 'a structure of lanes')
 
-# A law: a public function with clauses that does nothing.
-LAW = re.compile(r'^(pub fn [^{;/]*\n(?: *// .*\n)+\{\})$', re.M)
-
-
-def premises(clauses):
-    """What the clauses of a function require."""
-    joined = re.sub(r'\n *// (?!requires|ensures)', ' ', clauses)
-    joined = re.sub('[«»]', '', joined)
-    return re.findall(r'// requires(?: \w+)? \{ (.*) \}', joined)
-
-
-def contract(clauses, indent):
-    """The clauses of a function as a part of its documentation."""
-    lines = re.sub(r'^( *)// ?', r'\1', textwrap.dedent(clauses), flags=re.M).rstrip().split('\n')
-    rows = ['', '# Contract', '```text', *lines, '```']
-    return ''.join(f'{indent}/// {row}'.rstrip() + '\n' for row in rows)
-
-
-def is_inlined(text, found):
-    """Whether a source says of a function in it that it is always inlined, or never."""
-    said = re.search(r'inline\((?:always|never)\)\]\n(?: *///.*\n)*\Z', text[:found.start()])
-    return said is not None
-
-
-def checked_text(text, constants, values):
-    """A source whose functions say what they require, and see to the simple ones by themselves:
-    those with a loop and those that take or give lanes in every build, since rustc can then leave
-    out more checks after these, and the others in a debug build. It may name constants, whose types
-    are given, and of some the values."""
-    code = code_of(text)
-    of_source = types_of(code, constants, values)
-
-    def checked(found):
-        head, clauses, indent = found.groups()
-        docs = contract(clauses, indent) if head.lstrip().startswith('pub fn') else ''
-        types = types_in(head, of_source)
-        holds = filter(None, (condition(premise, types) for premise in premises(clauses)))
-        body = code_of(text[found.end():block_end(text, found.end() - 1)])
-        check = 'assert' if LOOP.search(body) or LANES.search(head) else 'debug_assert'
-        return docs + found[0] + ''.join(f'\n    {indent}{check}!({hold});' for hold in holds)
-
-    return LAW.sub(r'#[doc(hidden)]\n\1', FUNCTION.sub(checked, text))
-
-
 def types_of_lanes(texts):
     """The structures of some sources that have a field of lanes."""
     fields = re.findall(r'\bstruct (\w+) \{\n((?:    .*\n)*)', ''.join(texts))
@@ -102,7 +47,7 @@ def laned_text(text, types, seen):
     windows, place, cold, bytes_of_word, structure = BY_TEXT
     if FOUR_WINDOWS in text and TWO_WINDOWS in text:
         seen.add(windows)
-        text = text.replace(FOUR_WINDOWS, '{\n    u8x64::from_places(table, at)\n}')
+        text = text.replace(FOUR_WINDOWS, '\n    u8x64::from_places(table, at)\n}')
         text = OF_WINDOWS.sub('#[allow(dead_code)]\n', text)
 
     def from_place(found):

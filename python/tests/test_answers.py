@@ -3,6 +3,7 @@
 from __future__ import annotations
 
 import os
+from typing import Any
 
 import pytest
 from conftest import EXAMPLES, NAMES, Command, refused
@@ -35,9 +36,21 @@ def test_lines_without_an_answer(run: Command, script: str) -> None:
     assert run('answers', script, given=RUN.encode()) == (0, BESIDE + missing, '')
     outcome = run('answers', script, given=(RUN + '1 9 end\n').encode())
     assert outcome == (0, BESIDE + '5: 7 stop 0 -> not reached\n', '')
-    outcome = run('answers', script, given=(RUN + '1 7 err 1').encode())
-    assert (outcome.status, outcome.said) == (0, BESIDE + missing)
-    assert 'is cut and was left out' in outcome.errors
+    for cut in ('1 7 err 1', '1 7 state 1 track 3', '1 7 o', '1'):
+        outcome = run('answers', script, given=(RUN + cut).encode())
+        assert (outcome.status, outcome.said) == (0, BESIDE + missing)
+        assert 'is cut and was left out' in outcome.errors
+
+
+def test_pipes_are_read_once(launch: Any, tmp_path: os.PathLike[str], script: str) -> None:
+    lines = write(tmp_path, 'lines', RUN)
+    for words, given in (
+        ((script, '/dev/stdin'), RUN),
+        ((script, '-'), RUN),
+        (('/dev/stdin', lines), SCRIPT),
+    ):
+        outcome = launch('answers', *words, input=given.encode())
+        assert outcome.stdout.decode().startswith(BESIDE) and outcome.stderr == b''
 
 
 def test_another_client(run: Command, script: str) -> None:

@@ -1,16 +1,18 @@
 """Rows of tools/deb: its words, and the maintainer, who stands in the package as he is."""
+import gzip
 import os
+import re
 import shutil
 import subprocess
 
-from .commands import changes, contents, copied, refused, run, write
+from .commands import TOP, changes, contents, copied, refused, run, write
 from .small_checkout import Checkout
 
 # What tools/deb takes beside the sources.
-PARTS = ('docs', 'README.md', 'CHANGELOG.md', 'LICENSE-MIT')
+PARTS = ('docs', 'README.md', 'CHANGELOG.md', 'LICENSE-MIT', 'python')
 
 # What the tool needs, without which these rows aren't tried.
-NEEDED = ('dpkg', 'dpkg-deb', 'dpkg-shlibdeps', 'git', 'cargo', 'strip')
+NEEDED = ('dpkg', 'dpkg-deb', 'dpkg-shlibdeps', 'git', 'cargo', 'strip', '/usr/bin/python3')
 
 
 def with_commit(folder, name='Some One', mail='one@example.org'):
@@ -149,6 +151,38 @@ def same_bytes(rows, folder):
     for name in 'receiver', 'pack':
         said = run([os.path.join(docs, name), '--version'], folder).said
         rows.say(f'tools/deb, {name} beside its pages', [said] * (said != f'{name} 1.0.1\n'))
+    companion(rows, folder, root)
+
+
+# A line of Python that says which programs the companion takes.
+FOUND = ('from seldomplough.programs import find;'
+         ' print(*(find(it).path for it in ("receiver", "pack")))')
+
+
+def companion(rows, folder, root):
+    """The companion of an unpacked package: its launcher, the programs that it takes, what stands
+    in the package of it, and its manual page."""
+    usr = os.path.join(root, 'usr')
+    bin_, packages = os.path.join(usr, 'bin'), os.path.join(usr, 'lib/python3/dist-packages')
+    more = {'PATH': f'{bin_}:{os.environ["PATH"]}', 'PYTHONPATH': packages}
+    for called in 'bin/seldomplough', 'share/doc/seldomplough/seldomplough':
+        outcome = run([os.path.join(usr, called), '--version'], folder, more)
+        is_right = outcome.said.startswith('seldomplough ') and not outcome.status
+        rows.say(f'tools/deb, {called} of a package', [] if is_right else [str(outcome)])
+    outcome = run(['/usr/bin/python3', '-c', FOUND], folder, more)
+    wanted = ' '.join(f'{bin_}/seldomplough-{it}' for it in ('receiver', 'pack'))
+    rows.say("tools/deb, the companion's programs",
+             [str(outcome)] * (outcome.said != wanted + '\n'))
+    modules = contents(os.path.join(TOP, 'python/seldomplough'))
+    source = {name: it for name, it in modules.items() if '__pycache__' not in name}
+    rows.say("tools/deb, the companion's modules",
+             changes(source, contents(os.path.join(packages, 'seldomplough'))))
+    with gzip.open(os.path.join(usr, 'share/man/man1/seldomplough.1.gz'), 'rt') as file:
+        titles = re.findall('^\\.Ss (.*)', file.read(), re.M)
+    wanted = sorted(re.findall('^    ([a-z0-9-]+)(?:  |$)', run(
+        [os.path.join(bin_, 'seldomplough'), '--help'], folder, more).said, re.M))
+    rows.say("tools/deb, the companion's manual page",
+             [f'{titles}, not {wanted}'] * (not wanted or sorted(titles) != wanted))
 
 
 def launcher(rows, folder):

@@ -102,7 +102,7 @@ few-messages (messages.Frame found reports) =
     few-frames (option_map events.Gap found.gap) (option_map events.Page reports.page)
     (option_map events.Almanacs reports.set) found.subframe
 
-few-counts : (is_shown : Bool) (c : Counts) → length (count_events is_shown c) ≤ 1
+pub few-counts : (is_shown : Bool) (c : Counts) → length (count_events is_shown c) ≤ 1
 few-counts true c = omega arith
 few-counts false c = omega arith
 

@@ -1,34 +1,53 @@
--- Events of a seat that are inserted one after the other.
-use Rattle.std.proofs.Common.{◌≡◌, ℕ, List, [], ◌∷◌, ◌++◌, refl, sym, ap, ◌∙◌}
+-- Events that are put one after the other.
+use Rattle.std.proofs.Common.{◌≡◌, ◌≤◌, ◌+◌, ℕ, List, [], ◌∷◌, ◌++◌, length, refl, sym, ap, ◌∙◌}
+use Rattle.std.proofs.Common.{arith}
 use Rattle.std.specs.Prelude.{map, Option, Some, None, option_map, MatchOption, IsSomeAnd}
-use Rattle.std.proofs.lemmas.List.{map-append}
+use Rattle.std.proofs.lemmas.List.{map-append, length-map}
 use Rattle.slot_protocol.specs.declared.event.Event.{Event}
 use Rattle.slot_protocol.specs.declared.event.SlotEvent.{SlotEvent}
-use Rattle.channel_slots.specs.declared.seat.Seat.{Seat}
-use Rattle.channel_slots.specs.Banks.{event_of, PutsIn}
 use Rattle.slot_protocol.specs.Events.{time_in}
+use Rattle.channel_slots.specs.declared.timeline.Timeline.{Timeline}
+use Rattle.channel_slots.specs.Timelines.{Puts, events_in, event_at, count_of}
 use Rattle.channel_slots.specs.Orders.{put_in, put_all}
-use Rattle.channel_slots.proofs.OrderLemmas.{put_all-append}
+use Rattle.channel_slots.proofs.OrderLemmas.{put_all-append, put_all-length}
 
-module _ (p : Seat) (time : ℕ) where
-  pub puts-none : (before : List SlotEvent) → PutsIn p time [] before before
-  unfolding put_all
-  puts-none before = refl
+pub puts-none : (t : Timeline) → Puts [] t t
+unfolding put_all
+puts-none t = record { client = refl; slot = refl; time = refl; puts = refl }
 
-  pub puts-one : (event : Event) (before after : List SlotEvent)
-      → after ≡ put_in time_in (event_of p time event) before
-      → PutsIn p time (event ∷ []) before after
-  unfolding put_all
-  puts-one event before after e = e
+pub put-one : (before after : List SlotEvent) (next : SlotEvent)
+    → after ≡ put_in time_in next before → after ≡ put_all time_in before (next ∷ [])
+unfolding put_all
+put-one before after next e = e
 
-  pub puts-more : (es fs : List Event) (before mid after : List SlotEvent)
-      → PutsIn p time es before mid → PutsIn p time fs mid after
-      → PutsIn p time (es ++ fs) before after
-  puts-more es fs before mid after one two =
-      two ∙ ap (λ (l : List SlotEvent). put_all time_in l (map (event_of p time) fs)) one
-      ∙ sym (put_all-append time_in before (map (event_of p time) es)
-      (map (event_of p time) fs))
-      ∙ ap (put_all time_in before) (sym (map-append (event_of p time) es fs))
+pub puts-more : (es fs : List Event) (a b c : Timeline) → Puts es a b → Puts fs b c
+    → Puts (es ++ fs) a c
+puts-more es fs a b c one two =
+    let next : Event → SlotEvent = event_at a.client a.slot a.time in
+    let then : events_in c ≡ put_all time_in (events_in b) (map next fs) =
+    rw (one.client, one.slot, one.time) at two.puts in
+    record {
+      client = two.client ∙ one.client;
+      slot = two.slot ∙ one.slot;
+      time = two.time ∙ one.time;
+      puts =
+          then ∙ ap (λ (l : List SlotEvent). put_all time_in l (map next fs)) one.puts
+          ∙ sym (put_all-append time_in (events_in a) (map next es) (map next fs))
+          ∙ ap (put_all time_in (events_in a)) (sym (map-append next es fs));
+    }
+
+-- how many there are then
+pub put-count : (client slot time : ℕ) (events : List Event) (before after : List SlotEvent)
+    → after ≡ put_all time_in before (map (event_at client slot time) events)
+    → length after ≡ length before + length events
+put-count client slot time events before after e =
+    ap length e ∙ put_all-length time_in before _
+    ∙ ap (λ (n : ℕ). length before + n) (length-map events (event_at client slot time))
+
+pub few-put : (es : List Event) (a b : Timeline) (n : ℕ) → Puts es a b → length es ≤ n
+    → count_of b ≤ count_of a + n
+few-put es a b n puts few =
+    omega (arith, few, put-count a.client a.slot a.time es (events_in a) (events_in b) puts.puts)
 
 -- an option whose content is changed
 pub mapped : {A : Type 0} (f : A → Event) (o : Option A) (r : Option Event)

@@ -21,7 +21,7 @@ use Rattle.channel_slots.specs.declared.bank.TheConstants.{MOST_TIME}
 use Rattle.channel_slots.specs.Stages.{is_idle}
 use Rattle.channel_slots.specs.Slots.{StandsFor, Emits, rests_until}
 use Rattle.channel_slots.specs.Banks.{SeatGoes, RunsAll, AllRest, all_rest}
-use Rattle.channel_slots.proofs.PutLemmas.{puts-none}
+use Rattle.channel_slots.proofs.OrderLemmas.{put-nothing}
 use Rattle.channel_slots.proofs.SeatLemmas.{seated, all_push}
 use Rattle.channel_slots.proofs.SlotLemmas.{idle-tells, tells}
 use Rattle.channel_slots.proofs.StageLemmas.{held-takes, tracked-takes}
@@ -91,7 +91,7 @@ seat-passes ys time first held p q before client number some sound emits =
           (λ from reach known. sound from reach (rw back at known))
           (λ settings xs commands there samples s.
           emits settings xs commands (omega (arith, there, length-append xs ys)) samples s);
-      added = puts-none q (time + length ys) before;
+      added = put-nothing _ before;
     }))
     (omega (arith, some)) (omega arith)
 

@@ -15,7 +15,8 @@ use Rattle.channel_slots.specs.declared.seat.Seat.{Seat}
 use Rattle.slot_protocol.specs.Events.{AreEvents, event_in, slot_event_in}
 use Rattle.sample_planes.specs.Sources.{AreSamplesOf}
 use Rattle.channel_slots.specs.Slots.{StandsFor, Emits, IsSound}
-use Rattle.channel_slots.specs.Banks.{SeatSteps, SeatGoes, RunsAll, event_of}
+use Rattle.channel_slots.specs.Banks.{SeatSteps, SeatGoes, RunsAll}
+use Rattle.channel_slots.specs.Timelines.{event_at}
 
 pub all_push : {A : Type 0} (P : A → Type 0) (xs : List A) (x : A) → AllByRecursion P xs → P x
     → AllByRecursion P (xs ++ x ∷ [])
@@ -26,14 +27,14 @@ all_push P (y ∷ ys) x all h = (all.0, all_push P ys x all.1 h)
 -- its events come where its slot emits them
 are_told : (p : Seat) (time : ℕ) (events : List Event) (told : List DefinedEvent)
     → map event_in events ≡ told
-    → AreEvents (map (event_of p time) events) (slot_events p.client p.number time told)
+    → AreEvents (map (event_at p.client p.number time) events) (slot_events p.client p.number time told)
 are_told p time events told same = from_map events ∙ ap (slot_events p.client p.number time) same
   where
-    from_map : (es : List Event) → map slot_event_in (map (event_of p time) es)
+    from_map : (es : List Event) → map slot_event_in (map (event_at p.client p.number time) es)
         ≡ slot_events p.client p.number time (map event_in es)
     from_map [] = refl
     from_map (e ∷ es) =
-        ap (λ (l : List DefinedSlotEvent). slot_event_in (event_of p time e) ∷ l) (from_map es)
+        ap (λ (l : List DefinedSlotEvent). slot_event_in (event_at p.client p.number time e) ∷ l) (from_map es)
 
 pub seated : (ys : List Sample) (time first : ℕ) (held : ℕ → Sample) (p q : Seat)
     (events : List Event)
@@ -43,7 +44,7 @@ pub seated : (ys : List Sample) (time first : ℕ) (held : ℕ → Sample) (p q 
     → ((settings : Settings) (xs : List Sample) (commands : List TimedRequest)
     → length (xs ++ ys) ≡ time → AreSamplesOf (xs ++ ys) first (length (xs ++ ys)) held
     → StandsFor settings xs commands p.slot → Emits settings xs ys commands q.slot events)
-    → SeatSteps ys time first held p q (map (event_of p time) events)
+    → SeatSteps ys time first held p q (map (event_at p.client p.number time) events)
 seated ys time first held p q events client number sound tells =
     record {
       client = client;

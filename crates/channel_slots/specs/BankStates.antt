@@ -9,6 +9,9 @@ use Rattle.definitions.specs.Oscillators.{Settings}
 use Rattle.definitions.specs.Commands.{TimedRequest}
 use Rattle.channel_slots.specs.declared.bank.Bank.{Bank}
 use Rattle.slot_protocol.specs.declared.event.SlotEvent.{SlotEvent}
+use Rattle.sample_planes.specs.PackedRuns.{PackedRun}
+use Rattle.sample_planes.specs.declared.planes.TheConstants.{MAX_SAMPLES}
+use Rattle.channel_slots.specs.declared.bank.TheConstants.{MOST_TIME}
 use Rattle.sample_history.specs.Histories as histories
 use Rattle.channel_slots.specs.Banks.{BankStands, cells_done_at}
 use Rattle.slot_protocol.specs.Events.{AreEvents}
@@ -41,6 +44,12 @@ settings_of bank = bank.settings
 -- client has that number
 abbrev pub cells_done_in : Bank → ℕ → ℕ → Option ℕ
 cells_done_in bank client slot = cells_done_at (boxed_slice_items bank.seats) client slot
+
+-- a run of samples that the bank takes: one of the recording's packing, neither too long by itself
+-- nor for the recording
+abbrev pub Fits : Bank → PackedRun → Type 0
+Fits bank run = (run.packing ≡ (settings_of bank).packing)
+    × (length run.samples ≤ MAX_SAMPLES) × (time_of bank + length run.samples ≤ MOST_TIME)
 
 -- the settings, the samples so far, and for each client and slot its commands so far
 pub record StandsFor (settings : Settings) (xs : List Sample)

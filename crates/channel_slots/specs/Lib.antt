@@ -4,3 +4,4 @@ pub mod NewsEvents
 pub mod Orders
 pub mod Slots
 pub mod Stages
+pub mod Timelines

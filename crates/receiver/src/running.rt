@@ -4,7 +4,7 @@ ghost use Rattle.std.specs.Prelude.{◌≡◌, ◌≤◌, ◌<◌, ◌%◌, ◌^
 ghost use Rattle.std.specs.Prelude.{false, OnErr, IfOk, Err, IsErrOf};
 ghost use Rattle.definitions.specs.Oscillators.{Settings as DefinedSettings};
 ghost use Rattle.channel_slots.specs.declared.bank.TheConstants.{MOST_TIME};
-ghost use Rattle.channel_slots.specs.declared.seat.TheConstants.{MOST_CLIENTS};
+ghost use Rattle.channel_slots.specs.declared.seats.TheConstants.{MOST_CLIENTS};
 ghost use Rattle.definitions.specs.Runs.{clients_of, are_shares};
 ghost use Rattle.receiver.specs.Clients.{four_each};
 ghost use Rattle.receiver.specs.Runs.{devices_at, task_of, IsOpen, Ran, BrokeOff, IsRun};

@@ -3,7 +3,7 @@
 ghost use Rattle.std.specs.Prelude.{◌≡◌, true, length};
 ghost use Rattle.channel_slots.specs.BankStates.{shares_of};
 ghost use Rattle.channel_slots.specs.declared.bank.TheConstants.{MOST_TIME};
-ghost use Rattle.channel_slots.specs.declared.seat.TheConstants.{MOST_CLIENTS};
+ghost use Rattle.channel_slots.specs.declared.seats.TheConstants.{MOST_CLIENTS};
 ghost use Rattle.sample_planes.specs.Packings.{packing_of};
 ghost use Rattle.receiver.specs.Queues.{are_in_shares};
 ghost use Rattle.sample_planes.specs.declared.planes.TheConstants.{MAX_SAMPLES};
@@ -12,7 +12,7 @@ use crate::due::Due;
 use crate::queue::Queue;
 use crate::queues::{least_gap, queues_of, take_due};
 use arrayvec::ArrayVec;
-use channel_slots::{Bank, MOST_CLIENTS, OpenFault, RUN_EVENTS, SlotEvent};
+use channel_slots::{Bank, MOST_CLIENTS, OpenFault, SlotEvent, Timeline};
 use oscillators::Settings;
 use printed_lines::Line;
 use sample_planes::{Format, PackedSamples};
@@ -26,8 +26,8 @@ pub const QUEUES: usize = MOST_CLIENTS;
 pub struct Session<'a> {
     bank: Bank,
     queues: ArrayVec<Queue<'a>, QUEUES>,
-    /// The slots' events over the last run of samples. The list is large, so it is on the heap.
-    events: Box<ArrayVec<SlotEvent, RUN_EVENTS>>,
+    /// The slots' events over the last run of samples. They are large, so they are on the heap.
+    timeline: Box<Timeline>,
     ghost clients: { length queues.items ≡ length (shares_of bank) },
     ghost in_shares: { are_in_shares (shares_of bank) queues.items ≡ true },
 }
@@ -44,6 +44,7 @@ impl<'a> Session<'a> {
     ghost use Rattle.definitions.specs.Runs.{is_share};
     ghost use Rattle.receiver.specs.Clients.{clients_with};
     ghost use Rattle.channel_slots.specs.BankStates.{share_of};
+    ghost use Rattle.channel_slots.specs.Timelines.{events_in};
     ghost use Rattle.slot_protocol.specs.Commands.{slot_of};
     ghost use Rattle.receiver.specs.Sessions.{StandsFor, TakesNext, Gives, packing_in, time_of};
     ghost use Rattle.receiver.specs.Sessions.{until_next, lines_left};
@@ -68,15 +69,15 @@ impl<'a> Session<'a> {
             (clients_with shares.now (map (λ script. script.now) scripts.now)) [])) }
     {
         // They come first, while there is memory for the stack that they pass over.
-        let events = boxed_events(alloc);
+        let timeline = boxed_timeline(alloc);
         let bank = Bank::open(alloc, settings, shares)?;
-        let Ok(events) = events else {
+        let Ok(timeline) = timeline else {
             return Err(OpenFault::NoMemory);
         };
         Ok(Session {
             bank,
             queues: queues_of(scripts, shares),
-            events,
+            timeline,
         })
     }
 
@@ -112,9 +113,9 @@ impl<'a> Session<'a> {
 
     /// The slots' events over the last run of samples.
     pub fn events(&self) -> &[SlotEvent]
-        ensures { result.now ≡ self.now.events.value.items }
+        ensures { result.now ≡ events_in self.now.timeline.value }
     {
-        self.events.as_slice()
+        self.timeline.events()
     }
 
     /// Takes a run of samples, none of them past the next command's time, and keeps the slots'
@@ -134,12 +135,10 @@ impl<'a> Session<'a> {
         ensures told { (settings : DefinedSettings) (clients : List Client) (xs : List Sample)
             → StandsFor settings clients self.old xs []
             → body_lines settings (xs ++ run.now.samples) clients
-            ≡ body_lines settings xs clients ++ map line_of self.new.events.value.items
+            ≡ body_lines settings xs clients ++ map line_of (events_in self.new.timeline.value)
             ++ answer_lines settings clients (xs ++ run.now.samples) }
     {
-        let events = self.events.as_mut();
-        events.clear();
-        self.bank.feed_into(run, events);
+        self.bank.feed(run, self.timeline.as_mut());
     }
 
     /// Takes the next entry that is to be answered at this time.
@@ -177,10 +176,10 @@ impl<'a> Session<'a> {
     }
 }
 
-/// A list of no events, on the heap. It stands apart, so that the list is on the stack for no
+/// A timeline without events, on the heap. It stands apart, so that it is on the stack for no
 /// longer than it takes to move it.
 #[cold]
 #[inline(never)]
-fn boxed_events(alloc: Global) -> Result<Box<ArrayVec<SlotEvent, RUN_EVENTS>>, AllocError> {
-    Ok(Box::new(alloc, ArrayVec::new())?)
+fn boxed_timeline(alloc: Global) -> Result<Box<Timeline>, AllocError> {
+    Ok(Box::new(alloc, Timeline::new())?)
 }

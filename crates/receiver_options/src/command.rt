@@ -76,7 +76,7 @@ A printed line is `CLIENT T TEXT`:
   4 the time is before the last     9 the slot isn't idle
   5 no verb, or an unknown one     10 the slot is idle
 A tab, a carriage return or a byte order mark is err 2; a line that begins with # is err 3.
-Answers come in the order of the script's lines: `awk -f examples/answers.awk SCRIPT < LINES` puts
+Answers come in the order of the script's lines: `seldomplough answers SCRIPT < LINES` puts
 each beside its line.
 
 Statuses:

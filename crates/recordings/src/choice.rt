@@ -1,7 +1,6 @@
 //! What is asked of a recording.
 
 ghost use Rattle.std.specs.Prelude.{◌≡◌, ◌<◌, ◌↔◌, Err, IfOk, true, false, if◌then◌else◌};
-ghost use Rattle.sample_planes.specs.Packings.{packing_of, has_quadrature, has_sizes};
 
 use crate::kind::Kind;
 use crate::part::Part;
@@ -75,9 +74,9 @@ impl Choice {
     {
         if !self.is_paired && self.needs_pairs() {
             Some(ChoiceFault::Pairs)
-        } else if has_sizes(self.format) && self.kind.bits() == 1 {
+        } else if self.format.has_sizes() && self.kind.bits() == 1 {
             Some(ChoiceFault::Sizes)
-        } else if is_complex(self.format) && self.takes_quadrature {
+        } else if self.format.has_quadrature() && self.takes_quadrature {
             Some(ChoiceFault::Part)
         } else {
             None
@@ -88,7 +87,10 @@ impl Choice {
     fn needs_pairs(&self) -> bool
         ensures { (result ≡ true) ↔ NeedsPairs self.now }
     {
-        is_complex(self.format) || self.is_swapped || self.is_conjugate || self.takes_quadrature
+        self.format.has_quadrature()
+            || self.is_swapped
+            || self.is_conjugate
+            || self.takes_quadrature
     }
 
     /// The recipe of a choice that can be made.
@@ -153,29 +155,5 @@ impl Choice {
             centre: i64::from(self.centre_q),
             is_turned: self.is_conjugate,
         }
-    }
-}
-
-/// Whether samples of a packing have a part in quadrature.
-fn is_complex(format: Format) -> bool
-    ensures { result ≡ has_quadrature (packing_of format) }
-{
-    match format {
-        Format::Real1 => false,
-        Format::Real2 => false,
-        Format::Iq1 => true,
-        Format::Iq2 => true,
-    }
-}
-
-/// Whether the parts of samples of a format have sizes.
-fn has_sizes(format: Format) -> bool
-    ensures { result ≡ has_sizes (packing_of format) }
-{
-    match format {
-        Format::Real1 => false,
-        Format::Real2 => true,
-        Format::Iq1 => false,
-        Format::Iq2 => true,
     }
 }

@@ -77,6 +77,13 @@ impl<'a> PackedSamples<'a> {
         }
     }
 
+    /// How the samples are packed.
+    pub fn format(&self) -> Format
+        ensures { packing_of result ≡ self.now.packing }
+    {
+        self.format
+    }
+
     /// How many samples there are.
     pub fn len(&self) -> usize
         ensures { result ≡ length self.now.samples }

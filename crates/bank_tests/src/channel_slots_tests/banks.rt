@@ -1,23 +1,18 @@
 //! The slots of several clients over one stream.
 
-ghost use Rattle.std.specs.Prelude.{◌≡◌, IfOk};
-ghost use Rattle.channel_slots.specs.BankStates.{settings_of, time_of};
-ghost use Rattle.definitions.specs.Samples.{real1};
-
 use super::{IDLE, hold, one_count, plain_settings, sums};
 use crate::commands;
 use assertions::{assert_same, assert_same_at};
-use channel_slots::{Answer, Bank, Command, Event, OpenFault, Refusal, SlotEvent, SlotNo};
+use channel_slots::{
+    Answer, Bank, Command, Event, FeedFault, OpenFault, Refusal, SlotEvent, SlotNo, Timeline,
+};
 use sample_planes::{Format, PackedSamples};
 use std::alloc::{Alloc, Global};
 use std::process::Abort;
 use std::test::Fail;
 
 /// A bank of which one slot is to hold satellite 1, and to show its first dump.
-fn bank_that_holds(alloc: Global) -> Result<Bank, Fail>
-    ensures packing { IfOk result (λ bank. (settings_of bank).packing ≡ real1) }
-    ensures time { IfOk result (λ bank. time_of bank ≡ 0) }
-{
+fn bank_that_holds(alloc: Global) -> Result<Bank, Fail> {
     let mut bank = Bank::open(alloc, plain_settings()?, &[4])?;
     bank.command(1, hold(1, 0)?);
     bank.command(1, one_count()?);
@@ -28,14 +23,42 @@ fn bank_that_holds(alloc: Global) -> Result<Bank, Fail>
 #[test]
 fn a_feed_begins_anywhere(rt: HostRuntime) -> Result<(), Fail> {
     let mut bank = bank_that_holds(rt.alloc())?;
-    let events = bank.feed(&PackedSamples::new(Format::Real1, &[255, 127]).part(8, 1));
+    let mut timeline = Timeline::new();
+    let run = PackedSamples::new(Format::Real1, &[255, 127]).part(8, 1);
+    bank.try_feed(&run, &mut timeline)?;
     let told = [SlotEvent {
         client: 1,
         slot: 0,
         time: 1,
         event: Event::Count(sums([-2, 1, 2, -1, 2, -1])),
     }];
-    assert_same!(rt; events.as_slice(), told.as_slice());
+    assert_same!(rt; timeline.events(), told.as_slice());
+    Ok(())
+}
+
+// The recording has one bit a sample, and a run at most 1,024 samples.
+static RUNS: [(Format, usize, Result<u64, FeedFault>); 6] = [
+    (Format::Real2, 1, Err(FeedFault::Packing)),
+    (Format::Iq1, 0, Err(FeedFault::Packing)),
+    (Format::Iq2, 129, Err(FeedFault::Packing)),
+    (Format::Real1, 129, Err(FeedFault::TooLong)),
+    (Format::Real1, 128, Ok(1_024)),
+    (Format::Real1, 0, Ok(1_024)),
+];
+
+#[test]
+fn runs_that_do_not_fit_are_refused(rt: HostRuntime) -> Result<(), Fail> {
+    let mut bank = Bank::open(rt.alloc(), plain_settings()?, &[1])?;
+    let mut timeline = Timeline::new();
+    let zeros = [0; 129];
+    for &(format, bytes, time) in &RUNS {
+        let before = bank.time();
+        let fed = bank.try_feed(&PackedSamples::new(format, &zeros[..bytes]), &mut timeline);
+        assert_same_at!(rt; (format, bytes), fed.map(|()| bank.time()), time);
+        if time.is_err() {
+            assert_same!(rt; bank.time(), before);
+        }
+    }
     Ok(())
 }
 

@@ -1,16 +1,13 @@
 //! Searches of a bank, over its one history of samples.
 
-ghost use Rattle.std.specs.Prelude.{◌≡◌, ◌<◌, ◌≤◌, ◌∷◌, [], IfOk, replicate};
-ghost use Rattle.channel_slots.specs.BankStates.{settings_of, shares_of};
-ghost use Rattle.definitions.specs.Samples.{real1};
-ghost use Rattle.sample_planes.specs.declared.planes.TheConstants.{MAX_SAMPLES};
+ghost use Rattle.std.specs.Prelude.{◌<◌};
 
 use super::{acquire, plain_settings};
 use acquisition::{Cell, Plan};
 use arrayvec::ArrayVec;
 use assertions::{assert_same, assert_same_at};
 use ca_codes::Prn;
-use channel_slots::{Bank, Command, Event, SlotEvent, SlotNo};
+use channel_slots::{Bank, Command, Event, SlotEvent, SlotNo, Timeline};
 use made_signals::long_code_file;
 use oscillators::HalfChip;
 use sample_planes::{Format, PackedSamples};
@@ -25,10 +22,7 @@ const MOST_TOLD: usize = 32;
 const LONGEST: u64 = 100_000;
 
 /// A bank of one client over a plain recording.
-fn bank_of_one(alloc: Global) -> Result<Bank, Fail>
-    ensures packing { IfOk result (λ bank. (settings_of bank).packing ≡ real1) }
-    ensures shares { IfOk result (λ bank. shares_of bank ≡ 4 ∷ []) }
-{
+fn bank_of_one(alloc: Global) -> Result<Bank, Fail> {
     Ok(Bank::open(alloc, plain_settings()?, &[4])?)
 }
 
@@ -38,13 +32,7 @@ fn feed_to(
     recording: &PackedSamples,
     piece: usize,
     until: u64,
-) -> Result<ArrayVec<SlotEvent, MOST_TOLD>, Fail>
-    requires packing { recording.now.packing ≡ (settings_of bank.old).packing }
-    requires some { 0 < piece }
-    requires short { piece ≤ MAX_SAMPLES }
-    ensures settings { settings_of bank.new ≡ settings_of bank.old }
-    ensures shares { shares_of bank.new ≡ shares_of bank.old }
-{
+) -> Result<ArrayVec<SlotEvent, MOST_TOLD>, Fail> {
     if (recording.len() as u64) < until {
         return Err(Fail::new("samples are missing"));
     }
@@ -52,16 +40,15 @@ fn feed_to(
         return Err(Fail::new("the recording is too long"));
     }
     let mut told = ArrayVec::new();
-    let mut events = ArrayVec::new();
+    let mut timeline = Timeline::new();
     for _ in 0..until {
         let time = bank.time();
         if until <= time {
             break;
         }
         let count = piece.min((until - time) as usize);
-        events.clear();
-        bank.feed_into(&recording.part(time as usize, count), &mut events);
-        told.try_extend_from_slice(events.as_slice())?;
+        bank.try_feed(&recording.part(time as usize, count), &mut timeline)?;
+        told.try_extend_from_slice(timeline.events())?;
     }
     Ok(told)
 }
@@ -74,13 +61,7 @@ fn hear(
     piece: usize,
     until: u64,
     wanted: &[SlotEvent],
-) -> Result<(), Fail>
-    requires packing { recording.now.packing ≡ (settings_of bank.old).packing }
-    requires some { 0 < piece }
-    requires short { piece ≤ MAX_SAMPLES }
-    ensures settings { settings_of bank.new ≡ settings_of bank.old }
-    ensures shares { shares_of bank.new ≡ shares_of bank.old }
-{
+) -> Result<(), Fail> {
     let told = feed_to(bank, recording, piece, until)?;
     assert_same_at!(rt; piece, told.as_slice(), wanted);
     Ok(())
@@ -112,12 +93,7 @@ fn told_at(time: u64, event: Event) -> SlotEvent {
 
 /// Client 1's slot 0 is to search over ten periods at time 0, and slot s of client k over one at
 /// time 4 (k - 1) + s.
-fn ask_in_turn(bank: &mut Bank, recording: &PackedSamples) -> Result<(), Fail>
-    requires packing { recording.now.packing ≡ (settings_of bank.old).packing }
-    requires shares { shares_of bank.old ≡ replicate 8 4 }
-    ensures settings { settings_of bank.new ≡ settings_of bank.old }
-    ensures shares { shares_of bank.new ≡ shares_of bank.old }
-{
+fn ask_in_turn(bank: &mut Bank, recording: &PackedSamples) -> Result<(), Fail> {
     let prn = Prn::new(1).ok_or("a satellite")?;
     for turn in 0..32u8 {
         feed_to(bank, recording, 1, u64::from(turn))?;
@@ -209,11 +185,7 @@ fn hear_from(
     rt: &(impl Abort + Alloc<A = Global>),
     recording: &PackedSamples,
     piece: usize,
-) -> Result<(), Fail>
-    requires packing { recording.now.packing ≡ real1 }
-    requires some { 0 < piece }
-    requires short { piece ≤ MAX_SAMPLES }
-{
+) -> Result<(), Fail> {
     let named = told_at(10_232, found_at_two()?);
     let mut bank = bank_of_one(rt.alloc())?;
     hear(rt, &mut bank, recording, piece, 2, &[])?;
@@ -228,9 +200,7 @@ fn hear_from_place(
     first: usize,
     piece: usize,
 ) -> Result<(), Fail>
-    requires place { first < 8 }
-    requires some { 0 < piece }
-    requires short { piece ≤ MAX_SAMPLES }
+    requires { first < 8 }
 {
     let moved = behind(bytes, first);
     let recording = PackedSamples::new(Format::Real1, &moved).part(first, 10_240);
@@ -238,10 +208,7 @@ fn hear_from_place(
 }
 
 /// Sees that it does so wherever in a byte the recording begins.
-fn hear_from_each_place(rt: &(impl Abort + Alloc<A = Global>), piece: usize) -> Result<(), Fail>
-    requires some { 0 < piece }
-    requires short { piece ≤ MAX_SAMPLES }
-{
+fn hear_from_each_place(rt: &(impl Abort + Alloc<A = Global>), piece: usize) -> Result<(), Fail> {
     let bytes = long_code_file();
     for first in 0..8 {
         hear_from_place(rt, &bytes, first, piece)?;

@@ -3,6 +3,10 @@
 use proc_macro::{Delimiter, TokenStream, TokenTree};
 
 /// Writes `Display` and `Error`: for a struct by its own text, for an enum by that of each variant.
+///
+/// # Panics
+///
+/// Panics if the item is neither a struct nor an enum.
 #[proc_macro_derive(Error, attributes(error))]
 pub fn derive_error(item: TokenStream) -> TokenStream {
     let tokens: Vec<TokenTree> = item.into_iter().collect();

@@ -1,17 +1,16 @@
 use Rattle.std.proofs.Common.{◌≡◌, ◌≤◌, ◌<◌, ◌+◌, ◌-◌, arith, ℕ, List, [], length, take, refl, sym}
-use Rattle.std.proofs.Common.{ap, ◌∙◌, length-append}
-use Rattle.std.proofs.lemmas.List.{length-map, take_all}
+use Rattle.std.proofs.Common.{length-append}
+use Rattle.std.proofs.lemmas.List.{take_all}
 use Rattle.channels.proofs.PartLemmas.{part-length}
 use Rattle.definitions.specs.Samples.{Sample}
 use Rattle.channels.specs.Parts.{part}
-use Rattle.channel_slots.specs.Banks.{event_of}
-use Rattle.slot_protocol.specs.Events.{time_in}
 use Rattle.channel_slots.specs.NewsEvents.{events_with}
+use Rattle.channel_slots.specs.Timelines.{events_in}
 use Rattle.channel_slots.specs.Slots.{chances}
 use Rattle.channel_slots.specs.declared.slot.TheConstants.{SLOT_EVENTS}
-use Rattle.channel_slots.proofs.OrderLemmas.{put_all-length}
 use Rattle.channel_slots.proofs.SeatLemmas.{seated}
-use Rattle.channel_slots.proofs.PutLemmas.{puts-none}
+use Rattle.channel_slots.proofs.OrderLemmas.{put-nothing}
+use Rattle.channel_slots.proofs.PutLemmas.{put-count}
 use Rattle.channel_slots.proofs.TakenLemmas.{taken-length, time-there}
 use Rattle.channel_slots.proofs.TellingLemmas.{goes-begin, goes-on, one-chance}
 use Rattle.channel_slots.proofs.seat.Seat.run_with_events.Goals as goal
@@ -20,7 +19,7 @@ pub loop-done-init : goal.loop-done-init
 loop-done-init g c = record {
   within = omega arith;
   room = λ some. omega (arith, one-chance (c.args.time + 0) c.args.self.now.slot);
-  goes = goes-begin c.args.time c.args.self.now c.args.events.now.items _ _;
+  goes = goes-begin c.args.time c.args.self.now (events_in c.args.timeline.now) _ _;
 }
 
 pub take-count-requires-clause-sound : goal.take-count-requires-clause-sound
@@ -47,14 +46,11 @@ loop-done-preserved-in-Some g c =
     omega (arith, c.requires.to, c.len-len.ensures.count, c.loop-done-test.true) in
     let later : c.args.time + done + took.result.0 ≡ here = omega arith in
     let before : here - length zs ≡ c.args.time + done = omega (arith, is) in
-    let many : length c.put_news.new.events.items
-    ≡ length c.loop-done.events.items + length (events_with news took.new.dump) =
-    ap length c.put_news.ensures
-    ∙ put_all-length time_in c.loop-done.events.items _
-    ∙ ap (λ (n : ℕ). length c.loop-done.events.items + n)
-    (length-map (events_with news took.new.dump) (event_of c.loop-done.self here)) in
-    let room : length c.put_news.new.events.items + chances here took.new.self
-    ≤ length c.args.events.now.items + SLOT_EVENTS =
+    let many =
+    put-count c.loop-done.self.client c.loop-done.self.number here (events_with news took.new.dump)
+    (events_in c.loop-done.timeline) (events_in c.put_news.new.self) c.put_news.ensures in
+    let room : length (events_in c.put_news.new.self) + chances here took.new.self
+    ≤ length (events_in c.args.timeline.now) + SLOT_EVENTS =
     omega (
       arith,
       many,
@@ -70,7 +66,8 @@ loop-done-preserved-in-Some g c =
       );
       room = λ more. room;
       goes = goes-on run done took.result.0 c.args.time _ _ c.args.self.now c.loop-done.self _
-          c.args.events.now.items c.loop-done.events.items c.put_news.new.events.items
+          (events_in c.args.timeline.now) (events_in c.loop-done.timeline)
+          (events_in c.put_news.new.self)
           took.ensures.as_far.some
           (omega (
             arith,
@@ -126,7 +123,8 @@ loop-done-preserved g c =
       );
       room = λ more. absurd (omega (arith, more, whole, c.len-len.ensures.count));
       goes = goes-on run done took.result.0 c.args.time _ _ c.args.self.now c.loop-done.self _
-          c.args.events.now.items c.loop-done.events.items c.loop-done.events.items
+          (events_in c.args.timeline.now) (events_in c.loop-done.timeline)
+          (events_in c.loop-done.timeline)
           took.ensures.as_far.some
           (omega (
             arith,
@@ -152,7 +150,7 @@ loop-done-preserved g c =
                   c.len-len.ensures.count,
                   c.requires.to,
                 )) samples s);
-            added = puts-none c.loop-done.self here _;
+            added = put-nothing _ _;
           })
           (omega (arith, c.loop-done.invariant.room c.loop-done-test.true));
     }
@@ -183,7 +181,7 @@ returns-then-is_quiet_until g c =
     let before : here - length zs ≡ c.args.time + done = omega (arith, is) in
     let whole : take (done + left) run ≡ run = take_all (done + left) run (omega (arith, within)) in
     rw whole at (goes-on run done left c.args.time _ _ c.args.self.now c.loop-done.self _
-    c.args.events.now.items c.loop-done.events.items c.loop-done.events.items
+    (events_in c.args.timeline.now) (events_in c.loop-done.timeline) (events_in c.loop-done.timeline)
     (omega (arith, within)) (omega (arith, within)) c.loop-done.invariant.goes
     (record {
       events = [];
@@ -193,6 +191,6 @@ returns-then-is_quiet_until g c =
           (λ settings xs commands there samples s.
           c.pass.ensures.emits settings xs commands
           (omega (arith, there, length-append xs zs, is, c.requires.to, within)) samples s);
-      added = puts-none c.loop-done.self here _;
+      added = put-nothing _ _;
     })
     (omega (arith, c.loop-done.invariant.room c.loop-done-test.true)))

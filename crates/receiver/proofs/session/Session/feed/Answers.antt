@@ -3,6 +3,7 @@ use Rattle.definitions.specs.Samples.{Sample}
 use Rattle.definitions.specs.Banks.{bank_events_at_end, layout}
 use Rattle.definitions.specs.Receiver.{at_each_sample}
 use Rattle.slot_protocol.specs.Events.{AreEvents}
+use Rattle.channel_slots.specs.Timelines.{events_in}
 use Rattle.receiver.specs.declared.queue.Queue.{Queue}
 use Rattle.receiver.specs.Queues.{least_gap_of}
 use Rattle.receiver.specs.Sessions.{until_next, asked_of}
@@ -24,8 +25,8 @@ returns-clause-stands c settings clients xs s =
     s.bank.now in
     record {
       done = s.done;
-      bank = c.feed_into.ensures.stands settings xs (asked_of s.done) s.bank;
-      shares = s.shares ∙ sym c.feed_into.ensures.shares;
+      bank = c.feed.ensures.stands settings xs (asked_of s.done) s.bank;
+      shares = s.shares ∙ sym c.feed.ensures.shares;
       queues = queues-later settings xs ys s.done c.requires.some 1 clients queues s.queues free;
       waits = waiting-later settings xs ys s.done c.requires.some clients queues s.queues free;
     }
@@ -37,9 +38,9 @@ returns-clause-told c settings clients xs s =
     let queues : List Queue = c.args.self.now.queues.items in
     let free = before-next queues c.args.self.now.bank.time (length xs) (length ys) c.requires.quiet
     s.bank.now in
-    told-stretch settings clients queues s.done xs ys c.feed_into.new.events.items c.requires.some
+    told-stretch settings clients queues s.done xs ys (events_in c.feed.new.timeline) c.requires.some
     s.queues free
-    (subst (λ (l : List ℕ). AreEvents c.feed_into.new.events.items
+    (subst (λ (l : List ℕ). AreEvents (events_in c.feed.new.timeline)
     (at_each_sample (bank_events_at_end settings (layout l) (asked_of s.done)) xs ys))
     (sym s.shares)
-    (c.feed_into.ensures.told settings xs (asked_of s.done) s.bank))
+    (c.feed.ensures.told settings xs (asked_of s.done) s.bank))

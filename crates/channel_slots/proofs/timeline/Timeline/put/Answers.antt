@@ -1,0 +1,23 @@
+use Rattle.std.proofs.Common.{◌≡◌, refl, List, rules}
+use Rattle.slot_protocol.specs.declared.event.SlotEvent.{SlotEvent}
+use Rattle.slot_protocol.specs.Events.{time_in}
+use Rattle.channel_slots.specs.Orders.{put_in}
+use Rattle.channel_slots.proofs.PutLemmas.{put-one}
+use Rattle.channel_slots.proofs.timeline.Timeline.put.Goals as goal
+
+pub returns : goal.returns
+returns c =
+    let next : SlotEvent = record {
+      client = c.args.self.now.client;
+      slot = c.args.self.now.slot;
+      time = c.args.self.now.time;
+      event = c.args.event;
+    } in
+    let items : List SlotEvent = c.args.self.now.events.items in
+    let place : c.insert.new.self.items ≡ put_in time_in next items = search rules in
+    record {
+      client = refl;
+      slot = refl;
+      time = refl;
+      puts = put-one items c.insert.new.self.items next place;
+    }

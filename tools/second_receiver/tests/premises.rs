@@ -1,0 +1,98 @@
+//! The libraries see to what their functions require: each call here breaks a premise, and ends in
+//! a panic that names it.
+
+use bit_sync::BitSync;
+use channel_slots::{Bank, Timeline};
+use lane_correlator::Counts;
+use oscillators::Settings;
+use sample_planes::{Format, PackedSamples, Planes};
+use std::alloc::Global;
+use tracking_loops::Loops;
+
+/// A bank over a recording of real samples of one bit.
+fn bank() -> Bank {
+    let settings = Settings::new(2_046_000, 511_500, Format::Real1).expect("settings");
+    Bank::open(Global, settings, &[4, 4]).expect("a bank")
+}
+
+/// The sums of a dump, all of one size.
+fn sums(of_each: i32) -> Counts {
+    Counts {
+        ie: of_each,
+        qe: of_each,
+        ip: of_each,
+        qp: of_each,
+        il: of_each,
+        ql: of_each,
+    }
+}
+
+#[test]
+fn as_much_as_may_be() {
+    bank().feed(&PackedSamples::new(Format::Real1, &[0; 128]), &mut Timeline::new());
+    BitSync::new().push(-(1 << 18));
+    Loops::start(1 << 30).take(sums(1 << 18));
+    nav_parity::check((1 << 30) - 1, 3);
+}
+
+#[test]
+#[should_panic(expected = "Bank::feed requires length run.now.samples ≤ MAX_SAMPLES")]
+fn a_run_of_1025_samples() {
+    let run = PackedSamples::new(Format::Real1, &[0; 129]).part(0, 1_025);
+    bank().feed(&run, &mut Timeline::new());
+}
+
+#[test]
+#[should_panic(expected = "Bank::feed requires run.now.packing ≡ (settings_of self.old).packing")]
+fn a_run_in_another_packing() {
+    bank().feed(&PackedSamples::new(Format::Iq2, &[0; 128]), &mut Timeline::new());
+}
+
+#[test]
+#[should_panic(expected = "BitSync::push requires unsigned_abs ip ≤ MOST_PUSH")]
+fn a_push_above_its_bound() {
+    BitSync::new().push((1 << 18) + 1);
+}
+
+#[test]
+#[should_panic(expected = "BitSync::push requires unsigned_abs ip ≤ MOST_PUSH")]
+fn the_least_push() {
+    BitSync::new().push(i32::MIN);
+}
+
+#[test]
+#[should_panic(expected = "Loops::take requires AreWithin MOST_SUM (counts_in counts)")]
+fn a_sum_above_its_bound() {
+    let counts = Counts {
+        ql: (1 << 18) + 1,
+        ..sums(0)
+    };
+    Loops::start(0).take(counts);
+}
+
+#[test]
+#[should_panic(expected = "Loops::start requires unsigned_abs v ≤ MOST_SHIFT")]
+fn a_shift_above_its_bound() {
+    Loops::start(-(1 << 30) - 1);
+}
+
+#[test]
+#[should_panic(expected = "check requires word < WORD_LIMIT")]
+fn a_word_of_31_bits() {
+    nav_parity::check(1 << 30, 0);
+}
+
+// What a run or a sample of it is asked for by the way is checked in a debug build alone.
+#[cfg(debug_assertions)]
+#[test]
+#[should_panic(expected = "PackedSamples::part requires first + len ≤ length self.now.samples")]
+fn a_part_that_ends_behind_its_run() {
+    PackedSamples::new(Format::Real1, &[0; 128]).part(usize::MAX, 2);
+}
+
+#[cfg(debug_assertions)]
+#[test]
+#[should_panic(expected = "Planes::value requires i < length self.now")]
+fn a_sample_that_is_not_there() {
+    Planes::new().value(0);
+}
