@@ -3,7 +3,8 @@
 The table has the satellite of each slot, its state, whether its loops are open, locked or have the
 edge of the bits, the Doppler shift, its dumps, its last subframe and the time of week at which the
 next one begins, and the C/N0 of the last second of dumps where `count` lines come. A value that no
-line said is `-`.
+line said is `-`. No line says that a slot was stopped: where a script then gives it another
+satellite, the table has that one from its next `state` line on.
 
 On a terminal the table is drawn at most four times a second, by rich where it is installed. What is
 no terminal gets the last table alone. With --tee the lines go to standard output, and the table to
