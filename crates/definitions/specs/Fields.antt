@@ -107,7 +107,8 @@ almanac_fields = unsigned (codes "data") (bits 61 62 ∷ []) (pos 0)
     ∷ signed (codes "af1") (bits 279 289 ∷ []) (minus 38)
     ∷ []
 
--- coordinated universal time: section 20.3.3.5.1.6, table 20-IX
+-- the ionosphere, section 20.3.3.5.1.7, table 20-X, and coordinated universal time, section
+-- 20.3.3.5.1.6, table 20-IX
 abbrev pub utc_fields : List Field
 utc_fields = unsigned (codes "data") (bits 61 62 ∷ []) (pos 0)
     ∷ unsigned (codes "sv") (bits 63 68 ∷ []) (pos 0)

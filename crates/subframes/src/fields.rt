@@ -28,7 +28,7 @@ pub enum Field {
     Eph3(Eph3Field),
     /// An almanac (section 20.3.3.5.1.2).
     Almanac(AlmanacField),
-    /// The ionosphere and coordinated universal time (section 20.3.3.5.1.6).
+    /// The ionosphere and coordinated universal time (sections 20.3.3.5.1.6 and 20.3.3.5.1.7).
     Utc(UtcField),
     /// The health of satellites 1 to 24 (section 20.3.3.5.1.3).
     Health(HealthField),
