@@ -30,6 +30,7 @@ COLD = re.compile(r'^( *)#\[cold\]\n *#\[inline\(never\)\]\n(?=.*\(&(?:mut )?sel
 BY_TEXT = ('the bodies of `four_windows` and `two_windows`', 'lanes of a slice from a place on',
            'a cold method', 'a method that gives 64 bytes', 'a structure of lanes')
 
+
 def types_of_lanes(texts):
     """The structures of some sources that have a field of lanes."""
     fields = re.findall(r'\bstruct (\w+) \{\n((?:    .*\n)*)', ''.join(texts))

@@ -1,5 +1,7 @@
-"""The docs of a library's root: its README, and its example as a test."""
+"""The docs of a library's root: its README, and its example as a test. An example names packages as
+a user depends on them, and not as the sources do."""
 import re
+import textwrap
 
 # The docs at a source's beginning, and the example among them, which is indented.
 DOCS = re.compile(r'\A(?://!.*\n)*')
@@ -11,6 +13,9 @@ FAULT = 'Result<(), std::boxed::Box<dyn core::error::Error>>'
 HEAD = f'//!     # fn main() -> {FAULT} {{\n'
 TAIL = '//!     # Ok(())\n//!     # }\n'
 
+# A crate in a path.
+NAMED = re.compile(r'(?<![\w:])(?:::)?(\w+)::')
+
 
 def docs_of(text):
     """What a source says of itself."""
@@ -20,16 +25,51 @@ def docs_of(text):
 def example_of(text):
     """The example of a source, as it says it; an empty text where there is none."""
     found = EXAMPLE.search(DOCS.match(text)[0])
-    return re.sub(r'^//! *', '', found[0], flags=re.M) if found else ''
+    return textwrap.dedent(re.sub(r'^//! ?', '', found[0], flags=re.M)) if found else ''
 
 
-def tested_text(text):
-    """A source whose example is a whole program, with the right to touch the world if it says
-    so."""
+def is_of_kit(example):
+    """Whether an example needs the kit's std in the place of Rust's own."""
+    return re.search(r'\bHostRuntime\b|\bstd::alloc\b|\bString\b|\bVec::', example) is not None
+
+
+def allocator_of(example):
+    """The path of the kit's allocator for an example."""
+    if 'use seldomplough::' in example:
+        return 'seldomplough::Global'
+    return f'{"std" if is_of_kit(example) else "seldomplough_kit_std"}::alloc::Global'
+
+
+def named_docs(text, packages):
+    """A source whose example names packages, which are given by the sources' names. Where it asks
+    a runtime for an allocator and is given none, it names the allocator."""
+    def named(found):
+        example = found[0]
+        if 'HostRuntime' not in example:
+            example = example.replace('rt.alloc()', allocator_of(example))
+        return NAMED.sub(lambda it: f'{packages.get(it[1], it[1])}::', example)
+
+    docs = DOCS.match(text)[0]
+    return EXAMPLE.sub(named, docs, count=1) + text[len(docs):]
+
+
+def program_of(text):
+    """The example of a source as a whole program; an empty text where there is none."""
+    example = example_of(text)
+    if not example:
+        return ''
+    fault = FAULT if is_of_kit(example) else 'Result<(), Box<dyn std::error::Error>>'
+    body = re.sub(r'^(?=.)', '    ', example, flags=re.M)
+    return f'fn main() -> {fault} {{\n{body}    Ok(())\n}}\n'
+
+
+def tested_text(text, package, names):
+    """A source whose example is a whole program. The names under which a package depends on those
+    that the example names are given by these: they are known under both."""
     def program(found):
-        runtime = '//!     # let rt = HostRuntime;\n' * bool(re.search(r'\brt\b', found[0]))
-        runtime *= 'rt: HostRuntime' not in found[0]
-        return HEAD + runtime + found[0] + TAIL
+        named = sorted(set(NAMED.findall(found[0])).intersection(names).difference([package]))
+        known = ''.join(f'//!     # extern crate {names[it]} as {it};\n' for it in named)
+        return known + HEAD + found[0] + TAIL
 
     docs = DOCS.match(text)[0]
     return EXAMPLE.sub(program, docs, count=1) + text[len(docs):]

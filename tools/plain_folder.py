@@ -14,10 +14,10 @@ class Refused(Exception):
 def folder_for(words, top):
     """The real path of the folder that the words of the command name, or else `plain` in the
     checkout. In the checkout it is a folder beside README.md, so that it is none of the sources."""
-    if len(words) > 1:
-        raise Refused(f'one folder is written, and {len(words)} words are given')
     if words and words[0].startswith('-'):
         raise Refused(f'there is no option {words[0]}')
+    if len(words) > 1:
+        raise Refused(f'one folder is written, and {len(words)} words are given')
     if words and not words[0]:
         raise Refused('a folder has a name')
     path = os.path.realpath(words[0] if words else os.path.join(top, 'plain'))

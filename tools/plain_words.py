@@ -10,7 +10,7 @@ from plain_text import code_of, plain_text
 NUMBER = re.compile(r'[ui](?:8|16|32|64)\b|usize\b')
 
 # Methods that premises need beside those of the sources: the type, what is said of its value `_`,
-# the method, its type, and its body. Where a source has a method of that name by now, none is added.
+# the method, its type, and its body. Where a source has a method of that name, none is added.
 READERS = [
     ('SampleHistory', 'taken_of _', 'taken', 'u64', 'self.taken'),
     ('SampleHistory', 'first_of _', 'first_held', 'u64', 'self.first()'),
@@ -22,10 +22,9 @@ READERS = [
     ('Searched', 'to_due_of _', 'to_due', 'u64', 'self.to_due'),
     ('LazyFollower', 'taken_of _', 'taken', 'u64', 'self.taken'),
     ('LazyFollower', 'ends_of _', 'ends', 'u64', 'self.taken + self.follower.to_end()'),
-    ('Held', 'taken_of _', 'taken', 'u64', 'self.follower.taken()'),
-    ('Held', 'next_dump _', 'next_dump', 'u64', 'self.follower.ends()'),
-    ('Tracked', 'taken_of _', 'taken', 'u64', 'self.follower.taken()'),
-    ('Tracked', 'next_dump _', 'next_dump', 'u64', 'self.follower.ends()'),
+    ('Followed', 'taken_of _', 'taken', 'u64', 'self.follower.taken()'),
+    ('Followed', 'next_dump _', 'next_dump', 'u64', 'self.follower.ends()'),
+    ('Tracking', 'dump_count _', 'dump_count', 'u64', 'self.loops.dumps()'),
     ('Timeline', 'count_of _', 'count', 'usize', 'self.events.len()'),
     ('Message', 'bit_count _', 'bit_count', 'u64', 'self.frames.pushed()'),
     ('LockedMessage', 'bit_count _', 'bit_count', 'u64',

@@ -32,10 +32,10 @@ class Commanded:
         self.rest: List[Iterator[Asked]] = [iter(read_script(it)) for it in scripts]
         self.commands: Dict[Tuple[int, int], Command] = {}
 
-    def feed(self, line: Line) -> None:
-        """Takes the next line."""
+    def feed(self, line: Line) -> Optional[Tuple[int, int]]:
+        """Takes the next line. Says the client and slot whose command it accepts, or None."""
         if line.client > len(self.rest) or not isinstance(line, (Ok, Err, State)):
-            return
+            return None
         asked = next(self.rest[line.client - 1], None)
         if asked is None:
             raise Failure(f'client {line.client} has more answers than its script has lines')
@@ -43,11 +43,14 @@ class Commanded:
         words = asked.text.split()
         if isinstance(line, Ok) and words[1] in PLACES:
             satellite, shift, half_chip = PLACES[words[1]]
-            self.commands[line.client, int(words[2])] = Command(
+            place = line.client, int(words[2])
+            self.commands[place] = Command(
                 int(words[satellite]),
                 int(words[shift]),
                 None if half_chip is None else int(words[half_chip]),
             )
+            return place
+        return None
 
     def of(self, line: SlotLine) -> Optional[Command]:
         """The last command of the slot that a line is of."""

@@ -3,8 +3,11 @@
 from __future__ import annotations
 
 import os
+import shutil
 import stat
 import tempfile
+from contextlib import contextmanager
+from typing import IO, Iterator, Optional, Tuple
 
 from seldomplough import files
 from seldomplough.failures import ClosedPipe, of_system
@@ -49,16 +52,48 @@ def _is_special(name: str) -> bool:
 
 def _put_in_place(name: str, data: bytes) -> None:
     """Writes a file beside the one of a name, and gives it that name."""
-    folder = os.path.dirname(name) or os.curdir
-    number, beside = tempfile.mkstemp(dir=folder, prefix='.seldomplough-')
+    with placed(name) as stream:
+        stream.write(data)
+
+
+@contextmanager
+def placed(name: str, scratch: Optional[str] = None) -> Iterator[IO[bytes]]:
+    """A stream whose file gets a name when it is whole and on the disk. Else it is removed.
+
+    With a scratch folder it is written there first, and copied beside the name at the end."""
+    with _temporary(scratch or _folder_of(name)) as (stream, path):
+        yield stream
+        stream.flush()
+        if scratch is None:
+            _name(stream, path, name)
+            return
+        with _temporary(_folder_of(name)) as (copy, beside), open(path, 'rb') as source:
+            shutil.copyfileobj(source, copy)
+            _name(copy, beside, name)
+
+
+def _folder_of(name: str) -> str:
+    return os.path.dirname(name) or os.curdir
+
+
+@contextmanager
+def _temporary(folder: str) -> Iterator[Tuple[IO[bytes], str]]:
+    """A new file in a folder, and its path. It is removed unless it got another name."""
+    number, path = tempfile.mkstemp(dir=folder, prefix='.seldomplough-')
     try:
         with os.fdopen(number, 'wb') as stream:
-            stream.write(data)
-        os.chmod(beside, 0o666 & ~_mask())
-        os.replace(beside, name)
-    except BaseException:
-        os.unlink(beside)
-        raise
+            yield stream, path
+    finally:
+        if os.path.exists(path):
+            os.unlink(path)
+
+
+def _name(stream: IO[bytes], path: str, name: str) -> None:
+    """Gives a file that is whole its name."""
+    stream.flush()
+    os.fsync(stream.fileno())
+    os.chmod(path, 0o666 & ~_mask())
+    os.replace(path, name)
 
 
 def _mask() -> int:

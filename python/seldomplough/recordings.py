@@ -73,8 +73,12 @@ class Recording:
             return None
         if found is None or not stat.S_ISREG(found.st_mode):
             return None
+        return self.samples_of(found.st_size)
+
+    def samples_of(self, size: int) -> int:
+        """How many samples the receiver gets of so many bytes of the file."""
         whole = 8 // FORMATS[self.format]
-        return found.st_size * 8 // self.bits // whole * whole
+        return size * 8 // self.bits // whole * whole
 
     def pack_words(self) -> List[str]:
         """The words for `pack`."""

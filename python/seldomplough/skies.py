@@ -8,7 +8,7 @@ from __future__ import annotations
 
 from dataclasses import dataclass, field
 from datetime import datetime
-from typing import Dict, Iterator, List, Optional
+from typing import Dict, Iterator, List, Optional, TypeVar
 
 from seldomplough import dates
 from seldomplough.cn0 import Moments
@@ -22,6 +22,8 @@ AGAIN = 10
 DUMPS, TIMES = 1000, 20
 # The subframe that has the week.
 CLOCK = 1
+
+K = TypeVar('K')
 
 
 def scripts(search: Search, rate: int, seconds: int, last: Optional[int]) -> List[Script]:
@@ -104,18 +106,13 @@ class Sky:
             if line.found:
                 self._find(number, line)
         elif number in self.satellites:
-            _take(self.satellites[number], line)
+            take(self.satellites[number], line)
 
     def _find(self, number: int, line: Acq) -> None:
         """A satellite was found, for the first time or again."""
         begun = line.time - self.length
         shift = float(line.doppler_hz(self.search.centre))
-        old = self.satellites.get(number)
-        if old is None:
-            self.satellites[number] = Satellite(number, begun, line.half_chip, shift)
-        else:
-            old.found, old.half_chip, old.doppler_hz = begun, line.half_chip, shift
-            old.lost = None
+        found(self.satellites, number, Satellite(number, begun, line.half_chip, shift))
 
     def rows(self) -> Iterator[Satellite]:
         """The satellites that were found, in the order of their numbers."""
@@ -123,7 +120,13 @@ class Sky:
             yield self.satellites[number]
 
 
-def _take(it: Satellite, line: SlotLine) -> None:
+def found(known: Dict[K, Satellite], key: K, it: Satellite) -> None:
+    """Puts a satellite that was found among those that are known, where it may be already."""
+    old = known.setdefault(key, it)
+    old.found, old.half_chip, old.doppler_hz, old.lost = it.found, it.half_chip, it.doppler_hz, None
+
+
+def take(it: Satellite, line: SlotLine) -> None:
     """Takes a line of a satellite."""
     if isinstance(line, Count):
         # Before the lock the carrier may be off, and the first dump isn't whole.

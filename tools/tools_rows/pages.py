@@ -35,7 +35,7 @@ def folders_of_pages(rows, folder):
     for part in ('docs', 'examples', 'README.md', 'python/README.md'):
         paths = [os.path.join(TOP, part)] if part.endswith('.md') else [
             os.path.join(at, name) for at, _, names in os.walk(os.path.join(TOP, part))
-            for name in names if not name.endswith(('.svg', '.real1', '.iq1', '.iq2'))]
+            for name in names if not name.endswith(('.svg', '.png', '.real1', '.iq1', '.iq2'))]
         for path in paths:
             with open(path, encoding='utf-8') as file:
                 if re.search(r'/tmp\b', file.read()):

@@ -47,9 +47,13 @@ def foreign_folders(rows, folder):
 def words(rows, folder):
     """Words that name no folder."""
     checkout = Checkout(folder)
-    for given in [''], ['-x'], ['--x'], ['a', 'b'], ['a', '--help'], ['a\nb'], ['--']:
+    for given in ([''], ['-x'], ['--x'], ['a', 'b'], ['a', '--help'], ['a\nb'], ['--'],
+                  ['--crates-io', '-x'], ['--crates-io', 'a', 'b'], ['--crates-io=a'],
+                  ['--crates']):
         refuses(rows, f'{given}', checkout, given)
-    for given in ['-h'], ['--help']:
+    refuses(rows, 'a word like the option', checkout, ['--crate-io', 'a'],
+            'plain: there is no option --crate-io')
+    for given in ['-h'], ['--help'], ['--crates-io', '--help']:
         before = contents(folder)
         outcome = plain(checkout, *given)
         faults = changes(before, contents(folder))
@@ -127,6 +131,24 @@ def later_runs(rows, folder):
     refuses(rows, 'a file of another in the place of a new one', checkout, ['own'])
 
 
+def registries(rows, folder):
+    """With crates of crates.io, before or after the folder, those of the kit aren't written; and
+    either workspace takes the place of the other."""
+    checkout = Checkout(folder)
+    faults = written(plain(checkout, 'kit')) + written(plain(checkout, '--crates-io', 'new'))
+    own, new = os.path.join(folder, 'kit'), contents(os.path.join(folder, 'new'))
+    first = contents(own)
+    gone = {name for name in first if first[name] is not None} - set(new)
+    faults += [f'{name} is not written' for name in gone
+               if not name.startswith(('kit/arrayvec/', 'kit/thiserror/'))]
+    faults += ['all is written'] * (not gone)
+    faults += written(plain(checkout, 'kit', '--crates-io'))
+    faults += changes({name: text for name, text in new.items() if text is not None},
+                      {name: text for name, text in contents(own).items() if text is not None})
+    faults += written(plain(checkout, 'kit')) + changes(first, contents(own))
+    rows.say('tools/plain --crates-io', faults)
+
+
 def marks(rows, folder):
     """A mark that names files outside its folder harms none."""
     checkout = Checkout(folder)
@@ -169,4 +191,5 @@ def environments(rows, folder):
         rows.say(f'tools/plain, with {more}', written(plain(checkout, f'own{number}', **more)))
 
 
-ROWS = (foreign_folders, words, the_checkout, links, later_runs, marks, broken_runs, environments)
+ROWS = (foreign_folders, words, the_checkout, links, later_runs, registries, marks,
+        broken_runs, environments)

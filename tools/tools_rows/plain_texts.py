@@ -287,7 +287,7 @@ def all_checked(rows, _):
 
 def texts(rows, folder):
     """Where a text has changed that is put in another way to be fast, one line names it."""
-    top = copied(folder, 'tools', 'crates', 'crates.txt')
+    top = copied(folder, 'tools', 'crates', 'crates.txt', 'LICENSE-MIT', 'LICENSE-APACHE')
     plain = os.path.join(top, 'tools', 'plain')
     outcome = run([plain, os.path.join(folder, 'first')], folder)
     rows.say('tools/plain, the sources as they are',

@@ -82,7 +82,8 @@ class Checkout:
 
     def __init__(self, folder, name='checkout'):
         self.folder = folder
-        self.top = copied(folder, 'tools', 'receiver', 'pack', 'HANDLES', 'LICENSE-MIT', name=name)
+        self.top = copied(folder, 'tools', 'receiver', 'pack', 'HANDLES', 'LICENSE-MIT',
+                          'LICENSE-APACHE', name=name)
         os.makedirs(os.path.join(self.top, '.git'))
         write(self.at('crates.txt'), CRATES)
         # The second receiver stands on crates that aren't here.
@@ -92,9 +93,9 @@ class Checkout:
         for crate, called in ('receiver_cli', 'receiver'), ('packer_cli', 'pack'):
             write(self.at(f'crates/{crate}/src/main.rt'), MAIN % called)
         # The size of its programs is no matter, and how long they take to build is.
-        with open(self.at('tools/plain'), encoding='utf-8') as file:
+        with open(self.at('tools/plain_workspace.py'), encoding='utf-8') as file:
             text = file.read()
-        write(self.at('tools/plain'), text.replace('lto = true', 'opt-level = 0'), 0o755)
+        write(self.at('tools/plain_workspace.py'), text.replace('lto = true', 'opt-level = 0'))
         self.set_version('1.0.1')
         self.path = linked_path(os.path.join(folder, 'bin'), 'cargo', 'rustc', 'rustup', 'cc', 'ld')
         self.bare = linked_path(os.path.join(folder, 'bare'))

@@ -74,7 +74,7 @@ impl BitSync {
         }
     }
 
-    /// Says whether the edge is among the pushes.
+    /// Whether the edge is among the pushes.
     pub fn has_edge(&self) -> bool
         ensures { (pushes : List ℤ) → StandsFor pushes self.now → result ≡ has_edge pushes }
     {

@@ -73,7 +73,7 @@ impl EdgeSearch {
     }
 }
 
-/// Says whether a push's sign isn't that of the push before it. The first push has none before it.
+/// Whether a push's sign isn't that of the push before it. The first push has none before it.
 fn turns(last: Option<bool>, is_negative: bool) -> bool
     ensures { result ≡ sign_turns last is_negative }
 {
@@ -83,7 +83,7 @@ fn turns(last: Option<bool>, is_negative: bool) -> bool
     }
 }
 
-/// Says whether two places are candidates.
+/// Whether two places are candidates.
 fn is_crowded(changes: &[u8; BIT_PLACES]) -> bool
     ensures { result ≡ nat_le 2 (count_by (λ n. nat_le 4 n) changes.now) }
 {

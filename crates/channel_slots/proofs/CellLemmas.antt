@@ -9,25 +9,30 @@ use Rattle.definitions.specs.Samples.{Sample}
 use Rattle.definitions.specs.Oscillators.{Settings}
 use Rattle.definitions.specs.Acquisition.{cells_done}
 use Rattle.definitions.specs.Commands.{TimedRequest, state}
-use Rattle.definitions.specs.Lives.{Life}
-use Rattle.definitions.specs.Answers.{answer_at_end, answer_with}
+use Rattle.definitions.specs.Lives.{Life, is_steered}
+use Rattle.definitions.specs.Answers.{View, answer_at_end, answer_with}
 use Rattle.definitions.proofs.CellLemmas.{cells-come}
 use Rattle.definitions.proofs.BodyLemmas.{life_of-append}
 use Rattle.channel_slots.specs.declared.stage.Stage.{Stage}
-use Rattle.channel_slots.specs.declared.stage.Stage.TheVariants.{Idle, Searching, Holding, Tracking}
+use Rattle.channel_slots.specs.declared.stage.Stage.TheVariants.{Idle, Searching, Following}
 use Rattle.channel_slots.specs.declared.slot.Slot.{Slot}
 use Rattle.channel_slots.specs.declared.seat.Seat.{Seat}
-use Rattle.slot_protocol.specs.Answers.{cells_shown}
+use Rattle.slot_protocol.specs.Answers.{cells_shown, cells_in_view}
 use Rattle.channel_slots.specs.Stages as stages
 use Rattle.channel_slots.specs.Stages.{Follows, IsSearched}
 use Rattle.channel_slots.specs.Slots.{StandsFor, is_idle, cells_done_of}
 use Rattle.channel_slots.specs.Banks.{cells_done_at, keys_of, IsAt}
 use Rattle.channel_slots.proofs.SearchLemmas.{shows-searched}
-use Rattle.channel_slots.proofs.StageLemmas.{shows-held, tracked-view}
+use Rattle.channel_slots.proofs.StageLemmas.{followed-view}
 use Rattle.channel_slots.proofs.SlotLemmas.{has-life, life-now, answers, idle-shown}
 use Rattle.channel_slots.proofs.CommandLemmas.{Once, once-tail, not-first, found}
 
 -- ---- what is shown
+
+none-either : (b : Bool) (x y : View) → cells_in_view x ≡ None → cells_in_view y ≡ None
+    → None ≡ cells_in_view (if b then x else y)
+none-either true x y no-x no-y = sym no-x
+none-either false x y no-x no-y = sym no-y
 
 shown-of : (settings : Settings) (xs : List Sample) (life : Life) (stage : Stage)
     → Follows settings xs life stage → stages.is_idle stage ≡ false
@@ -35,10 +40,9 @@ shown-of : (settings : Settings) (xs : List Sample) (life : Life) (stage : Stage
 shown-of settings xs life Idle s e = cc
 shown-of settings xs life (Searching a) s e =
     ap cells_shown (shows-searched settings xs life a s _ _ _ refl refl refl)
-shown-of settings xs life (Holding h) s e =
-    ap cells_shown (shows-held settings xs life h _ _ s refl refl)
-shown-of settings xs life (Tracking t) s e =
-    sym (ap cells_shown (tracked-view settings xs life s.channel s.steered s.given _ refl))
+shown-of settings xs life (Following f) s e =
+    none-either (is_steered life.start) _ _ refl refl
+    ∙ ap cells_shown (sym (followed-view settings xs life f s))
 
 pub cells-shown : (settings : Settings) (xs : List Sample) (commands : List TimedRequest)
     (slot : Slot) → StandsFor settings xs commands slot
@@ -48,8 +52,7 @@ cells-shown settings xs commands slot s = by_test (is_idle slot) refl
     none : (stage : Stage) → stages.is_idle stage ≡ true → stages.cells_done_of stage ≡ None
     none Idle e = refl
     none (Searching a) e = cc
-    none (Holding h) e = cc
-    none (Tracking t) e = cc
+    none (Following f) e = cc
 
     by_test : (b : Bool) → is_idle slot ≡ b
         → cells_done_of slot ≡ cells_shown (answer_at_end settings xs commands state)
@@ -116,11 +119,9 @@ more : (settings : Settings) (xs ys : List Sample) (life : Life) (old new : Stag
     → stages.cells_done_of old ≡ Some before → stages.cells_done_of new ≡ Some after
     → after ≤ before + (length ys / 4 + 1)
 more settings xs ys life Idle new before after s t b a = cc
-more settings xs ys life (Holding h) new before after s t b a = cc
-more settings xs ys life (Tracking h) new before after s t b a = cc
+more settings xs ys life (Following f) new before after s t b a = cc
 more settings xs ys life (Searching p) Idle before after s t b a = cc
-more settings xs ys life (Searching p) (Holding h) before after s t b a = cc
-more settings xs ys life (Searching p) (Tracking h) before after s t b a = cc
+more settings xs ys life (Searching p) (Following f) before after s t b a = cc
 more settings xs ys life (Searching p) (Searching q) before after s t b a =
     let many : length (xs ++ ys) ≡ length xs + length ys = simp length-append (omega arith) in
     let same : t.plan ≡ s.plan = cc in
@@ -145,8 +146,7 @@ more-of settings xs ys commands old new before after s t b a =
         → stages.is_idle stage ≡ false
     not-idle Idle n e = cc
     not-idle (Searching a) n e = refl
-    not-idle (Holding h) n e = cc
-    not-idle (Tracking t) n e = cc
+    not-idle (Following f) n e = cc
 
 -- the same of all seats
 module _ (settings : Settings) (xs ys : List Sample) (asked : ℕ → ℕ → List TimedRequest)

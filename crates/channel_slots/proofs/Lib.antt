@@ -1,6 +1,7 @@
 pub mod BankLemmas
 pub mod CellLemmas
 pub mod CommandLemmas
+mod HoldLemmas
 pub mod NewsLemmas
 pub mod OrderLemmas
 pub mod PutLemmas

@@ -5,7 +5,7 @@ use Rattle.std.proofs.lemmas.Bool.{eq-eqb, eqb-true, lt-ltb, ltb-true, le-leb, l
 use Rattle.channels.specs.Searching.{due_of, start_of, to_due_of}
 use Rattle.channels.specs.declared.lazy_follower.TheConstants.{MOST_WAITING}
 use Rattle.channel_slots.specs.declared.stage.Stage.{Stage}
-use Rattle.channel_slots.specs.declared.stage.Stage.TheVariants.{Idle, Searching, Holding, Tracking}
+use Rattle.channel_slots.specs.declared.stage.Stage.TheVariants.{Idle, Searching, Following}
 use Rattle.channel_slots.specs.Stages as stages
 use Rattle.channel_slots.specs.declared.seat.Seat.{Seat}
 use Rattle.channel_slots.specs.Slots.{is_sound}
@@ -18,15 +18,9 @@ sound-from : (reach time first : ℕ) (stage : Stage) → stages.IsSound 0 time 
 sound-from reach time first Idle sound most late = tt
 sound-from reach time first (Searching a) sound most late =
     (omega (arith, sound.1, sound.2, sound.3, late), sound.1, sound.2, sound.3)
-sound-from reach time first (Holding h) sound most late = record {
+sound-from reach time first (Following f) sound most late = record {
   few = sound.few;
-  held = omega (arith, sound.waits, h.follower.few, most, late);
-  begun = sound.begun;
-  waits = sound.waits;
-}
-sound-from reach time first (Tracking t) sound most late = record {
-  few = sound.few;
-  held = omega (arith, sound.waits, t.follower.few, most, late);
+  held = omega (arith, sound.waits, f.follower.few, most, late);
   begun = sound.begun;
   waits = sound.waits;
 }
@@ -66,8 +60,7 @@ tested time reach (Searching a) sound =
       lt-ltb 0 (to_due_of a) sound.2,
       le-leb (due_of a) (start_of a + reach) sound.3,
     ) refl
-tested time reach (Holding h) sound = in-time-tested time _ _ _ sound
-tested time reach (Tracking t) sound = in-time-tested time _ _ _ sound
+tested time reach (Following f) sound = in-time-tested time _ _ _ sound
 
 by-test : (time reach : ℕ) (stage : Stage) → stages.is_sound time reach stage ≡ true
     → stages.IsSound 0 time reach stage
@@ -80,8 +73,7 @@ by-test time reach (Searching a) test =
       ltb-true 0 (to_due_of a) inner.0,
       leb-true (due_of a) (start_of a + reach) inner.1,
     )
-by-test time reach (Holding h) test = in-time time _ _ _ test
-by-test time reach (Tracking t) test = in-time time _ _ _ test
+by-test time reach (Following f) test = in-time time _ _ _ test
 
 pub all-tested : (time reach : ℕ) (seats : List Seat) → AllSound 0 time reach seats
     → are_sound time reach seats ≡ true

@@ -8,13 +8,12 @@ use Rattle.std.proofs.lemmas.Bool.{le-leb, leb-true, and_parts}
 use Rattle.definitions.specs.Samples.{Sample}
 use Rattle.definitions.specs.Oscillators.{Settings}
 use Rattle.definitions.specs.Commands.{TimedRequest}
-use Rattle.channels.proofs.HeldLemmas.{lets-wait as held-waits}
-use Rattle.channels.proofs.TrackedLemmas.{lets-wait as tracked-waits}
+use Rattle.channels.proofs.FollowedLemmas.{lets-wait}
 use Rattle.slot_protocol.specs.declared.event.SlotEvent.{SlotEvent}
 use Rattle.channel_slots.specs.declared.slot.Slot.{Slot}
 use Rattle.channel_slots.specs.declared.seat.Seat.{Seat}
 use Rattle.channel_slots.specs.declared.stage.Stage.{Stage}
-use Rattle.channel_slots.specs.declared.stage.Stage.TheVariants.{Idle, Searching, Holding, Tracking}
+use Rattle.channel_slots.specs.declared.stage.Stage.TheVariants.{Idle, Searching, Following}
 use Rattle.sample_planes.specs.Sources.{AreSamplesOf}
 use Rattle.channel_slots.specs.Stages as stages
 use Rattle.channel_slots.specs.declared.bank.TheConstants.{MOST_TIME}
@@ -24,7 +23,7 @@ use Rattle.channel_slots.specs.Banks.{SeatGoes, RunsAll, AllRest, all_rest}
 use Rattle.channel_slots.proofs.OrderLemmas.{put-nothing}
 use Rattle.channel_slots.proofs.SeatLemmas.{seated, all_push}
 use Rattle.channel_slots.proofs.SlotLemmas.{idle-tells, tells}
-use Rattle.channel_slots.proofs.StageLemmas.{held-takes, tracked-takes}
+use Rattle.channel_slots.proofs.StageLemmas.{followed-takes}
 use Rattle.channel_slots.proofs.TellingLemmas.{goes-begin, goes-more}
 
 -- while a slot rests, nothing is emitted
@@ -37,19 +36,12 @@ rests-quiet settings xs ys commands slot s more = by_stage slot.stage refl
         → length (xs ++ ys) ≤ stages.rests_until stage → Emits settings xs ys commands slot []
     by_stage Idle is rests = idle-tells settings xs commands slot s ys more (ap is_idle is)
     by_stage (Searching a) is rests = absurd (omega (arith, rests, more, length-append xs ys))
-    by_stage (Holding h) is rests =
+    by_stage (Following f) is rests =
         tells settings xs commands slot s ys more (ap is_idle is) slot None
         (λ life follows.
         let k = rw is at follows in
-        rw is (held-takes settings xs ys life h k more false None h
-        (held-waits settings _ xs ys h k.holds rests)))
-        refl
-    by_stage (Tracking t) is rests =
-        tells settings xs commands slot s ys more (ap is_idle is) slot None
-        (λ life follows.
-        let k = rw is at follows in
-        rw is (tracked-takes settings xs life t k ys more false None t
-        (tracked-waits settings _ xs ys t k.tracks rests)))
+        rw is (followed-takes settings xs ys life f k more false f refl None
+        (lets-wait settings _ xs ys f k.follows rests)))
         refl
 
 -- what is known of it stays so
@@ -58,13 +50,7 @@ rests-sound : (from time more reach : ℕ) (stage : Stage) → time + more ≤ s
 rests-sound from time more reach Idle rests sound = tt
 rests-sound from time more reach (Searching a) rests sound =
     (sound.0, omega (arith, sound.1, rests), sound.2, sound.3)
-rests-sound from time more reach (Holding h) rests sound = record {
-  few = omega (arith, sound.few);
-  held = sound.held;
-  begun = omega (arith, sound.begun);
-  waits = rests;
-}
-rests-sound from time more reach (Tracking t) rests sound = record {
+rests-sound from time more reach (Following f) rests sound = record {
   few = omega (arith, sound.few);
   held = sound.held;
   begun = omega (arith, sound.begun);
@@ -115,9 +101,7 @@ pub quiet-some : (from time more reach : ℕ) (stage : Stage) → time + more �
 quiet-some from time more reach Idle early sound quiet wakes = absurd (omega (arith, early, wakes))
 quiet-some from time more reach (Searching a) early sound quiet wakes =
     absurd (true≢false (sym quiet))
-quiet-some from time more reach (Holding h) early sound quiet wakes =
-    omega (arith, sound.waits, wakes)
-quiet-some from time more reach (Tracking t) early sound quiet wakes =
+quiet-some from time more reach (Following f) early sound quiet wakes =
     omega (arith, sound.waits, wakes)
 
 -- and all of them

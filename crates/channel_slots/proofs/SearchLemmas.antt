@@ -23,12 +23,13 @@ use Rattle.acquisition.specs.declared.cell.Cell.{Cell}
 use Rattle.acquisition.specs.Cells.{cell_in}
 use Rattle.sample_planes.specs.Sources.{AreSamplesOf}
 use Rattle.channels.specs.declared.searched.Searched.{Searched}
-use Rattle.channels.specs.declared.tracked.Tracked.{Tracked}
+use Rattle.channels.specs.declared.followed.Followed.{Followed}
 use Rattle.channels.specs.Searching as searched
 use Rattle.channels.specs.Searching.{Searches, Answers}
-use Rattle.channels.specs.TrackedChannels.{Tracks, counts_so_far}
+use Rattle.channels.specs.FollowedChannels.{counts_so_far}
+use Rattle.channels.specs.FollowedChannels as followed
 use Rattle.channel_slots.specs.declared.stage.Stage.{Stage}
-use Rattle.channel_slots.specs.declared.stage.Stage.TheVariants.{Idle, Searching, Holding, Tracking}
+use Rattle.channel_slots.specs.declared.stage.Stage.TheVariants.{Idle, Searching, Following}
 use Rattle.channel_slots.specs.Stages.{IsSearched, IsSettled, Follows}
 use Rattle.channel_slots.proofs.TakesLemmas.{Takes, Acquired}
 
@@ -180,17 +181,17 @@ module _ (settings : Settings) (xs : List Sample) (life : Life) (a : Searched)
       }
 
       -- what was found is tracked
-      found : (t : Tracked)
-          → Tracks settings (found_channel settings s.plan life.begun (cell_in cell)) (xs ++ ys) t
-          → cell.found ≡ true
-          → Takes settings xs ys life (Tracking t) (Some (Acquired prn cell))
-      found t tracks here = answers (Tracking t) (record {
+      found : (f : Followed) → followed.is_steered f ≡ true
+          → followed.Follows settings (found_channel settings s.plan life.begun (cell_in cell))
+          (xs ++ ys) f → cell.found ≡ true
+          → Takes settings xs ys life (Following f) (Some (Acquired prn cell))
+      found f steered follows here = answers (Following f) (record {
         channel = found_channel settings s.plan life.begun named;
-        steered = rw s.start refl;
         given = given here;
-        tracks = subst (λ (c : DefinedCell). Tracks settings
-            (found_channel settings s.plan life.begun c) (xs ++ ys) t) answer.1 tracks;
-        not_lost = none-yet settings (xs ++ ys)
+        steered = rw s.start steered;
+        follows = subst (λ (c : DefinedCell). followed.Follows settings
+            (found_channel settings s.plan life.begun c) (xs ++ ys) f) answer.1 follows;
+        not_lost = λ _. none-yet settings (xs ++ ys)
             (found_channel settings s.plan life.begun named) (omega (arith, answer.0));
       })
 
@@ -205,9 +206,9 @@ module _ (settings : Settings) (xs : List Sample) (life : Life) (a : Searched)
           → Takes settings xs ys life stage (Some (Acquired prn cell))
       settled b searches due Idle is = not-found is
       settled b searches due (Searching other) is = absurd is
-      settled b searches due (Holding h) is = absurd is
-      settled b searches due (Tracking t) is =
-          found t (is.1 settings s.plan life.begun (xs ++ ys) refl searches due) is.0
+      settled b searches due (Following f) is =
+          found f is.2.steered_is
+          (is.1 settings s.plan life.begun (xs ++ ys) refl searches due) is.0
 
 -- a life that begins now
 pub starts-searched : (settings : Settings) (xs : List Sample) (life : Life) (a : Searched)

@@ -20,7 +20,7 @@ use Rattle.channel_slots.specs.Banks.{AllSound}
 use Rattle.channel_slots.specs.Slots.{StandsFor, is_idle}
 use Rattle.channel_slots.specs.Stages as stages
 use Rattle.channel_slots.specs.declared.stage.Stage.{Stage}
-use Rattle.channel_slots.specs.declared.stage.Stage.TheVariants.{Idle, Searching, Holding, Tracking}
+use Rattle.channel_slots.specs.declared.stage.Stage.TheVariants.{Idle, Searching, Following}
 use Rattle.slot_protocol.specs.declared.command.TheConstants.{MOST_SLOTS}
 use Rattle.channel_slots.proofs.SlotLemmas.{stands-new}
 use Rattle.definitions.specs.Oscillators.{Settings}
@@ -230,8 +230,7 @@ idle-sound reach (p ∷ ps) idle = (of_stage p.slot.stage idle.0, idle-sound rea
     of_stage : (stage : Stage) → stages.is_idle stage ≡ true → stages.IsSound 0 0 reach stage
     of_stage Idle e = tt
     of_stage (Searching a) e = cc
-    of_stage (Holding h) e = cc
-    of_stage (Tracking t) e = cc
+    of_stage (Following f) e = cc
 
 pub idle-stand : (settings : Settings) (ps : List Seat) → AllIdle ps
     → AllByRecursion (λ (p : Seat). StandsFor settings [] [] p.slot) ps

@@ -6,11 +6,11 @@ use Rattle.std.proofs.Common.{append_assoc, subst, ◌*◌}
 use Rattle.std.specs.Prelude.{Bool, true, false, map, nat_lt, if◌then◌else◌, pos}
 use Rattle.channels.proofs.ChanceLemmas.{one-late-chance}
 use Rattle.channel_slots.specs.declared.stage.Stage.{Stage}
-use Rattle.channel_slots.specs.declared.stage.Stage.TheVariants.{Idle, Searching, Holding, Tracking}
+use Rattle.channel_slots.specs.declared.stage.Stage.TheVariants.{Idle, Searching, Following}
 use Rattle.tracking_loops.specs.declared.news.News.{News}
 use Rattle.channels.specs.Dumps.{is_loss}
-use Rattle.channels.specs.declared.tracked.Tracked.{Tracked}
-use Rattle.channels.specs.TrackedChannels as tracked
+use Rattle.channels.specs.declared.followed.Followed.{Followed}
+use Rattle.channels.specs.FollowedChannels as followed
 use Rattle.channel_slots.specs.Stages.{chance, after_dump}
 use Rattle.channel_slots.specs.declared.slot.Slot.{Slot}
 use Rattle.std.proofs.lemmas.List.{map-append, length-take-le}
@@ -201,18 +201,17 @@ goes-on run done count time first held p q r before mid after some within g a fe
 one-stage : (time : ℕ) (stage : Stage) → chance time stage ≤ 7
 one-stage time Idle = omega arith
 one-stage time (Searching a) = omega arith
-one-stage time (Holding h) = omega (arith, one-late-chance time h.follower)
-one-stage time (Tracking t) = omega (arith, one-late-chance time t.follower)
+one-stage time (Following f) = omega (arith, one-late-chance time f.follower)
 
 pub one-chance : (time : ℕ) (slot : Slot) → chances time slot ≤ 7
 one-chance time slot = one-stage time slot.stage
 
--- as many as a tracked satellite may bring, or none where the signal is lost
-pub dump-chance : (time : ℕ) (lock : News) (t : Tracked)
-    → chance time (after_dump lock (Tracking t)) ≤ 6 * tracked.chance time t
-dump-chance time lock t = by_test (is_loss lock)
+-- as many as a followed satellite may bring, or none where the signal is lost
+pub dump-chance : (time : ℕ) (lock : News) (f : Followed)
+    → chance time (after_dump lock (Following f)) ≤ 6 * followed.chance time f
+dump-chance time lock f = by_test (is_loss lock)
   where
     by_test : (b : Bool)
-        → chance time (if b then Idle else Tracking t) ≤ 6 * tracked.chance time t
+        → chance time (if b then Idle else Following f) ≤ 6 * followed.chance time f
     by_test true = omega arith
     by_test false = omega arith

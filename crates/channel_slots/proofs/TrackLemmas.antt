@@ -23,12 +23,13 @@ use Rattle.tracking_loops.specs.NewsIn.{news_in}
 use Rattle.tracking_loops.specs.declared.news.News.{News}
 use Rattle.tracking_loops.specs.declared.news.News.TheVariants as locks
 use Rattle.channels.specs.declared.dump.Dump.{Dump}
-use Rattle.channels.specs.declared.tracked.Tracked.{Tracked}
+use Rattle.channels.specs.declared.followed.Followed.{Followed}
 use Rattle.channels.proofs.LateLemmas.{begun as channel-begun}
 use Rattle.channels.specs.Dumps.{is_loss}
-use Rattle.channels.specs.TrackedChannels as tracked
-use Rattle.channels.specs.TrackedChannels.{counts_so_far}
-use Rattle.channel_slots.specs.Stages.{IsTracked}
+use Rattle.channels.specs.Trackings as trackings
+use Rattle.channels.specs.FollowedChannels as followed
+use Rattle.channels.specs.FollowedChannels.{counts_so_far}
+use Rattle.channel_slots.specs.Stages.{IsFollowed}
 use Rattle.channel_slots.proofs.TakesLemmas.{Brings, Dumped}
 use Rattle.channel_slots.proofs.SteeredLemmas.{GoesOn, steered-on}
 use Rattle.channel_slots.proofs.QuietLemmas.{no-dump-now, dump-now, front-pushed}
@@ -93,28 +94,28 @@ module _ (settings : Settings) (life : Life) (channel : Channel)
         ∙ ap (λ (ds : List DefinedDump). is_some (lost_after (counts_of ds))) (all-on on)
         ∙ ap is_some on
 
-module _ (settings : Settings) (xs : List Sample) (life : Life) (t : Tracked)
-    (s : IsTracked settings xs life t) where
+module _ (settings : Settings) (xs : List Sample) (life : Life) (f : Followed)
+    (s : IsFollowed settings xs life f) (loops : is_steered life.start ≡ true) where
   abbrev pub own : Channel
   own = s.channel
 
   -- after more samples it is the same life of the same channel
   pub more : (zs : List Sample) → GoesOn settings xs zs life.begun life.start own
-  more zs = steered-on settings xs zs life.begun life.start own s.steered s.given
+  more zs = steered-on settings xs zs life.begun life.start own loops s.given
 
   pub tracked-dumps : dumps_of_life settings xs life ≡ (progress settings own xs).dumps
-  tracked-dumps = all-on settings life own s.steered xs s.given s.not_lost
+  tracked-dumps = all-on settings life own loops xs s.given (s.not_lost loops)
 
   pub tracked-by-now : AllByRecursion (λ (d : DefinedDump). d.time ≤ length xs)
       (dumps_of_life settings xs life)
   tracked-by-now =
       rw tracked-dumps (dumps-within settings own xs
-      (channel-begun settings own xs t.follower s.tracks.follows))
+      (channel-begun settings own xs f.follower s.follows.follows))
 
   pub tracked-on : is_over settings xs life ≡ false
   tracked-on =
-      on-while settings life own s.steered xs s.given (rw (append-nil xs) at (more []).finds)
-      s.not_lost
+      on-while settings life own loops xs s.given (rw (append-nil xs) at (more []).finds)
+      (s.not_lost loops)
 
   module _ (ys : List Sample) (some : 0 < length ys) where
     both : length (xs ++ ys) ≡ length xs + length ys
@@ -124,29 +125,32 @@ module _ (settings : Settings) (xs : List Sample) (life : Life) (t : Tracked)
     module _ (zs : List Sample)
         (same : progress settings own (xs ++ zs) ≡ progress settings own xs) where
       still : lost_after (counts_so_far settings own (xs ++ zs)) ≡ None
-      still = rw same s.not_lost
+      still = rw same (s.not_lost loops)
 
       pub quiet-dumps : dumps_of_life settings (xs ++ zs) life
           ≡ dumps_of_life settings xs life
       quiet-dumps =
-          all-on settings life own s.steered (xs ++ zs) (more zs).given still
+          all-on settings life own loops (xs ++ zs) (more zs).given still
           ∙ ap (λ p. p.dumps) same ∙ sym tracked-dumps
 
       pub quiet-on : is_over settings (xs ++ zs) life ≡ false
       quiet-on =
-          on-while settings life own s.steered (xs ++ zs) (more zs).given (more zs).finds still
+          on-while settings life own loops (xs ++ zs) (more zs).given (more zs).finds still
 
       pub quiet-events : 0 < length zs → life_events settings (xs ++ zs) (Some life) ≡ []
       quiet-events some =
           let longer : length xs < length (xs ++ zs) = simp length-append (omega (arith, some)) in
-          events-are settings life own s.steered (xs ++ zs) ((more zs).told some)
+          events-are settings life own loops (xs ++ zs) ((more zs).told some)
           ∙ rw quiet-dumps
           (no-dump-now life (length xs) (length (xs ++ zs)) (dumps_of_life settings xs life)
           tracked-by-now longer)
 
     -- where one comes with the last sample
-    module _ (d : Dump) (g : Tracked)
-        (took : tracked.Takes settings own xs ys g (Some d)) where
+    module _ (d : Dump) (g : Followed) (steers : followed.is_steered g ≡ true)
+        (took : followed.Takes settings own xs ys g (Some d)) where
+      told : trackings.Tells (counts_so_far settings own (xs ++ ys)) d
+      told = rw steers at took.brings.1
+
       abbrev now : DefinedDump
       now = record { time = length (xs ++ ys); counts = counts_in d.counts }
 
@@ -167,12 +171,12 @@ module _ (settings : Settings) (xs : List Sample) (life : Life) (t : Tracked)
       lost-is =
           let all : List Counts = before ++ counts_in d.counts ∷ [] in
           ap (is_lost_with all) (sym one-more)
-          ∙ ap loss_of (ap news_of (take-length all ∙ sym sums) ∙ sym took.brings.1)
+          ∙ ap loss_of (ap news_of (take-length all ∙ sym sums) ∙ sym told.lock)
           ∙ loss-is d.lock
 
       pub goes-on : is_loss d.lock ≡ false
           → lost_after (counts_so_far settings own (xs ++ ys)) ≡ None
-      goes-on on = rw sums (lost-more before (counts_in d.counts) s.not_lost (lost-is ∙ on))
+      goes-on on = rw sums (lost-more before (counts_in d.counts) (s.not_lost loops) (lost-is ∙ on))
 
       many : length before + 1 ≡ length (progress settings own (xs ++ ys)).dumps
       many =
@@ -183,12 +187,13 @@ module _ (settings : Settings) (xs : List Sample) (life : Life) (t : Tracked)
           → lost_after (counts_so_far settings own (xs ++ ys))
           ≡ Some (length (progress settings own (xs ++ ys)).dumps)
       lost-here now =
-          rw (sums, ← many) (lost-now before (counts_in d.counts) s.not_lost (lost-is ∙ now))
+          rw (sums, ← many)
+          (lost-now before (counts_in d.counts) (s.not_lost loops) (lost-is ∙ now))
 
       all-dumps : dumps_of_life settings (xs ++ ys) life
           ≡ (progress settings own (xs ++ ys)).dumps
       all-dumps =
-          dumps-are settings life own s.steered (xs ++ ys) (more ys).given
+          dumps-are settings life own loops (xs ++ ys) (more ys).given
           ∙ by_loss (is_loss d.lock) refl
         where
           by_loss : (b : Bool) → is_loss d.lock ≡ b
@@ -199,7 +204,7 @@ module _ (settings : Settings) (xs : List Sample) (life : Life) (t : Tracked)
 
       pub ends-here : is_loss d.lock ≡ true → is_over settings (xs ++ ys) life ≡ true
       ends-here now =
-          over-is settings life own s.steered (xs ++ ys) (more ys).finds
+          over-is settings life own loops (xs ++ ys) (more ys).finds
           ∙ ap (λ (ds : List DefinedDump). is_some (lost_after (counts_of ds))) all-dumps
           ∙ ap is_some (lost-here now)
 
@@ -210,13 +215,13 @@ module _ (settings : Settings) (xs : List Sample) (life : Life) (t : Tracked)
           ≡ dumps_of_life settings xs life ++ now ∷ [] =
           all-dumps ∙ took.brings.0 ∙ ap (λ ds. ds ++ now ∷ []) (sym tracked-dumps) in (
             all,
-            events-are settings life own s.steered (xs ++ ys) ((more ys).told some)
+            events-are settings life own loops (xs ++ ys) ((more ys).told some)
                 ∙ rw all (dump-now life (length (xs ++ ys)) (dumps_of_life settings xs life) now
                 refl)
-                ∙ dump-tells settings life own s.steered (xs ++ ys)
+                ∙ dump-tells settings life own loops (xs ++ ys)
                 (dumps_of_life settings xs life) now
                 ∙ ap (λ es. when (nat_lt 0 (unprinted_count life (dumps_of_life settings xs life)))
                 (count (counts_in d.counts)) ++ es)
                 (ap (λ ds. steered_events (counts_of ds)) (sym all ∙ all-dumps)
-                ∙ sym took.brings.2),
+                ∙ sym told.events),
           )

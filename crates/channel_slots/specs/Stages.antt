@@ -1,5 +1,5 @@
 -- What a stage follows over the samples so far.
-use Rattle.std.specs.Prelude.{◌≡◌, ◌<◌, ◌≤◌, ◌+◌, ◌*◌, ◌==◌, ◌&&◌, nat_le, if◌then◌else◌, ℤ, ℕ}
+use Rattle.std.specs.Prelude.{◌≡◌, ◌<◌, ◌≤◌, ◌+◌, ◌*◌, ◌==◌, ◌&&◌, nat_le, if◌then◌else◌, ℕ}
 use Rattle.std.specs.Prelude.{Bool, true, false, List, length, nat_lt, Option, Some, None}
 use Rattle.definitions.specs.Samples.{Sample}
 use Rattle.definitions.specs.Oscillators.{Settings, samples_per_ms}
@@ -8,21 +8,19 @@ use Rattle.acquisition.specs.Cells.{cell_in}
 use Rattle.acquisition.specs.declared.plan.TheConstants.{MOST_DWELL, MOST_CELLS}
 use Rattle.definitions.specs.Segments.{Channel}
 use Rattle.definitions.specs.Acquisition.{Plan}
-use Rattle.definitions.specs.Commands.{hold, acquire}
-use Rattle.definitions.specs.Lives.{Life, held_channel, found_channel, channel_of, is_steered}
+use Rattle.definitions.specs.Commands.{acquire}
+use Rattle.definitions.specs.Lives.{Life, found_channel, channel_of, is_steered}
 use Rattle.definitions.specs.Lives.{is_over, lost_after}
 use Rattle.tracking_loops.specs.declared.news.News.{News}
-use Rattle.channels.specs.declared.held.Held.{Held}
+use Rattle.channels.specs.declared.followed.Followed.{Followed}
 use Rattle.channels.specs.declared.searched.Searched.{Searched}
-use Rattle.channels.specs.declared.tracked.Tracked.{Tracked}
 use Rattle.channels.specs.Searching as searched
 use Rattle.channels.specs.Searching.{Searches}
 use Rattle.channels.specs.Dumps.{is_loss}
-use Rattle.channels.specs.HeldChannels as held
-use Rattle.channels.specs.TrackedChannels as tracked
-use Rattle.channels.specs.TrackedChannels.{counts_so_far}
+use Rattle.channels.specs.FollowedChannels as followed
+use Rattle.channels.specs.FollowedChannels.{HasBegun, counts_so_far}
 use Rattle.channel_slots.specs.declared.stage.Stage.{Stage}
-use Rattle.channel_slots.specs.declared.stage.Stage.TheVariants.{Idle, Searching, Holding, Tracking}
+use Rattle.channel_slots.specs.declared.stage.Stage.TheVariants.{Idle, Searching, Following}
 use Rattle.channel_slots.specs.declared.slot_news.TheConstants.{DUMP_EVENTS}
 use Rattle.channel_slots.specs.declared.bank.TheConstants.{MOST_TIME}
 
@@ -30,39 +28,34 @@ use Rattle.channel_slots.specs.declared.bank.TheConstants.{MOST_TIME}
 abbrev pub is_idle : Stage → Bool
 is_idle Idle = true
 is_idle (Searching s) = false
-is_idle (Holding h) = false
-is_idle (Tracking t) = false
+is_idle (Following f) = false
 
 -- how many cells its search has done: none where it doesn't search
 abbrev pub cells_done_of : Stage → Option ℕ
 cells_done_of Idle = None
 cells_done_of (Searching s) = Some (searched.done_of s)
-cells_done_of (Holding h) = None
-cells_done_of (Tracking t) = None
+cells_done_of (Following f) = None
 
 -- up to how many samples of the recording may come while it takes none: one that is idle needs
 -- none, and one that searches takes all
 abbrev pub rests_until : Stage → ℕ
 rests_until Idle = MOST_TIME
 rests_until (Searching s) = 0
-rests_until (Holding h) = held.rests_until h
-rests_until (Tracking t) = tracked.rests_until t
+rests_until (Following f) = followed.rests_until f
 
 -- whether it emits nothing with the samples up to so many of the recording: one that is idle emits
 -- nothing, and of one that searches it isn't known here
 abbrev pub is_quiet_until : Stage → ℕ → Bool
 is_quiet_until Idle time = true
 is_quiet_until (Searching s) time = false
-is_quiet_until (Holding h) time = nat_lt time (held.next_dump h)
-is_quiet_until (Tracking t) time = nat_lt time (tracked.next_dump t)
+is_quiet_until (Following f) time = nat_lt time (followed.next_dump f)
 
 -- how many events may come in a run of samples after so many: those of a dump, and the answer of an
 -- acquisition before it
 abbrev pub chance : ℕ → Stage → ℕ
 chance time Idle = 0
 chance time (Searching s) = 1 + DUMP_EVENTS
-chance time (Holding h) = DUMP_EVENTS * held.chance time h
-chance time (Tracking t) = DUMP_EVENTS * tracked.chance time t
+chance time (Following f) = DUMP_EVENTS * followed.chance time f
 
 -- a channel has had a dump a sample at most; it has taken all samples before sample `first` and
 -- perhaps more, and those that it hasn't taken may wait
@@ -80,10 +73,8 @@ IsSound first time reach Idle = Unit
 IsSound first time reach (Searching s) =
     (first ≤ searched.start_of s) × (searched.due_of s ≡ time + searched.to_due_of s)
     × (0 < searched.to_due_of s) × (searched.due_of s ≤ searched.start_of s + reach)
-IsSound first time reach (Holding h) =
-    IsInTime first time (held.dumps_of h) (held.taken_of h) (held.rests_until h)
-IsSound first time reach (Tracking t) =
-    IsInTime first time (tracked.dumps_of t) (tracked.taken_of t) (tracked.rests_until t)
+IsSound first time reach (Following f) =
+    IsInTime first time (followed.dumps_of f) (followed.taken_of f) (followed.rests_until f)
 
 -- the same as a test, whatever sample comes first
 abbrev pub is_in_time : ℕ → ℕ → ℕ → ℕ → Bool
@@ -95,10 +86,8 @@ is_sound time reach Idle = true
 is_sound time reach (Searching s) =
     (searched.due_of s == time + searched.to_due_of s)
     && (nat_lt 0 (searched.to_due_of s) && nat_le (searched.due_of s) (searched.start_of s + reach))
-is_sound time reach (Holding h) =
-    is_in_time time (held.dumps_of h) (held.taken_of h) (held.rests_until h)
-is_sound time reach (Tracking t) =
-    is_in_time time (tracked.dumps_of t) (tracked.taken_of t) (tracked.rests_until t)
+is_sound time reach (Following f) =
+    is_in_time time (followed.dumps_of f) (followed.taken_of f) (followed.rests_until f)
 
 -- how far the due time of an acquisition may be from its start
 abbrev pub most_wait : Settings → ℕ
@@ -113,13 +102,12 @@ after_dump lock stage = if is_loss lock then Idle else stage
 abbrev pub IsSettled : Cell → Searched → ℕ → Stage → Type 0
 IsSettled cell s time Idle = cell.found ≡ false
 IsSettled cell s time (Searching other) = ⊥
-IsSettled cell s time (Holding h) = ⊥
-IsSettled cell s time (Tracking t) =
+IsSettled cell s time (Following f) =
     (cell.found ≡ true)
     × ((settings : Settings) (plan : Plan) (begun : ℕ) (xs : List Sample) → length xs ≡ time
     → Searches settings plan begun xs s → searched.to_due_of s ≡ 0
-    → tracked.Tracks settings (found_channel settings plan begun (cell_in cell)) xs t)
-    × (tracked.dumps_of t ≡ 0) × (tracked.taken_of t ≡ time)
+    → followed.Follows settings (found_channel settings plan begun (cell_in cell)) xs f)
+    × HasBegun time true f
 
 -- a life that began with an acquisition has come as far with it, and it isn't due yet
 pub record IsSearched (settings : Settings) (xs : List Sample) (life : Life) (s : Searched)
@@ -129,27 +117,19 @@ pub record IsSearched (settings : Settings) (xs : List Sample) (life : Life) (s 
   pub searches : Searches settings plan life.begun xs s
   pub waits : 0 < searched.to_due_of s
 
--- a life that began with a hold follows its channel
-pub record IsHeld (settings : Settings) (xs : List Sample) (life : Life) (h : Held)
-    : Type 0 where
-  pub prn : ℕ
-  pub doppler : ℤ
-  pub half_chip : ℕ
-  pub start : life.start ≡ hold prn doppler half_chip
-  pub holds : held.Holds settings (held_channel life.begun prn doppler half_chip) xs h
-
--- one that loops steer follows the channel that its start has given it, and the signal isn't lost
-pub record IsTracked (settings : Settings) (xs : List Sample) (life : Life) (t : Tracked)
+-- a life follows the channel that its start has given it, steered by loops or not, and the signal
+-- isn't lost where they steer it
+pub record IsFollowed (settings : Settings) (xs : List Sample) (life : Life) (f : Followed)
     : Type 0 where
   pub channel : Channel
-  pub steered : is_steered life.start ≡ true
   pub given : channel_of settings xs life.begun life.start ≡ Some channel
-  pub tracks : tracked.Tracks settings channel xs t
-  pub not_lost : lost_after (counts_so_far settings channel xs) ≡ None
+  pub steered : followed.is_steered f ≡ is_steered life.start
+  pub follows : followed.Follows settings channel xs f
+  pub not_lost : is_steered life.start ≡ true
+      → lost_after (counts_so_far settings channel xs) ≡ None
 
 -- a stage follows a life, and is idle where the life is over
 abbrev pub Follows : Settings → List Sample → Life → Stage → Type 0
 Follows settings xs life Idle = is_over settings xs life ≡ true
 Follows settings xs life (Searching s) = IsSearched settings xs life s
-Follows settings xs life (Holding h) = IsHeld settings xs life h
-Follows settings xs life (Tracking t) = IsTracked settings xs life t
+Follows settings xs life (Following f) = IsFollowed settings xs life f

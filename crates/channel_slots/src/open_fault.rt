@@ -9,9 +9,9 @@ pub enum OpenFault {
     #[error("no memory")]
     NoMemory,
     /// The number of clients is outside 1 to 8.
-    #[error("clients")]
+    #[error("there are from 1 to 8 clients")]
     Clients,
     /// A client's share of the slots is outside 1 to 8.
-    #[error("share")]
+    #[error("a client's share is from 1 to 8 slots")]
     Share,
 }

@@ -1,13 +1,20 @@
 //! One slot: what it emits with the samples, and what it answers to its client.
 
-ghost use Rattle.std.specs.Prelude.{◌≡◌, ◌≤◌, ◌<◌, ◌+◌, ◌-◌};
+ghost use Rattle.std.specs.Prelude.{◌≡◌, ◌≤◌, ◌<◌, ◌+◌, ◌-◌, List, Some};
+ghost use Rattle.definitions.specs.Samples.{Sample};
+ghost use Rattle.definitions.specs.Oscillators.{Settings as DefinedSettings};
+ghost use Rattle.definitions.specs.Commands.{state};
+ghost use Rattle.definitions.specs.Lives.{Life};
+ghost use Rattle.definitions.specs.Answers.{shown, answer_with};
+ghost use Rattle.slot_protocol.specs.Answers.{view_in};
+ghost use Rattle.channel_slots.specs.Stages.{IsFollowed};
 ghost use Rattle.channel_slots.specs.declared.bank.TheConstants.{MOST_TIME};
 
 use crate::bank::MOST_TIME;
 use crate::slot_news::SlotNews;
 use crate::stage::Stage;
 use ca_codes::CodeBook;
-use channels::{Dump, Held, Searched, Tracked};
+use channels::{Dump, Followed, Searched};
 use oscillators::Settings;
 use sample_planes::{Planes, SampleSource};
 use slot_protocol::{Answer, Command, Phase, Refusal, SlotState};
@@ -68,8 +75,7 @@ impl Slot {
         match &self.stage {
             Stage::Idle => MOST_TIME,
             Stage::Searching(_) => 0,
-            Stage::Holding(held) => held.rests_until(),
-            Stage::Tracking(tracked) => tracked.rests_until(),
+            Stage::Following(followed) => followed.rests_until(),
         }
     }
 
@@ -81,8 +87,7 @@ impl Slot {
         match &self.stage {
             Stage::Idle => true,
             Stage::Searching(_) => false,
-            Stage::Holding(held) => held.is_quiet_until(time),
-            Stage::Tracking(tracked) => tracked.is_quiet_until(time),
+            Stage::Following(followed) => followed.is_quiet_until(time),
         }
     }
 
@@ -116,8 +121,7 @@ impl Slot {
             Stage::Idle => {}
             // What a search emits isn't known beforehand, so this doesn't come.
             Stage::Searching(_) => {}
-            Stage::Holding(held) => held.pass(run, from, source, book),
-            Stage::Tracking(tracked) => tracked.pass(run, from, source, book),
+            Stage::Following(followed) => followed.pass(run, from, source, book),
         }
     }
 
@@ -168,16 +172,8 @@ impl Slot {
                 self.stage.settle(&cell, source.end() - left as u64);
                 (count, Some(SlotNews::Acquired { prn, cell }))
             }
-            Stage::Holding(held) => {
-                let (count, counts) = held.take(run, from, source, book);
-                let Some(counts) = counts else {
-                    return (count, None);
-                };
-                dump.set_plain(counts);
-                (count, Some(self.note_dump(News::Nothing)))
-            }
-            Stage::Tracking(tracked) => {
-                let (count, is_dump) = tracked.take(run, from, source, book, dump);
+            Stage::Following(followed) => {
+                let (count, is_dump) = followed.take(run, from, source, book, dump);
                 if !is_dump {
                     return (count, None);
                 }
@@ -207,7 +203,7 @@ impl Slot {
     {
         match &self.stage {
             Stage::Searching(searched) => Some(searched.done()),
-            Stage::Idle | Stage::Holding(_) | Stage::Tracking(_) => None,
+            Stage::Idle | Stage::Following(_) => None,
         }
     }
 
@@ -231,17 +227,7 @@ impl Slot {
                 done: searched.done(),
                 cells: searched.cells(),
             },
-            Stage::Holding(held) => SlotState::Hold {
-                prn: held.prn(),
-                dumps: held.dumps(),
-            },
-            Stage::Tracking(tracked) => SlotState::Track {
-                prn: tracked.prn(),
-                dumps: tracked.dumps(),
-                v: tracked.v(),
-                w: tracked.w(),
-                phase: Phase::of(tracked.is_locked(), tracked.has_edge()),
-            },
+            Stage::Following(followed) => state_of(followed),
         }
     }
 
@@ -294,13 +280,13 @@ impl Slot {
                 prn,
                 doppler,
                 half,
-            } => self.start(Stage::Holding(Held::start(settings, prn, doppler, half, time))),
+            } => self.start(Stage::Following(Followed::hold(settings, prn, doppler, half, time))),
             Command::Track {
                 slot: _,
                 prn,
                 doppler,
                 half,
-            } => self.start(Stage::Tracking(Tracked::start(settings, prn, doppler, half, time))),
+            } => self.start(Stage::Following(Followed::track(settings, prn, doppler, half, time))),
             Command::State { .. } => Answer::State(self.state()),
             Command::Counts { slot: _, n } => {
                 if self.is_idle() {
@@ -317,5 +303,24 @@ impl Slot {
                 Answer::Accepted
             }
         }
+    }
+}
+
+/// What a slot shows of a satellite that it follows.
+fn state_of(followed: &Followed) -> SlotState
+    ensures { (settings : DefinedSettings) (xs : List Sample) (life : Life)
+        → IsFollowed settings xs life followed.now
+        → shown (view_in result) ≡ answer_with settings xs (Some life) state }
+{
+    let (prn, dumps) = (followed.prn(), followed.dumps());
+    match followed.tracking() {
+        None => SlotState::Hold { prn, dumps },
+        Some(tracking) => SlotState::Track {
+            prn,
+            dumps,
+            v: tracking.v(),
+            w: tracking.w(),
+            phase: Phase::of(tracking.is_locked(), tracking.has_edge()),
+        },
     }
 }

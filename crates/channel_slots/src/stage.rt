@@ -4,17 +4,15 @@ ghost use Rattle.std.specs.Prelude.{◌≡◌, ◌≤◌, unsigned_abs};
 ghost use Rattle.channels.specs.declared.lazy_follower.TheConstants.{MOST_TAKEN};
 
 use acquisition::Cell;
-use channels::{Held, Searched, Tracked};
+use channels::{Followed, Searched};
 
-/// What a slot follows: nothing, a satellite that is searched for, one at a fixed Doppler shift, or
-/// one that its loops steer.
+/// What a slot follows: nothing, a satellite that is searched for, or one that is found.
 #[derive(Debug, Default, Drop)]
 pub enum Stage {
     #[default]
     Idle,
     Searching(Searched),
-    Holding(Held),
-    Tracking(Tracked),
+    Following(Followed),
 }
 
 impl Stage {
@@ -38,7 +36,7 @@ impl Stage {
             return;
         };
         *self = match searched.follow(cell, time) {
-            Some(tracked) => Stage::Tracking(tracked),
+            Some(followed) => Stage::Following(followed),
             None => Stage::Idle,
         };
     }

@@ -1,11 +1,12 @@
 pub mod ChanceLemmas
+pub mod FollowedLemmas
 pub mod FollowingLemmas
-pub mod HeldLemmas
 pub mod LateLemmas
 pub mod LockedLemmas
 pub mod MoveLemmas
 pub mod PartLemmas
 pub mod SearchedLemmas
+pub mod ShiftLemmas
 pub mod SizeLemmas
-pub mod TrackedLemmas
+pub mod TrackingLemmas
 pub mod WrapLemmas

@@ -1,10 +1,10 @@
 pub mod Cells
 pub mod Dumps
+pub mod FollowedChannels
 pub mod Following
-pub mod HeldChannels
 pub mod LateFollowing
 pub mod LockedMessages
 pub mod Parts
 pub mod Searching
 pub mod Sizes
-pub mod TrackedChannels
+pub mod Trackings

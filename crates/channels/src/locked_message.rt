@@ -74,7 +74,7 @@ impl LockedMessage {
         self.message = Some(Message::new());
     }
 
-    /// Says whether the edge of the message's bits is found.
+    /// Whether the edge of the message's bits is found.
     pub fn has_edge(&self) -> bool
         ensures { (dumps : List DefinedCounts) → StandsFor dumps self.now
             → result ≡ has_edge (pushes_of dumps) }

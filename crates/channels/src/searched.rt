@@ -9,7 +9,7 @@ ghost use Rattle.definitions.specs.Acquisition.{due_time};
 ghost use Rattle.channels.specs.Cells.{done_before};
 ghost use Rattle.channels.specs.declared.lazy_follower.TheConstants.{MOST_TAKEN};
 
-use crate::tracked::Tracked;
+use crate::followed::Followed;
 use acquisition::{Cell, Plan, Search};
 use ca_codes::{CodeBook, Prn};
 use oscillators::Settings;
@@ -39,8 +39,7 @@ impl Searched {
     ghost use Rattle.channels.specs.Searching.{Searches, Takes, Begins, IsReady, IsLater};
     ghost use Rattle.channels.specs.Searching.{plan_of, to_due_of, done_of};
     ghost use Rattle.channels.specs.Parts.{IsAsFar};
-    ghost use Rattle.channels.specs.TrackedChannels.{Tracks};
-    ghost use Rattle.channels.specs.TrackedChannels as tracked;
+    ghost use Rattle.channels.specs.FollowedChannels.{Follows, HasBegun};
 
     /// A search that begins with sample `start`, the next one; `start` is at most `MOST_START`.
     pub fn start(settings: &Settings, plan: Plan, start: u64) -> Searched
@@ -117,16 +116,15 @@ impl Searched {
     /// The signal of a cell that was found, tracked from the time on at which the answer was due,
     /// which is now: the next sample is number `time`, at most `MOST_TAKEN`. `None` where the cell
     /// isn't one that was found.
-    pub fn follow(&self, cell: &Cell, time: u64) -> Option<Tracked>
+    pub fn follow(&self, cell: &Cell, time: u64) -> Option<Followed>
         requires time { time ≤ MOST_TAKEN }
         requires bin { unsigned_abs cell.now.bin ≤ (plan_of self.now).bins }
         ensures found { IsSome result ↔ (cell.now.found ≡ true) }
-        ensures tracks { IfSome result (λ t. (settings : DefinedSettings) (plan : DefinedPlan)
+        ensures follows { IfSome result (λ f. (settings : DefinedSettings) (plan : DefinedPlan)
             (begun : ℕ) (xs : List Sample) → length xs ≡ time
             → Searches settings plan begun xs self.now → to_due_of self.now ≡ 0
-            → Tracks settings (found_channel settings plan begun (cell_in cell.now)) xs t) }
-        ensures dumps { IfSome result (λ t. tracked.dumps_of t ≡ 0) }
-        ensures taken { IfSome result (λ t. tracked.taken_of t ≡ time) }
+            → Follows settings (found_channel settings plan begun (cell_in cell.now)) xs f) }
+        ensures begins { IfSome result (λ f. HasBegun time true f) }
     {
         if !cell.found {
             return None;
@@ -135,7 +133,7 @@ impl Searched {
         let ago = wait(&self.settings, &plan);
         let doppler = plan.doppler(cell)?;
         let prn = plan.prn();
-        Some(Tracked::start_after(&self.settings, prn, doppler, cell.half, time, ago))
+        Some(Followed::track_after(&self.settings, prn, doppler, cell.half, time, ago))
     }
 }
 

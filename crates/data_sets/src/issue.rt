@@ -16,7 +16,7 @@ const IODE: usize = Eph2Field::Iode as usize;
 /// Where the issue of data stands among the numbers of a subframe 3 (eight bits).
 const IODE3: usize = Eph3Field::Iode as usize;
 
-/// Says whether the low eight bits of the clock's issue of data are that of both ephemeris pages.
+/// Whether the low eight bits of the clock's issue of data are that of both ephemeris pages.
 /// For a number below 0, which no subframe holds, they are its remainder modulo 256, from 0 up.
 pub fn are_of_one_issue(
     clock: &[i64; FIELDS_OF_CLOCK],

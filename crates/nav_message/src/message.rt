@@ -87,7 +87,7 @@ impl Message {
         *news = MessageNews::Frame { found, reports };
     }
 
-    /// Says whether the edge of the bits is found.
+    /// Whether the edge of the bits is found.
     pub fn has_edge(&self) -> bool
         ensures { (pushes : List ℤ) → StandsFor pushes self.now → result ≡ has_edge pushes }
     {

@@ -9,7 +9,7 @@ use std::io::{Read, Write};
 
 /// A device failed.
 #[derive(Clone, Copy, Debug, PartialEq, Eq, thiserror::Error)]
-#[error("device")]
+#[error("the device failed")]
 pub struct DeviceFault;
 
 /// What gives bytes.

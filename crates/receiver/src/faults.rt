@@ -7,20 +7,20 @@ pub enum RunFault {
     #[error("no memory")]
     NoMemory,
     /// There is no script, or more than eight: nothing was read or written.
-    #[error("clients")]
+    #[error("there are from 1 to 8 scripts")]
     Clients,
     /// There are more or fewer shares than scripts, or a share is outside 1 to 8: nothing was read
     /// or written.
-    #[error("share")]
+    #[error("each script has a share from 1 to 8 slots")]
     Share,
     /// A read failed: the lines up to there are written, without the ends.
-    #[error("read")]
+    #[error("the samples couldn't be read")]
     Read,
     /// A write or a flush failed: a front of the lines is written.
-    #[error("write")]
+    #[error("the lines couldn't be written")]
     Write,
     /// More samples than the limit came: the lines up to the limit are written, without the ends.
-    #[error("too long")]
+    #[error("there are more samples than the limit")]
     TooLong,
 }
 

@@ -8,24 +8,39 @@ use oscillators::SettingsFault;
 use receiver::RunFault;
 use receiver_options::OptionFault;
 use std::alloc::{AllocError, AllocFailed};
-use thiserror::Error;
+use std::fmt::{self, Display, Formatter, Write};
 
 /// Why the program ends early, but for a command line that isn't understood.
-#[derive(Clone, Copy, Debug, PartialEq, Eq, Error)]
+#[derive(Clone, Copy, Debug, PartialEq, Eq)]
 pub enum Failure {
     /// There was no memory for the command line or a script.
-    #[error("no memory")]
     NoMemory,
     /// The shares of the slots aren't a digit from 1 to 8 for each script.
-    #[error("shares")]
     Shares,
     /// A script couldn't be read, or is longer than 16 MiB.
-    #[error("script")]
     Script,
-    #[error("{0}")]
+    /// The settings of the recording are refused.
     Settings(SettingsFault),
-    #[error("{0}")]
+    /// The run ended early.
     Run(RunFault),
+}
+
+impl Display for Failure {
+    /// The word that the program prints for it on standard error.
+    fn fmt<W: Write>(&self, f: &mut Formatter<W>) -> fmt::Result {
+        f.write_str(match self {
+            Failure::NoMemory | Failure::Run(RunFault::NoMemory) => "no memory",
+            Failure::Shares => "shares",
+            Failure::Script => "script",
+            Failure::Settings(SettingsFault::Rate) => "rate",
+            Failure::Settings(SettingsFault::Offset) => "offset",
+            Failure::Run(RunFault::Clients) => "clients",
+            Failure::Run(RunFault::Share) => "share",
+            Failure::Run(RunFault::Read) => "read",
+            Failure::Run(RunFault::Write) => "write",
+            Failure::Run(RunFault::TooLong) => "too long",
+        })
+    }
 }
 
 /// The status of the program: 0 after a run that came to its end, 2 where what was asked for is at

@@ -18,6 +18,7 @@ mod outcome;
 mod program;
 mod receiving;
 
+use crate::failure::Failure;
 use crate::outcome::Outcome;
 use crate::program::carry_out;
 use clap::Error;
@@ -41,7 +42,7 @@ fn show<P: Print + Eprint>(rt: &P, help: &Error) -> ExitCode {
         Ok(()) => ExitCode::from(0),
         Err(_) => {
             // Where standard error fails too, only the status shows it.
-            let _ = eprintln!(rt; "receiver: {}", RunFault::Write);
+            let _ = eprintln!(rt; "receiver: {}", Failure::Run(RunFault::Write));
             ExitCode::from(1)
         }
     }

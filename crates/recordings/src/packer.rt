@@ -4,6 +4,7 @@ ghost use Rattle.std.specs.Prelude.{◌≡◌, ◌<◌, ◌≤◌, ◌*◌, ◌/
 ghost use Rattle.recordings.specs.declared.recipe.TheConstants.{MOST_GROUP};
 
 use crate::fault::PackFault;
+use crate::kind::Kind;
 use crate::recipe::{MOST_GROUP, Recipe};
 use std::alloc::{AllocError, Global};
 
@@ -33,6 +34,13 @@ impl Packer {
     {
         let held = Vec::with_capacity(alloc, MOST_PIECE + MOST_GROUP)?;
         Ok(Packer { recipe, held })
+    }
+
+    /// The kind of the recording's values.
+    pub fn kind(&self) -> Kind
+        ensures { result ≡ (recipe_in self.now).kind }
+    {
+        self.recipe.kind
     }
 
     /// Takes the next piece of the recording, and writes the bytes that this fills, in place of

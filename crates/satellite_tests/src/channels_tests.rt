@@ -2,7 +2,7 @@
 //! it.
 
 ghost use Rattle.std.specs.Prelude.{◌≡◌, ◌+◌, ◌<◌, ◌≤◌, ◌^◌, IfOk, length};
-ghost use Rattle.channels.specs.HeldChannels.{dumps_of, taken_of, rests_until};
+ghost use Rattle.channels.specs.FollowedChannels.{dumps_of, taken_of, rests_until};
 
 mod locks;
 mod searching;
@@ -10,7 +10,7 @@ mod tracking;
 
 use assertions::assert_same;
 use ca_codes::{CodeBook, Prn};
-use channels::Held;
+use channels::{Dump, Followed};
 use lane_correlator::Counts;
 use made_signals::RECORDING;
 use oscillators::{Doppler, HalfChip, Settings};
@@ -31,7 +31,7 @@ fn sums([ie, qe, ip, qp, il, ql]: [i32; 6]) -> Counts {
 }
 
 /// Satellite 5, held before the first sample of the recording.
-fn held() -> Result<Held, Fail>
+fn held() -> Result<Followed, Fail>
     ensures few { IfOk result (λ held. dumps_of held ≡ 0) }
     ensures taken { IfOk result (λ held. taken_of held ≡ 0) }
 {
@@ -39,7 +39,7 @@ fn held() -> Result<Held, Fail>
     let prn = Prn::new(5).ok_or("a satellite")?;
     let doppler = Doppler::new(1_250).ok_or("a shift")?;
     let half = HalfChip::new(700).ok_or("a half chip")?;
-    Ok(Held::start(&settings, prn, doppler, half, 0))
+    Ok(Followed::hold(&settings, prn, doppler, half, 0))
 }
 
 /// The first of some samples, numbered from `first` on to before `end`.
@@ -62,7 +62,7 @@ fn so_far(all: PackedSamples<'_>, first: u64, end: u64) -> Result<NumberedSample
 
 /// Takes samples of the recording from a place on, as far as the next dump, and gives the place
 /// after them and the dump. Those before the place that weren't taken have waited.
-fn next(held: &mut Held, place: usize) -> Result<(usize, Option<Counts>), Fail>
+fn next(held: &mut Followed, place: usize) -> Result<(usize, Option<Counts>), Fail>
     requires few { dumps_of held.old < 8 }
     requires begun { taken_of held.old ≤ place }
     requires rests { place ≤ rests_until held.old }
@@ -81,12 +81,13 @@ fn next(held: &mut Held, place: usize) -> Result<(usize, Option<Counts>), Fail>
     }
     let all = PackedSamples::new(Format::Real1, &RECORDING);
     let source = so_far(all, 0, (place + most) as u64)?;
-    let (count, dump) = held.take(&samples, before, &source, &mut CodeBook::new());
-    Ok((place + count, dump))
+    let mut dump = Dump::plain(Counts::NONE);
+    let (count, is_dump) = held.take(&samples, before, &source, &mut CodeBook::new(), &mut dump);
+    Ok((place + count, is_dump.then_some(dump.counts)))
 }
 
 /// Passes over so many samples of the recording from a place on, with which no dump comes.
-fn pass(held: &mut Held, place: usize, many: usize) -> Result<(), Fail>
+fn pass(held: &mut Followed, place: usize, many: usize) -> Result<(), Fail>
     requires begun { taken_of held.old ≤ place }
     ensures taken { IfOk result (λ _. taken_of held.new ≡ place + many) }
 {
@@ -107,7 +108,7 @@ fn pass(held: &mut Held, place: usize, many: usize) -> Result<(), Fail>
 /// Asserts what `next` gives, where the channel may wait up to the place.
 fn assert_next(
     rt: &impl Abort,
-    held: &mut Held,
+    held: &mut Followed,
     place: usize,
     expected: (usize, Option<Counts>),
 ) -> Result<(), Fail>
@@ -121,7 +122,7 @@ fn assert_next(
 }
 
 /// Asserts how many dumps there were, and how long no sample has to be taken.
-fn assert_stands(rt: &impl Abort, held: &Held, dumps: u64, rests_until: u64) {
+fn assert_stands(rt: &impl Abort, held: &Followed, dumps: u64, rests_until: u64) {
     assert_same!(rt; (held.dumps(), held.rests_until()), (dumps, rests_until));
 }
 

@@ -88,8 +88,14 @@ fn limits_of_half_chips(rt: HostRuntime) {
 #[test]
 fn fault_texts(rt: HostRuntime) -> Result<(), Fail> {
     for (fault, text) in [
-        (SettingsFault::Rate, "rate"),
-        (SettingsFault::Offset, "offset"),
+        (
+            SettingsFault::Rate,
+            "the rate is from 2046000 to 20000000 samples a second",
+        ),
+        (
+            SettingsFault::Offset,
+            "the offset is at most half the rate in size",
+        ),
     ] {
         assert_same!(rt; format!(in rt.alloc(); "{fault}")?.as_str(), text);
     }

@@ -4,6 +4,7 @@ ghost use Rattle.std.specs.Prelude.{◌≡◌, true};
 ghost use Rattle.slot_protocol.specs.Answers.{number_of, is_locked_in, has_edge_in};
 
 use ca_codes::Prn;
+use thiserror::Error;
 
 /// How far a tracking slot has come with its signal.
 #[derive(Clone, Copy, Debug, PartialEq, Eq)]
@@ -60,13 +61,16 @@ pub enum SlotState {
 }
 
 /// Why a command is refused.
-#[derive(Clone, Copy, Debug, PartialEq, Eq)]
+#[derive(Clone, Copy, Debug, PartialEq, Eq, Error)]
 pub enum Refusal {
     /// The command wants an idle slot, and this one isn't.
+    #[error("the slot isn't idle")]
     Busy,
     /// The command wants a slot that isn't idle, and this one is.
+    #[error("the slot is idle")]
     Idle,
     /// No client has that number, or the slot is none of its share.
+    #[error("the client has no such slot")]
     NoSuchSlot,
 }
 

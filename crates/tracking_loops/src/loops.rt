@@ -89,7 +89,7 @@ impl Loops {
         self.steering.dumps
     }
 
-    /// Says whether the channel is locked to its signal: one of the last ten windows is good.
+    /// Whether the channel is locked to its signal: one of the last ten windows is good.
     pub fn locked(&self) -> bool
         ensures { (start : ℤ) (dumps : List DefinedCounts) → StandsFor start dumps self.now
             → result ≡ is_locked dumps }

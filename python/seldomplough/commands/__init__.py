@@ -2,8 +2,8 @@
 
 from __future__ import annotations
 
-from seldomplough.commands import answers, cn0, crystal, csv, doctor, frames, json, made, merge
-from seldomplough.commands import plots, rinex_check, search, sigmf, sky, ubx, watch
+from seldomplough.commands import answers, campaign, cn0, crystal, csv, doctor, frames, json, made
+from seldomplough.commands import merge, plots, rinex_check, search, sigmf, sky, ubx, watch
 
 MODULES = (
     json,
@@ -16,6 +16,7 @@ MODULES = (
     doctor,
     crystal,
     merge,
+    campaign,
     ubx,
     sigmf,
     rinex_check,

@@ -32,7 +32,7 @@ fn as_much_as_may_be() {
     bank().feed(&PackedSamples::new(Format::Real1, &[0; 128]), &mut Timeline::new());
     BitSync::new().push(-(1 << 18));
     Loops::start(1 << 30).take(sums(1 << 18));
-    nav_parity::check((1 << 30) - 1, 3);
+    let _ = nav_parity::check((1 << 30) - 1, 3);
 }
 
 #[test]
@@ -73,13 +73,13 @@ fn a_sum_above_its_bound() {
 #[test]
 #[should_panic(expected = "Loops::start requires unsigned_abs v ≤ MOST_SHIFT")]
 fn a_shift_above_its_bound() {
-    Loops::start(-(1 << 30) - 1);
+    let _ = Loops::start(-(1 << 30) - 1);
 }
 
 #[test]
 #[should_panic(expected = "check requires word < WORD_LIMIT")]
 fn a_word_of_31_bits() {
-    nav_parity::check(1 << 30, 0);
+    let _ = nav_parity::check(1 << 30, 0);
 }
 
 // What a run or a sample of it is asked for by the way is checked in a debug build alone.
@@ -87,12 +87,12 @@ fn a_word_of_31_bits() {
 #[test]
 #[should_panic(expected = "PackedSamples::part requires first + len ≤ length self.now.samples")]
 fn a_part_that_ends_behind_its_run() {
-    PackedSamples::new(Format::Real1, &[0; 128]).part(usize::MAX, 2);
+    let _ = PackedSamples::new(Format::Real1, &[0; 128]).part(usize::MAX, 2);
 }
 
 #[cfg(debug_assertions)]
 #[test]
 #[should_panic(expected = "Planes::value requires i < length self.now")]
 fn a_sample_that_is_not_there() {
-    Planes::new().value(0);
+    let _ = Planes::new().value(0);
 }

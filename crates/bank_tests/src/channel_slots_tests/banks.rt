@@ -140,8 +140,8 @@ fn a_slot_of_another_client_stays_idle(rt: HostRuntime) -> Result<(), Fail> {
 
 static TEXTS: [(OpenFault, &str); 3] = [
     (OpenFault::NoMemory, "no memory"),
-    (OpenFault::Clients, "clients"),
-    (OpenFault::Share, "share"),
+    (OpenFault::Clients, "there are from 1 to 8 clients"),
+    (OpenFault::Share, "a client's share is from 1 to 8 slots"),
 ];
 
 #[test]

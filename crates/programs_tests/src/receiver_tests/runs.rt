@@ -85,11 +85,11 @@ fn lines_are_written_before_the_next_read(rt: HostRuntime) -> Result<(), Fail> {
 /// What a run says of each fault.
 static TEXTS: [(RunFault, &str); 6] = [
     (RunFault::NoMemory, "no memory"),
-    (RunFault::Clients, "clients"),
-    (RunFault::Read, "read"),
-    (RunFault::Write, "write"),
-    (RunFault::TooLong, "too long"),
-    (RunFault::Share, "share"),
+    (RunFault::Clients, "there are from 1 to 8 scripts"),
+    (RunFault::Read, "the samples couldn't be read"),
+    (RunFault::Write, "the lines couldn't be written"),
+    (RunFault::TooLong, "there are more samples than the limit"),
+    (RunFault::Share, "each script has a share from 1 to 8 slots"),
 ];
 
 #[test]
@@ -102,6 +102,6 @@ fn faults_have_texts(rt: HostRuntime) -> Result<(), Fail> {
 
 #[test]
 fn device_fault_has_a_text(rt: HostRuntime) -> Result<(), Fail> {
-    assert_same!(rt; DeviceFault.to_string(rt.alloc())?.as_str(), "device");
+    assert_same!(rt; DeviceFault.to_string(rt.alloc())?.as_str(), "the device failed");
     Ok(())
 }

@@ -3,14 +3,14 @@
 ghost use Rattle.std.specs.Prelude.{◌≡◌, ◌<◌, ◌≤◌, ◌+◌, ◌^◌, IfOk, length};
 ghost use Rattle.definitions.specs.Acquisition.{due_time};
 ghost use Rattle.channels.specs.Searching.{start_of, due_of, to_due_of};
-ghost use Rattle.channels.specs.TrackedChannels.{taken_of};
+ghost use Rattle.channels.specs.FollowedChannels.{taken_of};
 ghost use Rattle.sample_planes.specs.declared.planes.TheConstants.{MAX_SAMPLES};
 
 use super::so_far;
 use acquisition::{Cell, Plan};
 use assertions::{assert_same, assert_same_at};
 use ca_codes::{CodeBook, Prn};
-use channels::{Dump, Searched, Tracked};
+use channels::{Dump, Followed, Searched};
 use lane_correlator::Counts;
 use made_signals::code_file;
 use oscillators::{HalfChip, Settings};
@@ -59,7 +59,7 @@ fn search_in_pieces(
 
 /// Takes the file's first 1,024 samples as those before sample `end`, as far as the next dump.
 fn next(
-    tracked: &mut Tracked,
+    tracked: &mut Followed,
     bytes: &[u8; 1_408],
     end: u64,
     book: &mut CodeBook,
@@ -85,7 +85,7 @@ fn next(
 /// Asserts that a satellite tracked from sample 10,232 on comes to a dump with sample 12,275.
 fn assert_follows(
     rt: &impl Abort,
-    mut tracked: Tracked,
+    mut tracked: Followed,
     bytes: &[u8; 1_408],
     book: &mut CodeBook,
 ) -> Result<(), Fail>
@@ -125,7 +125,8 @@ fn one_cell_with_four_samples(rt: HostRuntime) -> Result<(), Fail> {
         let tracked = search
             .follow(&named, 10_232)
             .ok_or("a signal that was found")?;
-        let told = (tracked.prn().get(), tracked.dumps(), tracked.v());
+        let shift = tracked.tracking().ok_or("loops")?.v();
+        let told = (tracked.prn().get(), tracked.dumps(), shift);
         assert_same!(rt; told, (1, 0, 0));
         assert_follows(&rt, tracked, &bytes, &mut book)?;
     }

@@ -1,12 +1,12 @@
 //! A tracked satellite beside the plain reference of tracking.
 
 ghost use Rattle.std.specs.Prelude.{◌≡◌, ◌+◌, ◌≤◌, IfOk};
-ghost use Rattle.channels.specs.TrackedChannels.{taken_of};
+ghost use Rattle.channels.specs.FollowedChannels.{taken_of};
 
 use super::{so_far, sums};
 use assertions::{assert_same, assert_same_at};
 use ca_codes::{CodeBook, Prn};
-use channels::{Dump, Tracked};
+use channels::{Dump, Followed};
 use lane_correlator::Counts;
 use made_signals::{MadeSignal, PlainDump, PlainNews, PlainTracker, SampleStream};
 use oscillators::{Doppler, HalfChip, Settings};
@@ -43,7 +43,7 @@ fn news_of(news: PlainNews) -> News {
 /// Takes the samples of a run from a place on, up to the next dump, and gives how many these are,
 /// and the dump's counts and news.
 fn next(
-    tracked: &mut Tracked,
+    tracked: &mut Followed,
     bytes: &[u8; BYTES],
     place: usize,
     book: &mut CodeBook,
@@ -69,18 +69,25 @@ fn next(
 /// Asserts that both came to a dump, or neither did.
 fn assert_both(
     rt: &impl Abort,
-    tracked: &Tracked,
+    tracked: &Followed,
     dump: Option<(Counts, News)>,
     plain: Option<PlainDump>,
-) {
+) -> Result<(), Fail> {
     assert_same!(rt; dump.is_some(), plain.is_some());
     if let (Some(dump), Some(plain)) = (dump, plain) {
-        assert_same_dump(rt, tracked, dump, &plain);
+        assert_same_dump(rt, tracked, dump, &plain)?;
     }
+    Ok(())
 }
 
-fn assert_same_dump(rt: &impl Abort, tracked: &Tracked, dump: (Counts, News), plain: &PlainDump) {
-    let told = (tracked.dumps(), tracked.v(), tracked.w());
+fn assert_same_dump(
+    rt: &impl Abort,
+    tracked: &Followed,
+    dump: (Counts, News),
+    plain: &PlainDump,
+) -> Result<(), Fail> {
+    let loops = tracked.tracking().ok_or("loops")?;
+    let told = (tracked.dumps(), loops.v(), loops.w());
     assert_same_at!(
         rt;
         plain.number,
@@ -90,13 +97,14 @@ fn assert_same_dump(rt: &impl Abort, tracked: &Tracked, dump: (Counts, News), pl
             (plain.number, plain.v, plain.w),
         )
     );
+    Ok(())
 }
 
 /// The satellite of the signal, tracked from its first sample on.
-fn tracked(signal: &MadeSignal) -> Result<Tracked, Fail>
+fn tracked(signal: &MadeSignal) -> Result<Followed, Fail>
     ensures { IfOk result (λ tracked. taken_of tracked ≡ 0) }
 {
-    Ok(Tracked::start(
+    Ok(Followed::track(
         &Settings::new(signal.rate, signal.offset, Format::Real2)?,
         Prn::new(7).ok_or("a satellite")?,
         Doppler::new(1_000).ok_or("a shift")?,
@@ -121,8 +129,8 @@ fn tracked_as_the_reference(rt: HostRuntime) -> Result<(), Fail> {
         let (count, dump) = next(&mut tracked, &bytes, place, &mut book)?;
         place += count;
         let plain = plain_dump(&mut stream, &mut tracker, count)?;
-        assert_both(&rt, &tracked, dump, plain);
+        assert_both(&rt, &tracked, dump, plain)?;
     }
-    assert!(rt; tracked.is_locked());
+    assert!(rt; tracked.tracking().ok_or("loops")?.is_locked());
     Ok(())
 }

@@ -37,10 +37,16 @@ fn stated_limits(rt: HostRuntime) -> Result<(), Fail> {
 #[test]
 fn faults_are_named(rt: HostRuntime) -> Result<(), Fail> {
     for (fault, text) in [
-        (PlanFault::Centre, "centre"),
-        (PlanFault::Bins, "bins"),
-        (PlanFault::Dwell, "dwell"),
-        (PlanFault::Threshold, "threshold"),
+        (PlanFault::Centre, "the centre is from -6000 to 6000 Hz"),
+        (PlanFault::Bins, "there are at most 40 bins to each side"),
+        (
+            PlanFault::Dwell,
+            "the dwell is from 1 to 10 periods of the code",
+        ),
+        (
+            PlanFault::Threshold,
+            "the threshold is from 1 to 1000 tenths of the mean power",
+        ),
     ] {
         assert_same!(rt; format!(in rt.alloc(); "{fault}")?.as_str(), text);
     }

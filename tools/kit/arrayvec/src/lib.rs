@@ -17,6 +17,7 @@ pub struct ArrayVec<T, const N: usize> {
 pub struct CapacityError<T = ()>(T);
 
 impl<T: Default, const N: usize> ArrayVec<T, N> {
+    #[must_use]
     pub fn new() -> Self {
         ArrayVec {
             items: from_fn(|_| T::default()),

@@ -1,14 +1,24 @@
 //! The last items of a stream, as far as the sources use it.
 
+use core::fmt;
 use std::alloc::{AllocError, Global};
 
 /// The last items that were added, as many as it has room for.
-#[derive(Debug)]
 pub struct HeapCircularBuffer<T> {
     items: Vec<T>,
     /// Where the oldest item stands.
     start: usize,
     len: usize,
+}
+
+/// The items themselves may be millions, and aren't shown.
+impl<T> fmt::Debug for HeapCircularBuffer<T> {
+    fn fmt(&self, f: &mut fmt::Formatter<'_>) -> fmt::Result {
+        f.debug_struct("HeapCircularBuffer")
+            .field("capacity", &self.items.len())
+            .field("len", &self.len)
+            .finish_non_exhaustive()
+    }
 }
 
 impl<T: Copy + Default> HeapCircularBuffer<T> {
@@ -21,10 +31,12 @@ impl<T: Copy + Default> HeapCircularBuffer<T> {
         })
     }
 
+    #[must_use]
     pub fn len(&self) -> usize {
         self.len
     }
 
+    #[must_use]
     pub fn is_empty(&self) -> bool {
         self.len == 0
     }
@@ -51,6 +63,7 @@ impl<T: Copy + Default> HeapCircularBuffer<T> {
     }
 
     /// All items, the oldest first, in two pieces.
+    #[must_use]
     pub fn as_slices(&self) -> (&[T], &[T]) {
         let front = self.len.min(self.items.len() - self.start);
         (

@@ -40,6 +40,7 @@ pub struct Arg<'a> {
 }
 
 impl<'a> Arg<'a> {
+    #[must_use]
     pub fn new(_: Global, id: &'a str) -> Arg<'a> {
         Arg {
             id,
@@ -54,6 +55,7 @@ impl<'a> Arg<'a> {
         }
     }
 
+    #[must_use]
     pub fn long(self, name: &'a str) -> Arg<'a> {
         Arg {
             long: Some(name),
@@ -61,6 +63,7 @@ impl<'a> Arg<'a> {
         }
     }
 
+    #[must_use]
     pub fn value_name(self, name: &'a str) -> Arg<'a> {
         Arg {
             value_name: Some(name),
@@ -68,6 +71,7 @@ impl<'a> Arg<'a> {
         }
     }
 
+    #[must_use]
     pub fn action(self, action: ArgAction) -> Arg<'a> {
         Arg { action, ..self }
     }
@@ -79,6 +83,7 @@ impl<'a> Arg<'a> {
         }
     }
 
+    #[must_use]
     pub fn default_value(self, text: &'a str) -> Arg<'a> {
         Arg {
             default: Some(text),
@@ -86,6 +91,7 @@ impl<'a> Arg<'a> {
         }
     }
 
+    #[must_use]
     pub fn required(self, is_required: bool) -> Arg<'a> {
         Arg {
             is_required,
@@ -94,6 +100,7 @@ impl<'a> Arg<'a> {
     }
 
     /// Whether its value may begin with a dash.
+    #[must_use]
     pub fn allow_hyphen_values(self, takes_hyphens: bool) -> Arg<'a> {
         Arg {
             takes_hyphens,
@@ -101,11 +108,13 @@ impl<'a> Arg<'a> {
         }
     }
 
+    #[must_use]
     pub fn help(self, help: &'a str) -> Arg<'a> {
         Arg { help, ..self }
     }
 
     /// Only the words that are no options have more than one value, and they have any number.
+    #[must_use]
     pub fn num_args(self, _: RangeFrom<usize>) -> Arg<'a> {
         self
     }

@@ -18,6 +18,7 @@ pub struct Command<'a> {
 }
 
 impl<'a> Command<'a> {
+    #[must_use]
     pub fn new(_: Global, name: &'a str) -> Command<'a> {
         Command {
             name,
@@ -29,6 +30,7 @@ impl<'a> Command<'a> {
         }
     }
 
+    #[must_use]
     pub fn version(self, version: &'a str) -> Command<'a> {
         Command {
             version: Some(version),
@@ -36,14 +38,17 @@ impl<'a> Command<'a> {
         }
     }
 
+    #[must_use]
     pub fn about(self, about: &'a str) -> Command<'a> {
         Command { about, ..self }
     }
 
+    #[must_use]
     pub fn override_usage(self, usage: &'a str) -> Command<'a> {
         Command { usage, ..self }
     }
 
+    #[must_use]
     pub fn after_help(self, after_help: &'a str) -> Command<'a> {
         Command { after_help, ..self }
     }

@@ -37,6 +37,7 @@ impl Error {
         }
     }
 
+    #[must_use]
     pub fn kind(&self) -> ErrorKind {
         self.kind
     }
@@ -50,6 +51,7 @@ impl Error {
     }
 
     /// The status of a program that ends for it.
+    #[must_use]
     pub fn exit_code(&self) -> i32 {
         match self.kind {
             ErrorKind::DisplayHelp | ErrorKind::DisplayVersion => 0,

@@ -28,16 +28,19 @@ impl<'a> ArgMatches<'a> {
     }
 
     /// All values of an argument, or `None` where it has none.
+    #[must_use]
     pub fn get_strs(&self, id: &str) -> Option<&[&'a str]> {
         let (_, values) = self.values.iter().find(|(name, _)| *name == id)?;
         Some(values)
     }
 
+    #[must_use]
     pub fn get_str(&self, id: &str) -> Option<&'a str> {
         self.get_strs(id)?.first().copied()
     }
 
     /// The value of an argument, or `None` where it isn't one of that type.
+    #[must_use]
     pub fn get_one<T: FromStr>(&self, id: &str) -> Option<T> {
         self.get_str(id)?.parse().ok()
     }

@@ -1,11 +1,30 @@
 //! Several numbers at once, as far as the sources use them: a stand-in for `std::simd`, which isn't
-//! in the stable std. Operations on lanes of bytes are in `processor`. The others are loops over
-//! arrays, and rustc makes vectors of these.
+//! in the stable std. Operations are loops over arrays, or the instructions of a processor, which
+//! has a file of its own then. The files of processors, `vectors` and `places` alone have `unsafe`
+//! in the whole workspace.
 #![cfg_attr(not(test), no_std)]
 
+#[cfg(all(target_arch = "aarch64", target_feature = "neon"))]
+mod aarch64;
+#[cfg(test)]
+mod against_loops;
+// A processor has some of them as instructions.
+#[allow(dead_code)]
+mod loops;
+mod places;
 mod processor;
 #[cfg(test)]
 mod tests;
+#[cfg(any(
+    target_arch = "x86_64",
+    all(target_arch = "aarch64", target_feature = "neon"),
+    all(target_arch = "wasm32", target_feature = "simd128")
+))]
+mod vectors;
+#[cfg(all(target_arch = "wasm32", target_feature = "simd128"))]
+mod wasm32;
+#[cfg(target_arch = "x86_64")]
+mod x86_64;
 
 use core::array::from_fn;
 use core::ops::{Add, BitAnd, BitXor, Shr, Sub};
@@ -82,7 +101,7 @@ impl<T: Copy, const P: usize> Lanes<T, P> {
     /// slice from there on. Panics where it has too few.
     #[inline(always)]
     pub fn from_slice_at(values: &[T], at: usize) -> Self {
-        Lanes(processor::values_at(values, at))
+        Lanes(places::values_at(values, at))
     }
 
     /// Writes the lanes to the beginning of a slice. Panics where it is too short.
@@ -125,13 +144,6 @@ impl<T: Copy> Lanes<T, 4> {
         first(self.0.as_flattened())
     }
 
-    /// The lanes at these positions.
-    #[inline(always)]
-    pub fn swizzle(self, positions: [usize; 64]) -> Self {
-        let all = self.0.as_flattened();
-        Lanes(parts(|p| from_fn(|k| all[positions[16 * p + k]])))
-    }
-
     /// `LEN` lanes from lane `START` on. They are 32, and begin with a sixteen; `std::simd` takes
     /// others too, and no source of this workspace has any.
     #[inline(always)]
@@ -141,69 +153,84 @@ impl<T: Copy> Lanes<T, 4> {
     }
 }
 
+/// Lanes of 16 bits are put in another order by loops.
+macro_rules! swizzles {
+    ($($lanes:ty)*) => {
+        $(impl $lanes {
+            /// The lanes at these positions.
+            #[inline(always)]
+            #[must_use]
+            pub fn swizzle(self, positions: [usize; 64]) -> Self {
+                let all = self.0.as_flattened();
+                Lanes(parts(|p| from_fn(|k| all[positions[16 * p + k]])))
+            }
+        })*
+    };
+}
+
+swizzles! { i16x64 u16x64 }
+
 impl u8x64 {
+    /// The lanes at these positions, which are eight neighbours each, from a multiple of eight on.
+    /// `std::simd` takes others too, and no source of this workspace has any.
+    #[inline(always)]
+    #[must_use]
+    pub fn swizzle(self, positions: [usize; 64]) -> Self {
+        debug_assert!((0..64).all(|k| positions[k] == positions[k / 8 * 8] / 8 * 8 + k % 8));
+        Lanes(processor::eights(self.0, positions))
+    }
+
     /// Sixteen bytes of a table from each of four places on. Panics where one has too few.
     /// `std::simd` has no such function: the sources put four vectors side by side, and each of
     /// them would be checked by itself.
     #[inline(always)]
+    #[must_use]
     pub fn from_places(table: &[u8], places: [usize; 4]) -> u8x64 {
-        Lanes(processor::windows(table, places))
+        Lanes(places::windows(table, places))
     }
 }
 
 impl<const P: usize> Choice<P> {
     /// The lane of `yes` where the choice is yes, and else that of `no`.
     #[inline(always)]
-    pub fn select<T: Number>(self, yes: Lanes<T, P>, no: Lanes<T, P>) -> Lanes<T, P> {
-        Lanes(T::select(self.0, yes.0, no.0))
+    #[must_use]
+    pub fn select(self, yes: Lanes<u8, P>, no: Lanes<u8, P>) -> Lanes<u8, P> {
+        let differing = processor::xor(yes.0, no.0);
+        Lanes(processor::xor(no.0, processor::and(self.0, differing)))
     }
 
     /// Bit k is 1 where lane k is yes.
     #[inline(always)]
+    #[must_use]
     pub fn to_bitmask(self) -> u64 {
         processor::top_bits(self.0)
     }
 }
 
-/// A number that lanes are chosen of.
-pub trait Number: Copy {
-    /// The lanes of `yes` where a lane of `choice` is 255, and those of `no` where it is 0.
+/// Yes or no for each of `P` times sixteen lanes of 16 bits.
+#[derive(Clone, Copy, Debug)]
+pub struct WideChoice<const P: usize>(processor::Mask<P>);
+
+impl<const P: usize> WideChoice<P> {
+    /// The lane of `yes` where the choice is yes, and else that of `no`.
     #[inline(always)]
-    fn select<const P: usize>(
-        choice: [[u8; 16]; P],
-        yes: [[Self; 16]; P],
-        no: [[Self; 16]; P],
-    ) -> [[Self; 16]; P] {
-        let lane = |p: usize, k: usize| if choice[p][k] != 0 { yes[p][k] } else { no[p][k] };
-        parts(|p| from_fn(|k| lane(p, k)))
-    }
-}
-
-impl Number for u16 {}
-
-impl Number for i16 {}
-
-impl Number for u8 {
-    #[inline(always)]
-    fn select<const P: usize>(
-        choice: [[u8; 16]; P],
-        yes: [[u8; 16]; P],
-        no: [[u8; 16]; P],
-    ) -> [[u8; 16]; P] {
-        processor::xor(no, processor::and(choice, processor::xor(yes, no)))
+    #[must_use]
+    pub fn select(self, yes: Lanes<u16, P>, no: Lanes<u16, P>) -> Lanes<u16, P> {
+        Lanes(processor::chosen(self.0, yes.0, no.0))
     }
 }
 
 impl<const P: usize> Lanes<i16, P> {
     #[inline(always)]
-    pub fn simd_gt(self, other: Self) -> Choice<P> {
-        let lane = |p: usize, k: usize| if self.0[p][k] > other.0[p][k] { 255 } else { 0 };
-        Choice(parts(|p| from_fn(|k| lane(p, k))))
+    #[must_use]
+    pub fn simd_gt(self, other: Self) -> WideChoice<P> {
+        WideChoice(processor::greater(self.0, other.0))
     }
 }
 
 impl<const P: usize> Lanes<u8, P> {
     #[inline(always)]
+    #[must_use]
     pub fn simd_ne(self, other: Self) -> Choice<P> {
         Choice(processor::xor(processor::equal(self.0, other.0), [[255; 16]; P]))
     }
@@ -212,6 +239,7 @@ impl<const P: usize> Lanes<u8, P> {
     /// of `numbers` names. `K` is 16, and the numbers are below it; `std::simd` takes others too,
     /// and no source of this workspace has any.
     #[inline(always)]
+    #[must_use]
     pub fn swizzle_dyn_within<const K: usize>(self, numbers: Self) -> Self {
         const { assert!(K == 16) };
         debug_assert!(numbers.0.iter().flatten().all(|&number| number < 16));
@@ -222,6 +250,7 @@ impl<const P: usize> Lanes<u8, P> {
 impl u8x16 {
     /// Lane k of the result is the lane of `self` that lane k of `numbers` names.
     #[inline(always)]
+    #[must_use]
     pub fn swizzle_dyn(self, numbers: u8x16) -> u8x16 {
         self.swizzle_dyn_within::<16>(numbers)
     }
@@ -230,6 +259,7 @@ impl u8x16 {
 impl<const P: usize> Lanes<u16, P> {
     /// The sum of all lanes, which wraps.
     #[inline(always)]
+    #[must_use]
     pub fn reduce_sum(self) -> u16 {
         processor::sum_of_all(self.0)
     }
@@ -250,68 +280,24 @@ impl As<u8> for u16 {
 impl As<u16> for i16 {
     #[inline(always)]
     fn of<const P: usize>(lanes: [[u16; 16]; P]) -> [[i16; 16]; P] {
-        parts(|p| lanes[p].map(|lane| lane as i16))
+        processor::signed(lanes)
     }
 }
 
 impl As<u16> for u8 {
     #[inline(always)]
     fn of<const P: usize>(lanes: [[u16; 16]; P]) -> [[u8; 16]; P] {
-        parts(|p| lanes[p].map(|lane| lane as u8))
+        processor::narrowed(lanes)
     }
 }
 
-impl<const P: usize> Add for Lanes<u32, P> {
-    type Output = Self;
-
-    /// Sums wrap.
-    #[inline(always)]
-    fn add(self, other: Self) -> Self {
-        Lanes(parts(|p| from_fn(|k| self.0[p][k].wrapping_add(other.0[p][k]))))
-    }
-}
-
-impl<const P: usize> Add for Lanes<u16, P> {
-    type Output = Self;
-
-    /// Sums wrap.
-    #[inline(always)]
-    fn add(self, other: Self) -> Self {
-        Lanes(parts(|p| from_fn(|k| self.0[p][k].wrapping_add(other.0[p][k]))))
-    }
-}
-
-macro_rules! shifts {
-    ($($number:ty)*) => {
-        $(impl<const P: usize> Shr for Lanes<$number, P> {
-            type Output = Self;
-
-            /// Each lane is shifted by as many places as the other's, fewer than it has.
-            #[inline(always)]
-            fn shr(self, places: Self) -> Self {
-                Lanes(parts(|p| from_fn(|k| self.0[p][k] >> places.0[p][k])))
-            }
-        })*
-    };
-}
-
-shifts! { u8 u16 }
-
-impl<const P: usize> Sub for Lanes<i16, P> {
-    type Output = Self;
-
-    /// Differences wrap.
-    #[inline(always)]
-    fn sub(self, other: Self) -> Self {
-        Lanes(parts(|p| from_fn(|k| self.0[p][k].wrapping_sub(other.0[p][k]))))
-    }
-}
-
-/// Operators on lanes of bytes. Sums and differences wrap.
+/// Operators on lanes. Sums and differences wrap. Each lane is shifted by as many places as the
+/// other's, fewer than it has: bytes by any, and lanes of 16 bits all by the same. `std::simd`
+/// shifts these by any too, and no source of this workspace does.
 macro_rules! operators {
-    ($($of:ident $name:ident $by:ident;)*) => {
+    ($($of:ident $name:ident $lane:ty: $by:ident;)*) => {
         $(
-            impl<const P: usize> $of for Lanes<u8, P> {
+            impl<const P: usize> $of for Lanes<$lane, P> {
                 type Output = Self;
 
                 #[inline(always)]
@@ -324,8 +310,13 @@ macro_rules! operators {
 }
 
 operators! {
-    Add add sum;
-    Sub sub difference;
-    BitAnd bitand and;
-    BitXor bitxor xor;
+    Add add u8: sum;
+    Sub sub u8: difference;
+    BitAnd bitand u8: and;
+    BitXor bitxor u8: xor;
+    Add add u16: sum_of_words;
+    Sub sub i16: difference_of_words;
+    Add add u32: sum_of_double_words;
+    Shr shr u8: shifted_bytes;
+    Shr shr u16: shifted;
 }

@@ -1,6 +1,6 @@
 //! Each operation against the same one on single numbers, lane by lane.
 
-use crate::{Lanes, i16x64, processor, u8x16, u8x32, u8x64, u16x64, u32x16};
+use crate::{Lanes, i16x64, u8x16, u8x32, u8x64, u16x64, u32x16};
 use core::array::from_fn;
 
 /// Calls a check with 100,000 pairs of 64 pseudorandom bytes.
@@ -27,8 +27,6 @@ fn look_ups() {
         let sixteen: [u8; 16] = from_fn(|k| numbers[k]);
         let got = u8x16::from_slice(&a).swizzle_dyn(u8x16::from_array(sixteen));
         assert_eq!(got.to_array(), want[..16]);
-        let table = from_fn(|k| a[k]);
-        assert_eq!(processor::look_up_by_loop(table, sixteen), want[..16]);
     });
 }
 
@@ -71,6 +69,8 @@ fn windows() {
     });
 }
 
+// A panic ends all where it doesn't unwind, as in WebAssembly.
+#[cfg(panic = "unwind")]
 #[test]
 fn windows_that_end_too_late() {
     let table = [0; 40];
@@ -103,7 +103,6 @@ fn choices() {
         assert_eq!(chosen.to_array(), from_fn(|k| if differ >> k & 1 == 1 { b[k] } else { a[k] }));
         let sixteen = u8x16::from_slice(&a).simd_ne(u8x16::splat(b[0]));
         assert_eq!(sixteen.to_bitmask(), bits(&|k| k < 16 && a[k] != b[0]));
-        assert_eq!(processor::top_bits(x.0), bits(&|k| a[k] > 127));
     });
 }
 

@@ -31,6 +31,7 @@ pub trait Eprint {
 pub struct Output(Stdout);
 
 /// Standard output as it is, with no file opened beside it.
+#[must_use]
 pub fn writer(_: &HostRuntime) -> Output {
     Output(stdout())
 }

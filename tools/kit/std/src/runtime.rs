@@ -7,7 +7,6 @@ use crate::io::{Eprint, Print};
 use crate::process::Abort;
 use ::std::ffi::OsString;
 use ::std::io::{Result, Stdin, Write, stdin};
-use ::std::os::unix::ffi::OsStrExt;
 use ::std::sync::OnceLock;
 use std::fmt::Display;
 
@@ -16,11 +15,13 @@ use std::fmt::Display;
 pub struct HostRuntime;
 
 impl HostRuntime {
+    #[must_use]
     pub fn alloc(&self) -> Global {
         Global
     }
 
     /// Standard input as it is, with no file opened beside it.
+    #[must_use]
     pub fn reader(&self) -> Stdin {
         stdin()
     }
@@ -43,7 +44,7 @@ impl Env for HostRuntime {
         // std copies all words each time that it is asked, so it is asked once.
         let words = WORDS.get_or_init(|| ::std::env::args_os().collect());
         let word = words.get(i).ok_or(FillError::NotPresent)?;
-        let bytes = word.as_bytes();
+        let bytes = word.as_encoded_bytes();
         let room = buffer.get_mut(..bytes.len()).ok_or(FillError::TooLong)?;
         room.copy_from_slice(bytes);
         Ok(bytes.len())

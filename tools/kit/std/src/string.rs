@@ -10,6 +10,7 @@ pub use ::std::string::{FromUtf8Error, ParseError};
 pub struct String(::std::string::String);
 
 impl String {
+    #[must_use]
     pub fn new(_: Global) -> String {
         String(::std::string::String::new())
     }

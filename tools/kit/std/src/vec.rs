@@ -11,6 +11,7 @@ pub use ::std::vec::{Drain, IntoIter};
 pub struct Vec<T>(::std::vec::Vec<T>);
 
 impl<T> Vec<T> {
+    #[must_use]
     pub fn new(_: Global) -> Vec<T> {
         Vec(::std::vec::Vec::new())
     }
@@ -40,6 +41,7 @@ impl<T> Vec<T> {
         Ok(())
     }
 
+    #[must_use]
     pub fn into_boxed_slice(self) -> BoxedSlice<T> {
         BoxedSlice(self.0)
     }

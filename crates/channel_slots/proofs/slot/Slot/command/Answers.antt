@@ -17,15 +17,15 @@ returns-in-Acquire-clause-stands c xs commands now s =
 
 pub returns-in-Hold-clause-stands : goal.returns-in-Hold-clause-stands
 returns-in-Hold-clause-stands c xs commands now s =
-    rw (ap request_in c.in-Hold.is) (c.start-in-Hold-2.ensures.stands _ xs commands _ s
-    (starts-held _ xs _ c.start-in-Hold.result _ _ _ refl refl
-    (c.start-in-Hold.ensures.stands xs now)))
+    rw (ap request_in c.in-Hold.is) (c.start-in-Hold.ensures.stands _ xs commands _ s
+    (starts-held _ xs _ c.hold.result _ _ _ refl refl
+    c.hold.ensures.begins.steered_is (c.hold.ensures.stands xs now)))
 
 pub returns-in-Track-clause-stands : goal.returns-in-Track-clause-stands
 returns-in-Track-clause-stands c xs commands now s =
-    rw (ap request_in c.in-Track.is) (c.start-in-Track-2.ensures.stands _ xs commands _ s
-    (starts-tracked _ xs _ c.start-in-Track.result _ _ _ refl refl
-    (c.start-in-Track.ensures.stands xs now)))
+    rw (ap request_in c.in-Track.is) (c.start-in-Track.ensures.stands _ xs commands _ s
+    (starts-tracked _ xs _ c.track.result _ _ _ refl refl
+    c.track.ensures.begins.steered_is (c.track.ensures.stands xs now)))
 
 pub returns-then-is_idle-clause-answer : goal.returns-then-is_idle-clause-answer
 returns-then-is_idle-clause-answer c xs commands now s =
@@ -89,9 +89,10 @@ returns-in-Acquire-clause-sound c first later sound =
 
 pub returns-in-Hold-clause-sound : goal.returns-in-Hold-clause-sound
 returns-in-Hold-clause-sound c first later sound =
-    c.start-in-Hold-2.ensures.sound first _ _ sound (omega (arith, c.start-in-Hold.ensures.dumps))
+    c.start-in-Hold.ensures.sound first _ _ sound
+    (omega (arith, c.hold.ensures.begins.dumps, c.hold.ensures.begins.taken))
 
 pub returns-in-Track-clause-sound : goal.returns-in-Track-clause-sound
 returns-in-Track-clause-sound c first later sound =
-    c.start-in-Track-2.ensures.sound first _ _ sound
-    (omega (arith, c.start-in-Track.ensures.dumps))
+    c.start-in-Track.ensures.sound first _ _ sound
+    (omega (arith, c.track.ensures.begins.dumps, c.track.ensures.begins.taken))

@@ -4,7 +4,7 @@ use Rattle.definitions.specs.Samples.{Sample}
 use Rattle.channels.specs.Parts.{part}
 use Rattle.channel_slots.specs.Stages.{is_idle}
 use Rattle.channel_slots.proofs.SlotLemmas.{idle-tells, tells}
-use Rattle.channel_slots.proofs.StageLemmas.{held-takes, tracked-takes}
+use Rattle.channel_slots.proofs.StageLemmas.{followed-takes}
 use Rattle.channel_slots.proofs.TakenLemmas.{rest-some}
 use Rattle.channel_slots.proofs.TellingLemmas.{earlier}
 use Rattle.channel_slots.proofs.slot.Slot.pass.Goals as goal
@@ -15,24 +15,13 @@ returns-in-Idle-clause-emits g c settings xs commands now samples s =
     let more : 0 < length ys = rest-some c.args.run.now c.args.from c.requires.some in
     idle-tells settings xs commands c.args.self.now s ys more (ap is_idle c.in-Idle.is)
 
-pub returns-in-Holding-clause-emits : goal.returns-in-Holding-clause-emits
-returns-in-Holding-clause-emits g c settings xs commands now samples s =
+pub returns-in-Following-clause-emits : goal.returns-in-Following-clause-emits
+returns-in-Following-clause-emits g c settings xs commands now samples s =
     let ys : List Sample = part c.args.run.now c.args.from (length c.args.run.now - c.args.from) in
     let more : 0 < length ys = rest-some c.args.run.now c.args.from c.requires.some in
-    tells settings xs commands c.args.self.now s ys more (ap is_idle c.in-Holding.is) _ None
+    tells settings xs commands c.args.self.now s ys more (ap is_idle c.in-Following.is) _ None
     (λ life follows.
-    let h = rw c.in-Holding.is at follows in
-    held-takes settings xs ys life c.in-Holding.held h more false None _
-    (c.pass.ensures.takes settings _ xs now (earlier xs ys _ _ samples) h.holds))
-    refl
-
-pub returns-in-Tracking-clause-emits : goal.returns-in-Tracking-clause-emits
-returns-in-Tracking-clause-emits g c settings xs commands now samples s =
-    let ys : List Sample = part c.args.run.now c.args.from (length c.args.run.now - c.args.from) in
-    let more : 0 < length ys = rest-some c.args.run.now c.args.from c.requires.some in
-    tells settings xs commands c.args.self.now s ys more (ap is_idle c.in-Tracking.is) _ None
-    (λ life follows.
-    let t = rw c.in-Tracking.is at follows in
-    tracked-takes settings xs life c.in-Tracking.tracked t ys more false None _
-    (c.pass-in-Tracking.ensures.takes settings _ xs now (earlier xs ys _ _ samples) t.tracks))
+    let f = rw c.in-Following.is at follows in
+    followed-takes settings xs ys life c.in-Following.followed f more false _ c.pass.ensures.steered
+    None (c.pass.ensures.takes settings _ xs now (earlier xs ys _ _ samples) f.follows))
     refl

@@ -4,16 +4,15 @@ use Rattle.std.specs.Prelude.{Bool, nat_lt, Some, None}
 use Rattle.definitions.specs.Acquisition.{Plan}
 use Rattle.definitions.specs.Samples.{Sample}
 use Rattle.channels.specs.Parts.{part}
-use Rattle.channels.specs.Dumps.{plain_dump}
-use Rattle.channels.specs.TrackedChannels as tracked
-use Rattle.channels.specs.TrackedChannels.{taken_of}
+use Rattle.channels.specs.FollowedChannels as followed
+use Rattle.channels.specs.FollowedChannels.{taken_of}
 use Rattle.channels.proofs.PartLemmas.{part-some}
 use Rattle.channel_slots.specs.Stages.{is_idle, IsSettled}
 use Rattle.channel_slots.specs.declared.slot_news.SlotNews.TheVariants.{Dump}
 use Rattle.channel_slots.proofs.TakesLemmas.{Acquired, Dumped}
 use Rattle.channel_slots.proofs.SearchLemmas.{from-later, searches-on, settled}
 use Rattle.channel_slots.proofs.SlotLemmas.{idle-tells, tells}
-use Rattle.channel_slots.proofs.StageLemmas.{held-takes, tracked-takes}
+use Rattle.channel_slots.proofs.StageLemmas.{followed-takes}
 use Rattle.channel_slots.proofs.NewsLemmas.{few-events}
 use Rattle.channel_slots.proofs.TellingLemmas.{earlier, dump-chance}
 use Rattle.channel_slots.proofs.TakenLemmas.{taken-length, taken-some}
@@ -83,84 +82,53 @@ returns-in-Some-clause-tells g c settings xs commands now samples s =
     (c.settle.ensures took.new.self refl)))
     refl
 
-pub returns-in_default-counts-clause-tells : goal.returns-in_default-counts-clause-tells
-returns-in_default-counts-clause-tells g c settings xs commands now samples s =
-    let took = c.take-count-in-Holding in
-    let ys : List Sample = part c.args.run.now c.args.from took.result.0 in
-    let more = taken-some c.args.run.now c.args.from took.result.0 took.result.1
-    c.requires.some took.ensures.as_far in
-    tells settings xs commands c.args.self.now s ys more (ap is_idle c.in-Holding.is) _ None
-    (λ life follows.
-    let h = rw c.in-Holding.is at follows in
-    held-takes settings xs ys life c.in-Holding.held h more false None _
-    (rw c.in_default-counts.is at (took.ensures.takes settings _ xs now
-    (earlier xs ys _ _ samples) h.holds)))
-    refl
-
 pub returns-then-not-is_dump-clause-tells : goal.returns-then-not-is_dump-clause-tells
 returns-then-not-is_dump-clause-tells g c settings xs commands now samples s =
-    let took = c.take-count-in-Tracking in
+    let took = c.take-count-in-Following in
     let ys : List Sample = part c.args.run.now c.args.from took.result.0 in
     let more = taken-some c.args.run.now c.args.from took.result.0 _
     c.requires.some took.ensures.as_far in
-    tells settings xs commands c.args.self.now s ys more (ap is_idle c.in-Tracking.is) _ None
+    tells settings xs commands c.args.self.now s ys more (ap is_idle c.in-Following.is) _ None
     (λ life follows.
-    let t = rw c.in-Tracking.is at follows in
-    tracked-takes settings xs life c.in-Tracking.tracked t ys more false None _
-    (rw c.if-not-is_dump.true at (took.ensures.takes settings _ xs now
-    (earlier xs ys _ _ samples) t.tracks)))
+    let f = rw c.in-Following.is at follows in
+    followed-takes settings xs ys life c.in-Following.followed f more false _ took.ensures.steered
+    None (rw c.if-not-is_dump.true at (took.ensures.takes settings _ xs now
+    (earlier xs ys _ _ samples) f.follows)))
     refl
-
-pub returns-in-Some-counts-clause-tells : goal.returns-in-Some-counts-clause-tells
-returns-in-Some-counts-clause-tells g c settings xs commands now samples s =
-    let took = c.take-count-in-Holding in
-    let ys : List Sample = part c.args.run.now c.args.from took.result.0 in
-    let more = taken-some c.args.run.now c.args.from took.result.0 took.result.1
-    c.requires.some took.ensures.as_far in
-    let is_shown : Bool = nat_lt 0 c.args.self.now.unprinted in
-    rw (c.note_dump.ensures.news, c.set_plain.ensures)
-    (tells settings xs commands c.args.self.now s ys more (ap is_idle c.in-Holding.is)
-    c.note_dump.new.self (Some (Dumped (plain_dump c.in-Some-counts.counts) is_shown))
-    (λ life follows.
-    let h = rw c.in-Holding.is at follows in
-    rw c.note_dump.ensures.stage
-    (held-takes settings xs ys life c.in-Holding.held h more is_shown (Some _) _
-    (rw c.in-Some-counts.is at (took.ensures.takes settings _ xs now
-    (earlier xs ys _ _ samples) h.holds))))
-    (refl, c.note_dump.ensures.left))
 
 pub returns-else-not-is_dump-clause-tells : goal.returns-else-not-is_dump-clause-tells
 returns-else-not-is_dump-clause-tells g c settings xs commands now samples s =
-    let took = c.take-count-in-Tracking in
+    let took = c.take-count-in-Following in
     let ys : List Sample = part c.args.run.now c.args.from took.result.0 in
     let more = taken-some c.args.run.now c.args.from took.result.0 _
     c.requires.some took.ensures.as_far in
     let is_shown : Bool = nat_lt 0 c.args.self.now.unprinted in
-    rw c.note_dump-in-Tracking.ensures.news
-    (tells settings xs commands c.args.self.now s ys more (ap is_idle c.in-Tracking.is)
-    c.note_dump-in-Tracking.new.self (Some (Dumped took.new.dump is_shown))
+    rw c.note_dump.ensures.news
+    (tells settings xs commands c.args.self.now s ys more (ap is_idle c.in-Following.is)
+    c.note_dump.new.self (Some (Dumped took.new.dump is_shown))
     (λ life follows.
-    let t = rw c.in-Tracking.is at follows in
-    rw c.note_dump-in-Tracking.ensures.stage
-    (tracked-takes settings xs life c.in-Tracking.tracked t ys more is_shown (Some _) _
+    let f = rw c.in-Following.is at follows in
+    rw c.note_dump.ensures.stage
+    (followed-takes settings xs ys life c.in-Following.followed f more is_shown _
+    took.ensures.steered (Some _)
     (rw c.if-not-is_dump.false at (took.ensures.takes settings _ xs now
-    (earlier xs ys _ _ samples) t.tracks))))
-    (refl, c.note_dump-in-Tracking.ensures.left))
+    (earlier xs ys _ _ samples) f.follows))))
+    (refl, c.note_dump.ensures.left))
 
 pub returns-else-not-is_dump-clause-chances : goal.returns-else-not-is_dump-clause-chances
 returns-else-not-is_dump-clause-chances g c =
-    let took = c.take-count-in-Tracking in
+    let took = c.take-count-in-Following in
     let before : ℕ =
     g.S.SampleSource.to c.args.source.now - (length c.args.run.now - c.args.from) in
     let now : taken_of took.new.self ≡ before + took.result.0 =
     omega (arith, took.ensures.taken, c.requires.to) in
     let is_shown : Bool = nat_lt 0 c.args.self.now.unprinted in
-    let noted = c.note_dump-in-Tracking.ensures in
-    rw (c.in-Tracking.is, noted.stage, noted.news)
+    let noted = c.note_dump.ensures in
+    rw (c.in-Following.is, noted.stage, noted.news)
     (omega (
       arith,
       few-events (Dump is_shown) took.new.dump,
       dump-chance (before + took.result.0) took.new.dump.lock took.new.self,
       took.ensures.chance c.if-not-is_dump.false,
-      ap (λ (n : ℕ). tracked.chance n took.new.self) now,
+      ap (λ (n : ℕ). followed.chance n took.new.self) now,
     ))

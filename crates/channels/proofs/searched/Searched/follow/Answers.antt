@@ -6,13 +6,13 @@ use Rattle.acquisition.specs.Cells.{cell_in}
 use Rattle.channels.proofs.SearchedLemmas.{found-begins}
 use Rattle.channels.proofs.searched.Searched.follow.Goals as goal
 
-pub returns-clause-tracks : goal.returns-clause-tracks
-returns-clause-tracks c settings plan begun xs now s due =
+pub returns-clause-follows : goal.returns-clause-follows
+returns-clause-follows c settings plan begun xs now s due =
     let searched : c.plan-plan.result ≡ plan = c.plan-plan.ensures ∙ s.search.plan_is in
     let shift = rw searched at c.in_ok-doppler.ensures.shift in
     let ago = rw (s.recorded, searched) at (c.wait-ago.ensures.value begun) in
     let prn = c.prn-prn.ensures ∙ ap (λ (p : Plan). p.prn) searched in
-    rw s.recorded at c.start_after.ensures.stands
+    rw s.recorded at c.track_after.ensures.stands
     (found_channel settings plan begun (cell_in c.args.cell.now)) xs now
     (found-begins settings plan begun _ (cell_in c.args.cell.now) _ _ _ (sym prn)
     (omega (arith, s.due, due))

@@ -33,7 +33,7 @@ returns-in-Ok c = record {
       let what : result_in c.args.self.what ≡ Ok command = ap result_in c.in-Ok.is in
       let slot : c.get-slot.result ≡ command.slot = c.get-slot.ensures.same ∙ c.slot.ensures in
       c.make_answer.ensures
-      ∙ same-line client c.time-time.result (length xs) _ _ (c.time-time.ensures ∙ s.now)
+      ∙ same-line client c.time-time.result (length xs) _ _ (c.time-time.ensures.taken ∙ s.now)
       (ap (answer_text c.get-slot.result)
       (c.command-answer.ensures.answer settings xs (asked_of done) s (c.requires.first, few))
       ∙ ap (λ (k : ℕ). answer_text k (answer_at_end settings xs
@@ -64,7 +64,7 @@ returns-in-Err c = record {
       let what : result_in c.args.self.what ≡ Err (number_of c.in-Err.refusal) =
       ap result_in c.in-Err.is in
       c.make_refusal.ensures
-      ∙ same-line client c.time-time.result (length xs) _ _ (c.time-time.ensures ∙ s.now)
+      ∙ same-line client c.time-time.result (length xs) _ _ (c.time-time.ensures.taken ∙ s.now)
       (ap refusal_text c.number.ensures ∙ ap (reply_text settings xs (done client)) (sym what));
   stands = λ settings xs done s.
       let client = c.args.self.client in

@@ -48,7 +48,7 @@ returns-clause-some c =
     c.take_due.ensures.kept in
     some-then _ _ (λ due h. record {
       bank = refl;
-      queues = rw (t.whole, ← c.time-now.ensures) h;
+      queues = rw (t.whole, ← c.time-now.ensures.taken) h;
     }) c.take_due.result t.some
 
 pub returns-clause-ready : goal.returns-clause-ready
@@ -58,7 +58,7 @@ returns-clause-ready c none =
     took c.args.self.now.queues c.deref_mut.result.now c.take_due.new.queues c.time-now.result
     c.take_due.result c.deref_mut.ensures.value c.take_due.ensures.some c.take_due.ensures.none
     c.take_due.ensures.kept in
-    rw (t.whole ∙ t.kept none, ← c.time-now.ensures)
+    rw (t.whole ∙ t.kept none, ← c.time-now.ensures.taken)
     (none-due-gap c.time-now.result c.args.self.now.queues.items (t.none none))
 
 pub returns-clause-none : goal.returns-clause-none
@@ -69,7 +69,7 @@ returns-clause-none c none settings clients xs waiting s =
     c.take_due.ensures.kept in
     let old : List Queue = c.args.self.now.queues.items in
     let same = t.whole ∙ t.kept none in
-    let now : c.time-now.result ≡ length xs = c.time-now.ensures ∙ s.bank.now in
+    let now : c.time-now.result ≡ length xs = c.time-now.ensures.taken ∙ s.bank.now in
     let nothing =
     none-waiting settings xs s.done 1 clients old s.queues
     (subst (λ (t : ℕ). AllByRecursion (λ (q : Queue). NoneDue t (left_of q)) old) now

@@ -1,0 +1,162 @@
+//! The crate that Rust programs begin with: samples in, events out, and values packed. All that is
+//! used here comes from it.
+
+use assertions::assert_same;
+use seldomplough::units::{chips, from_65536ths, seconds, value};
+use seldomplough::{
+    Choice, ClockField, Doppler, Event, Field, Format, HalfChip, Kind, Packing, PackingFault, Plan,
+    Prn, Receiver, Refusal, Settings, SlotNo, SlotState, TooManySamples,
+};
+use std::alloc::Global;
+use std::test::Fail;
+
+/// A receiver of two clients, with two slots and one. A millisecond has 2,046 samples.
+fn opened(alloc: Global) -> Result<Receiver, Fail> {
+    let settings = Settings::new(2_046_000, 511_500, Format::Real1)?;
+    Ok(Receiver::open(alloc, settings, &[2, 1])?)
+}
+
+fn slot(number: u8) -> Result<SlotNo, Fail> {
+    Ok(SlotNo::new(number).ok_or("a slot")?)
+}
+
+/// A satellite, without a shift, from the first chip of its code on.
+fn start(prn: u8) -> Result<(Prn, Doppler, HalfChip), Fail> {
+    Ok((
+        Prn::new(prn).ok_or("a satellite")?,
+        Doppler::new(0).ok_or("a shift")?,
+        HalfChip::new(0).ok_or("a half chip")?,
+    ))
+}
+
+// Without a shift a code of 1,023 chips has 2,046 samples, so its first dump ends there.
+#[test]
+fn counts_come_at_the_end_of_a_code(rt: HostRuntime) -> Result<(), Fail> {
+    let mut receiver = opened(rt.alloc())?;
+    let (prn, doppler, half) = start(7)?;
+    receiver.hold(2, slot(0)?, prn, doppler, half)?;
+    receiver.counts(2, slot(0)?, 1)?;
+    let bytes = [0x5a; 300];
+    let mut rest: &[u8] = &bytes;
+    // At most 128 bytes are taken at once.
+    for (left, told) in [(172, 0), (44, 1), (0, 0)] {
+        rest = receiver.take(rest)?;
+        assert_same!(rt; (rest.len(), receiver.events().len()), (left, told));
+        for emitted in receiver.events() {
+            assert_same!(rt; (emitted.client, emitted.slot, emitted.time), (2, 0, 2_046));
+            assert!(rt; matches!(emitted.event, Event::Count(_)));
+        }
+    }
+    assert_same!(rt; receiver.time(), 2_400);
+    Ok(())
+}
+
+#[test]
+fn commands_are_refused(rt: HostRuntime) -> Result<(), Fail> {
+    let mut receiver = opened(rt.alloc())?;
+    let (prn, doppler, half) = start(7)?;
+    assert_same!(rt; receiver.counts(1, slot(0)?, 1), Err(Refusal::Idle));
+    assert_same!(rt; receiver.stop(1, slot(0)?), Err(Refusal::Idle));
+    assert_same!(rt; receiver.track(1, slot(0)?, prn, doppler, half), Ok(()));
+    assert_same!(rt; receiver.hold(1, slot(0)?, prn, doppler, half), Err(Refusal::Busy));
+    assert_same!(rt; receiver.track(2, slot(1)?, prn, doppler, half), Err(Refusal::NoSuchSlot));
+    assert_same!(rt; receiver.track(3, slot(0)?, prn, doppler, half), Err(Refusal::NoSuchSlot));
+    assert_same!(rt; receiver.state(2, slot(0)?), Ok(SlotState::Idle));
+    assert_same!(rt; receiver.stop(1, slot(0)?), Ok(()));
+    let plan = Plan::new(prn, 0, 0, 1, 20)?;
+    assert_same!(rt; receiver.acquire(1, slot(0)?, plan), Ok(()));
+    let searching = SlotState::Acquire {
+        prn,
+        done: 0,
+        cells: 2_046,
+    };
+    assert_same!(rt; receiver.state(1, slot(0)?), Ok(searching));
+    Ok(())
+}
+
+/// Packs by signs, about 0.
+fn packing(alloc: Global, kind: Kind) -> Result<Packing, Fail> {
+    let choice = Choice {
+        kind,
+        is_paired: false,
+        format: Format::Real1,
+        threshold: 0,
+        centre: 0,
+        centre_q: 0,
+        is_swapped: false,
+        is_conjugate: false,
+        takes_quadrature: false,
+    };
+    Ok(Packing::open(alloc, choice.recipe()?)?)
+}
+
+/// The first byte of what was packed, where there is one byte.
+fn only_byte(packing: &Packing) -> Option<u8> {
+    match packing.packed() {
+        [byte] => Some(*byte),
+        _ => None,
+    }
+}
+
+// A sign is 0 for what isn't below 0, the earliest in a byte's top bit.
+#[test]
+fn signed_bytes_become_signs(rt: HostRuntime) -> Result<(), Fail> {
+    let mut packing = packing(rt.alloc(), Kind::I8)?;
+    packing.take_i8(&[1, -1, 5, -128, 127, 0, -3])?;
+    assert_same!(rt; packing.packed().len(), 0);
+    packing.take_i8(&[-9, -1, -1])?;
+    assert_same!(rt; only_byte(&packing), Some(0b0101_0011));
+    packing.take(&[255, 0, 128, 127, 0, 0])?;
+    assert_same!(rt; only_byte(&packing), Some(0b1110_1000));
+    Ok(())
+}
+
+#[test]
+fn floats_become_signs(rt: HostRuntime) -> Result<(), Fail> {
+    let mut packing = packing(rt.alloc(), Kind::F32)?;
+    packing.take_f32(&[0.5, -0.5, 1e30, -1e-30, 0.0, -2.0, -3.0, 4.0])?;
+    assert_same!(rt; only_byte(&packing), Some(0b0101_0110));
+    Ok(())
+}
+
+#[test]
+fn values_are_refused(rt: HostRuntime) -> Result<(), Fail> {
+    let mut signed = packing(rt.alloc(), Kind::I8)?;
+    let mut floats = packing(rt.alloc(), Kind::F32)?;
+    let (other, none) = (PackingFault::OtherKind, PackingFault::NotANumber);
+    assert_same!(rt; signed.take_f32(&[1.0]).err(), Some(other));
+    assert_same!(rt; floats.take_i8(&[1]).err(), Some(other));
+    assert_same!(rt; floats.take_f32(&[1.0, f32::NAN]).err(), Some(none));
+    // The bytes of eight floats, all of whose exponent is set.
+    assert_same!(rt; floats.take(&[255; 32]).err(), Some(none));
+    Ok(())
+}
+
+// The group delay is counted in 2^-31 s (IS-GPS-200, table 20-I).
+#[test]
+fn numbers_have_units(rt: HostRuntime) -> Result<(), Fail> {
+    let settings = Settings::new(2_046_000, 511_500, Format::Real1)?;
+    assert!(rt; seconds(3_069_000, &settings) == 1.5);
+    assert!(rt; seconds(1 << 40, &settings) == 1_099_511_627_776.0 / 2_046_000.0);
+    assert!(rt; from_65536ths(-98_304) == -1.5);
+    assert!(rt; chips(HalfChip::new(5).ok_or("a half chip")?) == 2.5);
+    let delay = Field::Clock(ClockField::Tgd);
+    assert!(rt; value(-3, delay) == -3.0 / 2_147_483_648.0);
+    Ok(())
+}
+
+#[test]
+fn faults_are_sentences(rt: HostRuntime) -> Result<(), Fail> {
+    let full = format!(in rt.alloc(); "{TooManySamples}")?;
+    assert_same!(rt; full.as_str(), "a recording has at most 2^40 samples");
+    for (fault, text) in [
+        (Refusal::Busy, "the slot isn't idle"),
+        (Refusal::Idle, "the slot is idle"),
+        (Refusal::NoSuchSlot, "the client has no such slot"),
+    ] {
+        assert_same!(rt; format!(in rt.alloc(); "{fault}")?.as_str(), text);
+    }
+    let other = format!(in rt.alloc(); "{}", PackingFault::OtherKind)?;
+    assert_same!(rt; other.as_str(), "the recording has values of another kind");
+    Ok(())
+}

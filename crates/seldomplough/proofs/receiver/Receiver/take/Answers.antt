@@ -1,0 +1,33 @@
+use Rattle.std.proofs.Common.{◌≡◌, ◌∙◌, ◌+◌, ℕ, List, length, arith, ap}
+use Rattle.definitions.specs.Samples.{samples, sample_count}
+use Rattle.seldomplough.specs.Receivers.{packing_in}
+use Rattle.seldomplough.proofs.AloneLemmas.{alone}
+use Rattle.seldomplough.proofs.receiver.Receiver.take.Goals as goal
+
+pub returns-clause-taken : goal.returns-clause-taken
+returns-clause-taken c =
+    let taken : List ℕ = c.split_at.result.0.now in
+    let came : c.new-run.result.samples ≡ samples (packing_in c.args.self.now) taken =
+    c.new-run.ensures.samples ∙ ap (λ p. samples p taken) c.format.ensures in
+    let told = rw came at c.feed.ensures.told in
+    let size : length taken ≡ c.fitting-count.result = c.split_at.ensures.front_len in
+    let time =
+    c.feed.ensures.time
+    ∙ ap (λ n. c.args.self.now.bank.time + n)
+    (c.new-run.ensures.count ∙ ap (λ p. sample_count p taken) c.format.ensures) in
+    record {
+      taken = taken;
+      split = c.split_at.ensures.by_index.0;
+      some = λ any. omega (arith, any, size, c.if-count-min.false, c.min.ensures);
+      few = rw size c.fitting-count.ensures.short;
+      most = λ left. rw (time, size) (c.fitting-count.ensures.most
+          (omega (arith, left, size, c.split_at.ensures.back_len)));
+      emits = told;
+      alone = λ settings xs asked stands client first.
+          alone settings asked _ xs _ _ client first (told settings xs asked stands);
+      stands = rw came at c.feed.ensures.stands;
+      work = rw came at c.feed.ensures.work;
+      time = time;
+      settings_same = c.feed.ensures.settings;
+      shares_same = c.feed.ensures.shares;
+    }

@@ -1,0 +1,128 @@
+"""The page as one file, and the examples beside it. A browser takes no modules, no workers and no
+other files from a folder, so all is in line: style, script, worker and WebAssembly."""
+
+from __future__ import annotations
+
+import base64
+import glob
+import json
+import os
+import re
+from typing import TypedDict
+
+import built
+from builders import Failed, run
+from built import TOP
+
+PAGE = os.path.join(TOP, 'page')
+EXAMPLES = os.path.join(TOP, 'examples')
+
+# The examples that are chosen by a click: with the one of whose options each has, and its scripts.
+CHOSEN = {
+    'three_satellites': ('three_satellites', 'three_satellites.script'),
+    'real_message': ('real_message', 'real_message.script'),
+    'zero_if': ('zero_if', 'zero_if.script'),
+    'crystal': ('crystal', 'crystal.script'),
+    'all32': ('three_satellites', 'all32/search_?.script'),
+}
+
+# The number of each packing, as `page/worker_job.js` has it.
+FORMATS = ('real1', 'real2', 'iq1', 'iq2')
+
+# The slots of each client where no option says how many.
+SHARE = 4
+
+# How the page names its style and its script.
+STYLE = re.compile(r'<link rel="stylesheet" href="style\.css" ?/?>')
+SCRIPT = re.compile(r'<script\b[^>]*\bsrc="page\.js"[^>]*></script>')
+
+
+class Example(TypedDict):
+    """An example as the page has it."""
+
+    name: str
+    scripts: list[str]
+    recording: str
+    rate: int
+    offset: int
+    format: int
+    shares: list[int]
+
+
+def text_of(*path: str) -> str:
+    """The text of a file."""
+    data: bytes = built.read(os.path.join(*path))
+    return data.decode('utf-8')
+
+
+def example(name: str) -> Example:
+    """An example by its files: options as the receiver takes them, and scripts."""
+    options, scripts = CHOSEN[name]
+    words = text_of(EXAMPLES, f'{options}.options').split()
+    given = {word: words[k + 1] for k, word in enumerate(words[:-1])}
+    offset = int(given.get('--offset', '0'))
+    texts = [text_of(path) for path in sorted(glob.glob(os.path.join(EXAMPLES, scripts)))]
+    return {
+        'name': name,
+        'scripts': texts,
+        'recording': given['<'],
+        'rate': int(given.get('--rate', '2046000')),
+        'offset': -offset if '--minus' in words else offset,
+        'format': FORMATS.index(given.get('--format', 'real1')),
+        'shares': [SHARE] * len(texts),
+    }
+
+
+def coded(data: bytes) -> str:
+    """Bytes as text of base64."""
+    return base64.b64encode(data).decode()
+
+
+def bundled(name: str, *options: str) -> str:
+    """A file of the page with all that it imports, by esbuild."""
+    esbuild = built.find('esbuild')
+    if not esbuild:
+        raise Failed('esbuild is missing: apt-get install esbuild')
+    # Comments in what it writes name the files from this folder on.
+    return str(
+        run([esbuild, name, '--bundle', '--charset=utf8', '--log-level=error', *options], PAGE)
+    )
+
+
+def put(page: str, place: re.Pattern[str], text: str) -> str:
+    """A page with a text in the place of the one tag that a pattern finds."""
+    found = place.findall(page)
+    if len(found) != 1:
+        raise Failed(f'page/index.html has {len(found)} tags {place.pattern}, and not one')
+    return place.sub(lambda _: text, page)
+
+
+def page_text(bank: bytes, revision: str, examples: list[Example]) -> str:
+    """The page, whole."""
+    given = {
+        'wasm': coded(bank),
+        'worker': bundled('worker.js', '--format=iife'),
+        'revision': revision,
+        'examples': examples,
+    }
+    # No text in it ends the script that it stands in.
+    known = json.dumps(given, ensure_ascii=False).replace('<', '\\u003c')
+    script = bundled('page.js', '--format=esm')
+    page = put(text_of(PAGE, 'index.html'), STYLE, f'<style>\n{bundled("style.css")}</style>')
+    # A module in line waits until all of the page is there.
+    return put(
+        page,
+        SCRIPT,
+        f'<script>\nvar SELDOMPLOUGH = {known};\n</script>\n'
+        f'<script type="module">\n{script}</script>',
+    )
+
+
+def files_of_page(bank: bytes, revision: str) -> dict[str, str]:
+    """The texts of all files, by their paths in the folder of the page."""
+    examples = [example(name) for name in CHOSEN]
+    files = {'index.html': page_text(bank, revision, examples)}
+    for it in examples:
+        data = coded(built.read(os.path.join(EXAMPLES, it['recording'])))
+        files[f'examples/{it["name"]}.js'] = f'bring({json.dumps(it["name"])}, "{data}");\n'
+    return files

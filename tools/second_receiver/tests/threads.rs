@@ -1,0 +1,47 @@
+//! All public types of the libraries can be sent to another thread, and be shared by threads. A
+//! program with a receiver in each thread, or with one behind a lock, builds so.
+
+use core::fmt::Debug;
+
+/// What is seen of a type as it builds.
+fn is_of_threads<T: Debug + Send + Sync>() {}
+
+/// Says each type once, in the order of its library.
+macro_rules! all_of_threads {
+    ($($library:ident: $($of:ty),+;)+) => {{
+        $({ use $library::*; $(is_of_threads::<$of>();)+ })+
+    }};
+}
+
+#[test]
+fn public_types_are_of_threads() {
+    all_of_threads! {
+        acquisition: Cell, Plan, PlanFault, Search;
+        bit_planes: Plane;
+        bit_sync: BitNews, BitSync;
+        ca_codes: CodeBook, Prn, PrnFault;
+        channel_slots: Bank, FeedFault, OpenFault, Slot, SlotNews, Timeline;
+        channels: Dump, Followed, Follower, LazyFollower, LockedMessage, Searched, Tracking;
+        client_commands: Refusal, Script, Timed;
+        data_sets: AlmanacSet, DataSets, Report, Reports;
+        frame_sync: Found, FrameSync, Subframe;
+        lane_correlator: Counts;
+        made_signals: MadeSignal, PlainDump, PlainNews, PlainTracker, SampleStream;
+        nav_message: Message, MessageNews;
+        oscillators: CarrierOsc, CarrierPlanes, CarrierWords, ChipLanes;
+        oscillators: CodeOsc, CodePlanes, CodeWords;
+        oscillators: Doppler, DopplerFault, HalfChip, HalfChipFault, Settings, SettingsFault;
+        packer: Device<u8>, DeviceFault, Failure;
+        printed_lines: Line;
+        receiver: DeviceFault, Plain<u8>, RunFault;
+        receiver_options: OptionFault, Stored<u8>, SystemCommandLine<u8>;
+        recordings: Choice, ChoiceFault, Kind, Measure, PackFault, Packer, Part, Recipe, Window;
+        sample_history: SampleHistory;
+        sample_planes: Format, NumberedSamples, PackedSamples, Planes, RunPlace;
+        seldomplough: Packing, PackingFault, Receiver, TooManySamples;
+        slot_protocol: Answer, Command, Event, Phase, Refusal, SlotEvent, SlotNo, SlotState;
+        subframes: AlmanacField, ClockField, Eph2Field, Eph3Field, Field, HealthField, Kind, Page;
+        subframes: UtcField;
+        tracking_loops: Loops, News;
+    }
+}
