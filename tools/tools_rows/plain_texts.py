@@ -251,13 +251,14 @@ def read_sources():
     """The sources of all crates, by crate and module."""
     crates = {}
     folder = os.path.join(TOP, 'crates')
-    for at, _, files in os.walk(folder):
-        crate, _, module = os.path.relpath(at, folder).partition(f'{os.sep}src')
-        for file in files:
-            if file.endswith('.rt') and f'{os.sep}src' in at:
-                with open(os.path.join(at, file), encoding='utf-8') as source:
-                    name = os.path.join(module.strip(os.sep), file[:-3])
-                    crates.setdefault(crate, {})[name] = source.read()
+    for crate in sorted(os.listdir(folder)):
+        source = os.path.join(folder, crate, 'src')
+        for at, _, files in os.walk(source):
+            for file in sorted(it for it in files if it.endswith('.rt')):
+                path = os.path.join(at, file)
+                with open(path, encoding='utf-8') as text:
+                    module = os.path.relpath(path, source)[:-len('.rt')]
+                    crates.setdefault(crate, {})[module] = text.read()
     return crates
 
 
