@@ -1,7 +1,6 @@
 -- Slots that take none of the samples, which wait.
 use Rattle.std.proofs.Common.{◌≡◌, ◌≤◌, ◌<◌, ◌+◌, ◌-◌, ℕ, List, [], ◌∷◌, ◌++◌, length}
 use Rattle.std.proofs.Common.{refl, ap, sym, arith, length-append, true, false, take, slice_set}
-use Rattle.std.proofs.Common.{true≢false}
 use Rattle.std.proofs.lemmas.List.{take_more_set}
 use Rattle.std.specs.Prelude.{None, nat_le}
 use Rattle.std.proofs.lemmas.Bool.{le-leb, leb-true, and_parts}
@@ -14,9 +13,7 @@ use Rattle.channel_slots.specs.declared.slot.Slot.{Slot}
 use Rattle.channel_slots.specs.declared.seat.Seat.{Seat}
 use Rattle.channel_slots.specs.declared.stage.Stage.{Stage}
 use Rattle.channel_slots.specs.declared.stage.Stage.TheVariants.{Idle, Searching, Following}
-use Rattle.sample_planes.specs.Sources.{AreSamplesOf}
 use Rattle.channel_slots.specs.Stages as stages
-use Rattle.channel_slots.specs.declared.bank.TheConstants.{MOST_TIME}
 use Rattle.channel_slots.specs.Stages.{is_idle}
 use Rattle.channel_slots.specs.Slots.{StandsFor, Emits, rests_until}
 use Rattle.channel_slots.specs.Banks.{SeatGoes, RunsAll, AllRest, all_rest}
@@ -57,30 +54,6 @@ rests-sound from time more reach (Following f) rests sound = record {
   waits = rests;
 }
 
--- a seat whose slot emits nothing with a run has gone through it
-pub seat-passes : (ys : List Sample) (time first : ℕ) (held : ℕ → Sample) (p q : Seat)
-    (before : List SlotEvent) → q.client ≡ p.client → q.number ≡ p.number → 0 < length ys
-    → ((from reach : ℕ) → stages.IsSound from time reach p.slot.stage
-    → stages.IsSound from (time + length ys) reach q.slot.stage)
-    → ((settings : Settings) (xs : List Sample) (commands : List TimedRequest)
-    → length xs ≡ time → AreSamplesOf (xs ++ ys) first (length (xs ++ ys)) held
-    → StandsFor settings xs commands p.slot → Emits settings xs ys commands q.slot [])
-    → SeatGoes ys time first held p q before before
-seat-passes ys time first held p q before client number some sound emits =
-    let now : time + 0 + length ys ≡ time + length ys = omega arith in
-    let back : time + length ys - length ys ≡ time = omega arith in
-    goes-more [] ys time first held p p q before before before
-    (goes-begin time p before first held)
-    (rw now (record {
-      events = [];
-      steps = seated ys (time + length ys) first held p q [] client number
-          (λ from reach known. sound from reach (rw back at known))
-          (λ settings xs commands there samples s.
-          emits settings xs commands (omega (arith, there, length-append xs ys)) samples s);
-      added = put-nothing _ before;
-    }))
-    (omega (arith, some)) (omega arith)
-
 -- a seat whose slot rests has gone through the run
 pub seat-rests : (ys : List Sample) (time first : ℕ) (held : ℕ → Sample) (p : Seat)
     (before : List SlotEvent) → time + length ys ≤ rests_until p.slot
@@ -88,23 +61,23 @@ pub seat-rests : (ys : List Sample) (time first : ℕ) (held : ℕ → Sample) (
 seat-rests [] time first held p before rests = goes-begin time p before first held
 seat-rests (y ∷ ys) time first held p before rests =
     let zs : List Sample = y ∷ ys in
-    seat-passes zs time first held p p before refl refl (omega arith)
-    (λ from reach sound. rests-sound from time (length zs) reach p.slot.stage rests sound)
-    (λ settings xs commands there samples s.
-    rests-quiet settings xs zs commands p.slot s (omega arith)
-    (omega (arith, there, rests, length-append xs zs)))
+    let now : time + 0 + length zs ≡ time + length zs = omega arith in
+    let back : time + length zs - length zs ≡ time = omega arith in
+    goes-more [] zs time first held p p p before before before
+    (goes-begin time p before first held)
+    (rw now (record {
+      events = [];
+      steps = seated zs (time + length zs) first held p p [] refl refl
+          (λ from reach known.
+          rests-sound from time (length zs) reach p.slot.stage rests (rw back at known))
+          (λ settings xs commands there samples s.
+          rests-quiet settings xs zs commands p.slot s (omega arith)
+          (omega (arith, there, rests)));
+      added = put-nothing _ before;
+    }))
+    (omega arith) (omega arith)
 
--- one that doesn't rest, and of which it is known that it emits nothing, takes some samples
-pub quiet-some : (from time more reach : ℕ) (stage : Stage) → time + more ≤ MOST_TIME
-    → stages.IsSound from time reach stage → stages.is_quiet_until stage (time + more) ≡ true
-    → stages.rests_until stage < time + more → 0 < more
-quiet-some from time more reach Idle early sound quiet wakes = absurd (omega (arith, early, wakes))
-quiet-some from time more reach (Searching a) early sound quiet wakes =
-    absurd (true≢false (sym quiet))
-quiet-some from time more reach (Following f) early sound quiet wakes =
-    omega (arith, sound.waits, wakes)
-
--- and all of them
+-- all of them
 pub all-rest-runs : (ys : List Sample) (time first : ℕ) (held : ℕ → Sample) (next : ℕ)
     (ps : List Seat) (events : List SlotEvent) → AllRest next ps → time + length ys ≤ next
     → RunsAll ys time first held ps ps events events

@@ -12,12 +12,6 @@ pub time-there : (run : List Sample) (done time to : ℕ) → done ≤ length ru
 time-there run done time to within all =
     omega (arith, length-take-le done run within, within, all)
 
--- some samples are left
-pub rest-some : (run : List Sample) (from : ℕ) → from < length run
-    → 0 < length (part run from (length run - from))
-rest-some run from here =
-    part-some run from (length run - from) (omega (arith, here)) (omega (arith, here))
-
 module _ {A : Type 0} (run : List Sample) (from count : ℕ) (news : Option A)
     (here : from < length run) (far : IsAsFar (length run - from) count news) where
   pub taken-length : length (part run from count) ≡ count

@@ -20,10 +20,6 @@ is_idle slot = stages.is_idle slot.stage
 abbrev pub rests_until : Slot → ℕ
 rests_until slot = stages.rests_until slot.stage
 
--- whether it emits nothing with the samples up to so many of the recording
-abbrev pub is_quiet_until : Slot → ℕ → Bool
-is_quiet_until slot time = stages.is_quiet_until slot.stage time
-
 -- how many events the slot may emit in a run of samples after so many
 abbrev pub chances : ℕ → Slot → ℕ
 chances time slot = stages.chance time slot.stage

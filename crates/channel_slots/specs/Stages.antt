@@ -43,13 +43,6 @@ rests_until Idle = MOST_TIME
 rests_until (Searching s) = 0
 rests_until (Following f) = followed.rests_until f
 
--- whether it emits nothing with the samples up to so many of the recording: one that is idle emits
--- nothing, and of one that searches it isn't known here
-abbrev pub is_quiet_until : Stage → ℕ → Bool
-is_quiet_until Idle time = true
-is_quiet_until (Searching s) time = false
-is_quiet_until (Following f) time = nat_lt time (followed.next_dump f)
-
 -- how many events may come in a run of samples after so many: those of a dump, and the answer of an
 -- acquisition before it
 abbrev pub chance : ℕ → Stage → ℕ

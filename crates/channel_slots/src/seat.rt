@@ -12,7 +12,6 @@ use crate::slot::Slot;
 use crate::timeline::Timeline;
 use ca_codes::CodeBook;
 use channels::Dump;
-use lane_correlator::Counts;
 use sample_planes::{Planes, SampleSource};
 
 /// A seat of a bank: a slot, with the number of its client and its own. Clients are numbered from
@@ -26,42 +25,14 @@ pub struct Seat {
 
 impl Seat {
     /// Takes a run of samples, and puts its events by time. Where the slot rests to the end of
-    /// the run, its samples wait.
+    /// the run, its samples wait. The dump is room for the slot's, whatever it holds.
     pub fn run<S: SampleSource>(
         &mut self,
         run: &Planes,
         source: &S,
         book: &mut CodeBook,
         time: u64,
-        timeline: &mut Timeline,
-    )
-        requires room { time + length run.now ≤ MOST_TIME }
-        requires sound { (reach : ℕ) × IsSound (S.from source.now) time reach self.old.slot }
-        requires to { time + length run.now ≡ S.to source.now }
-        requires fits { count_of timeline.old + 2 * SLOT_EVENTS ≤ RUN_EVENTS }
-        ensures { SeatGoes run.now time (S.from source.now) (S.held source.now) self.old self.new
-            (events_in timeline.old) (events_in timeline.new) }
-    {
-        let end = time + run.len() as u64;
-        if end <= self.slot.rests_until() {
-            return;
-        }
-        if self.slot.is_quiet_until(end) {
-            self.slot.pass(run, 0, source, book);
-            return;
-        }
-        self.run_with_events(run, source, book, time, timeline);
-    }
-
-    /// Does what `run` does, where something may be emitted. It stays a call, since it makes room
-    /// for all that can come with a sample.
-    #[inline(never)]
-    fn run_with_events<S: SampleSource>(
-        &mut self,
-        run: &Planes,
-        source: &S,
-        book: &mut CodeBook,
-        time: u64,
+        dump: &mut Dump,
         timeline: &mut Timeline,
     )
         requires room { time + length run.now ≤ MOST_TIME }
@@ -72,18 +43,16 @@ impl Seat {
             (events_in timeline.old) (events_in timeline.new) }
     {
         let len = run.len();
-        let mut dump = Dump::plain(Counts::NONE);
+        if time + len as u64 <= self.slot.rests_until() {
+            return;
+        }
         let mut done = 0;
         while done < len {
-            if self.slot.is_quiet_until(time + len as u64) {
-                self.slot.pass(run, done, source, book);
-                return;
-            }
-            let (count, news) = self.slot.take(run, done, source, book, &mut dump);
+            let (count, news) = self.slot.take(run, done, source, book, dump);
             done += count;
             if let Some(news) = news {
                 let at = time + done as u64;
-                timeline.put_news(self.client, self.number, at, news, &dump);
+                timeline.put_news(self.client, self.number, at, news, dump);
             }
         }
     }

@@ -21,6 +21,8 @@ use crate::seat::Seat;
 use crate::slot::{SLOT_EVENTS, Slot};
 use crate::timeline::Timeline;
 use ca_codes::CodeBook;
+use channels::Dump;
+use lane_correlator::Counts;
 use oscillators::Settings;
 use sample_planes::{PackedSamples, Planes, SampleSource};
 use slot_protocol::{Answer, Command, MOST_SLOTS};
@@ -119,9 +121,10 @@ fn run_each<S: SampleSource>(
         (events_in timeline.old) (events_in timeline.new) }
     ensures rest { AllRest result seats.new }
 {
+    let mut dump = Dump::plain(Counts::NONE);
     let mut rests_until = MOST_TIME;
     for seat in seats.iter_mut() {
-        seat.run(run, source, book, time, timeline);
+        seat.run(run, source, book, time, &mut dump, timeline);
         rests_until = rests_until.min(seat.slot.rests_until());
     }
     rests_until

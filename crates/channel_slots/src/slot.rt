@@ -48,8 +48,7 @@ impl Slot {
     ghost use Rattle.channel_slots.specs.Stages as stages;
     ghost use Rattle.channel_slots.specs.Stages.{most_wait, after_dump};
     ghost use Rattle.channel_slots.specs.Slots.{StandsFor, Emits, IsSound, chances, is_idle};
-    ghost use Rattle.channel_slots.specs.Slots.{rests_until, is_quiet_until};
-    ghost use Rattle.channel_slots.specs.Slots.{cells_done_of, first_life};
+    ghost use Rattle.channel_slots.specs.Slots.{rests_until, cells_done_of, first_life};
 
     /// A slot that was never asked for anything.
     pub fn new() -> Slot
@@ -76,52 +75,6 @@ impl Slot {
             Stage::Idle => MOST_TIME,
             Stage::Searching(_) => 0,
             Stage::Following(followed) => followed.rests_until(),
-        }
-    }
-
-    /// Whether it is known that nothing is emitted with the samples up to number `time` of the
-    /// recording.
-    pub fn is_quiet_until(&self, time: u64) -> bool
-        ensures { result ≡ is_quiet_until self.now time }
-    {
-        match &self.stage {
-            Stage::Idle => true,
-            Stage::Searching(_) => false,
-            Stage::Following(followed) => followed.is_quiet_until(time),
-        }
-    }
-
-    /// Takes the samples that wait and those of a run, from sample `from` on, where nothing is
-    /// emitted with them. The source and the book are as for `take`, which takes longer.
-    pub fn pass<S: SampleSource>(
-        &mut self,
-        run: &Planes,
-        from: usize,
-        source: &S,
-        book: &mut CodeBook,
-    )
-        requires some { from < length run.now }
-        requires to { length run.now - from ≤ S.to source.now }
-        requires early { S.to source.now ≤ MOST_TIME }
-        requires sound { (reach : ℕ) × IsSound (S.from source.now)
-            (S.to source.now - (length run.now - from)) reach self.old }
-        requires quiet { is_quiet_until self.old (S.to source.now) ≡ true }
-        ensures emits { (settings : DefinedSettings) (xs : List Sample)
-            (commands : List TimedRequest)
-            → length xs + (length run.now - from) ≡ S.to source.now
-            → AreSamplesOf (xs ++ part run.now from (length run.now - from)) (S.from source.now)
-            (length (xs ++ part run.now from (length run.now - from))) (S.held source.now)
-            → StandsFor settings xs commands self.old
-            → Emits settings xs (part run.now from (length run.now - from)) commands self.new [] }
-        ensures sound { (first reach : ℕ)
-            → IsSound first (S.to source.now - (length run.now - from)) reach self.old
-            → IsSound first (S.to source.now) reach self.new }
-    {
-        match &mut self.stage {
-            Stage::Idle => {}
-            // What a search emits isn't known beforehand, so this doesn't come.
-            Stage::Searching(_) => {}
-            Stage::Following(followed) => followed.pass(run, from, source, book),
         }
     }
 

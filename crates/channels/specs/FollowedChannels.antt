@@ -31,10 +31,6 @@ taken_of f = segments.taken_of f.follower
 abbrev pub rests_until : Followed → ℕ
 rests_until f = segments.rests_until f.follower
 
--- with how many samples of the recording the next dump comes
-abbrev pub next_dump : Followed → ℕ
-next_dump f = segments.ends_of f.follower
-
 -- how many dumps may come in a run of samples after so many
 abbrev pub chance : ℕ → Followed → ℕ
 chance time f = segments.chance time f.follower

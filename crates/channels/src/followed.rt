@@ -27,7 +27,7 @@ pub struct Followed {
 }
 
 impl Followed {
-    ghost use Rattle.std.specs.Prelude.{List, ◌++◌, length, true, false, nat_lt, Some, None};
+    ghost use Rattle.std.specs.Prelude.{List, ◌++◌, length, true, false, Some, None};
     ghost use Rattle.std.specs.Prelude.{IfSome, IsNone};
     ghost use Rattle.definitions.specs.Samples.{Sample};
     ghost use Rattle.definitions.specs.Oscillators.{Settings as DefinedSettings};
@@ -39,7 +39,7 @@ impl Followed {
     ghost use Rattle.channels.specs.Following.{BeginsAfter, how_many};
     ghost use Rattle.channels.specs.FollowedChannels.{Follows, Takes, HasBegun, IsSteeredFrom};
     ghost use Rattle.channels.specs.FollowedChannels.{prn_of, dumps_of, taken_of, rests_until};
-    ghost use Rattle.channels.specs.FollowedChannels.{next_dump, chance, tracking_of, is_steered};
+    ghost use Rattle.channels.specs.FollowedChannels.{chance, tracking_of, is_steered};
     ghost use Rattle.channels.specs.Parts.{part, IsAsFar};
 
     /// Begins at the next sample, which is number `time`, with the code at a half chip of its cycle
@@ -160,13 +160,6 @@ impl Followed {
         self.follower.rests_until()
     }
 
-    /// Whether no dump comes with the samples up to number `time` of the recording.
-    pub fn is_quiet_until(&self, time: u64) -> bool
-        ensures { result ≡ nat_lt time (next_dump self.now) }
-    {
-        self.follower.is_open_until(time)
-    }
-
     /// Takes the samples that wait and those of a run, from sample `from` on, up to the next dump
     /// or the end of the run. It answers how many of the run these are, and whether a dump comes
     /// with the last of them. If so, this dump replaces `dump`, and else that stays as it was. The
@@ -216,34 +209,5 @@ impl Followed {
             }
         }
         (count, true)
-    }
-
-    /// Takes the samples that wait and those of a run, from sample `from` on, where no dump comes
-    /// with them. The source holds the samples of the recording from the first that waits on to the
-    /// end of the run. The book is any book of codes.
-    pub fn pass<S: SampleSource>(
-        &mut self,
-        run: &Planes,
-        from: usize,
-        source: &S,
-        book: &mut CodeBook,
-    )
-        requires some { from < length run.now }
-        requires early { S.to source.now ≤ MOST_TAKEN }
-        requires held { S.from source.now ≤ taken_of self.old }
-        requires begun { taken_of self.old + (length run.now - from) ≤ S.to source.now }
-        requires rests { S.to source.now - (length run.now - from) ≤ rests_until self.old }
-        requires quiet { S.to source.now < next_dump self.old }
-        ensures takes { (settings : DefinedSettings) (channel : Channel) (xs : List Sample)
-            → length xs + (length run.now - from) ≡ S.to source.now
-            → AreSamplesOf xs (S.from source.now) (length xs) (S.held source.now)
-            → Follows settings channel xs self.old
-            → Takes settings channel xs (part run.now from (length run.now - from)) self.new
-            None }
-        ensures steered { is_steered self.new ≡ is_steered self.old }
-        ensures dumps { dumps_of self.new ≡ dumps_of self.old }
-        ensures taken { taken_of self.new ≡ S.to source.now }
-    {
-        self.follower.take(run, from, source, book);
     }
 }

@@ -33,8 +33,7 @@ pub struct LazyFollower {
 }
 
 impl LazyFollower {
-    ghost use Rattle.std.specs.Prelude.{ℕ, List, ◌++◌, length, IfSome, IsNone};
-    ghost use Rattle.std.specs.Prelude.{unsigned_abs, nat_lt};
+    ghost use Rattle.std.specs.Prelude.{ℕ, List, ◌++◌, length, IfSome, unsigned_abs};
     ghost use Rattle.definitions.specs.Samples.{Sample};
     ghost use Rattle.definitions.specs.Oscillators.{Settings as DefinedSettings};
     ghost use Rattle.definitions.specs.Segments.{Channel, counts_of, progress};
@@ -83,13 +82,6 @@ impl LazyFollower {
         self.rests_until
     }
 
-    /// Whether the segment stays open with the samples up to number `time` of the recording.
-    pub fn is_open_until(&self, time: u64) -> bool
-        ensures { result ≡ nat_lt time (ends_of self.now) }
-    {
-        time.saturating_sub(self.taken) < self.follower.to_end()
-    }
-
     /// Takes the samples that wait and then those of a run, from sample `from` on, up to the end of
     /// the segment or of the run. It answers how many of the run these are, and the segment's sums
     /// if it ends with the last of them. The source holds the samples of the recording from the
@@ -113,7 +105,6 @@ impl LazyFollower {
             → Follows settings channel xs self.old
             → Goes settings channel xs (part run.now from result.0) result.1
             (follower_of self.new) }
-        ensures open { S.to source.now < ends_of self.old → IsNone result.1 }
         ensures taken { taken_of self.new + (length run.now - from)
             ≡ S.to source.now + result.0 }
         ensures chance { IfSome result.1 (λ _. chance (taken_of self.new) self.new + 1

@@ -3,7 +3,7 @@ use Rattle.channel_slots.specs.declared.slot.TheConstants.{SLOT_EVENTS}
 use Rattle.channel_slots.specs.Banks.{SeatGoes}
 use Rattle.channel_slots.specs.Slots.{chances}
 use Rattle.channel_slots.specs.Timelines.{events_in}
-use Rattle.channel_slots.proofs.seat.Seat.run_with_events.Given as goal
+use Rattle.channel_slots.proofs.seat.Seat.run.Given as goal
 
 abbrev pub invariant-loop-done : goal.invariant-loop-done
 invariant-loop-done g l = record {
