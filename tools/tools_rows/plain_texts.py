@@ -119,7 +119,6 @@ UNSAID = {
     'AllSound': 'that slots stand for samples is a relation to all of these',
     'IsSound': 'that a slot stands for samples is a relation to all of these',
     'AllRest': 'the seats of a bank keep to themselves how long they rest',
-    'is_quiet_until': 'the stages of a slot keep to themselves how long they are quiet',
     'IfOk': 'that a command is to one of a client\'s slots the bank refuses by a value',
     'stages.Searching': 'it is about one kind of stage alone',
     'slice_index numbers': 'the lanes of the stable Rust give none of theirs alone',

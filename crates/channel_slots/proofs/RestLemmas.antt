@@ -1,6 +1,6 @@
 -- Slots that take none of the samples, which wait.
 use Rattle.std.proofs.Common.{◌≡◌, ◌≤◌, ◌<◌, ◌+◌, ◌-◌, ℕ, List, [], ◌∷◌, ◌++◌, length}
-use Rattle.std.proofs.Common.{refl, ap, sym, arith, length-append, true, false, take, slice_set}
+use Rattle.std.proofs.Common.{refl, ap, arith, length-append, true, false, take, slice_set}
 use Rattle.std.proofs.lemmas.List.{take_more_set}
 use Rattle.std.specs.Prelude.{None, nat_le}
 use Rattle.std.proofs.lemmas.Bool.{le-leb, leb-true, and_parts}

@@ -86,25 +86,6 @@ fn next(held: &mut Followed, place: usize) -> Result<(usize, Option<Counts>), Fa
     Ok((place + count, is_dump.then_some(dump.counts)))
 }
 
-/// Passes over so many samples of the recording from a place on, with which no dump comes.
-fn pass(held: &mut Followed, place: usize, many: usize) -> Result<(), Fail>
-    requires begun { taken_of held.old ≤ place }
-    ensures taken { IfOk result (λ _. taken_of held.new ≡ place + many) }
-{
-    if 1_346 <= place || many == 0 || 1_000 < many || held.rests_until() < place as u64 {
-        return Err(Fail::new("no run can be passed"));
-    }
-    let end = (place + many) as u64;
-    let samples = unpack(Format::Real1, &RECORDING, place, many);
-    if samples.len() != many || !held.is_quiet_until(end) {
-        return Err(Fail::new("a dump comes"));
-    }
-    let all = PackedSamples::new(Format::Real1, &RECORDING);
-    let source = so_far(all, 0, end)?;
-    held.pass(&samples, 0, &source, &mut CodeBook::new());
-    Ok(())
-}
-
 /// Asserts what `next` gives, where the channel may wait up to the place.
 fn assert_next(
     rt: &impl Abort,
@@ -175,19 +156,4 @@ fn the_last_sample_of_a_segment_does_not_wait(rt: HostRuntime) -> Result<(), Fai
     assert_next(&rt, &mut held, 1_345, (1_346, first))?;
     assert_stands(&rt, &held, 1, 1_858);
     Ok(())
-}
-
-// Up to the last sample of a segment no dump comes. Samples that are passed over count for the dump
-// like those before them that waited.
-#[test]
-fn passed_samples_count(rt: HostRuntime) -> Result<(), Fail> {
-    let [first, _] = first_and_second();
-    let mut held = held()?;
-    let is_quiet = (held.is_quiet_until(1_345), held.is_quiet_until(1_346));
-    assert_same!(rt; is_quiet, (true, false));
-    pass(&mut held, 0, 700)?;
-    assert_stands(&rt, &held, 0, 1_212);
-    pass(&mut held, 900, 445)?;
-    assert_stands(&rt, &held, 0, 1_345);
-    assert_next(&rt, &mut held, 1_345, (1_346, first))
 }

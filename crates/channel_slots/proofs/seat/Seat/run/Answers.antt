@@ -1,4 +1,4 @@
-use Rattle.std.proofs.Common.{◌≡◌, ◌≤◌, ◌<◌, ◌+◌, ◌-◌, arith, ℕ, List, [], length, take, refl, sym}
+use Rattle.std.proofs.Common.{◌≡◌, ◌≤◌, ◌+◌, ◌-◌, arith, ℕ, List, [], length, refl, sym}
 use Rattle.std.proofs.Common.{length-append}
 use Rattle.definitions.specs.Samples.{Sample}
 use Rattle.channels.specs.Parts.{part}
