@@ -1,6 +1,6 @@
 """The receiver bank as WebAssembly: for any browser, and for those that have relaxed operations.
-Both are kept in the folder `out/page` of the checkout, and made anew where a source or the toolchain
-is another."""
+Both are kept in the folder `out/page` of the checkout, and made anew where a source or the
+toolchain is another."""
 
 from __future__ import annotations
 

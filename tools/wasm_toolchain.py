@@ -17,7 +17,8 @@ TARGET = 'wasm32-unknown-unknown'
 KEPT = os.path.join(built.OUT, 'page')
 
 # The features that the bank is built for, by the name of what comes of it. All browsers have had
-# vectors of 16 bytes since 2023. By relaxed operations it is faster, and not all browsers have them.
+# vectors of 16 bytes since 2023. Relaxed operations make it quicker, and not all browsers have
+# them.
 FEATURES = {'bank': '+simd128', 'relaxed': '+simd128,+relaxed-simd'}
 
 # The programs of Debian's packages, and the packages that have all that is needed.
