@@ -47,13 +47,13 @@ class Page:
         self.size(1280, 800)
         self.open()
 
-    def open(self, before: str = '') -> None:
-        """Opens the page anew, with a script of its own before the page's."""
+    def open(self, before: str = '', folder: str = '') -> None:
+        """Opens the page anew, with a script before its own, or one of another folder."""
         call = self.browser.call
         script = call('Page.addScriptToEvaluateOnNewDocument', source=before)['identifier']
         # Nothing of the page that was open before has this.
         self.value('globalThis.isLeft = true')
-        call('Page.navigate', url=f'file://{self.folder}/index.html')
+        call('Page.navigate', url=f'file://{folder or self.folder}/index.html')
         self.wait('document.readyState === "complete" && !globalThis.isLeft && !!kept', 30)
         call('Page.removeScriptToEvaluateOnNewDocument', identifier=script)
 
