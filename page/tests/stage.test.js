@@ -19,7 +19,7 @@ openDocument();
 const { Stage } = await import('../stage.js');
 const { attempt } = await import('../said.js');
 
-/** A stage of a new document, with a kind of workers. @param {typeof Spoken} kind */
+/** A stage of a new document, with workers of a kind. @param {typeof Spoken} kind */
 function opened(kind) {
   install(kind, 1);
   openDocument();
@@ -79,8 +79,7 @@ test('what is no recording, or is gone, is said before anything runs', async () 
 
 test('an example runs by the bank, and its lines are those that are expected', async () => {
   const stage = opened(Working), recording = fileAt(`examples/${EXAMPLE.recording}`);
-  const { head } = document;
-  head.append = (/** @type {any} */ script) => {
+  document.head.append = (/** @type {any} */ script) => {
     const text = Buffer.from(recording).toString('base64');
     /** @type {any} */ (globalThis).bring('three_satellites', text);
     script.remove = () => {};
@@ -169,8 +168,7 @@ test('what comes late of a run that another took the place of is left out', asyn
 test('of two runs that are begun at once the later one runs', async () => {
   const stage = opened(Spoken);
   chosen(stage, '0 state 0');
-  const both = [stage.start(false), stage.start(false)];
-  await Promise.all(both);
+  await Promise.all([stage.start(false), stage.start(false)]);
   assert.equal(Spoken.made.length, 1);
 });
 
