@@ -1,6 +1,7 @@
-// What `tools/page` puts into the page: the bank, its worker's text, and the examples.
+// What `tools/page` puts into the page: the banks, their worker's text, and the examples.
 
 import { Failure } from './failures.js';
+import { fittest } from './banks.js';
 import { make } from './dom.js';
 
 /**
@@ -8,7 +9,8 @@ import { make } from './dom.js';
  * of `FORMAT` in `worker_job.js`.
  * @typedef {{ name: string, scripts: string[], recording: string, rate: number, offset: number,
  *   format: number, shares: number[] }} Example
- * @typedef {{ wasm: string, worker: string, revision: string, examples: Example[] }} Built
+ * @typedef {{ banks: import('./banks.js').Banks<string>, worker: string, revision: string,
+ *   examples: Example[] }} Built
  */
 
 /** @typedef {{ SELDOMPLOUGH?: Built, bring?: (name: string, text: string) => void }} Globals */
@@ -32,8 +34,10 @@ function bytesOf(text) {
 async function engineOf() {
   if (!BUILT) throw new Failure('These are the sources of the page: tools/page builds it.');
   const worker = URL.createObjectURL(new Blob([BUILT.worker], { type: 'text/javascript' }));
+  const { bank, relaxed } = BUILT.banks;
+  const wasm = fittest({ bank: bytesOf(bank), relaxed: bytesOf(relaxed) });
   try {
-    return { wasm: await WebAssembly.compile(bytesOf(BUILT.wasm)), worker };
+    return { wasm: await WebAssembly.compile(wasm), worker };
   } catch (why) {
     throw new Failure(`This browser can’t run the bank (${why}).`);
   }

@@ -132,7 +132,7 @@ export class Stage {
    * @param {boolean} isStopped
    */
   async #over(mine, isSearch, sentence, isStopped) {
-    while (mine.isBusy) await pause(PAUSE);
+    while (mine.isBusy && !mine.isLeft) await pause(PAUSE);
     if (mine.isLeft) return;
     const last = mine.end(), { refused } = mine.sky.answers;
     button('stop').disabled = true;

@@ -97,10 +97,10 @@ def put(page: str, place: re.Pattern[str], text: str) -> str:
     return place.sub(lambda _: text, page)
 
 
-def page_text(bank: bytes, revision: str, examples: list[Example]) -> str:
+def page_text(banks: dict[str, bytes], revision: str, examples: list[Example]) -> str:
     """The page, whole."""
     given = {
-        'wasm': coded(bank),
+        'banks': {name: coded(data) for name, data in banks.items()},
         'worker': bundled('worker.js', '--format=iife'),
         'revision': revision,
         'examples': examples,
@@ -118,10 +118,10 @@ def page_text(bank: bytes, revision: str, examples: list[Example]) -> str:
     )
 
 
-def files_of_page(bank: bytes, revision: str) -> dict[str, str]:
+def files_of_page(banks: dict[str, bytes], revision: str) -> dict[str, str]:
     """The texts of all files, by their paths in the folder of the page."""
     examples = [example(name) for name in CHOSEN]
-    files = {'index.html': page_text(bank, revision, examples)}
+    files = {'index.html': page_text(banks, revision, examples)}
     for it in examples:
         data = coded(built.read(os.path.join(EXAMPLES, it['recording'])))
         files[f'examples/{it["name"]}.js'] = f'bring({json.dumps(it["name"])}, "{data}");\n'

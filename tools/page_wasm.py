@@ -1,5 +1,6 @@
-"""The receiver bank as WebAssembly. It is kept in the folder `out/page` of the checkout, and made
-anew where a source or the toolchain is another."""
+"""The receiver bank as WebAssembly: for any browser, and for those that have relaxed operations.
+Both are kept in the folder `out/page` of the checkout, and made anew where a source or the
+toolchain is another."""
 
 from __future__ import annotations
 
@@ -8,15 +9,13 @@ import os
 import shutil
 import sys
 import tempfile
-from typing import Optional
 
 import built
 from builders import run
 from built import TOP
-from wasm_toolchain import KEPT, TARGET, Say, Toolchain, build, environment, flags_of, make_kept
-from wasm_toolchain import toolchain, write
+from wasm_toolchain import FEATURES, KEPT, TARGET, Say, Toolchain, build, environment, flags_of
+from wasm_toolchain import make_kept, toolchain, write
 
-BANK = os.path.join(KEPT, 'bank.wasm')
 CRATE = os.path.join(TOP, 'page', 'wasm')
 # The root of the build. cargo names what is built by its path from there on, and by its whole path
 # where it lies outside, of which other bytes would come. A standard library that is made here has
@@ -41,8 +40,8 @@ def make_workspace(folder: str) -> None:
     run([sys.executable, '-E', '-s', '-S', writer, os.path.join(folder, 'plain')], TOP)
 
 
-def make_bank(of: Toolchain, say: Say) -> bytes:
-    """Makes the bank."""
+def make_banks(of: Toolchain, say: Say) -> dict[str, bytes]:
+    """Makes the banks, by their names."""
     with tempfile.TemporaryDirectory() as work:
         work = os.path.realpath(work)
         make_workspace(work)
@@ -50,17 +49,19 @@ def make_bank(of: Toolchain, say: Say) -> bytes:
         write(os.path.join(work, 'Cargo.toml'), ROOT)
         skipped = shutil.ignore_patterns('target', 'Cargo.lock', '.*')
         shutil.copytree(CRATE, crate, ignore=skipped)
-        kept = environment(
-            of, os.path.join(work, 'home'), [*flags_of(of, say), f'--remap-path-prefix={work}=.']
-        )
-        say('builds the bank, which is of plain Rust and not proved')
-        build(of, crate, kept, '--target-dir', os.path.join(work, 'target'))
-        data: bytes = built.read(os.path.join(work, 'target', TARGET, 'release', 'bank.wasm'))
-        return data
+        banks = {}
+        for name, features in FEATURES.items():
+            flags = [*flags_of(of, features, say), f'--remap-path-prefix={work}=.']
+            kept = environment(of, os.path.join(work, 'home'), flags)
+            say(f'builds the bank for {features}, which is of plain Rust and not proved')
+            target = os.path.join(work, 'target', name)
+            build(of, crate, kept, '--target-dir', target)
+            banks[name] = built.read(os.path.join(target, TARGET, 'release', 'bank.wasm'))
+        return banks
 
 
-def sum_of_bank(of: Toolchain) -> str:
-    """The sum of all that the bank is made of."""
+def sum_of_banks(of: Toolchain) -> str:
+    """The sum of all that the banks are made of."""
     made = hashlib.sha256(f'{of}\n{built.sum_of_sources("plain")}\n'.encode())
     for path in sorted(built.files_below(CRATE, {'target'})) + [
         os.path.realpath(__file__),
@@ -72,31 +73,42 @@ def sum_of_bank(of: Toolchain) -> str:
     return made.hexdigest()
 
 
-def kept_bank(mark: str, sources: str) -> Optional[bytes]:
-    """The bank that is kept, where it is made of these sources."""
+def path_of(name: str) -> str:
+    """Where the bank of a name is kept."""
+    return os.path.join(KEPT, f'{name}.wasm')
+
+
+def mark_of(sources: str, banks: dict[str, bytes]) -> str:
+    """What is kept beside banks: the sums of their sources, and of each of them."""
+    return ' '.join([sources, *(hashlib.sha256(it).hexdigest() for it in banks.values())])
+
+
+def kept_banks(mark: str, sources: str) -> dict[str, bytes]:
+    """The banks that are kept, where they are made of these sources, and else none."""
     try:
-        data = built.read(BANK)
+        banks: dict[str, bytes] = {name: built.read(path_of(name)) for name in FEATURES}
         text = built.read(mark).decode()
     except (OSError, UnicodeDecodeError):
-        return None
-    return data if text == f'{sources} {hashlib.sha256(data).hexdigest()}' else None
+        return {}
+    return banks if text == mark_of(sources, banks) else {}
 
 
-def bank(say: Say) -> bytes:
-    """The bank, made where it isn't kept of these sources by this toolchain."""
+def banks_of_page(say: Say) -> dict[str, bytes]:
+    """The banks by their names, made where they aren't kept of these sources by this toolchain."""
     make_kept()
     of = toolchain()
     say(
         f'the toolchain is {of.name} with '
         + (f'the standard library of {of.library}' if of.library else f'its target {TARGET}')
     )
-    sources, mark = sum_of_bank(of), os.path.join(KEPT, 'bank.sum')
-    data = kept_bank(mark, sources)
-    if data is None:
-        data = make_bank(of, say)
-        new = f'{BANK}.{os.getpid()}'
-        with open(new, 'xb') as file:
-            file.write(data)
-        os.replace(new, BANK)
-        built.replace(mark, f'{sources} {hashlib.sha256(data).hexdigest()}')
-    return data
+    sources, mark = sum_of_banks(of), os.path.join(KEPT, 'bank.sum')
+    banks = kept_banks(mark, sources)
+    if not banks:
+        banks = make_banks(of, say)
+        for name, data in banks.items():
+            new = f'{path_of(name)}.{os.getpid()}'
+            with open(new, 'xb') as file:
+                file.write(data)
+            os.replace(new, path_of(name))
+        built.replace(mark, mark_of(sources, banks))
+    return banks

@@ -16,6 +16,11 @@ from builders import Failed, run
 TARGET = 'wasm32-unknown-unknown'
 KEPT = os.path.join(built.OUT, 'page')
 
+# The features that the bank is built for, by the name of what comes of it. All browsers have had
+# vectors of 16 bytes since 2023. Relaxed operations make it quicker, and not all browsers have
+# them.
+FEATURES = {'bank': '+simd128', 'relaxed': '+simd128,+relaxed-simd'}
+
 # The programs of Debian's packages, and the packages that have all that is needed.
 DEBIAN = ('/usr/bin/rustc', '/usr/bin/cargo')
 PACKAGES = 'rustc-web cargo-web rust-web-src lld'
@@ -132,9 +137,8 @@ def sysroot(of: Toolchain, library: str, say: Say) -> str:
     return path
 
 
-def flags_of(of: Toolchain, say: Say) -> list[str]:
-    """The flags of rustc for the target: with vectors of 16 bytes, which all browsers have had
-    since 2023, and without a counter for each address in a loop. There is no register left for
-    those."""
-    flags = ['-Ctarget-feature=+simd128', '-Cllvm-args=-disable-lsr']
+def flags_of(of: Toolchain, features: str, say: Say) -> list[str]:
+    """The flags of rustc for the target with some features, and without a counter for each address
+    in a loop. There is no register left for those."""
+    flags = [f'-Ctarget-feature={features}', '-Cllvm-args=-disable-lsr']
     return [*flags, f'--sysroot={sysroot(of, of.library, say)}'] if of.library else flags

@@ -1,6 +1,7 @@
-// The bank and the examples, for tests in Node.
+// The banks and the examples, for tests in Node.
 
 import { readFileSync } from 'node:fs';
+import { setFlagsFromString } from 'node:v8';
 import { answer } from '../worker_task.js';
 
 const TOP = new URL('../../', import.meta.url);
@@ -13,8 +14,19 @@ export function fileAt(path) {
   return new Uint8Array(readFileSync(new URL(path, TOP)));
 }
 
-/** The bank, which `tools/page` has built and keeps. */
-export const BANK = new WebAssembly.Module(fileAt('out/page/bank.wasm'));
+/**
+ * A bank, which `tools/page` has built and keeps. Node 20 has relaxed operations where it is asked
+ * for them, and later ones have them without that word, and may not know it.
+ * @param {string} name
+ */
+export function bankAt(name) {
+  const bytes = fileAt(`out/page/${name}.wasm`);
+  if (!WebAssembly.validate(bytes)) setFlagsFromString('--experimental-wasm-relaxed-simd');
+  return new WebAssembly.Module(bytes);
+}
+
+/** The bank for any browser. */
+export const BANK = bankAt('bank');
 
 /**
  * A job for the bank over some bytes, as the receiver takes them where nothing else is said.

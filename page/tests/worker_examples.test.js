@@ -1,11 +1,11 @@
-// The examples give their lines, as files and as values of another kind.
+// The examples give their lines by both banks, as files and as values of another kind.
 
 import assert from 'node:assert/strict';
 import { test } from 'node:test';
 import { FLAG, FORMAT, KIND } from '../worker_job.js';
 import { PAUSE, answer } from '../worker_task.js';
 import { PIECE } from '../worker_stretch.js';
-import { done, fileAt, jobOf } from './worker_bank.js';
+import { BANK, bankAt, done, fileAt, jobOf } from './worker_bank.js';
 
 /** @param {string} path */
 const textAt = (path) => new TextDecoder().decode(fileAt(`examples/${path}`));
@@ -30,7 +30,7 @@ function optionsOf(name) {
 
 /**
  * @param {string} name
- * @param {ReturnType<typeof optionsOf>} options
+ * @param {ReturnType<typeof optionsOf> & { wasm: WebAssembly.Module }} options
  * @param {string[]} scripts
  */
 async function compare(name, { bytes, ...settings }, scripts) {
@@ -43,21 +43,25 @@ async function compare(name, { bytes, ...settings }, scripts) {
 }
 
 const ALONE = ['three_satellites', 'real_message', 'zero_if', 'crystal', 'hold_counts'];
-for (const name of [...ALONE, 'track_message']) {
-  test(`${name} gives the lines that are expected`, () =>
-    compare(name, optionsOf(name), [textAt(`${name}.script`)]));
+/** @type {[string, WebAssembly.Module][]} */
+const BANKS = [['any browser', BANK], ['relaxed operations', bankAt('relaxed')]];
+for (const [of, wasm] of BANKS) {
+  for (const name of [...ALONE, 'track_message']) {
+    test(`${name} gives the lines that are expected, by the bank for ${of}`, () =>
+      compare(name, { ...optionsOf(name), wasm }, [textAt(`${name}.script`)]));
+  }
+
+  test(`all32, eight clients, gives the lines that are expected, by the bank for ${of}`, () => {
+    const scripts = EIGHT.map((n) => textAt(`all32/search_${n}.script`));
+    return compare('all32', { ...optionsOf('three_satellites'), wasm }, scripts);
+  });
+
+  test(`busy_bank, 32 slots, gives the lines that are expected, by the bank for ${of}`, () => {
+    const scripts = EIGHT.map((n) => textAt(`busy_bank/client_${n}.script`));
+    const zeros = { bytes: new Uint8Array(90000), rate: 2046000, offset: 0, format: FORMAT.real1 };
+    return compare('busy_bank', { ...zeros, wasm }, scripts);
+  });
 }
-
-test('all32, eight clients, gives the lines that are expected', () => {
-  const scripts = EIGHT.map((n) => textAt(`all32/search_${n}.script`));
-  return compare('all32', optionsOf('three_satellites'), scripts);
-});
-
-test('busy_bank, 32 slots over zeros, gives the lines that are expected', () => {
-  const scripts = EIGHT.map((n) => textAt(`busy_bank/client_${n}.script`));
-  const zeros = { bytes: new Uint8Array(90000), rate: 2046000, offset: 0, format: FORMAT.real1 };
-  return compare('busy_bank', zeros, scripts);
-});
 
 test('lines come while it runs, a report for each pause', async () => {
   const { bytes, ...settings } = optionsOf('real_message');

@@ -7,10 +7,26 @@ from .cases import EXAMPLES, Row, Rows
 SIZES = ((1280, 800), (800, 600), (400, 800))
 
 
+# A browser that has no relaxed operations.
+WITHOUT = 'WebAssembly.validate = () => false;'
+
+
 def each_example(rows: Rows) -> None:
-    """Each example's lines are those of the checkout, byte for byte."""
+    """Each example's lines are those of the checkout, byte for byte, by the quicker bank."""
     for name in EXAMPLES:
         rows.runs_example(name)
+    banks = rows.page.banks()
+    rows.tell('the bank where there are relaxed operations', banks == ['relaxed'], banks)
+
+
+def each_without(rows: Rows) -> None:
+    """The same by the bank for any browser, where there are no relaxed operations."""
+    rows.page.open(WITHOUT)
+    for name in EXAMPLES:
+        rows.runs_example(name, 'opening without relaxed operations')
+    banks = rows.page.banks()
+    rows.tell('the bank where there are none', banks == ['bank'], banks)
+    rows.page.open()
 
 
 def every_picture(rows: Rows) -> None:
@@ -28,4 +44,4 @@ def every_picture(rows: Rows) -> None:
     rows.page.size(*SIZES[0])
 
 
-ROWS: tuple[Row, ...] = (each_example, every_picture)
+ROWS: tuple[Row, ...] = (each_example, each_without, every_picture)

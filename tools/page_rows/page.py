@@ -11,10 +11,15 @@ from .browser import Browser, Hangs
 # Seconds between two looks at the page.
 PAUSE = 0.05
 
-# What is put before the page's script: the text that is saved is kept, and the greatest memory that
-# a worker reports.
+# What is put before the page's script: the text that is saved is kept, the bank that is compiled,
+# and the greatest memory that a worker reports.
 WATCH = """
-globalThis.kept = { text: null, memory: 0 };
+globalThis.kept = { text: null, bank: null, memory: 0 };
+const compile = WebAssembly.compile;
+WebAssembly.compile = (it) => {
+  kept.bank = it;
+  return compile.call(WebAssembly, it);
+};
 const made = URL.createObjectURL;
 URL.createObjectURL = (it) => {
   if (it.type === 'text/plain') kept.text = it;
@@ -35,13 +40,22 @@ class Page:
     """The page, opened from its folder."""
 
     def __init__(self, browser: Browser, folder: str) -> None:
-        self.browser = browser
+        self.browser, self.folder = browser, folder
         browser.call('Page.addScriptToEvaluateOnNewDocument', source=WATCH)
         # What is saved is read here, and no file is written.
         browser.ask_browser('Browser.setDownloadBehavior', behavior='deny')
         self.size(1280, 800)
-        browser.call('Page.navigate', url=f'file://{folder}/index.html')
-        self.wait('document.readyState === "complete" && !!globalThis.kept', 30)
+        self.open()
+
+    def open(self, before: str = '', folder: str = '') -> None:
+        """Opens the page anew, with a script before its own, or one of another folder."""
+        call = self.browser.call
+        script = call('Page.addScriptToEvaluateOnNewDocument', source=before)['identifier']
+        # Nothing of the page that was open before has this.
+        self.value('globalThis.isLeft = true')
+        call('Page.navigate', url=f'file://{folder or self.folder}/index.html')
+        self.wait('document.readyState === "complete" && !globalThis.isLeft && !!kept', 30)
+        call('Page.removeScriptToEvaluateOnNewDocument', identifier=script)
 
     def value(self, text: str) -> Any:
         """The value of an expression in the page."""
@@ -59,6 +73,16 @@ class Page:
             if time.monotonic() > end:
                 raise Hangs(f'{text} did not hold within {seconds:.0f} s')
             time.sleep(PAUSE)
+
+    def banks(self) -> Any:
+        """The names of the banks whose bytes the page compiled last."""
+        return self.value(
+            """(() => {
+          const text = Array.from(kept.bank ?? [], (it) => String.fromCharCode(it)).join('');
+          const { banks } = SELDOMPLOUGH;
+          return Object.keys(banks).filter((name) => atob(banks[name]) === text);
+        })()"""
+        )
 
     def size(self, width: int, height: int) -> None:
         """Gives the page a size in pixels."""

@@ -30,6 +30,22 @@ fn look_ups() {
     });
 }
 
+// A panic ends all where it doesn't unwind, as in WebAssembly.
+#[cfg(all(panic = "unwind", debug_assertions))]
+#[test]
+fn look_ups_of_greater_numbers() {
+    let fails = |numbers: [u8; 64]| {
+        let look_up = || u8x64::splat(0).swizzle_dyn_within::<16>(u8x64::from_array(numbers));
+        std::panic::catch_unwind(look_up).is_err()
+    };
+    assert!(!fails([15; 64]));
+    for wrong in [16, 17, 31, 127, 128, 143, 255] {
+        for k in [0, 15, 16, 63] {
+            assert!(fails(from_fn(|at| if at == k { wrong } else { 15 })), "{wrong} in lane {k}");
+        }
+    }
+}
+
 #[test]
 fn side_by_side() {
     over_bytes(|a, _| {

@@ -1,14 +1,19 @@
 //! The operations by the instructions of WebAssembly that build on sixteen bytes. Here those on
 //! numbers of 16 and 32 bits are instructions too: rustc makes vectors of few of their loops.
+//! Where the build is for machines that have relaxed operations, a look-up is one of these.
 
 use crate::loops::Of;
 pub(crate) use crate::loops::shifted_bytes;
 use crate::vectors::{by_vectors, lanes, vector};
+#[cfg(target_feature = "relaxed-simd")]
+use core::arch::wasm32::u8x16_relaxed_swizzle;
+#[cfg(not(target_feature = "relaxed-simd"))]
+use core::arch::wasm32::u8x16_swizzle;
 use core::arch::wasm32::{
     i8x16_bitmask, i8x16_narrow_i16x8, i16x8_gt, i16x8_shl, i16x8_shr, i16x8_sub, i32x4_shuffle,
-    i64x2_shuffle, u8x16_add, u8x16_eq, u8x16_sub, u8x16_swizzle, u16x8_add,
-    u16x8_extend_high_u8x16, u16x8_extend_low_u8x16, u16x8_extract_lane, u16x8_shr, u32x4_add,
-    u64x2, u64x2_extract_lane, v128, v128_and, v128_andnot, v128_or, v128_xor,
+    i64x2_shuffle, u8x16_add, u8x16_eq, u8x16_sub, u16x8_add, u16x8_extend_high_u8x16,
+    u16x8_extend_low_u8x16, u16x8_extract_lane, u16x8_shr, u32x4_add, u64x2, u64x2_extract_lane,
+    v128, v128_and, v128_andnot, v128_or, v128_xor,
 };
 
 /// Yes or no for each lane of 16 bits: 0xffff or 0.
@@ -32,10 +37,23 @@ operations! {
     and u8: v128_and;
     xor u8: v128_xor;
     equal u8: u8x16_eq;
-    look_up u8: u8x16_swizzle;
+    look_up u8: look_up_sixteen;
     sum_of_words u16: u16x8_add;
     difference_of_words i16: i16x8_sub;
     sum_of_double_words u32: u32x4_add;
+}
+
+/// In sixteen bytes, byte k of the result is the byte of the table that number k names. The numbers
+/// are below 16: each function of the sources that looks up asks for it by its contract, which is
+/// proved of all its callers, and a build with debug assertions sees it in `swizzle_dyn_within`.
+/// Then the relaxed operation gives the same on every machine. Of numbers from 16 to 127 it would
+/// give 0 on one machine and a byte of the table on another.
+#[inline(always)]
+fn look_up_sixteen(table: v128, numbers: v128) -> v128 {
+    #[cfg(target_feature = "relaxed-simd")]
+    return u8x16_relaxed_swizzle(table, numbers);
+    #[cfg(not(target_feature = "relaxed-simd"))]
+    u8x16_swizzle(table, numbers)
 }
 
 #[inline(always)]
