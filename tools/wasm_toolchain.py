@@ -48,9 +48,9 @@ class Toolchain(NamedTuple):
         return ' '.join(self.line.split()[:2])
 
 
-def has_target(rustc: str) -> bool:
-    """Whether a toolchain has a standard library for the target."""
-    folder = built.said_by([rustc, '--print', 'target-libdir', '--target', TARGET])
+def has_target(rustc: str, target: str = TARGET) -> bool:
+    """Whether a toolchain has a standard library for a target."""
+    folder = built.said_by([rustc, '--print', 'target-libdir', '--target', target])
     return os.path.isdir(folder) and any(it.startswith('libstd-') for it in os.listdir(folder))
 
 
