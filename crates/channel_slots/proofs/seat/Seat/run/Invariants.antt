@@ -12,7 +12,8 @@ invariant-loop-done g l = record {
       → length (events_in l.timeline) + chances (l.time + l.done) l.self.slot
       ≤ length (events_in l.fn.timeline) + SLOT_EVENTS;
   goes : SeatGoes (take l.done l.run) l.time (g.S.SampleSource.from l.source)
-      (g.S.SampleSource.held l.source) l.fn.self l.self (events_in l.fn.timeline) (events_in l.timeline);
+      (g.S.SampleSource.held l.source) l.fn.self l.self (events_in l.fn.timeline)
+      (events_in l.timeline);
 }
 
 abbrev pub decreases-loop-done : goal.decreases-loop-done
