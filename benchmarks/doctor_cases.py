@@ -7,7 +7,7 @@ from array import array
 from dataclasses import dataclass
 from typing import Callable, Dict, Iterator, List, Tuple
 
-from made_runs import MAKER, name
+from made_runs import maker, name
 
 SECONDS = 2
 # The rate of pairs, and that of single values with the offset of their signal, in Hz.
@@ -115,7 +115,7 @@ class Case:
         named = [name(it, shift, chance.uniform(0, 2045.9), round(chance.uniform(45, 48), 1),
                       chance.randrange(1000)) for it, shift in shifts.items()]
         is_pairs = self.kind.startswith('iq-')
-        command = [MAKER, '--samples', SECONDS * self.rate, '--rate', self.rate,
+        command = [maker(), '--samples', SECONDS * self.rate, '--rate', self.rate,
                    '--offset', self.offset, '--kind', 'iq-i8' if is_pairs else 'i8',
                    '--seed', chance.randrange(10**6), *named]
         made = subprocess.run(list(map(str, command)), stdout=subprocess.PIPE, check=True).stdout

@@ -9,23 +9,21 @@ from functools import lru_cache
 
 HERE = os.path.dirname(os.path.realpath(__file__))
 TOP = os.path.dirname(HERE)
-MAKER = os.path.join(HERE, 'maker', 'target', 'release', 'maker')
 RATE = 2046000
 # How many runs at once.
 JOBS = 2
 
 
-def build_maker():
-    """Builds the maker, and pack as plain Rust where it isn't built."""
-    subprocess.run(['cargo', 'build', '--release', '--quiet', '--offline'], check=True,
-                   cwd=os.path.join(HERE, 'maker'))
-    program('packer_cli', 'pack')
-
-
 def build():
-    """Builds these, and the receiver as plain Rust where it isn't built."""
-    build_maker()
+    """Builds the maker, and the programs as plain Rust, where they aren't built."""
+    maker()
+    program('packer_cli', 'pack')
     program('receiver_cli', 'receiver')
+
+
+def maker():
+    """The path of the maker of signals."""
+    return program('maker', 'maker')
 
 
 @lru_cache(maxsize=None)
@@ -54,7 +52,7 @@ def lines_of(scripts, satellites, samples, seed, packing='iq1', rate=RATE, share
         threshold = ['--threshold', 20] if packing.endswith('2') else []
         more = ['--shares', shares] if shares else []
         commands = [
-            [MAKER, '--samples', samples, '--seed', seed, '--kind', kind, '--rate', rate,
+            [maker(), '--samples', samples, '--seed', seed, '--kind', kind, '--rate', rate,
              '--offset', offset, *satellites],
             [program('packer_cli', 'pack'), '--from', kind, '--to', packing, *threshold],
             [program('receiver_cli', 'receiver'), '--rate', rate, '--offset', offset,

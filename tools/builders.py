@@ -8,7 +8,8 @@ import time
 
 import children
 import room_folders
-from built import ANY, THIRD, TOP, clean_environment, find, level, read, replace, sum_of_sources
+from built import (ANY, APART, THIRD, TOP, clean_environment, find, level, read, replace,
+                   sum_of_sources)
 from crate_order import job_count, read_crates, side_by_side, steps_above, with_those_below
 from rooms import RT, prove as prove_in_room
 
@@ -23,6 +24,22 @@ MINUTES = {'receiver_cli': ((4, 23), (8.5, 31)), 'packer_cli': ((2.5, 3), (4, 4.
 
 class Failed(Exception):
     """A build that failed, with what it said."""
+
+
+def is_too_old(line):
+    """Whether a rustc that says this line of itself is older than 1.85."""
+    version = line.split()[1].split('.') if line.startswith('rustc ') else []
+    return version[:1] == ['1'] and version[1].isdigit() and int(version[1]) < 85
+
+
+def missing(kind, is_plain_wanted):
+    """What is missing where there is neither a prover nor cargo, for a kind of build."""
+    if kind == 'apart':
+        return '`cargo` of Rust 1.85 builds it, and is not in the PATH'
+    if is_plain_wanted:
+        return 'RECEIVER_PLAIN is set, and there is no `cargo` in the PATH'
+    return ('`rt` of the Rattle kit builds it, proved, or `cargo` of Rust 1.85, not proved;'
+            ' neither is in the PATH')
 
 
 def run(command, folder, **more):
@@ -115,6 +132,26 @@ class Target:
         replace(self.mark, self.text)
 
 
+def cargo_build(package, folder, target, environment):
+    """Builds the program of a package in a folder, and gives its path."""
+    command = ['cargo', 'build', '--offline', '--quiet', '--release', '--target-dir', target,
+               '--message-format', 'json-render-diagnostics', '-p', package]
+    return executable(run(command, folder, env=environment), package)
+
+
+def build_apart(name, sources, line, say):
+    """Builds a program that stands apart, by cargo, for any processor. Gives its path by that
+    level."""
+    folder = os.path.join(TOP, APART[name])
+    say('this build is by cargo, and takes some seconds')
+    target = Target(folder, sources, line)
+    target.clear()
+    paths = {ANY: cargo_build(name, folder, target.folder, clean_environment())}
+    if sum_of_sources('apart') == sources:
+        target.keep()
+    return paths
+
+
 def build_plain(crate, sources, line, say):
     """Builds a program of plain Rust by cargo: for any processor, and on x86-64 for the third level
     too, side by side. Gives its paths by the levels."""
@@ -130,10 +167,7 @@ def build_plain(crate, sources, line, say):
         flags = clean_environment()
         if of_level != ANY:
             flags['RUSTFLAGS'] = f'-C target-cpu={of_level}'
-        command = ['cargo', 'build', '--offline', '--quiet', '--release',
-                   '--target-dir', os.path.join(target.folder, of_level),
-                   '--message-format', 'json-render-diagnostics', '-p', crate]
-        return executable(run(command, folder, env=flags), crate)
+        return cargo_build(crate, folder, os.path.join(target.folder, of_level), flags)
 
     levels = [ANY, THIRD] if 'host: x86_64-' in line else [ANY]
     paths = dict(side_by_side({it: [] for it in levels}, build, job_count()))

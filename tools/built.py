@@ -11,11 +11,17 @@ import stat
 TOP = os.path.dirname(os.path.dirname(os.path.realpath(__file__)))
 OUT = os.path.join(TOP, 'out')
 
+# The packages of plain Rust that stand apart from the crates, by their programs. Nothing of them is
+# proved, so cargo builds them wherever they are built.
+APART = {'maker': 'benchmarks/maker'}
+
 # What the files of sources end with, and the folders among them that make no program of a kind.
 SOURCES = ('.rt', '.antt', '.rs', '.toml', '.txt')
-NO_SOURCES = {'proved': {'out', 'must-fail'}, 'plain': {'out', 'must-fail', 'specs', 'proofs'}}
+NO_SOURCES = {'proved': {'out', 'must-fail'}, 'plain': {'out', 'must-fail', 'specs', 'proofs'},
+              'apart': {'target'}}
 
-# The folders and files that a program is made of: a proved one, and one of plain Rust.
+# The folders and files that a program is made of: a proved one, one of plain Rust, and those that
+# stand apart.
 PARTS = {
     'proved': ('crates.txt', 'HANDLES', 'crates', 'tools/build', 'tools/built.py',
                'tools/builders.py', 'tools/crate_order.py', 'tools/rooms.py', 'tools/rt_once'),
@@ -25,6 +31,7 @@ PARTS = {
               'tools/plain_premises.py', 'tools/plain_registry.py', 'tools/plain_terms.py',
               'tools/plain_text.py', 'tools/plain_traits.py', 'tools/plain_words.py',
               'tools/plain_workspace.py'),
+    'apart': (*APART.values(), 'tools/build', 'tools/built.py', 'tools/builders.py'),
 }
 
 # How the variables begin that would turn a build, or Python; and those of them that are kept: where

@@ -7,6 +7,7 @@ import os
 import shutil
 import subprocess
 import sys
+from functools import lru_cache
 from pathlib import Path
 from typing import Any, Callable, Dict, NamedTuple
 
@@ -80,22 +81,26 @@ def expected_lines() -> str:
     return ''.join(texts)
 
 
+@lru_cache(maxsize=None)
+def built(crate: str, name: str) -> str:
+    """The path of a program of the checkout, built by cargo."""
+    if shutil.which('cargo') is None:
+        pytest.skip('cargo is not in the PATH, so that the programs cannot be built')
+    ran = subprocess.run(
+        [os.path.join(TOP, 'tools', 'build'), crate, name],
+        env={**os.environ, 'RECEIVER_PLAIN': '1'},
+        stdin=subprocess.DEVNULL,
+        stdout=subprocess.PIPE,
+        check=True,
+    )
+    return os.fsdecode(ran.stdout).rstrip('\n')
+
+
 @pytest.fixture(scope='session')
 def plain() -> Dict[str, str]:
     """The words that name the programs of the checkout, built as plain Rust."""
-    if shutil.which('cargo') is None:
-        pytest.skip('cargo is not in the PATH, so that the programs cannot be built')
-    words = {}
-    for name, crate in (('receiver', 'receiver_cli'), ('pack', 'packer_cli')):
-        ran = subprocess.run(
-            [os.path.join(TOP, 'tools', 'build'), crate, name],
-            env={**os.environ, 'RECEIVER_PLAIN': '1'},
-            stdin=subprocess.DEVNULL,
-            stdout=subprocess.PIPE,
-            check=True,
-        )
-        words[f'--{name}'] = os.fsdecode(ran.stdout).rstrip('\n')
-    return words
+    names = (('receiver', 'receiver_cli'), ('pack', 'packer_cli'))
+    return {f'--{name}': built(crate, name) for name, crate in names}
 
 
 def program(folder: Path, name: str, text: str) -> str:

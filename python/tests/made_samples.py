@@ -1,32 +1,18 @@
-"""Makes recordings: the bytes of `benchmarks/maker`, in other kinds of values."""
+"""Makes recordings: the bytes of `tools/maker`, in other kinds of values."""
 
 from __future__ import annotations
 
-import os
-import shutil
 import subprocess
 from array import array
 from functools import lru_cache
 from typing import Tuple
 
-import pytest
-from conftest import TOP
+from conftest import built
 
-MAKER = os.path.join(TOP, 'benchmarks', 'maker')
 RATE = 2048000
 # Satellite, Doppler shift in Hz, half chip, C/N0 in dB-Hz, and periods of its message.
 SATELLITES = ('3:1250:700:48:0', '6:-2100:67:47:3', '17:3300:1510:47:5')
 SHIFTS = {3: 1250, 6: -2100, 17: 3300}
-
-
-@lru_cache(maxsize=None)
-def maker() -> str:
-    """The path of the maker, which is built where it isn't."""
-    if shutil.which('cargo') is None:
-        pytest.skip('cargo is not in the PATH, so that recordings cannot be made')
-    words = ['cargo', 'build', '--release', '--quiet', '--offline']
-    subprocess.run(words, cwd=MAKER, check=True)
-    return os.path.join(MAKER, 'target', 'release', 'maker')
 
 
 @lru_cache(maxsize=None)
@@ -39,7 +25,7 @@ def made(
 ) -> bytes:
     """Signed bytes of a made recording: noise with a deviation of 20, and satellites."""
     words = ['--samples', str(int(rate * seconds)), '--rate', str(rate), '--offset', str(offset)]
-    command = [maker(), *words, '--kind', kind, *satellites]
+    command = [built('maker', 'maker'), *words, '--kind', kind, *satellites]
     return subprocess.run(command, stdout=subprocess.PIPE, check=True).stdout
 
 

@@ -1,4 +1,7 @@
 //! The C/A codes (IS-GPS-200, section 3.3.2.3).
+//!
+//! The table is typed from the standard once more than in `ca_codes`: a wrong row there would find
+//! its own signal here, and nothing would show it.
 
 /// The chips of a code.
 pub const CHIPS: usize = 1023;
@@ -36,9 +39,12 @@ fn shift(register: &mut [u8; 10], taps: &[usize]) {
 mod tests {
     use super::chip_signs;
 
-    /// The first ten chips of satellites 1 to 10 as octal numbers (IS-GPS-200, table 3-Ia).
-    const FIRST_CHIPS: [u32; 10] = [
-        0o1440, 0o1620, 0o1710, 0o1744, 0o1133, 0o1455, 0o1131, 0o1454, 0o1626, 0o1504,
+    /// The first ten chips of each satellite as octal numbers (IS-GPS-200, table 3-Ia).
+    #[rustfmt::skip]
+    const FIRST_CHIPS: [u32; 32] = [
+        0o1440, 0o1620, 0o1710, 0o1744, 0o1133, 0o1455, 0o1131, 0o1454, 0o1626, 0o1504, 0o1642,
+        0o1750, 0o1764, 0o1772, 0o1775, 0o1776, 0o1156, 0o1467, 0o1633, 0o1715, 0o1746, 0o1763,
+        0o1063, 0o1706, 0o1743, 0o1761, 0o1770, 0o1774, 0o1127, 0o1453, 0o1625, 0o1712,
     ];
 
     #[test]

@@ -1,20 +1,7 @@
-//! Writes a made recording to standard output: white noise, and satellites in it where they are
-//! named. The same command always writes the same bytes.
+//! Writes a made recording to standard output: white noise, and satellites that send messages.
 //!
-//!     maker [OPTION VALUE].. [SATELLITE:DOPPLER:HALF:CN0:PERIODS]..
-//!       --samples N    2046000 if not given
-//!       --rate HZ      samples a second, 2046000 if not given
-//!       --offset HZ    the intermediate frequency, 0 if not given
-//!       --kind KIND    iq-i8 if not given: pairs of bytes; i8: one byte a sample, in phase
-//!       --seed N       of the noise and of the messages, 1 if not given
-//!       --message FILE what all satellites send: a subframe a line, as ten words of 24 bits in
-//!                      hexadecimal; the parity is added, and data bits 23 and 24 of words 2 and 10
-//!                      are solved for. Behind the last line comes the first one
-//!
-//! A satellite (1 to 32) has its Doppler shift in Hz, the half chip of its code at sample 0 (with a
-//! fraction where wanted), its C/N0 in dB-Hz, and how many code periods of its message are over at
-//! sample 0. Where no message is named it is a frame of 30 s that passes its parity and says nothing
-//! true. The noise has a standard deviation of 20 in each part.
+//! The receiver is measured and checked by what it makes, so it is written from the standard alone,
+//! and shares no code with the receiver.
 
 mod codes;
 mod message;
@@ -27,6 +14,27 @@ use satellite::Satellite;
 use settings::{Settings, DEVIATION};
 use std::io::{self, Write};
 use std::process::ExitCode;
+
+/// What `--help` prints.
+const HELP: &str = "\
+Writes a made recording to standard output: white noise, and satellites in it where they are named.
+The same command always writes the same bytes.
+
+maker [OPTION VALUE].. [SATELLITE:DOPPLER:HALF:CN0:PERIODS]..
+  --samples N     2046000 if not given
+  --rate HZ       samples a second, 2046000 if not given
+  --offset HZ     the intermediate frequency, 0 if not given
+  --kind KIND     iq-i8 if not given: pairs of bytes; i8: one byte a sample, in phase
+  --seed N        of the noise and of the messages, 1 if not given
+  --message FILE  what all satellites send: a subframe a line, as ten words of 24 bits in
+                  hexadecimal; the parity is added, and data bits 23 and 24 of words 2 and 10 are
+                  solved for. Behind the last line comes the first one
+
+A satellite (1 to 32) has its Doppler shift in Hz, the half chip of its code at sample 0 (with a
+fraction where wanted), its C/N0 in dB-Hz, and how many code periods of its message are over at
+sample 0. Where no message is named it is a frame of 30 s that passes its parity and says nothing
+true. The noise has a standard deviation of 20 in each part.
+";
 
 /// The samples of a block, and the steps of a turn of the carrier.
 const BLOCK: u64 = 16384;
@@ -82,8 +90,31 @@ fn byte(value: f32) -> u8 {
     value.round() as i8 as u8
 }
 
+/// How a run ended: by what went wrong with standard output, where something did. Who has closed
+/// the pipe has what was wanted, and is told nothing.
+fn ended(written: io::Result<()>) -> ExitCode {
+    match written {
+        Ok(()) => ExitCode::SUCCESS,
+        Err(why) => {
+            if why.kind() != io::ErrorKind::BrokenPipe {
+                eprintln!("maker: standard output: {why}");
+            }
+            ExitCode::FAILURE
+        }
+    }
+}
+
 fn main() -> ExitCode {
-    let words: Vec<String> = std::env::args().skip(1).collect();
+    let words: Vec<String> = std::env::args_os()
+        .skip(1)
+        .map(|word| word.to_string_lossy().into_owned())
+        .collect();
+    let mut out = io::stdout().lock();
+    if let [word] = &words[..] {
+        if word == "--help" || word == "-h" {
+            return ended(out.write_all(HELP.as_bytes()));
+        }
+    }
     let (settings, satellites) = match settings::read(&words) {
         Ok(read) => read,
         Err(why) => {
@@ -95,8 +126,5 @@ fn main() -> ExitCode {
         .iter()
         .map(|named| Satellite::new(named, &settings))
         .collect();
-    match write(&settings, &mut satellites, &mut io::stdout().lock()) {
-        Ok(()) => ExitCode::SUCCESS,
-        Err(_) => ExitCode::FAILURE,
-    }
+    ended(write(&settings, &mut satellites, &mut out))
 }

@@ -33,11 +33,11 @@ pub fn read(words: &[String]) -> Result<(Settings, Vec<Named>), String> {
     let mut words = words.iter();
     while let Some(word) = words.next() {
         let Some(name) = word.strip_prefix("--") else {
-            satellites.push(named(word).ok_or(format!("'{word}' names no satellite"))?);
+            satellites.push(named(word).ok_or(format!("{word:?} names no satellite"))?);
             continue;
         };
-        let value = words.next().ok_or(format!("--{name} has no value"))?;
-        set(&mut settings, name, value).ok_or(format!("--{name} {value}"))?;
+        let value = words.next().ok_or(format!("{word:?} has no value"))?;
+        set(&mut settings, name, value).ok_or(format!("{word:?} {value:?} can't be taken"))?;
     }
     Ok((settings, satellites))
 }
