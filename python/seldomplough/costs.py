@@ -9,9 +9,10 @@ from __future__ import annotations
 
 from typing import Dict, List, Sequence, Tuple
 
+from seldomplough.codes import HALF_CHIPS
 from seldomplough.commands.answers import read_script
 from seldomplough.numbers import NUMBER
-from seldomplough.scripts import CLIENTS, HALF_CHIPS, Search
+from seldomplough.scripts import CLIENTS, Search
 
 # Seconds for a sample that a slot follows, and for one that a job reads.
 FOLLOWED, READ = 0.6e-9, 0.4e-9

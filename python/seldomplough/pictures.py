@@ -6,6 +6,7 @@ import math
 from statistics import mean, median_low
 from typing import Callable, Dict, Iterable, Iterator, List, NamedTuple, Optional, Tuple
 
+from seldomplough.codes import HALF_CHIPS
 from seldomplough.commanded import Command, Commanded
 from seldomplough.curves import Curve, Mark, Picture, Wanted
 from seldomplough.failures import Failure
@@ -15,8 +16,6 @@ from seldomplough.replies import PARTS
 # The most points of a curve whose points aren't joined, and the code periods of a mean.
 MOST_POINTS = 500
 PERIODS = 20
-# Half chips of a code.
-HALF_CHIPS = 2046
 # The times whose sums the plane shows, in seconds: while the loops pull in, and once they have.
 EARLY, LATE = (0.0, 0.2), (1.0, 1.3)
 

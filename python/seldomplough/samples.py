@@ -9,8 +9,9 @@ from array import array
 from statistics import NormalDist
 from typing import Any, Callable, Iterator, List, Optional, Sequence
 
+from seldomplough.codes import CHIPS
 from seldomplough.failures import WORDS, Failure
-from seldomplough.signals import CHIPS, CHIPS_A_BIT, DEVIATION, LEVELS, ROOM, Settings, Signal
+from seldomplough.signals import CHIPS_A_BIT, DEVIATION, LEVELS, ROOM, Settings, Signal
 
 # Samples that are made at once.
 SIZE = 65536
@@ -57,7 +58,7 @@ def plain(settings: Settings, signals: Sequence[Signal], levels: List[float]) ->
         block = [values[at::parts] for at in range(parts)]
         for it in signals:
             places = [int(it.start + it.speed * j) for j in numbers]
-            sizes = [it.chips[at % CHIPS] * it.bits[at // CHIPS_A_BIT] for at in places]
+            sizes = [it.signs[at % CHIPS] * it.bits[at // CHIPS_A_BIT] for at in places]
             for part, wave in zip(block, (math.cos, math.sin)):
                 part[:] = [x + a * wave(it.turn * j) for x, a, j in zip(part, sizes, numbers)]
         for at in range(parts):
@@ -71,14 +72,14 @@ def plain(settings: Settings, signals: Sequence[Signal], levels: List[float]) ->
 def by(module: Any, settings: Settings, signals: Sequence[Signal], levels: List[float]) -> Maker:
     """Makes blocks by numpy, step by step as without it."""
     parts, of_levels = settings.parts, module.array(levels)
-    codes = [(it, module.array(it.chips, float), module.array(it.bits)) for it in signals]
+    codes = [(it, module.array(it.signs, float), module.array(it.bits)) for it in signals]
 
     def make(drawn: bytes, first: int) -> bytes:
         values = of_levels[module.frombuffer(drawn, module.uint16)]
         numbers = module.arange(first, first + len(values) // parts, dtype=float)
-        for it, chips, bits in codes:
+        for it, signs, bits in codes:
             places = (it.start + it.speed * numbers).astype(module.int64)
-            sizes = chips[places % CHIPS] * bits[places // CHIPS_A_BIT]
+            sizes = signs[places % CHIPS] * bits[places // CHIPS_A_BIT]
             for at, wave in zip(range(parts), (module.cos, module.sin)):
                 values[at::parts] += sizes * wave(it.turn * numbers)
         result: bytes = ((values + 128.5).astype(module.uint8) ^ 128).tobytes()

@@ -7,11 +7,12 @@ import tempfile
 from contextlib import contextmanager
 from typing import Iterator, List, NamedTuple, Sequence
 
+from seldomplough.codes import HALF_CHIPS
+
 SATELLITES = range(1, 33)
 # Clients of a run, and the slots that each has without `--shares`.
 CLIENTS, SLOTS = 8, 4
-# Half chips of a code: the places that a bin is searched at. A cell is done each four samples.
-HALF_CHIPS = 2046
+# A cell is done each four samples.
 SAMPLES_A_CELL = 4
 
 Script = List[str]

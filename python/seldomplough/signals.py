@@ -9,6 +9,7 @@ import re
 from statistics import NormalDist
 from typing import List, NamedTuple, Tuple
 
+from seldomplough.codes import HALF_CHIPS, STAGES, chips
 from seldomplough.crystals import CARRIER
 from seldomplough.failures import shown
 from seldomplough.numbers import GREATEST_SHIFT
@@ -19,20 +20,12 @@ LEVELS = 65536
 # The greatest noise in a byte, and what that leaves for the satellites.
 ROOM = 127 - math.ceil(DEVIATION * NormalDist().inv_cdf(1 - 0.5 / LEVELS))
 
-CHIPS, CHIPS_A_SECOND, BITS_A_SECOND = 1023, 1023000, 50
+CHIPS_A_SECOND, BITS_A_SECOND = 1023000, 50
 CHIPS_A_BIT = CHIPS_A_SECOND // BITS_A_SECOND
-HALF_CHIPS = 2 * CHIPS
 # From here on a signal is too strong to be one, in dB-Hz.
 TOO_DENSE = 60
 
 PAIRS, REAL = 'iq-i8', 'i8'
-
-# The stages of the second register that make a satellite's code (IS-GPS-200, table 3-Ia).
-STAGES = (
-    (2, 6), (3, 7), (4, 8), (5, 9), (1, 9), (2, 10), (1, 8), (2, 9), (3, 10), (2, 3), (3, 4),
-    (5, 6), (6, 7), (7, 8), (8, 9), (9, 10), (1, 4), (2, 5), (3, 6), (4, 7), (5, 8), (6, 9),
-    (1, 3), (4, 6), (5, 7), (6, 8), (7, 9), (8, 10), (1, 6), (2, 7), (3, 8), (4, 9),
-)  # fmt: skip
 
 NUMBER = r'(-?[0-9]{1,9}(?:\.[0-9]{1,9})?)'
 WORD = re.compile(f'([0-9]{{1,2}}):{NUMBER}:{NUMBER}:{NUMBER}')
@@ -74,12 +67,12 @@ class Satellite(NamedTuple):
 
 class Signal(NamedTuple):
     """The signal of a satellite: the chips that have gone by sample 0 and go by in a sample, what
-    the carrier turns in a sample, its 1,023 chips, and its data bits times its amplitude."""
+    the carrier turns in a sample, the signs of its chips, and its data bits times its amplitude."""
 
     start: float
     speed: float
     turn: float
-    chips: List[int]
+    signs: List[int]
     bits: List[float]
     amplitude: float
 
@@ -104,18 +97,6 @@ def satellite(word: str) -> Satellite:
     return Satellite(number, doppler, half_chip, density, word)
 
 
-def chips(number: int) -> List[int]:
-    """The signs of a satellite's 1,023 chips (IS-GPS-200, section 3.3.2.3)."""
-    first, second, signs = [1] * 10, [1] * 10, []
-    one, other = STAGES[number - 1]
-    for _ in range(CHIPS):
-        signs.append(1 - 2 * (first[9] ^ second[one - 1] ^ second[other - 1]))
-        first = [first[2] ^ first[9], *first[:9]]
-        taps = second[1] ^ second[2] ^ second[5] ^ second[7] ^ second[8] ^ second[9]
-        second = [taps, *second[:9]]
-    return signs
-
-
 def signal(it: Satellite, settings: Settings) -> Signal:
     """The signal of a satellite in a recording."""
     rate, offset = settings.true_rate_and_offset()
@@ -129,7 +110,7 @@ def signal(it: Satellite, settings: Settings) -> Signal:
         it.half_chip / 2,
         CHIPS_A_SECOND * (1 + it.doppler / CARRIER) / rate,
         2 * math.pi * (offset + it.doppler) / rate,
-        chips(it.number),
+        [1 - 2 * chip for chip in chips(it.number)],
         [sign * amplitude for sign in signs],
         amplitude,
     )

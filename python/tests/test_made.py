@@ -14,26 +14,12 @@ from conftest import EXAMPLES, Command, refused
 from seldomplough import samples, signals
 from seldomplough.cli import main
 
-# The first ten chips of each satellite, the first one on top (IS-GPS-200, table 3-Ia).
-FIRST_CHIPS = (
-    '1440 1620 1710 1744 1133 1455 1131 1454 1626 1504 1642 1750 1764 1772 1775 1776 '
-    '1156 1467 1633 1715 1746 1763 1063 1706 1743 1761 1770 1774 1127 1453 1625 1712'
-).split()
-
 # How the stored recording of a crystal that is off was made: satellite, Doppler shift in Hz, half
 # chip at sample 0, C/N0 in dB-Hz.
 RATE, PPM, CARRIER = 2048000, 26.7, 1575.42e6
 MADE = {3: (1250, 700, 47), 6: (-2100, 67, 45), 17: (3300, 1510, 44)}
 # Hz that a tracked shift may waver, and half chips that a search may be beside the code.
 NEAR, BESIDE = 15, 1
-
-
-@pytest.mark.parametrize('number', range(1, 33))
-def test_codes(number: int) -> None:
-    signs = signals.chips(number)
-    assert len(signs) == 1023 and sum(signs) == -1
-    first = ''.join('1' if it < 0 else '0' for it in signs[:10])
-    assert f'{int(first, 2):o}' == FIRST_CHIPS[number - 1]
 
 
 def made(module: Any, *words: str, **settings: Any) -> bytes:

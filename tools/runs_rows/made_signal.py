@@ -1,10 +1,13 @@
-"""The signal of one satellite in two-bit real samples, by its formula.
+"""The signal of one satellite in two-bit real samples, by its formula. The crate `made_signals` has
+it once more, for tests that are proved: this check needs the built program and no compiler.
 
 Its sign is that of a cosine times that of the chip, turned where the data bit is 1, and its size is
 3 where that of the cosine is 2. Millions of samples are made at once: long numbers hold a phase in
 each of their lanes of some bytes, and one addition moves all of them on."""
 import itertools
 from dataclasses import dataclass
+
+from seldomplough.codes import chips
 
 # A code's cycle of 1,023 chips, and half a chip, in 2^-32 chip.
 CYCLE = 1023 << 32
@@ -13,26 +16,8 @@ HALF_CHIP = 1 << 31
 COSINES = (2, 1, -1, -2, -2, -1, 1, 2)
 # The values by their two bits, which are the sign, and whether the size is 3.
 VALUES = (1, 3, -1, -3)
-# The two stages of the second register whose exclusive or is a satellite's own, from satellite 1 on
-# (IS-GPS-200, section 3.3.2.3).
-STAGES = (
-    (2, 6), (3, 7), (4, 8), (5, 9), (1, 9), (2, 10), (1, 8), (2, 9), (3, 10), (2, 3), (3, 4),
-    (5, 6), (6, 7), (7, 8), (8, 9), (9, 10), (1, 4), (2, 5), (3, 6), (4, 7), (5, 8), (6, 9),
-    (1, 3), (4, 6), (5, 7), (6, 8), (7, 9), (8, 10), (1, 6), (2, 7), (3, 8), (4, 9))
 # The two bits of a sample, by the top byte of the carrier's phase.
 CARRIER = bytes({1: 0, 2: 1, -1: 2, -2: 3}[COSINES[top >> 5]] for top in range(256))
-
-
-def chips_of(satellite):
-    """The 1,023 chips of a satellite, by two registers of ten stages that begin with ones."""
-    first, second, chips = [1] * 10, [1] * 10, []
-    one, other = STAGES[satellite - 1]
-    for _ in range(1023):
-        chips.append(first[9] ^ second[one - 1] ^ second[other - 1])
-        first = [first[2] ^ first[9], *first[:9]]
-        turned = second[1] ^ second[2] ^ second[5] ^ second[7] ^ second[8] ^ second[9]
-        second = [turned, *second[:9]]
-    return chips
 
 
 def one_bit(bits):
@@ -43,8 +28,8 @@ def one_bit(bits):
 def code_file(samples=2048):
     """One-bit samples, a multiple of eight: sample n is the chip of satellite 1 with number
     (n mod 2,046) / 2."""
-    chips = chips_of(1)
-    return one_bit([chips[number % 2046 // 2] for number in range(samples)])
+    of_first = chips(1)
+    return one_bit([of_first[number % 2046 // 2] for number in range(samples)])
 
 
 def carrier_step(rate, offset, shift):
@@ -125,7 +110,7 @@ class Signal:
 
     def signs(self, lanes, phase, count, turned):
         """The sign bits of so many samples, from a phase of the code on."""
-        twice = bytes(2 * (chip ^ turned) for chip in chips_of(self.satellite)) * 2
+        twice = bytes(2 * (chip ^ turned) for chip in chips(self.satellite)) * 2
         tops, at, signs = lanes.tops(phase, count), 0, []
         # A top byte is a chip's number modulo 256.
         for block in range(phase >> 40, (phase + count * lanes.step >> 40) + 1):

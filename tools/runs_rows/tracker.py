@@ -1,8 +1,11 @@
 """A satellite that is tracked from the first sample on, by the plain formulas, and the lines of a
-client that tracks it in slot 0. It shares nothing with the receiver."""
+client that tracks it in slot 0. It shares nothing with the receiver. The crate `made_signals` has a
+tracker once more, as it has the signal, for tests that are proved."""
 from operator import mul
 
-from .made_signal import COSINES, CYCLE, HALF_CHIP, VALUES, carrier_step, chips_of, code_step
+from seldomplough.codes import chips
+
+from .made_signal import COSINES, CYCLE, HALF_CHIP, VALUES, carrier_step, code_step
 
 SINES = (1, 2, 2, 1, -1, -2, -2, -1)
 # The most that a shift may be in size, in 1/65536 Hz.
@@ -92,7 +95,7 @@ class Reference:
     def __init__(self, signal, samples, counts=0):
         self.signal = signal
         self.values = unpacked(samples)
-        self.signs = [1 - 2 * chip for chip in chips_of(signal.satellite)] * 3
+        self.signs = [1 - 2 * chip for chip in chips(signal.satellite)] * 3
         self.time = 0
         self.code = signal.half_chip * HALF_CHIP
         self.carrier = 0
