@@ -1,4 +1,8 @@
-"""The samples of made recordings: by numpy where it is installed, else ten times slower without."""
+"""The samples of made recordings: by numpy where it is installed, else ten times slower without.
+
+`tools/maker` of a checkout is quicker, and sends a message. This stands beside it since the
+companion is installed where nothing can be compiled, and since examples and the lines of pages are
+of these bytes: their noise is that of Python's generator."""
 
 from __future__ import annotations
 

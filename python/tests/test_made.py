@@ -9,7 +9,7 @@ import sys
 from typing import Any, Dict, Iterator, List, Tuple
 
 import pytest
-from conftest import EXAMPLES, Command, refused
+from conftest import EXAMPLES, Command, built, refused
 
 from seldomplough import samples, signals
 from seldomplough.cli import main
@@ -18,6 +18,8 @@ from seldomplough.cli import main
 # chip at sample 0, C/N0 in dB-Hz.
 RATE, PPM, CARRIER = 2048000, 26.7, 1575.42e6
 MADE = {3: (1250, 700, 47), 6: (-2100, 67, 45), 17: (3300, 1510, 44)}
+SATELLITES = [':'.join(map(str, (it, *numbers))) for it, numbers in MADE.items()]
+WORDS = ('--crystal', str(PPM), '--rate', str(RATE), '--seconds', '2', *SATELLITES)
 # Hz that a tracked shift may waver, and half chips that a search may be beside the code.
 NEAR, BESIDE = 15, 1
 
@@ -88,25 +90,33 @@ def make(capfdbinary: pytest.CaptureFixture[bytes], tmp_path: os.PathLike[str]) 
     yield make
 
 
-def test_the_stored_recording_is_the_one_that_is_made(make: Any, plain: Dict[str, str]) -> None:
-    words = [':'.join(map(str, (it, *numbers))) for it, numbers in MADE.items()]
-    data = make('--crystal', str(PPM), '--rate', str(RATE), '--seconds', '2', *words)
-    pack = [plain['--pack'], '--from', 'iq-i8', '--to', 'iq1']
-    packed = subprocess.run(pack, input=data, stdout=subprocess.PIPE, check=True).stdout
-    with open(os.path.join(EXAMPLES, 'crystal.iq1'), 'rb') as file:
-        assert packed == file.read()
+def written(*command: str, given: bytes = b'') -> bytes:
+    """What a program writes over these bytes."""
+    return subprocess.run(command, input=given, stdout=subprocess.PIPE, check=True).stdout
 
 
-def test_the_stored_lines_are_true(plain: Dict[str, str]) -> None:
+def packed(data: bytes, plain: Dict[str, str]) -> bytes:
+    """Pairs of bytes as the stored recording has them."""
+    return written(plain['--pack'], '--from', 'iq-i8', '--to', 'iq1', given=data)
+
+
+def stored(kind: str) -> bytes:
+    """A file of the recording of a crystal that is off."""
+    with open(os.path.join(EXAMPLES, f'crystal.{kind}'), 'rb') as file:
+        return file.read()
+
+
+def received(data: bytes, plain: Dict[str, str]) -> bytes:
+    """The lines of the stored script over a recording of this crystal."""
     # By the definition of ppm: the crystal is fast, so the signal lies below 0.
     rate, offset = round(RATE * (1 + PPM / 1e6)), round(CARRIER * PPM / 1e6)
     words = ['--rate', str(rate), '--offset', str(offset), '--minus', '--format', 'iq1']
-    path = os.path.join(EXAMPLES, 'crystal')
-    with open(f'{path}.iq1', 'rb') as file:
-        command = [plain['--receiver'], *words, f'{path}.script']
-        printed = subprocess.run(command, stdin=file, stdout=subprocess.PIPE, check=True).stdout
-    with open(f'{path}.expected', 'rb') as file:
-        assert printed == file.read()
+    script = os.path.join(EXAMPLES, 'crystal.script')
+    return written(plain['--receiver'], *words, script, given=data)
+
+
+def see_that_lines_are_true(printed: bytes) -> None:
+    """Sees that the lines have the satellites where they were made."""
     found, shifts = {}, {}
     for line in printed.decode().splitlines():
         it = line.split()
@@ -119,6 +129,22 @@ def test_the_stored_lines_are_true(plain: Dict[str, str]) -> None:
         assert abs(found[number][0] - shift) <= 250
         assert abs(found[number][1] - half_chip) <= BESIDE
         assert abs(shifts[number] - shift) <= NEAR
+
+
+def test_the_stored_recording_is_the_one_that_is_made(make: Any, plain: Dict[str, str]) -> None:
+    assert packed(make(*WORDS), plain) == stored('iq1')
+
+
+def test_the_stored_lines_are_true(plain: Dict[str, str]) -> None:
+    printed = received(stored('iq1'), plain)
+    assert printed == stored('expected')
+    see_that_lines_are_true(printed)
+
+
+def test_the_maker_takes_the_same_words(plain: Dict[str, str]) -> None:
+    data = written(built('maker', 'maker'), *WORDS)
+    assert len(data) == 4 * RATE
+    see_that_lines_are_true(received(packed(data, plain), plain))
 
 
 def test_without_numpy(make: Any, monkeypatch: pytest.MonkeyPatch) -> None:

@@ -41,7 +41,7 @@ def builds(rows, folder):
     rows.say('tools/maker, another source', made(checkout.run(*FEW), 1))
     rows.say('tools/maker --help', [] if 'PERIODS' in checkout.run('tools/maker', '--help').said
              else ['it has no help'])
-    for given in ('5',), ('--rate', '5'), ('--kind',), ('--message', '/nowhere'), ('1:0:0:40',):
+    for given in ('5',), ('--rate', '5'), ('--kind',), ('--message', '/nowhere'), ('1:0:0',):
         rows.say(f'tools/maker {given}', refused(checkout.run('tools/maker', *given), 'maker: .*'))
 
 

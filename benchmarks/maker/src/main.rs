@@ -20,9 +20,11 @@ const HELP: &str = "\
 Writes a made recording to standard output: white noise, and satellites in it where they are named.
 The same command always writes the same bytes.
 
-maker [OPTION VALUE].. [SATELLITE:DOPPLER:HALF:CN0:PERIODS]..
-  --samples N     2046000 if not given
-  --rate HZ       samples a second, 2046000 if not given
+maker [OPTION VALUE].. [SATELLITE:DOPPLER:HALF:CN0[:PERIODS]]..
+  --seconds S     whole seconds, 1 if not given
+  --samples N     so many samples in the place of seconds
+  --rate HZ       samples a second, at least 1100000; 2046000 if not given
+  --crystal PPM   by how many parts in a million the radio's crystal is too fast, 0 if not given
   --offset HZ     the intermediate frequency, 0 if not given
   --kind KIND     iq-i8 if not given: pairs of bytes; i8: one byte a sample, in phase
   --seed N        of the noise and of the messages, 1 if not given
@@ -32,8 +34,8 @@ maker [OPTION VALUE].. [SATELLITE:DOPPLER:HALF:CN0:PERIODS]..
 
 A satellite (1 to 32) has its Doppler shift in Hz, the half chip of its code at sample 0 (with a
 fraction where wanted), its C/N0 in dB-Hz, and how many code periods of its message are over at
-sample 0. Where no message is named it is a frame of 30 s that passes its parity and says nothing
-true. The noise has a standard deviation of 20 in each part.
+sample 0, 0 if not given. Where no message is named it is a frame of 30 s that passes its parity and
+says nothing true. The noise has a standard deviation of 20 in each part.
 ";
 
 /// The samples of a block, and the steps of a turn of the carrier.
@@ -51,7 +53,7 @@ fn write(
         .map(|at| (at as f64 * turn).cos() as f32)
         .collect();
     let mut chance = Chance::new(settings.seed);
-    let mut left = settings.samples;
+    let mut left = settings.samples();
     while left > 0 {
         let size = left.min(BLOCK);
         left -= size;

@@ -11,7 +11,7 @@ const CODE: u64 = CHIPS as u64 * CHIP;
 
 /// The chips a second, and the carrier in Hz (IS-GPS-200, section 3.3.1).
 const CHIP_RATE: f64 = 1_023_000.0;
-const CARRIER: f64 = 1_575_420_000.0;
+pub const CARRIER: f64 = 1_575_420_000.0;
 
 /// What the arguments say of a satellite.
 pub struct Named {
@@ -40,7 +40,7 @@ pub struct Satellite {
 
 impl Satellite {
     pub fn new(named: &Named, settings: &Settings) -> Self {
-        let rate = settings.rate as f64;
+        let (rate, offset) = settings.true_rate_and_offset();
         let seed = settings
             .seed
             .wrapping_mul(64)
@@ -49,7 +49,7 @@ impl Satellite {
         // samples. The power of an amplitude a is a^2 in pairs, and a^2 / 2 in real samples.
         let parts = if settings.pairs { 2.0 } else { 1.0 };
         let ratio = 10f64.powf(named.density / 10.0) / rate * 4.0 / parts;
-        let turns = (settings.offset + named.doppler) / rate;
+        let turns = (offset + named.doppler) / rate;
         let chips = CHIP_RATE * (1.0 + named.doppler / CARRIER) / rate;
         Satellite {
             signs: chip_signs(named.satellite),
