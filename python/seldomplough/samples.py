@@ -52,9 +52,18 @@ def numpy() -> Optional[Any]:
     return module
 
 
+def complement(value: float) -> int:
+    """The byte of two's complement of the nearest whole number."""
+    return int(value + 128.5) ^ 128
+
+
 def plain(settings: Settings, signals: Sequence[Signal], levels: List[float]) -> Maker:
     """Makes blocks without numpy."""
     parts = settings.parts
+    if not signals:
+        # A level of the noise is a byte then, whatever the sample's number is.
+        table = [complement(it) for it in levels]
+        return lambda drawn, first: bytes(map(table.__getitem__, array('H', drawn)))
 
     def make(drawn: bytes, first: int) -> bytes:
         values = [levels[it] for it in array('H', drawn)]
@@ -67,8 +76,7 @@ def plain(settings: Settings, signals: Sequence[Signal], levels: List[float]) ->
                 part[:] = [x + a * wave(it.turn * j) for x, a, j in zip(part, sizes, numbers)]
         for at in range(parts):
             values[at::parts] = block[at]
-        # Two's complement of the nearest whole number.
-        return bytes([int(x + 128.5) ^ 128 for x in values])
+        return bytes(map(complement, values))
 
     return make
 
