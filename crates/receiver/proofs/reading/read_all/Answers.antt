@@ -101,7 +101,8 @@ module _ (g : Over) (c : After-new-piece g) where
 
 pub returns-in_err-take_piece-clause-reads : goal.returns-in_err-take_piece-clause-reads
 returns-in_err-take_piece-clause-reads g c settings clients start at =
-    let p : After-new-piece g = (goal.at.returns-in_err-take_piece-clause-reads g c).After-new-piece in
+    let p : After-new-piece g =
+    (goal.at.returns-in_err-take_piece-clause-reads g c).After-new-piece in
     MatchResult-from_err c.from_residual-in_err-take_piece.result _ _
     c.from_residual-in_err-take_piece.ensures.0 (λ _.
     let same = ap (λ (r : Settings). r.packing) at.stands.bank.recorded in
@@ -119,7 +120,8 @@ returns-in_err-take_piece-clause-reads g c settings clients start at =
 
 pub returns-then-used-count-clause-reads : goal.returns-then-used-count-clause-reads
 returns-then-used-count-clause-reads g c settings clients start at =
-    let p : After-new-piece g = (goal.at.returns-then-used-count-clause-reads g c).After-new-piece in
+    let p : After-new-piece g =
+    (goal.at.returns-then-used-count-clause-reads g c).After-new-piece in
     let same = ap (λ (r : Settings). r.packing) at.stands.bank.recorded in
     let Q : List Sample → Type 0 =
     λ ys. IsWrittenTo settings clients start c.take_piece.new.session
