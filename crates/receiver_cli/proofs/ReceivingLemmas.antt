@@ -7,7 +7,7 @@ use Rattle.definitions.specs.Oscillators.{Settings as DefinedSettings}
 use Rattle.receiver.specs.declared.faults.RunFault.{RunFault}
 use Rattle.receiver.specs.Runs.{Devices, IsRun, task_of}
 use Rattle.receiver_cli.specs.declared.failure.Failure.{Failure}
-use Rattle.receiver_cli.specs.declared.failure.Failure.TheVariants.{NoMemory, Shares, Script}
+use Rattle.receiver_cli.specs.declared.failure.Failure.TheVariants.{Options}
 use Rattle.receiver_cli.specs.declared.failure.Failure.TheVariants.{Settings, Run}
 use Rattle.receiver_options.specs.Requests.{Asked, IsAllowed, recording_of}
 use Rattle.receiver_options.specs.declared.fault.OptionFault.{OptionFault}
@@ -15,7 +15,7 @@ use Rattle.receiver_options.specs.declared.fault.OptionFault.TheVariants as opti
 use Rattle.receiver_options.specs.ScriptTexts.{AreTextsOf, SomeMayBeRefused}
 use Rattle.receiver_cli.specs.Programs.{one_or_more, RunsTexts, RunsFiles}
 use Rattle.receiver_options.specs.Requests.{shares_by}
-use Rattle.receiver_cli.specs.Programs.{Receives, clients_of, failure_of}
+use Rattle.receiver_cli.specs.Programs.{Receives, clients_of}
 
 -- the scripts of a run are those that were handed to it
 pub ran-handed : {A : Type 0} (text : A → List ℕ) (settings : DefinedSettings) (shares : List ℕ)
@@ -42,7 +42,7 @@ as-many-clients known text handed paths n are is =
 
 -- the program ends before its run
 pub failed-before : (asked : Asked) (files : List (Option (List ℕ))) (devices : Devices)
-    (fault : OptionFault) (r : Result ℕ Failure) → r ≡ Err (failure_of fault) → IsAllowed asked
+    (fault : OptionFault) (r : Result ℕ Failure) → r ≡ Err (Options fault) → IsAllowed asked
     → IsSome (shares_by (clients_of files) asked.shares)
     → ((fault ≡ options.NoMemory) ⊎ ((fault ≡ options.Script) × SomeMayBeRefused files))
     → Receives asked files devices devices r
@@ -52,7 +52,7 @@ failed-before asked files devices fault r is allowed shared (inr h) =
 
 -- for its shares
 pub failed-at-shares : (asked : Asked) (files : List (Option (List ℕ))) (devices : Devices)
-    (fault : OptionFault) (r : Result ℕ Failure) → r ≡ Err (failure_of fault) → IsAllowed asked
+    (fault : OptionFault) (r : Result ℕ Failure) → r ≡ Err (Options fault) → IsAllowed asked
     → ((fault ≡ options.NoMemory) ⊎ ((fault ≡ options.Shares)
     × (shares_by (clients_of files) asked.shares ≡ None)))
     → Receives asked files devices devices r
@@ -90,7 +90,7 @@ received asked files settings shares texts old new r allowed shared is all =
         → Receives asked files old new r
     by_answer (Ok n) ran = runs (Ok n) ran
     by_answer (Err (Run fault)) ran = runs (Err fault) ran
-    by_answer (Err NoMemory) ran = (allowed, ran)
-    by_answer (Err Shares) ran = absurd ran
-    by_answer (Err Script) ran = absurd ran
+    by_answer (Err (Options options.NoMemory)) ran = (allowed, ran)
+    by_answer (Err (Options options.Shares)) ran = absurd ran
+    by_answer (Err (Options options.Script)) ran = absurd ran
     by_answer (Err (Settings fault)) ran = absurd ran

@@ -10,11 +10,9 @@ use Rattle.receiver.specs.declared.faults.RunFault.TheVariants as faults
 use Rattle.receiver.specs.Runs.{Devices, IsRun, task_of}
 use Rattle.receiver_options.specs.Requests.{Asked, IsAllowed, recording_of, shares_by}
 use Rattle.receiver_options.specs.ScriptTexts.{AreTextsOf, SomeMayBeRefused}
-use Rattle.receiver_options.specs.declared.fault.OptionFault.{OptionFault}
 use Rattle.receiver_options.specs.declared.fault.OptionFault.TheVariants as options
 use Rattle.receiver_cli.specs.declared.failure.Failure.{Failure}
-use Rattle.receiver_cli.specs.declared.failure.Failure.TheVariants.{NoMemory, Shares, Script}
-use Rattle.receiver_cli.specs.declared.failure.Failure.TheVariants.{Settings, Run}
+use Rattle.receiver_cli.specs.declared.failure.Failure.TheVariants.{Options, Settings, Run}
 
 -- the scripts of a run: one a file, or an empty one
 abbrev pub one_or_more : List (List ℕ) → List (List ℕ)
@@ -29,9 +27,9 @@ RunsTexts settings shares texts old new (Ok n) =
     IsRun (task_of settings shares (one_or_more texts) MOST_TIME) old new (Ok n)
 RunsTexts settings shares texts old new (Err (Run fault)) =
     IsRun (task_of settings shares (one_or_more texts) MOST_TIME) old new (Err fault)
-RunsTexts settings shares texts old new (Err NoMemory) = new ≡ old
-RunsTexts settings shares texts old new (Err Script) = ⊥
-RunsTexts settings shares texts old new (Err Shares) = ⊥
+RunsTexts settings shares texts old new (Err (Options options.NoMemory)) = new ≡ old
+RunsTexts settings shares texts old new (Err (Options options.Script)) = ⊥
+RunsTexts settings shares texts old new (Err (Options options.Shares)) = ⊥
 RunsTexts settings shares texts old new (Err (Settings fault)) = ⊥
 
 -- how many clients these files make
@@ -54,10 +52,10 @@ pub record RunsFiles (asked : Asked) (files : List (Option (List ℕ))) (old new
 abbrev pub Receives : Asked → List (Option (List ℕ)) → Devices → Devices → Result ℕ Failure → Type 0
 Receives asked files old new (Ok n) = RunsFiles asked files old new (Ok n)
 Receives asked files old new (Err (Run fault)) = RunsFiles asked files old new (Err fault)
-Receives asked files old new (Err NoMemory) = IsAllowed asked × (new ≡ old)
-Receives asked files old new (Err Shares) =
+Receives asked files old new (Err (Options options.NoMemory)) = IsAllowed asked × (new ≡ old)
+Receives asked files old new (Err (Options options.Shares)) =
     IsAllowed asked × (shares_by (clients_of files) asked.shares ≡ None) × (new ≡ old)
-Receives asked files old new (Err Script) =
+Receives asked files old new (Err (Options options.Script)) =
     IsAllowed asked × IsSome (shares_by (clients_of files) asked.shares) × SomeMayBeRefused files
     × (new ≡ old)
 Receives asked files old new (Err (Settings Rate)) = ¬ IsRate asked.rate × (new ≡ old)
@@ -66,9 +64,7 @@ Receives asked files old new (Err (Settings Offset)) =
 
 -- the program ended before its run read or wrote: before the run, or where the run was refused
 abbrev pub IsBeforeReading : Failure → Type 0
-IsBeforeReading NoMemory = Unit {0}
-IsBeforeReading Shares = Unit {0}
-IsBeforeReading Script = Unit {0}
+IsBeforeReading (Options fault) = Unit {0}
 IsBeforeReading (Settings fault) = Unit {0}
 IsBeforeReading (Run faults.Clients) = Unit {0}
 IsBeforeReading (Run faults.Share) = Unit {0}
@@ -80,14 +76,8 @@ IsBeforeReading (Run faults.TooLong) = ⊥
 -- the exit status: 2 where what was asked for is at fault, and 1 where the run or memory is
 abbrev pub status_of : Result ℕ Failure → ℕ
 status_of (Ok n) = 0
-status_of (Err NoMemory) = 1
-status_of (Err Shares) = 2
-status_of (Err Script) = 2
+status_of (Err (Options options.NoMemory)) = 1
+status_of (Err (Options options.Shares)) = 2
+status_of (Err (Options options.Script)) = 2
 status_of (Err (Settings fault)) = 2
 status_of (Err (Run fault)) = 1
-
--- the failure of shares or scripts that can't be had
-abbrev pub failure_of : OptionFault → Failure
-failure_of options.NoMemory = NoMemory
-failure_of options.Shares = Shares
-failure_of options.Script = Script

@@ -1,8 +1,9 @@
 //! Why the program ends early, and with which status.
 
 ghost use Rattle.std.specs.Prelude.{◌≡◌};
-ghost use Rattle.receiver_cli.specs.declared.failure.Failure.TheVariants.{NoMemory};
-ghost use Rattle.receiver_cli.specs.Programs.{status_of, failure_of};
+ghost use Rattle.receiver_options.specs.declared.fault.OptionFault.TheVariants as options;
+ghost use Rattle.receiver_cli.specs.declared.failure.Failure.TheVariants.{Options};
+ghost use Rattle.receiver_cli.specs.Programs.{status_of};
 
 use oscillators::SettingsFault;
 use receiver::RunFault;
@@ -13,12 +14,8 @@ use std::fmt::{self, Display, Formatter, Write};
 /// Why the program ends early, but for a command line that isn't understood.
 #[derive(Clone, Copy, Debug, PartialEq, Eq)]
 pub enum Failure {
-    /// There was no memory for the command line or a script.
-    NoMemory,
-    /// The shares of the slots aren't a digit from 1 to 8 for each script.
-    Shares,
-    /// A script couldn't be read, or is longer than 16 MiB.
-    Script,
+    /// The command line, the shares or the scripts that it asks for can't be had.
+    Options(OptionFault),
     /// The settings of the recording are refused.
     Settings(SettingsFault),
     /// The run ended early.
@@ -28,18 +25,18 @@ pub enum Failure {
 impl Display for Failure {
     /// The word that the program prints for it on standard error.
     fn fmt<W: Write>(&self, f: &mut Formatter<W>) -> fmt::Result {
-        f.write_str(match self {
-            Failure::NoMemory | Failure::Run(RunFault::NoMemory) => "no memory",
-            Failure::Shares => "shares",
-            Failure::Script => "script",
+        let word = match self {
+            Failure::Options(fault) => return write!(f, "{fault}"),
             Failure::Settings(SettingsFault::Rate) => "rate",
             Failure::Settings(SettingsFault::Offset) => "offset",
+            Failure::Run(RunFault::NoMemory) => "no memory",
             Failure::Run(RunFault::Clients) => "clients",
             Failure::Run(RunFault::Share) => "share",
             Failure::Run(RunFault::Read) => "read",
             Failure::Run(RunFault::Write) => "write",
             Failure::Run(RunFault::TooLong) => "too long",
-        })
+        };
+        f.write_str(word)
     }
 }
 
@@ -50,35 +47,31 @@ pub fn status(ended: Result<u64, Failure>) -> u8
 {
     match ended {
         Ok(_) => 0,
-        Err(Failure::NoMemory | Failure::Run(_)) => 1,
-        Err(Failure::Shares | Failure::Script | Failure::Settings(_)) => 2,
+        Err(Failure::Options(OptionFault::NoMemory) | Failure::Run(_)) => 1,
+        Err(Failure::Options(_) | Failure::Settings(_)) => 2,
     }
 }
 
 impl From<AllocError> for Failure {
-    ghost from_gives = { λ _ failure. failure ≡ NoMemory };
+    ghost from_gives = { λ _ failure. failure ≡ Options options.NoMemory };
 
     fn from(_: AllocError) -> Failure {
-        Failure::NoMemory
+        Failure::Options(OptionFault::NoMemory)
     }
 }
 
 impl<T: Drop> From<AllocFailed<T>> for Failure {
-    ghost from_gives = { λ _ failure. failure ≡ NoMemory };
+    ghost from_gives = { λ _ failure. failure ≡ Options options.NoMemory };
 
     fn from(_: AllocFailed<T>) -> Failure {
-        Failure::NoMemory
+        Failure::Options(OptionFault::NoMemory)
     }
 }
 
 impl From<OptionFault> for Failure {
-    ghost from_gives = { λ fault failure. failure ≡ failure_of fault };
+    ghost from_gives = { λ fault failure. failure ≡ Options fault };
 
     fn from(fault: OptionFault) -> Failure {
-        match fault {
-            OptionFault::NoMemory => Failure::NoMemory,
-            OptionFault::Shares => Failure::Shares,
-            OptionFault::Script => Failure::Script,
-        }
+        Failure::Options(fault)
     }
 }

@@ -12,7 +12,7 @@ use crate::receiving::receive;
 use clap::Error;
 use clap::error::ErrorKind;
 use receiver::{Sink, Source};
-use receiver_options::{CommandLine, ScriptFiles};
+use receiver_options::{CommandLine, OptionFault, ScriptFiles};
 use std::alloc::{AllocError, Global};
 use std::io::Eprint;
 
@@ -39,7 +39,7 @@ where
 {
     match room_for_stack(rt.alloc()) {
         Ok(()) => carry_out_in_room(rt, line, files, reader, writer),
-        Err(AllocError) => tell(rt, Err(Failure::NoMemory)),
+        Err(AllocError) => tell(rt, Err(Failure::Options(OptionFault::NoMemory))),
     }
 }
 
@@ -77,7 +77,7 @@ where
 {
     let words = match line.words(rt.alloc()) {
         Ok(words) => words,
-        Err(AllocError) => return tell(rt, Err(Failure::NoMemory)),
+        Err(AllocError) => return tell(rt, Err(Failure::Options(OptionFault::NoMemory))),
     };
     match receiver_options::matches(rt.alloc(), &words) {
         Ok(matches) => tell(rt, receive(rt.alloc(), files, &matches, reader, writer)),
@@ -93,7 +93,7 @@ fn refuse<E: Eprint>(rt: &E, words: &[String], error: Error) -> Outcome
 {
     match error.kind() {
         ErrorKind::DisplayHelp | ErrorKind::DisplayVersion => Outcome::Help(error),
-        ErrorKind::OutOfMemory => tell(rt, Err(Failure::NoMemory)),
+        ErrorKind::OutOfMemory => tell(rt, Err(Failure::Options(OptionFault::NoMemory))),
         _ => {
             // Where standard error fails too, only the status shows it.
             let _ = eprint!(rt; "{error}");

@@ -4,6 +4,7 @@ ghost use Rattle.std.specs.Prelude.{◌≡◌, map, IfOk, IfErr};
 ghost use Rattle.receiver_options.specs.CommandLines.{options_in};
 ghost use Rattle.receiver_options.specs.Requests.{asked_in, paths_in};
 ghost use Rattle.receiver.specs.Runs.{devices_at};
+ghost use Rattle.receiver_options.specs.declared.fault.OptionFault.TheVariants as options;
 ghost use Rattle.receiver_cli.specs.Programs.{Receives, RunsTexts, IsBeforeReading, one_or_more};
 
 use crate::failure::Failure;
@@ -67,7 +68,7 @@ fn run_texts<R: Source, W: Sink>(
 fn one_or_more<'t>(alloc: Global, texts: &'t [Vec<u8>]) -> Result<Vec<&'t [u8]>, Failure>
     ensures scripts { IfOk result (λ scripts. map (λ script. script.now) scripts.items
         ≡ one_or_more (map (λ text. text.items) texts.now)) }
-    ensures fault { IfErr result (λ failure. failure ≡ Failure.NoMemory) }
+    ensures fault { IfErr result (λ failure. failure ≡ Failure.Options options.NoMemory) }
 {
     let mut scripts: Vec<&[u8]> = Vec::new(alloc);
     for text in texts {

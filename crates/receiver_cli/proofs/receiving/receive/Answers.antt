@@ -4,7 +4,8 @@ use Rattle.std.proofs.lemmas.Simd.{map-map}
 use Rattle.receiver_options.specs.CommandLines.{options_in}
 use Rattle.receiver_options.specs.Requests.{paths_in}
 use Rattle.receiver_options.specs.ScriptTexts.{AreTextsOf}
-use Rattle.receiver_cli.specs.Programs.{clients_of, failure_of}
+use Rattle.receiver_cli.specs.Programs.{clients_of}
+use Rattle.receiver_cli.specs.declared.failure.Failure.TheVariants.{Options}
 use Rattle.receiver_cli.proofs.ReceivingLemmas.{failed-before, failed-at-shares, received, err-is}
 use Rattle.receiver_cli.proofs.ReceivingLemmas.{is-some, as-many-clients}
 use Rattle.receiver_cli.proofs.receiving.receive.Goals as goal
@@ -16,7 +17,7 @@ returns-in_err-shares-clause-receives g c =
     as-many-clients known (λ path. path.now) c.scripts-paths.result.now _ c.max.result
     c.scripts-paths.ensures c.max.ensures in
     failed-at-shares _ _ _ c.in_err-shares.field-0.0 c.from_residual.result
-    (err-is c.from_residual.result (failure_of c.in_err-shares.field-0.0)
+    (err-is c.from_residual.result (Options c.in_err-shares.field-0.0)
     c.from_residual.ensures.1)
     c.in-Ok.ensures.allowed (rw many at c.in_err-shares.ensures.fault)
 
@@ -31,7 +32,7 @@ returns-in_err-texts-clause-receives g c =
     as-many-clients known (λ path. path.now) c.scripts-paths.result.now _ c.max.result
     c.scripts-paths.ensures c.max.ensures in
     failed-before _ _ _ c.in_err-texts.field-0.0 c.from_residual-in_err-texts.result
-    (err-is c.from_residual-in_err-texts.result (failure_of c.in_err-texts.field-0.0)
+    (err-is c.from_residual-in_err-texts.result (Options c.in_err-texts.field-0.0)
     c.from_residual-in_err-texts.ensures.1)
     c.in-Ok.ensures.allowed
     (is-some _ c.in_ok-shares.shares.items (rw many at c.in_ok-shares.ensures.given))
