@@ -1,13 +1,13 @@
-use Rattle.std.proofs.Common.{rules, append-nil, ◌≡◌, ◌∙◌, ℕ, ◌+◌, ◌-◌, ◌/◌, ◌≤◌, List, ◌++◌}
+use Rattle.std.proofs.Common.{rules, append-nil, ◌≡◌, ◌∙◌, ℕ, ◌+◌, ◌-◌, ◌*◌, ◌/◌, ◌≤◌, List, ◌++◌}
 use Rattle.std.proofs.Common.{length, take, ap, sym, refl, [], subst, ap₂, arith, min}
-use Rattle.std.specs.Prelude.{◌||◌, Option}
+use Rattle.std.specs.Prelude.{◌||◌}
 use Rattle.std.specs.Io.KnownBytes.{Consumes}
 use Rattle.std.proofs.Math.Bool.{or-false}
 use Rattle.std.proofs.lemmas.List.{length-take-le}
 use Rattle.std.proofs.lemmas.Result.{MatchResult-from_err}
 use Rattle.std.proofs.KnownBytes.{Consumes-trans, Consumes-kept, Consumes-nil}
 use Rattle.definitions.specs.Samples.{Sample, Packing, samples, sample_count, samples_per_byte}
-use Rattle.definitions.specs.Receiver.{body, Client}
+use Rattle.definitions.specs.Receiver.{body}
 use Rattle.definitions.specs.Oscillators.{Settings}
 use Rattle.receiver.specs.Sessions.{packing_in, time_of}
 use Rattle.receiver.specs.Texts.{AppendsPart}
@@ -22,149 +22,140 @@ use Rattle.receiver.specs.Outputs.{promised}
 use Rattle.receiver.proofs.OutputLemmas.{nothing-written, wrote-then, writes-broke}
 use Rattle.receiver.proofs.OutputLemmas.{writes-ok}
 use Rattle.receiver.proofs.RunLemmas.{written-kept}
-use Rattle.receiver.proofs.reading.read_all.Given.{Over}
-use Rattle.receiver.proofs.reading.read_all.Goals.{After-new-piece}
 use Rattle.receiver.proofs.reading.read_all.Goals as goal
 
--- what the bytes of a read are, of which a piece is taken
-module _ (g : Over) (c : After-new-piece g) where
-  abbrev before : List ℕ
-  before = c.loop-reader.invariant.read.0
-
-  abbrev given : List ℕ
-  given = take c.in-Ok.count c.read.new.buffer
-
-  abbrev used : List ℕ
-  used = take c.min-used.result c.read.new.buffer
-
-  consumed : Consumes (g.R.Source.remaining c.args.reader.now)
-      (g.R.Source.remaining c.read.new.self) (before ++ given)
-  consumed =
-      let r = g.R.Source in
-      Consumes-trans (r.remaining c.args.reader.now) (r.remaining c.loop-reader.reader)
-      (r.remaining c.read.new.self) before given c.loop-reader.invariant.read.1
-      c.in-Ok.ensures.bytes.0
-
-  gave : g.R.Source.gave_none c.read.new.self ≡ g.R.Source.gave_none c.args.reader.now
-  gave =
-      some-given c.in-Ok.count c.if-count-eq0.false c.in-Ok.ensures.end
-      ∙ c.loop-reader.invariant.gave_none
-
-  failed : g.R.Source.has_failed c.read.new.self ≡ g.R.Source.has_failed c.args.reader.now
-  failed = c.in-Ok.ensures.failure ∙ c.loop-reader.invariant.read_failed
-
-  module _ (packing : Packing) (same : packing_in c.args.session.now ≡ packing) where
-    counted : time_of c.loop-reader.session ≡ sample_count packing before
-    counted = c.loop-reader.invariant.read.2 ∙ ap (λ (p : Packing). sample_count p before) same
-
-    fits : Uses packing before c.in-Ok.count c.min-used.result c.args.limit
-    fits =
-        uses packing before c.in-Ok.count c.min-used.result c.args.limit
-        (time_of c.loop-reader.session) c.per_byte-per_byte.result
-        (c.per_byte-per_byte.ensures
-        ∙ ap (λ (p : Packing). samples_per_byte p) (c.format-format.ensures ∙ same))
-        c.requires.whole counted c.loop-reader.invariant.within
-        (c.min-used.ensures
-        ∙ ap (λ t. min c.in-Ok.count ((c.args.limit - t) / c.per_byte-per_byte.result))
-        c.time.ensures)
-
-    is : c.new-piece.result.samples ≡ samples packing used
-    is =
-        c.new-piece.ensures.samples
-        ∙ ap (λ (p : Packing). samples p used) (c.format-format.ensures ∙ same)
-
-    up_to_limit : samples packing before ++ c.new-piece.result.samples
-        ≡ take c.args.limit (samples packing (before ++ given))
-    up_to_limit =
-        ap (λ (l : List Sample). samples packing before ++ l) is
-        ∙ sym (up_to-used packing before c.read.new.buffer c.in-Ok.count c.min-used.result
-        c.args.limit fits.at_most c.in-Ok.ensures.bound.0 fits.within fits.reached)
-
-    used_length : length used ≡ c.min-used.result
-    used_length =
-        length-take-le c.min-used.result c.read.new.buffer
-        (omega (arith, fits.at_most, c.in-Ok.ensures.bound.0))
-
-    many : length c.new-piece.result.samples ≡ sample_count packing used
-    many = ap length is ∙ samples-length packing used
-
-  -- what was written until the piece is taken
-  written : (settings : Settings) (clients : List Client) (start : Option (List ℕ))
-      → IsWrittenTo settings clients start c.args.session.now
-      (promised g.W.Sink c.args.out.now) []
-      → IsWrittenTo settings clients start c.loop-reader.session
-      (promised g.W.Sink c.send.new.self) (samples settings.packing before)
-  written settings clients start at =
-      written-kept settings clients start c.loop-reader.session _ _
-      (samples settings.packing before) (c.loop-reader.invariant.read.3 settings clients start at)
-      c.send.ensures.kept
-
 pub returns-in_err-take_piece-clause-reads : goal.returns-in_err-take_piece-clause-reads
-returns-in_err-take_piece-clause-reads g c settings clients start at =
-    let p : After-new-piece g =
-    (goal.at.returns-in_err-take_piece-clause-reads g c).After-new-piece in
+returns-in_err-take_piece-clause-reads g c =
+    let s = g.W.Sink in let r = g.R.Source in
+    λ settings clients start at.
     MatchResult-from_err c.from_residual-in_err-take_piece.result _ _
     c.from_residual-in_err-take_piece.ensures.0 (λ _.
-    let same = ap (λ (r : Settings). r.packing) at.stands.bank.recorded in
+    let was = c.loop-reader.invariant.read in
+    let buffer = c.read.new.buffer in
+    let n = c.in-Ok.count in
+    let used = c.min-used.result in
+    let same = (ap (λ (r : Settings). r.packing) at.stands.bank.recorded) in
+    let u : Uses settings.packing was.0 n used c.args.limit =
+    uses settings.packing was.0 n used c.args.limit (time_of c.loop-reader.session)
+    c.per_byte-per_byte.result
+    (c.per_byte-per_byte.ensures
+    ∙ ap (λ (p : Packing). samples_per_byte p) (c.format-format.ensures ∙ same))
+    c.requires.whole (was.2 ∙ ap (λ (p : Packing). sample_count p was.0) same)
+    c.loop-reader.invariant.within
+    (c.min-used.ensures
+    ∙ ap (λ t. min n ((c.args.limit - t) / c.per_byte-per_byte.result)) c.time.ensures) in
+    let is : c.new-piece.result.samples ≡ samples settings.packing (take used buffer) =
+    c.new-piece.ensures.samples
+    ∙ ap (λ (p : Packing). samples p (take used buffer)) (c.format-format.ensures ∙ same) in
     let Q : List Sample → Type 0 =
-    λ ys. AppendsPart start (promised g.W.Sink c.take_piece.new.out) (body settings ys clients) in
+    λ ys. AppendsPart start
+    (promised s c.take_piece.new.out)
+    (body settings ys clients) in
     record {
-      read = before g p ++ given g p;
-      consumed = consumed g p;
-      ended = (gave g p, failed g p);
+      read = was.0 ++ take n buffer;
+      consumed =
+          Consumes-trans (r.remaining c.args.reader.now) (r.remaining c.loop-reader.reader)
+          (r.remaining c.read.new.self) was.0 (take n buffer) was.1 c.in-Ok.ensures.bytes.0;
+      ended = (
+        some-given c.in-Ok.count c.if-count-eq0.false c.in-Ok.ensures.end
+            ∙ c.loop-reader.invariant.gave_none,
+        c.in-Ok.ensures.failure ∙ c.loop-reader.invariant.read_failed,
+      );
       written =
-          subst Q (up_to_limit g p settings.packing same)
+          subst Q (ap (λ (l : List Sample). samples settings.packing was.0 ++ l) is
+          ∙ sym (up_to-used settings.packing was.0 buffer n used c.args.limit u.at_most
+          c.in-Ok.ensures.bound.0 u.within u.reached))
           (c.in_err-take_piece.ensures.takes settings clients start
-          (samples settings.packing (before g p)) (written g p settings clients start at));
+          (samples settings.packing was.0)
+          (written-kept settings clients start c.loop-reader.session
+          _ _ (samples settings.packing was.0) (was.3 settings clients start at)
+          c.send.ensures.kept));
     })
 
 pub returns-then-used-count-clause-reads : goal.returns-then-used-count-clause-reads
-returns-then-used-count-clause-reads g c settings clients start at =
-    let p : After-new-piece g =
-    (goal.at.returns-then-used-count-clause-reads g c).After-new-piece in
-    let same = ap (λ (r : Settings). r.packing) at.stands.bank.recorded in
+returns-then-used-count-clause-reads g c =
+    let s = g.W.Sink in let r = g.R.Source in λ settings clients start at.
+    let was = c.loop-reader.invariant.read in
+    let buffer = c.read.new.buffer in
+    let n = c.in-Ok.count in
+    let used = c.min-used.result in
+    let same = (ap (λ (r : Settings). r.packing) at.stands.bank.recorded) in
+    let u : Uses settings.packing was.0 n used c.args.limit =
+    uses settings.packing was.0 n used c.args.limit (time_of c.loop-reader.session)
+    c.per_byte-per_byte.result
+    (c.per_byte-per_byte.ensures
+    ∙ ap (λ (p : Packing). samples_per_byte p) (c.format-format.ensures ∙ same))
+    c.requires.whole (was.2 ∙ ap (λ (p : Packing). sample_count p was.0) same)
+    c.loop-reader.invariant.within
+    (c.min-used.ensures
+    ∙ ap (λ t. min n ((c.args.limit - t) / c.per_byte-per_byte.result)) c.time.ensures) in
+    let is : c.new-piece.result.samples ≡ samples settings.packing (take used buffer) =
+    c.new-piece.ensures.samples
+    ∙ ap (λ (p : Packing). samples p (take used buffer)) (c.format-format.ensures ∙ same) in
     let Q : List Sample → Type 0 =
     λ ys. IsWrittenTo settings clients start c.take_piece.new.session
-    (promised g.W.Sink c.take_piece.new.out) ys in
+    (promised s c.take_piece.new.out) ys in
     record {
-      read = before g p ++ given g p;
-      consumed = consumed g p;
+      read = was.0 ++ take n buffer;
+      consumed =
+          Consumes-trans (r.remaining c.args.reader.now) (r.remaining c.loop-reader.reader)
+          (r.remaining c.read.new.self) was.0 (take n buffer) was.1 c.in-Ok.ensures.bytes.0;
       why = (
-        (gave g p, failed g p),
-        beyond-limit settings.packing (before g p) c.read.new.buffer c.in-Ok.count
-            c.min-used.result c.args.limit c.if-used-count.true c.in-Ok.ensures.bound.0
-            ((fits g p settings.packing same).reached c.if-used-count.true),
+        (
+          some-given c.in-Ok.count c.if-count-eq0.false c.in-Ok.ensures.end
+              ∙ c.loop-reader.invariant.gave_none,
+          c.in-Ok.ensures.failure ∙ c.loop-reader.invariant.read_failed,
+        ),
+        beyond-limit settings.packing was.0 buffer n used c.args.limit c.if-used-count.true
+            c.in-Ok.ensures.bound.0 (u.reached c.if-used-count.true),
       );
       at =
-          subst Q (up_to_limit g p settings.packing same)
-          (c.in_ok-take_piece.ensures.takes settings clients start
-          (samples settings.packing (before g p)) (written g p settings clients start at));
+          subst Q (ap (λ (l : List Sample). samples settings.packing was.0 ++ l) is
+          ∙ sym (up_to-used settings.packing was.0 buffer n used c.args.limit u.at_most
+          c.in-Ok.ensures.bound.0 u.within u.reached))
+          (c.in_ok-take_piece.ensures.takes settings clients start (samples settings.packing was.0)
+          (written-kept settings clients start c.loop-reader.session
+          _ _ (samples settings.packing was.0) (was.3 settings clients start at)
+          c.send.ensures.kept));
     }
 
 pub loop-reader-preserved : goal.loop-reader-preserved
 loop-reader-preserved g c =
-    let p : After-new-piece g = (goal.at.loop-reader-preserved g c).After-new-piece in
-    let s = g.W.Sink in let i = c.loop-reader.invariant in
+    let s = g.W.Sink in let r = g.R.Source in let i = c.loop-reader.invariant in
     let e = c.in_ok-take_piece.ensures in
+    let was = i.read in
+    let buffer = c.read.new.buffer in
+    let n = c.in-Ok.count in
+    let used = c.min-used.result in
     let packing : Packing = packing_in c.args.session.now in
-    let u : Uses packing (before g p) c.in-Ok.count c.min-used.result c.args.limit =
-    fits g p packing refl in
-    let all : c.min-used.result ≡ c.in-Ok.count =
-    omega (arith, u.at_most, c.if-used-count.false) in
+    let u : Uses packing was.0 n used c.args.limit =
+    uses packing was.0 n used c.args.limit (time_of c.loop-reader.session)
+    c.per_byte-per_byte.result
+    (c.per_byte-per_byte.ensures ∙ ap (λ (p : Packing). samples_per_byte p) c.format-format.ensures)
+    c.requires.whole was.2 i.within
+    (c.min-used.ensures
+    ∙ ap (λ t. min n ((c.args.limit - t) / c.per_byte-per_byte.result)) c.time.ensures) in
+    let all : used ≡ n = omega (arith, u.at_most, c.if-used-count.false) in
+    let piece : List ℕ = take used buffer in
+    let len : length piece ≡ used =
+    length-take-le used buffer
+    (subst (λ k. k ≤ length buffer) (sym all) c.in-Ok.ensures.bound.0) in
+    let many : length c.new-piece.result.samples ≡ sample_count packing piece =
+    c.new-piece.ensures.count
+    ∙ ap (λ (p : Packing). sample_count p piece) c.format-format.ensures in
     let time : time_of c.take_piece.new.session
-    ≡ sample_count packing (before g p) + sample_count packing (used g p) =
-    e.time ∙ ap (λ k. time_of c.loop-reader.session + k) (many g p packing refl)
-    ∙ ap (λ t. t + sample_count packing (used g p)) (counted g p packing refl) in
+    ≡ sample_count packing was.0 + sample_count packing piece =
+    e.time ∙ ap (λ k. time_of c.loop-reader.session + k) many
+    ∙ ap (λ t. t + sample_count packing piece) was.2 in
     record {
       format = e.packing ∙ i.format;
       ready = e.ready;
       within =
           subst (λ k. k ≤ c.args.limit)
-          (sym (time ∙ ap (λ k. sample_count packing (before g p) + k)
-          (count_of packing (used g p) c.min-used.result (used_length g p packing refl))))
-          u.within;
-      read_failed = failed g p;
-      gave_none = gave g p;
+          (sym (time ∙ ap (λ k. sample_count packing was.0 + k)
+          (count_of packing piece used len))) u.within;
+      read_failed = c.in-Ok.ensures.failure ∙ i.read_failed;
+      gave_none = some-given n c.if-count-eq0.false c.in-Ok.ensures.end ∙ i.gave_none;
       asked_again =
           λ sound. c.in-Ok.ensures.again
           ∙ ap₂ (λ again failed. again || failed) (i.asked_again sound) (i.read_failed ∙ sound)
@@ -173,21 +164,26 @@ loop-reader-preserved g c =
           (wrote-then s c.args.out.now c.loop-reader.out c.send.new.self _ i.wrote
           c.in_ok-send.ensures.writes) e.writes;
       read = (
-        before g p ++ given g p,
-        consumed g p,
-        time ∙ sym (sample_count-append packing (before g p) (used g p))
-            ∙ ap (λ k. sample_count packing (before g p ++ take k c.read.new.buffer)) all,
+        was.0 ++ take n buffer,
+        Consumes-trans (r.remaining c.args.reader.now) (r.remaining c.loop-reader.reader)
+            (r.remaining c.read.new.self) was.0 (take n buffer) was.1 c.in-Ok.ensures.bytes.0,
+        time ∙ sym (sample_count-append packing was.0 piece)
+            ∙ ap (λ k. sample_count packing (was.0 ++ take k buffer)) all,
         λ settings clients start at.
             let same = ap (λ (r : Settings). r.packing) at.stands.bank.recorded in
+            let is : c.new-piece.result.samples ≡ samples settings.packing piece =
+            c.new-piece.ensures.samples
+            ∙ ap (λ (p : Packing). samples p piece) (c.format-format.ensures ∙ same) in
             let Q : List Sample → Type 0 =
             λ ys. IsWrittenTo settings clients start c.take_piece.new.session
             (promised s c.take_piece.new.out) ys in
-            subst Q (ap (λ (l : List Sample). samples settings.packing (before g p) ++ l)
-            (is g p settings.packing same)
-            ∙ sym (samples-append settings.packing (before g p) (used g p))
-            ∙ ap (λ k. samples settings.packing (before g p ++ take k c.read.new.buffer)) all)
-            (e.takes settings clients start (samples settings.packing (before g p))
-            (written g p settings clients start at)),
+            subst Q (ap (λ (l : List Sample). samples settings.packing was.0 ++ l) is
+            ∙ sym (samples-append settings.packing was.0 piece)
+            ∙ ap (λ k. samples settings.packing (was.0 ++ take k buffer)) all)
+            (e.takes settings clients start (samples settings.packing was.0)
+            (written-kept settings clients start c.loop-reader.session
+            _ _ (samples settings.packing was.0) (was.3 settings clients start at)
+            c.send.ensures.kept)),
       );
     }
 
@@ -331,13 +327,22 @@ slice_bounds-new-end g c =
 
 pub take_piece-requires-clause-room : goal.take_piece-requires-clause-room
 take_piece-requires-clause-room g c =
-    let p : After-new-piece g = (goal.at.take_piece-requires-clause-room g c).After-new-piece in
+    let was = c.loop-reader.invariant.read in
+    let used = c.min-used.result in
     let packing : Packing = packing_in c.args.session.now in
-    omega (
-      arith,
-      (fits g p packing refl).within,
-      many g p packing refl,
-      count_of packing (used g p) c.min-used.result (used_length g p packing refl),
-      counted g p packing refl,
-      c.requires.limit,
-    )
+    let bytes : List ℕ = take used c.read.new.buffer in
+    let fits : Uses packing was.0 c.in-Ok.count used c.args.limit =
+    uses packing was.0 c.in-Ok.count used c.args.limit (time_of c.loop-reader.session)
+    c.per_byte-per_byte.result
+    (c.per_byte-per_byte.ensures ∙ ap (λ (p : Packing). samples_per_byte p) c.format-format.ensures)
+    c.requires.whole was.2 c.loop-reader.invariant.within
+    (c.min-used.ensures
+    ∙ ap (λ t. min c.in-Ok.count ((c.args.limit - t) / c.per_byte-per_byte.result))
+    c.time.ensures) in
+    let many : length c.new-piece.result.samples ≡ samples_per_byte packing * used =
+    ap length (c.new-piece.ensures.samples
+    ∙ ap (λ (p : Packing). samples p bytes) c.format-format.ensures)
+    ∙ samples-length packing bytes
+    ∙ count_of packing bytes used (length-take-le used c.read.new.buffer
+    (omega (arith, c.min-used.ensures, c.in-Ok.ensures.bound, c.min-used.array_long))) in
+    omega (arith, fits.within, many, was.2, c.requires.limit)
