@@ -123,3 +123,10 @@ def full_text(text):
                      f'    fn next(&mut self) -> Option<{item[1]}> {{\n'
                      f'        {found[2].split("<")[0]}::next(self)\n    }}\n}}\n')
     return text
+
+
+def asking_text(text):
+    """The root of a program. It names the crate of lanes, which asks the processor at the program's
+    start for what the build needs."""
+    asked = '// It asks the processor first for what the build needs.\nuse lanes as _;\n\n'
+    return re.sub(r'^(?=use )', asked, text, count=1, flags=re.M)

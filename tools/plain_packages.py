@@ -144,7 +144,8 @@ def manifest(crate, crates):
             package = package_of(name, crates)
             renamed = f', package = "{package}"' * (package != name)
             path = ('../../kit/' if name in KIT else '../') + name
-            text += f'{name} = {{ path = "{path}", {of}'.rstrip(', ') + f'{renamed} }}\n'
+            asked = ', features = ["start"]' * (name == 'lanes' and is_program(crate, crates))
+            text += f'{name} = {{ path = "{path}", {of}'.rstrip(', ') + f'{renamed}{asked} }}\n'
     return text + '\n[lints]\nworkspace = true\n'
 
 

@@ -91,6 +91,11 @@ def packages(rows, _):
     rows.say('dependencies', differs([line.split('package')[-1] for line in lines], [
         ' = "seldomplough_kit_arrayvec" }', ' = "seldomplough_kit_std" }',
         ' = "seldomplough_codes" }']))
+    for crate, wanted in ('cli', True), ('search', False):
+        over_lanes = {**CRATES, crate: (CRATES[crate][0], ['lanes'], [])}
+        text_over = manifest(crate, over_lanes)
+        faults = [text_over] * (('features = ["start"] }\n' in text_over) != wanted)
+        rows.say(f'the features of lanes, for {crate}', faults)
     begin = '[package]\nname = "seldomplough_search"\n'
     rows.say('a head', [text] * (not text.startswith(begin) or '[lib]' in text))
     rows.say('keywords', differs(keywords_of('A search for the C/A code.'),

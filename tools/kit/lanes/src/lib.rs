@@ -1,7 +1,7 @@
 //! Several numbers at once, as far as the sources use them: a stand-in for `std::simd`, which isn't
 //! in the stable std. Operations are loops over arrays, or the instructions of a processor, which
-//! has a file of its own then. The files of processors, `vectors` and `places` alone have `unsafe`
-//! in the whole workspace.
+//! has a file of its own then. The files of processors, `vectors`, `places` and `start` alone have
+//! `unsafe` in the whole workspace.
 #![cfg_attr(not(test), no_std)]
 
 #[cfg(all(target_arch = "aarch64", target_feature = "neon"))]
@@ -13,6 +13,21 @@ mod against_loops;
 mod loops;
 mod places;
 mod processor;
+// A build for x86-64-v3 has all that this level adds to the second.
+#[cfg(all(
+    feature = "start",
+    target_arch = "x86_64",
+    target_os = "linux",
+    target_pointer_width = "64",
+    target_feature = "avx2",
+    target_feature = "bmi1",
+    target_feature = "bmi2",
+    target_feature = "f16c",
+    target_feature = "fma",
+    target_feature = "lzcnt",
+    target_feature = "movbe"
+))]
+mod start;
 #[cfg(test)]
 mod tests;
 #[cfg(any(

@@ -1,0 +1,95 @@
+"""Rows of what a program for x86-64-v3 asks the processor before it begins: all that the level is,
+and that the program ends with a line where one answer is another."""
+import os
+import re
+import shutil
+import sys
+
+from .commands import TOP, copied, refused, run, write
+
+sys.path.insert(0, os.path.join(TOP, 'tools'))
+from built import FLAGS, THIRD, level
+from plain_additions import asking_text
+
+SOURCE = 'tools/kit/lanes/src/start.rs'
+
+# The bit of each flag of /proc/cpuinfo, by the constant that has to name it. Beside these the first
+# has XSAVE, and that the system uses it.
+BITS = {
+    'FIRST': {'pni': 0, 'ssse3': 9, 'fma': 12, 'cx16': 13, 'sse4_1': 19, 'sse4_2': 20, 'movbe': 22,
+              'popcnt': 23, 'avx': 28, 'f16c': 29},
+    'SEVENTH': {'bmi1': 3, 'avx2': 5, 'bmi2': 8},
+    'EXTENDED': {'lahf_lm': 0, 'abm': 5},
+}
+OF_SYSTEM = [26, 27]
+
+# A bit of each answer that no processor has.
+NEVER = {'FIRST': 16, 'SAVED': 31, 'SEVENTH': 22, 'EXTENDED': 18}
+
+# A program that needs nothing of the lanes.
+MAIN = 'use std::process::id;\n\nfn main() {\n    println!("{}", id());\n}\n'
+
+LINE = 'seldomplough: this program is built for x86-64-v3, which the processor lacks'
+
+
+def read(path):
+    """The text of a file."""
+    with open(path, encoding='utf-8') as file:
+        return file.read()
+
+
+def questions(rows, _):
+    """What is asked is what `./receiver` and the package go by."""
+    named = re.findall(r'const (\w+): u32 = bits\(\[([\d, ]*)\]\)', read(os.path.join(TOP, SOURCE)))
+    found = {name: [int(it) for it in numbers.split(', ')] for name, numbers in named}
+    wanted = {name: sorted([*bits.values(), *(OF_SYSTEM if name == 'FIRST' else [])])
+              for name, bits in BITS.items()}
+    wanted['SAVED'] = [1, 2]
+    rows.say('the bits of x86-64-v3', [f'{found}, not {wanted}'] * (found != wanted))
+    flags = {flag for bits in BITS.values() for flag in bits}
+    rows.say('the flags of x86-64-v3', [f'{flags}'] * (flags != set(read(FLAGS).split())))
+
+
+def program(folder, *options):
+    """A program over the lanes of a folder, for the third level. Gives its path, or the outcome of
+    what failed."""
+    rustc = ['rustc', '--edition', '2024', '-Copt-level=1', f'-Ctarget-cpu={THIRD}']
+    write(os.path.join(folder, 'main.rs'), asking_text(MAIN))
+    for words in (['--crate-type', 'rlib', '--crate-name', 'lanes', *options,
+                   'tools/kit/lanes/src/lib.rs'],
+                  ['-Clto', '--extern', 'lanes=liblanes.rlib', 'main.rs']):
+        outcome = run([*rustc, *words], folder)
+        if outcome.status:
+            return None, outcome
+    return os.path.join(folder, 'main'), None
+
+
+def refusals(rows, folder):
+    """A program begins where the processor is of the level, and else ends with one line and status
+    1. So does one that asks for a bit that no processor has, of each answer. A library that no
+    program asks for the feature leaves it."""
+    if not shutil.which('rustc') or 'x86_64-unknown-linux' not in run(['rustc', '-Vv'], '/').said:
+        return
+    is_third = level() == THIRD
+    for name in ['', *NEVER]:
+        top = copied(folder, 'tools/kit/lanes', name=f'asks{name}')
+        path = os.path.join(top, SOURCE)
+        text = read(path)
+        if name:
+            text = re.sub(rf'({name}: u32 = bits\(\[)', rf'\g<1>{NEVER[name]}, ', text)
+        write(path, text)
+        for options in [['--cfg', 'feature="start"'], []]:
+            made, fault = program(top, *options)
+            if fault:
+                rows.say(f'a program that asks, {name}', [fault.errors[-300:]])
+                continue
+            outcome = run([made], top)
+            if options and (name or not is_third):
+                faults = refused(outcome, re.escape(LINE), 1)
+            else:
+                is_right = outcome.status == 0 and not outcome.errors and outcome.said
+                faults = [str(outcome)] * (is_third and not is_right)
+            rows.say(f'a program that asks, {name or "as it is"}, {options}', faults)
+
+
+ROWS = (questions, refusals)
