@@ -20,9 +20,11 @@ LIBRARY = 'crates/version/src/lib.rt'
 
 SECOND = '[package]\nname = "second_receiver"\nversion = "1.0.0"\nedition = "2024"\n'
 
-# Its rt notes each call. `lib` waits where a file says so. `run` makes the program.
+# Its rt notes each call. `lib` waits where a file says so. `run` makes the program, or takes one
+# that lies beside it.
 RT = '''#!%s
 import os
+import shutil
 import sys
 import time
 
@@ -45,7 +47,11 @@ def main(words):
         time.sleep(60)
     os.makedirs('out/rlib', exist_ok=True)
     if words[0] == 'run':
-        path = 'out/' + os.path.basename(os.getcwd())
+        name = os.path.basename(os.getcwd())
+        path = 'out/' + name
+        if os.path.exists(HERE + '/' + name):
+            shutil.copy(HERE + '/' + name, path)
+            return 0
         with open(path, 'w') as program:
             program.write('#!/bin/sh\\necho proved\\n')
         os.chmod(path, 0o755)
