@@ -13,6 +13,10 @@ from built import (ANY, APART, THIRD, TOP, clean_environment, find, level, read,
 from crate_order import job_count, read_crates, side_by_side, steps_above, with_those_below
 from rooms import RT, prove as prove_in_room
 
+# Has LLVM keep each jump within 32 bytes of code: on Intel's processors of Skylake's kind a loop
+# whose jump lies across them takes up to twice as long, and any change of code moves it.
+WITHIN_32_BYTES = '-C llvm-args=-x86-branches-within-32B-boundaries'
+
 # How far crates that are one or two steps below the program leave the processors to the others,
 # which have more above them.
 NICE = {1: 19, 2: 10}
@@ -166,7 +170,7 @@ def build_plain(crate, sources, line, say):
     def build(of_level):
         flags = clean_environment()
         if of_level != ANY:
-            flags['RUSTFLAGS'] = f'-C target-cpu={of_level}'
+            flags['RUSTFLAGS'] = f'-C target-cpu={of_level} {WITHIN_32_BYTES}'
         return cargo_build(crate, folder, os.path.join(target.folder, of_level), flags)
 
     levels = [ANY, THIRD] if 'host: x86_64-' in line else [ANY]

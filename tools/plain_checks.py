@@ -24,6 +24,9 @@ MOST_COLUMNS = 100
 SELDOM = ('check', 'command', 'encode', 'feed', 'follow', 'measure', 'new', 'pack', 'push',
           'run_shares', 'run_to', 'start', 'start_after', 'steer', 'take', 'word')
 
+# What functions are given that a bank asks for each slot and each run.
+ASKED_OFTEN = ('SampleSource', 'Window')
+
 # What a documentation says of premises: of one, and before several.
 ALWAYS_PANICS = 'Panics if {} isn\'t so.', 'Panics if one of these isn\'t so:'
 DEBUG_PANICS = ('A debug build panics if {} isn\'t so.',
@@ -69,12 +72,13 @@ def has_numbers_alone(premise, scope):
 def is_seldom(text, found, scope):
     """Whether a function of a source is one that users of its crate call, for a whole run, command,
     dump or bit at most: it is exported, stays a call, and isn't one that a bank asks for each slot
-    and each run, with a source of samples."""
+    and each run, with a source or a window of samples."""
     name = re.search(r'fn (\w+)', found[1])[1]
     exported = owner_of(text, found) or name
     return (is_public(found[1]) and name in SELDOM and not is_inlined(text, found)
             and exported in scope.source.exported
-            and 'SampleSource' not in scope.parameters.values())
+            and not any(kind in ASKED_OFTEN for parameter, kind in scope.parameters.items()
+                        if parameter != 'self'))
 
 
 def checks_of(text, found, source):
@@ -157,10 +161,13 @@ def checked_text(text, source):
 
 
 def read_text(text):
-    """A source with the methods that checks need beside those of the sources."""
+    """A source with the methods that checks need beside those of the sources. A type of the same
+    name in another crate gets none: it lacks what the method reads."""
     for of, _, name, kind, body in READERS:
         head = re.search(rf'^impl(?:<[^{{]*>)? {of}(?:<.*>)? \{{\n', text, re.M)
-        if head and not re.search(rf'\bfn {name}\(', text):
+        read = re.match(r'self\.(\w+)', body)[1]
+        has_it = re.search(rf'^ *(?:pub(?:\(crate\))? )?(?:{read}: |fn {read}\()', text, re.M)
+        if head and has_it and not re.search(rf'\bfn {name}\(', text):
             added = (f'    #[doc(hidden)]\n    pub fn {name}(&self) -> {kind} {{\n'
                      f'        {body}\n    }}\n\n')
             text = text[:head.end()] + added + text[head.end():]

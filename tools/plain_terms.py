@@ -24,8 +24,6 @@ SHORT = [(re.compile(pattern), meant) for pattern, meant in [
     (rf'SumsFit {ATOM} {ATOM}',
      ' × '.join(rf'(\1.{sum} + \2.{sum} < 2 ^ 31) × (0 ≤ \1.{sum} + \2.{sum} + 2 ^ 31)'
                 for sum in SUMS)),
-    (rf'IsReady {ATOM} {ATOM} {ATOM} {ATOM}',
-     r'(0 < to_due_of \4) × (\1 ≤ start_of \4) × (due_of \4 + \3 ≤ \2 + to_due_of \4)'),
 ]]
 
 

@@ -1,5 +1,6 @@
-"""A checkout as small as can be built: two programs that print their version, over one library. All
-its tools are the real ones. A row may give it an `rt` of the kit's kind, which proves nothing."""
+"""A checkout as small as can be built: two programs over one library that print their version, or
+an option where they are asked for help. All its tools are the real ones. A row may give it an `rt`
+of the kit's kind, which proves nothing."""
 import os
 import shutil
 import signal
@@ -8,11 +9,16 @@ import sys
 
 from .commands import copied, run, write
 
-MAIN = '''//! A program that prints its version.
+MAIN = '''//! A program that prints its version, or its help.
+use std::env;
 use version::VERSION;
 
-fn main() {
-    println!("%s {}", VERSION);
+fn main(rt: HostRuntime) {
+    if env::args(&rt).is_ok_and(|mut words| words.any(|it| it.as_str() == "--help")) {
+        println!("      --rate <HZ>  Samples a second");
+    } else {
+        println!("%s {}", VERSION);
+    }
 }
 '''
 CRATES = 'version:\nreceiver_cli: version\npacker_cli: version\n'

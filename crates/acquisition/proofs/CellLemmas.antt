@@ -9,7 +9,8 @@ use Rattle.definitions.specs.Codes.{chip, chip_sign}
 use Rattle.definitions.proofs.SumsLemmas.{total-same}
 use Rattle.acquisition.specs.Folds.{correlation, correlation_to, sizes_to, total_to}
 use Rattle.acquisition.specs.Ones.{AreOnes}
-use Rattle.acquisition.specs.Rings.{chip_from, IsRing, IsSumAtOnes, place_of}
+use Rattle.acquisition.specs.Rings.{chip_from, cell_sum, IsRing, IsSumAtOnes, place_of}
+use Rattle.acquisition.specs.Rings.{HasSmallCells}
 use Rattle.acquisition.specs.declared.chip_ring.TheConstants.{RAISED}
 use Rattle.acquisition.specs.declared.half_chip_table.HalfChipTable.{HalfChipTable}
 use Rattle.acquisition.specs.declared.ones.Ones.{Ones}
@@ -178,36 +179,42 @@ raised_ones prn half l count chips ring table inside lane ones is =
         ≡ (2 * c + 4092 - (half + l)) % 2046 = omega (arith, inside, lane, below) in
         is (place_of half c + l) (omega (arith, lane)) ∙ rw at refl
 
+-- a table's entries are no greater than the samples of a period
+pub table_sizes : (table : HalfChipTable) → sizes_to table.sums 2046 ≤ MOST_PERIOD_SUM
+table_sizes table = omega (arith, table.small, table.few)
+
 -- the sum of all samples less twice those at chips of 1, from a lane
 pub record IsCellSum (prn cell : ℕ) (table : List ℤ) (sum : ℤ) : Type 0 where
   pub value : sum ≡ correlation prn cell table
   pub small : unsigned_abs sum ≤ MOST_PERIOD_SUM
 
-pub cell_sum : (ones : Ones) (half l lane : ℕ) (table : HalfChipTable) (ring : List ℕ)
-    (whole sum : ℤ) → half < 2046 → l < 64 → IsRing table.sums ring
-    → whole ≡ total_to table.sums 2046 → IsSumAtOnes ones ring half l lane
-    → sum ≡ whole -ℤ pos 2 *ℤ (pos lane -ℤ pos (RAISED * ones.count))
-    → IsCellSum ones.prn (half + l) table.sums sum
-cell_sum ones half l lane table ring whole sum inside few is all at is_sum =
+pub is_cell_sum : (ones : Ones) (half l lane : ℕ) (table : List ℤ) (ring : List ℕ)
+    (whole sum : ℤ) → half < 2046 → l < 64 → sizes_to table 2046 ≤ MOST_PERIOD_SUM
+    → IsRing table ring → whole ≡ total_to table 2046 → IsSumAtOnes ones ring half l lane
+    → sum ≡ cell_sum whole lane ones.count
+    → IsCellSum ones.prn (half + l) table sum
+is_cell_sum ones half l lane table ring whole sum inside few small is all at is_sum =
     let cell : ℕ = half + l in
-    let ones_sum : ℤ = sum_at_ones ones.prn cell table.sums in
+    let ones_sum : ℤ = sum_at_ones ones.prn cell table in
     let raised : pos lane ≡ pos (RAISED * ones.count) +ℤ ones_sum = at
-    ∙ raised_ones ones.prn half l ones.count ones.chips ring table.sums inside few ones.are is in
-    let value : sum ≡ correlation ones.prn cell table.sums = is_sum
+    ∙ raised_ones ones.prn half l ones.count ones.chips ring table inside few ones.are is in
+    let value : sum ≡ correlation ones.prn cell table = is_sum
     ∙ rw (all, raised, lowered (RAISED * ones.count) ones_sum)
-    (sym (less_ones ones.prn cell table.sums (omega (arith, inside, few)))) in
+    (sym (less_ones ones.prn cell table (omega (arith, inside, few)))) in
     record {
       value = value;
-      small = rw value (omega (
-        arith,
-        correlation_size ones.prn cell 2046 table.sums,
-        table.small,
-        table.few,
-      ));
+      small = rw value (omega (arith, correlation_size ones.prn cell 2046 table, small));
     }
   where
     lowered : (n : ℕ) (z : ℤ) → pos n +ℤ z -ℤ pos n ≡ z
     lowered n z = omega (arith, ints)
+
+pub small_cells : (table : List ℤ) (ring : List ℕ) (whole : ℤ)
+    → sizes_to table 2046 ≤ MOST_PERIOD_SUM → IsRing table ring → whole ≡ total_to table 2046
+    → HasSmallCells ring whole
+small_cells table ring whole sizes is all ones half l lane inside few at =
+    (is_cell_sum ones half l lane table ring whole (cell_sum whole lane ones.count) inside few sizes
+    is all at refl).small
 
 -- a small number in 32 bits
 pub kept_small : (z : ℤ) → unsigned_abs z ≤ MOST_SMALL → to_z w32 (of_z w32 z) ≡ z

@@ -3,7 +3,8 @@ use Rattle.std.specs.Prelude.{◌≡◌, ◌<◌, ◌+◌, ◌-◌, ◌*◌, ◌
 use Rattle.std.specs.Prelude.{List, length, slice_index}
 use Rattle.definitions.specs.Acquisition.{square}
 use Rattle.acquisition.specs.Rings.{IsPairAtOnes}
-use Rattle.acquisition.specs.declared.chip_ring.TheConstants.{LANES, RAISED}
+use Rattle.acquisition.specs.declared.chip_ring.TheConstants.{RAISED}
+use Rattle.bit_planes.specs.declared.lanes.TheConstants.{LANES}
 use Rattle.acquisition.specs.declared.ones.Ones.{Ones}
 use Rattle.acquisition.specs.declared.period_sums.PeriodSums.{PeriodSums}
 

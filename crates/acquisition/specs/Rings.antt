@@ -1,9 +1,13 @@
 -- What a ring of chips stands for.
-use Rattle.std.specs.Prelude.{◌≡◌, ◌<◌, ◌+◌, ◌*◌, ◌%◌, ◌^◌, ℕ, ℤ, pos, ◌+ℤ◌, ◌-◌}
+use Rattle.std.specs.Prelude.{◌≡◌, ◌≤◌, ◌<◌, ◌+◌, ◌*◌, ◌%◌, ◌^◌, ℕ, ℤ, pos, ◌+ℤ◌, ◌-◌}
+use Rattle.std.specs.Prelude.{◌-ℤ◌, ◌*ℤ◌, unsigned_abs}
 use Rattle.std.specs.Prelude.{List, get_or, slice_index, length}
 use Rattle.definitions.specs.Sums.{total}
+use Rattle.acquisition.specs.declared.half_chip_table.TheConstants.{HALF_CHIPS}
 use Rattle.acquisition.specs.declared.ones.Ones.{Ones}
-use Rattle.acquisition.specs.declared.chip_ring.TheConstants.{RING, RAISED, LANES}
+use Rattle.acquisition.specs.declared.sums.TheConstants.{MOST_PERIOD_SUM}
+use Rattle.acquisition.specs.declared.chip_ring.TheConstants.{RING, RAISED, CELLS_AT_ONCE}
+use Rattle.bit_planes.specs.declared.lanes.TheConstants.{LANES}
 
 -- the sum over the chip that begins at half chip k, from a table by half chips
 abbrev pub chip_from : List ℤ → ℕ → ℤ
@@ -33,6 +37,16 @@ abbrev pub IsSumAtOnes : Ones → List ℕ → ℕ → ℕ → ℕ → Type 0
 IsSumAtOnes ones ring half l sum = pos sum
     ≡ total (λ k. pos (slice_index ring (place_of half (slice_index ones.chips k) + l)))
     ones.count
+
+-- the sum of a cell, from that of all samples and that at the chips of 1
+abbrev pub cell_sum : ℤ → ℕ → ℕ → ℤ
+cell_sum whole at_ones ones = whole -ℤ pos 2 *ℤ (pos at_ones -ℤ pos (RAISED * ones))
+
+-- no cell has a sum that is greater in size than those over a period
+abbrev pub HasSmallCells : List ℕ → ℤ → Type 0
+HasSmallCells ring whole = (ones : Ones) (half l at_ones : ℕ) → half < HALF_CHIPS
+    → l < CELLS_AT_ONCE → IsSumAtOnes ones ring half l at_ones
+    → unsigned_abs (cell_sum whole at_ones ones.count) ≤ MOST_PERIOD_SUM
 
 -- the pair of such sums over two rings, modulo 2^32
 pub record IsPairAtOnes (ones : Ones) (first second : List ℕ) (half l pair : ℕ) : Type 0 where

@@ -46,7 +46,7 @@ impl BinPowers {
         }
     }
 
-    /// Become those over no period.
+    /// Begins anew, with the powers over no period.
     pub(crate) fn clear(&mut self)
         ensures powers { (x : ℕ → Sample) (prn long : ℕ) (steps : Steps)
             → AreSoFar x prn long steps self.new }

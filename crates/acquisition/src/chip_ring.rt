@@ -2,16 +2,15 @@
 
 ghost use Rattle.std.specs.Prelude.{◌≡◌, ◌+◌, ◌-◌, ◌*◌, ◌<◌, ◌≤◌, ℕ, length, slice_index};
 ghost use Rattle.std.specs.Prelude.{ℤ, pos, ◌+ℤ◌, List, get_or, unsigned_abs};
-ghost use Rattle.acquisition.specs.declared.chip_ring.TheConstants.{RING, RAISED, LANES};
+ghost use Rattle.acquisition.specs.declared.chip_ring.TheConstants.{RING, RAISED};
+ghost use Rattle.bit_planes.specs.declared.lanes.TheConstants.{LANES};
 ghost use Rattle.acquisition.specs.declared.half_chip_table.TheConstants.{HALF_CHIPS, LAST};
 ghost use Rattle.ca_codes.specs.declared.book.TheConstants.{CODE_CHIPS};
 ghost use Rattle.acquisition.specs.Rings.{place_of};
 
 use crate::half_chip_table::{HALF_CHIPS, HalfChipTable, LAST};
+use bit_planes::LANES;
 use std::simd::prelude::*;
-
-/// The lanes of a vector: one for each of sixteen cells that follow one another.
-pub(crate) const LANES: usize = 16;
 
 /// How many cells are summed up at once: those of four vectors.
 pub(crate) const CELLS_AT_ONCE: usize = 64;
@@ -47,7 +46,7 @@ impl ChipRing {
         }
     }
 
-    /// Becomes that of a table.
+    /// Becomes the ring of a table.
     pub(crate) fn set(&mut self, table: &HalfChipTable)
         ensures { IsRing table.now.sums self.new.chips }
     {

@@ -1,21 +1,19 @@
 //! Samples without their carrier, added up by the half chips at which they lie.
 
-ghost use Rattle.std.specs.Prelude.{◌≡◌, ◌+◌, ◌*◌, ◌<◌, ◌≤◌, ◌%◌, ◌^◌, ℕ, length, get_or, pos};
+ghost use Rattle.std.specs.Prelude.{◌≡◌, ◌+◌, ◌*◌, ◌<◌, ◌≤◌, ◌%◌, ℕ, length, get_or, pos};
 ghost use Rattle.std.specs.Prelude.{unsigned_abs, true, ◌↔◌};
 ghost use Rattle.definitions.specs.Oscillators.{code_cycle};
 ghost use Rattle.definitions.specs.Samples.{Sample, sample_at};
 ghost use Rattle.definitions.specs.Correlation.{wiped_in_phase, wiped_quadrature};
 ghost use Rattle.acquisition.specs.declared.dwell.TheConstants.{MOST_START};
-ghost use Rattle.acquisition.specs.declared.half_chip_table.TheConstants.{HALF_CHIPS, MOST_WIPED};
+ghost use Rattle.acquisition.specs.declared.half_chip_table.TheConstants.{HALF_CHIPS};
+ghost use Rattle.oscillators.specs.declared.carrier.TheConstants.{MOST_PRODUCT};
 ghost use Rattle.oscillators.specs.declared.settings.TheConstants.{MOST_PER_MS};
 
 use crate::half_chip_table::{HALF_CHIPS, HalfChipTable};
 use crate::sums::Sums;
-use oscillators::{CarrierOsc, CarrierPlanes, CodeOsc};
+use oscillators::{CODE_CYCLE, CarrierOsc, CarrierPlanes, CodeOsc};
 use sample_planes::{MAX_SAMPLES, Planes, SampleSource};
-
-/// The code's cycle of 1,023 chips (IS-GPS-200, section 3.3.2.3), in 2^-32 chip.
-const CYCLE: u64 = 1023 << 32;
 
 /// The greatest sum in size that fits in 16 bits.
 pub(crate) const MOST_SMALL: u32 = (1 << 15) - 1;
@@ -47,9 +45,9 @@ impl Fold {
         }
     }
 
-    /// Becomes that of samples `first` to `first + len - 1` of a source, for a code and a carrier
-    /// that stand at the first of them; `len` is at most `MOST_PER_MS`. The code, which began at
-    /// phase 0, goes on by `code_step`.
+    /// Becomes the fold of samples `first` to `first + len - 1` of a source, for a code and a
+    /// carrier that stand at the first of them; `len` is at most `MOST_PER_MS`. The code, which
+    /// began at phase 0, goes on by `code_step`.
     pub(crate) fn fill<S: SampleSource>(
         &mut self,
         source: &S,
@@ -107,8 +105,8 @@ impl Fold {
     #[inline(always)]
     fn add(&mut self, place: usize, sample: Sums)
         requires place { place < HALF_CHIPS }
-        requires in_phase { unsigned_abs sample.in_phase ≤ MOST_WIPED }
-        requires quadrature { unsigned_abs sample.quadrature ≤ MOST_WIPED }
+        requires in_phase { unsigned_abs sample.in_phase ≤ MOST_PRODUCT }
+        requires quadrature { unsigned_abs sample.quadrature ≤ MOST_PRODUCT }
         requires few { taken_of self.old < MOST_PER_MS }
         ensures fold { (x : ℕ → Sample) (step carrier_step from n : ℕ)
             → IsFold x step carrier_step from n self.old
@@ -158,8 +156,8 @@ fn without_carrier(samples: &Planes, carrier: &CarrierPlanes, i: usize) -> Sums
         (get_or carrier.now.cos i (pos 0)) (get_or carrier.now.sin i (pos 0)) }
     ensures quadrature { result.quadrature ≡ wiped_quadrature (sample_at samples.now i)
         (get_or carrier.now.cos i (pos 0)) (get_or carrier.now.sin i (pos 0)) }
-    ensures small_in_phase { unsigned_abs result.in_phase ≤ MOST_WIPED }
-    ensures small_quadrature { unsigned_abs result.quadrature ≤ MOST_WIPED }
+    ensures small_in_phase { unsigned_abs result.in_phase ≤ MOST_PRODUCT }
+    ensures small_quadrature { unsigned_abs result.quadrature ≤ MOST_PRODUCT }
 {
     let (value, value_q) = (i32::from(samples.value(i)), i32::from(samples.value_q(i)));
     let (cos, sin) = (i32::from(carrier.cos(i)), i32::from(carrier.sin(i)));
@@ -177,5 +175,9 @@ fn phase_behind(phase: u64, step: u32) -> u64
     ensures in_cycle { result < code_cycle }
 {
     let next = phase + u64::from(step);
-    if next < CYCLE { next } else { next - CYCLE }
+    if next < CODE_CYCLE {
+        next
+    } else {
+        next - CODE_CYCLE
+    }
 }

@@ -17,7 +17,7 @@ pub(crate) struct Ones {
 }
 
 impl Ones {
-    /// Those of a satellite's code.
+    /// The chips of a satellite's code that are 1.
     pub(crate) fn new(prn: Prn, book: &mut CodeBook) -> Ones
         ensures { result.prn ≡ prn }
     {
@@ -33,7 +33,7 @@ impl Ones {
         Ones { prn, chips, count }
     }
 
-    /// How many there are.
+    /// How many chips are 1.
     #[inline(always)]
     pub(crate) fn count(&self) -> usize
         ensures value { result ≡ self.now.count }
@@ -42,7 +42,7 @@ impl Ones {
         self.count
     }
 
-    /// Chip number `k` of them, counted from 0.
+    /// Number `k` of the chips that are 1, counted from 0.
     #[inline(always)]
     pub(crate) fn chip(&self, k: usize) -> usize
         requires { k < self.now.count }

@@ -4,19 +4,21 @@ ghost use Rattle.std.specs.Prelude.{◌≡◌, ◌+◌, ◌*◌, ◌/◌, ◌%�
 ghost use Rattle.std.specs.Prelude.{true, length, slice_index, unsigned_abs};
 ghost use Rattle.acquisition.specs.PeriodStates.{ArePowersOf};
 ghost use Rattle.acquisition.specs.Pairs.{ArePairsAtOnes, IsRaisedWhole, cell_pair, power_of_pair};
-ghost use Rattle.acquisition.specs.declared.chip_ring.TheConstants.{CELLS_AT_ONCE, LANES};
+ghost use Rattle.acquisition.specs.declared.chip_ring.TheConstants.{CELLS_AT_ONCE};
+ghost use Rattle.bit_planes.specs.declared.lanes.TheConstants.{LANES};
 ghost use Rattle.acquisition.specs.declared.fold.TheConstants.{MOST_SMALL};
 ghost use Rattle.acquisition.specs.declared.half_chip_table.TheConstants.{HALF_CHIPS};
 ghost use Rattle.ca_codes.specs.declared.book.TheConstants.{CODE_CHIPS};
 ghost use Rattle.acquisition.specs.declared.sums.TheConstants.{MOST_PERIOD_POWER};
 
-use crate::chip_ring::{CELLS_AT_ONCE, LANES, RAISED, place_of};
+use crate::chip_ring::{CELLS_AT_ONCE, RAISED, place_of};
 use crate::half_chip_table::HALF_CHIPS;
 use crate::ones::Ones;
 use crate::pair_ring::{PairLanes, pair};
 use crate::period_sums::PeriodSums;
 use crate::power_runs::put_sixteen;
 use crate::sums::Sums;
+use bit_planes::LANES;
 use std::simd::prelude::*;
 
 impl PeriodSums {

@@ -1,9 +1,11 @@
 //! Two rings of chips in one.
 
-ghost use Rattle.std.specs.Prelude.{◌≡◌, ◌+◌, ◌*◌, ◌%◌, ◌^◌, ◌<◌, ◌≤◌, ℕ, length, slice_index};
-ghost use Rattle.acquisition.specs.declared.chip_ring.TheConstants.{RING, CELLS_AT_ONCE, LANES};
+ghost use Rattle.std.specs.Prelude.{◌≡◌, ◌+◌, ◌*◌, ◌%◌, ◌^◌, ◌≤◌, length};
+ghost use Rattle.acquisition.specs.declared.chip_ring.TheConstants.{RING, CELLS_AT_ONCE};
+ghost use Rattle.bit_planes.specs.declared.lanes.TheConstants.{LANES};
 
-use crate::chip_ring::{CELLS_AT_ONCE, ChipRing, LANES, RING};
+use crate::chip_ring::{CELLS_AT_ONCE, ChipRing, RING};
+use bit_planes::LANES;
 use std::simd::prelude::*;
 
 /// Two rings of chips in one: an entry is that of the first ring plus 2^16 times that of the
@@ -32,7 +34,7 @@ impl PairRing {
         PairRing { chips: [0; RING] }
     }
 
-    /// Becomes that of two rings.
+    /// Becomes the pairs of two rings.
     pub(crate) fn set(&mut self, first: &ChipRing, second: &ChipRing)
         ensures { ArePaired first.now.chips second.now.chips self.new.chips }
     {

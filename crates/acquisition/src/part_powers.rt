@@ -5,17 +5,19 @@ ghost use Rattle.std.specs.Prelude.{slice_index, unsigned_abs};
 ghost use Rattle.definitions.specs.Samples.{Sample};
 ghost use Rattle.acquisition.specs.PeriodStates.{ArePowersOf, AreSumsOf};
 ghost use Rattle.acquisition.specs.Rings.{IsSumAtOnes};
-ghost use Rattle.acquisition.specs.declared.chip_ring.TheConstants.{CELLS_AT_ONCE, LANES, RAISED};
+ghost use Rattle.acquisition.specs.declared.chip_ring.TheConstants.{CELLS_AT_ONCE, RAISED};
+ghost use Rattle.bit_planes.specs.declared.lanes.TheConstants.{LANES};
 ghost use Rattle.acquisition.specs.declared.half_chip_table.TheConstants.{HALF_CHIPS};
 ghost use Rattle.ca_codes.specs.declared.book.TheConstants.{CODE_CHIPS};
 ghost use Rattle.acquisition.specs.declared.sums.TheConstants.{MOST_PERIOD_SUM, MOST_PERIOD_POWER};
 
-use crate::chip_ring::{CELLS_AT_ONCE, LANES, RAISED, place_of};
+use crate::chip_ring::{CELLS_AT_ONCE, RAISED, place_of};
 use crate::half_chip_table::HALF_CHIPS;
 use crate::ones::Ones;
 use crate::period_sums::PeriodSums;
 use crate::power_runs::put_sixteen;
 use crate::sums::Sums;
+use bit_planes::LANES;
 use std::simd::prelude::*;
 
 /// The raised sums over the chips of 1, a lane for each of sixteen cells that follow one another.

@@ -3,7 +3,7 @@
 ghost use Rattle.std.specs.Prelude.{◌≡◌, ◌+◌, ◌*◌, ◌<◌, ◌≤◌, ℕ, true, length};
 ghost use Rattle.std.specs.Prelude.{slice_index, unsigned_abs};
 ghost use Rattle.definitions.specs.Samples.{Sample};
-ghost use Rattle.acquisition.specs.Rings.{ArePaired};
+ghost use Rattle.acquisition.specs.Rings.{ArePaired, HasSmallCells};
 ghost use Rattle.acquisition.specs.declared.chip_ring.TheConstants.{CELLS_AT_ONCE};
 ghost use Rattle.acquisition.specs.declared.dwell.TheConstants.{MOST_START};
 ghost use Rattle.acquisition.specs.declared.fold.TheConstants.{MOST_SMALL};
@@ -32,6 +32,8 @@ pub(crate) struct PeriodSums {
     is_small: bool,
     ghost in_phase_most: { unsigned_abs whole.in_phase ≤ MOST_PERIOD_SUM },
     ghost quadrature_most: { unsigned_abs whole.quadrature ≤ MOST_PERIOD_SUM },
+    ghost in_phase_cells: { HasSmallCells in_phase.chips whole.in_phase },
+    ghost quadrature_cells: { HasSmallCells quadrature.chips whole.quadrature },
     ghost paired: { ArePaired in_phase.chips quadrature.chips pairs.chips },
     ghost in_phase_small: { is_small ≡ true → unsigned_abs whole.in_phase ≤ MOST_SMALL },
     ghost quadrature_small: { is_small ≡ true → unsigned_abs whole.quadrature ≤ MOST_SMALL },
@@ -60,7 +62,7 @@ impl PeriodSums {
         }
     }
 
-    /// Become those of samples `first` to `first + len - 1` of a source, as a fold does.
+    /// Takes the sums over samples `first` to `first + len - 1` of a source, as a fold does.
     pub(crate) fn fill<S: SampleSource>(
         &mut self,
         source: &S,

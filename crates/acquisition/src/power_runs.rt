@@ -1,9 +1,11 @@
 //! Powers of cells, sixteen at a time.
 
 ghost use Rattle.std.specs.Prelude.{◌≡◌, ◌+◌, ◌<◌, ◌≤◌, ℕ, length, slice_index};
-ghost use Rattle.acquisition.specs.declared.chip_ring.TheConstants.{CELLS_AT_ONCE, LANES};
+ghost use Rattle.acquisition.specs.declared.chip_ring.TheConstants.{CELLS_AT_ONCE};
+ghost use Rattle.bit_planes.specs.declared.lanes.TheConstants.{LANES};
 
-use crate::chip_ring::{CELLS_AT_ONCE, LANES};
+use crate::chip_ring::CELLS_AT_ONCE;
+use bit_planes::LANES;
 
 /// Puts sixteen powers in, from place `at` on.
 #[inline(always)]

@@ -1,24 +1,29 @@
-//! Slots by hand: what they answer, and sums of samples of which each product is plain. `banks` has
-//! those of all clients together, and `searches` what a bank searches for.
+//! Slots by hand: what they answer, and sums of samples of which each product is plain. `events`
+//! has when they have something to do, `banks` those of all clients together, `searches` what a
+//! bank searches for, and `waits` what clients ask for while samples wait.
 
-ghost use Rattle.std.specs.Prelude.{◌≡◌, ◌+◌, ◌<◌, ◌≤◌, ℕ, IfOk};
+ghost use Rattle.std.specs.Prelude.{◌≡◌, ◌≤◌, ℕ, true, IfOk, IsNone};
 ghost use Rattle.definitions.specs.Samples.{real1};
-ghost use Rattle.channel_slots.specs.Slots.{IsSound};
+ghost use Rattle.channel_slots.specs.Slots.{is_sound};
+ghost use Rattle.channels.specs.Windows.{first_of, end_of};
 ghost use Rattle.slot_protocol.specs.Commands.{slot_of};
 
 use crate::commands;
 use assertions::assert_same;
 use ca_codes::{CodeBook, Prn};
 use channel_slots::*;
-use channels::Dump;
+use channels::Window;
 use lane_correlator::Counts;
 use oscillators::Settings;
-use sample_planes::{Format, NumberedSamples, PackedSamples, unpack};
+use sample_planes::{Format, PackedSamples, SampleSource};
+use std::alloc::Global;
 use std::process::Abort;
 use std::test::Fail;
 
 mod banks;
+mod events;
 mod searches;
+mod waits;
 
 /// A recording of one-bit samples at two samples a chip, with the carrier at 0 Hz.
 fn plain_settings() -> Result<Settings, Fail>
@@ -176,7 +181,7 @@ fn one_count() -> Result<Command, Fail>
 
 /// A slot that began to hold before the first sample, with counts asked for.
 fn held(settings: &Settings, prn: u8, doppler: i32) -> Result<Slot, Fail>
-    ensures { IfOk result (λ slot. (reach : ℕ) × IsSound 0 0 reach slot) }
+    ensures { IfOk result (λ slot. (reach : ℕ) × (is_sound 0 0 reach slot ≡ true)) }
 {
     let mut slot = Slot::new();
     slot.command(settings, 0, hold(prn, doppler)?);
@@ -184,50 +189,71 @@ fn held(settings: &Settings, prn: u8, doppler: i32) -> Result<Slot, Fail>
     Ok(slot)
 }
 
-/// What it emits at a time, with samples of value 1, where it is to take `count` of `len` of them.
-fn told(slot: &mut Slot, time: u64, len: usize, count: usize) -> Result<Option<Counts>, Fail>
-    requires some { 0 < len }
-    requires sound { (reach : ℕ) × IsSound 0 time reach slot.old }
-    requires in_byte { time + len ≤ 8 }
-    ensures { IfOk result (λ _. (reach : ℕ) × IsSound 0 (time + count) reach slot.new) }
+/// A window of eight samples of value 1.
+fn eight_ones(alloc: Global) -> Result<Window, Fail>
+    ensures first { IfOk result (λ window. first_of window ≡ 0) }
+    ensures end { IfOk result (λ window. end_of window ≡ 8) }
 {
-    let samples = unpack(Format::Real1, &[0], 0, len);
-    if samples.len() != len {
+    let mut window = Window::new(alloc, Format::Real1, 1_024)?;
+    window.take(&PackedSamples::new(Format::Real1, &[0]));
+    Ok(window)
+}
+
+/// What comes with the samples of a window up to number `to`, or with the first of them with which
+/// something does. The window holds all samples so far.
+fn next(slot: &mut Slot, window: &mut Window, to: u64) -> Result<Option<SlotNews>, Fail>
+    requires sound { (time reach : ℕ) × (time ≤ to)
+        × (is_sound (first_of window.old) time reach slot.old ≡ true) }
+    ensures sound { IfOk result (λ _. (time reach : ℕ) × (time ≤ to)
+        × (is_sound (first_of window.new) time reach slot.new ≡ true)) }
+    ensures taken { IfOk result (λ news. IsNone news
+        → (reach : ℕ) × (is_sound to to reach slot.new ≡ true)) }
+    ensures first { first_of window.new ≡ first_of window.old }
+    ensures end { end_of window.new ≡ end_of window.old }
+{
+    if window.history().first() != 0 || window.end() < to || 20_000 < to {
         return Err(Fail::new("samples are missing"));
     }
-    let packed = PackedSamples::new(Format::Real1, &[0]).part(0, time as usize + len);
-    let source = NumberedSamples::new(packed, 0);
-    let mut dump = Dump::plain(Counts::NONE);
-    let (taken, news) = slot.take(&samples, 0, &source, &mut CodeBook::new(), &mut dump);
-    if taken != count {
-        return Err(Fail::new("the next event is elsewhere"));
-    }
-    Ok(shown(news, &dump))
+    Ok(slot.take(to, window, &mut CodeBook::new()))
 }
 
-/// The sums of a dump that are to be printed.
-fn shown(news: Option<SlotNews>, dump: &Dump) -> Option<Counts> {
-    match news {
-        Some(SlotNews::Dump { is_shown }) if is_shown => Some(dump.counts),
-        _ => None,
+/// A dump: when it comes, whether it is to be printed, and its sums.
+type Timed = (u64, bool, Counts);
+
+/// The dump that `next` gives.
+fn next_dump(slot: &mut Slot, window: &mut Window, to: u64) -> Result<Option<Timed>, Fail>
+    requires sound { (time reach : ℕ) × (time ≤ to)
+        × (is_sound (first_of window.old) time reach slot.old ≡ true) }
+    ensures sound { IfOk result (λ _. (time reach : ℕ) × (time ≤ to)
+        × (is_sound (first_of window.new) time reach slot.new ≡ true)) }
+    ensures first { first_of window.new ≡ first_of window.old }
+{
+    match next(slot, window, to)? {
+        Some(SlotNews::Dump { time, is_shown }) => {
+            Ok(Some((time, is_shown, window.dump().counts)))
+        }
+        Some(SlotNews::Acquired { .. }) => Err(Fail::new("a cell was named")),
+        None => Ok(None),
     }
 }
 
-/// Sees that it emits this at a time.
+/// Sees that this dump comes, or none, and when something comes next.
 fn tells(
     rt: &impl Abort,
     slot: &mut Slot,
-    time: u64,
-    len: usize,
-    count: usize,
-    wanted: Option<Counts>,
+    window: &mut Window,
+    to: u64,
+    wanted: Option<Timed>,
+    next_event: u64,
 ) -> Result<(), Fail>
-    requires some { 0 < len }
-    requires sound { (reach : ℕ) × IsSound 0 time reach slot.old }
-    requires in_byte { time + len ≤ 8 }
-    ensures { IfOk result (λ _. (reach : ℕ) × IsSound 0 (time + count) reach slot.new) }
+    requires sound { (time reach : ℕ) × (time ≤ to)
+        × (is_sound (first_of window.old) time reach slot.old ≡ true) }
+    ensures sound { IfOk result (λ _. (time reach : ℕ) × (time ≤ to)
+        × (is_sound (first_of window.new) time reach slot.new ≡ true)) }
+    ensures first { first_of window.new ≡ first_of window.old }
 {
-    assert_same!(rt; told(slot, time, len, count)?, wanted);
+    let found = (next_dump(slot, window, to)?, slot.next_event());
+    assert_same!(rt; found, (wanted, next_event));
     Ok(())
 }
 
@@ -238,8 +264,17 @@ fn tells(
 fn early_wraps(rt: HostRuntime) -> Result<(), Fail> {
     let settings = plain_settings()?;
     let mut slot = held(&settings, 1, 0)?;
+    let mut window = eight_ones(rt.alloc())?;
+    assert_same!(rt; slot.next_event(), 1);
     let counts = sums([-2, 1, 2, -1, 2, -1]);
-    tells(&rt, &mut slot, 0, 8, 1, Some(counts))
+    tells(
+        &rt,
+        &mut slot,
+        &mut window,
+        8,
+        Some((1, true, counts)),
+        2_047,
+    )
 }
 
 // A little slower than half a chip a sample, so the second sample ends the segment. Chip 0 of
@@ -250,10 +285,28 @@ fn sums_do_not_depend_on_the_cut(rt: HostRuntime) -> Result<(), Fail> {
     let settings = plain_settings()?;
     let counts = sums([-4, 0, 4, 0, 4, 0]);
     let mut whole = held(&settings, 7, -1_000)?;
-    tells(&rt, &mut whole, 0, 8, 2, Some(counts))?;
+    let mut window = eight_ones(rt.alloc())?;
+    tells(
+        &rt,
+        &mut whole,
+        &mut window,
+        8,
+        Some((2, true, counts)),
+        2_048,
+    )?;
     let mut cut = held(&settings, 7, -1_000)?;
-    tells(&rt, &mut cut, 0, 1, 1, None)?;
-    tells(&rt, &mut cut, 1, 7, 1, Some(counts))
+    assert_same!(rt; cut.next_event(), 2);
+    tells(&rt, &mut cut, &mut window, 1, None, 2)?;
+    tells(
+        &rt,
+        &mut cut,
+        &mut window,
+        8,
+        Some((2, true, counts)),
+        2_048,
+    )?;
+    // One dump was to be printed, and no other comes with these samples.
+    tells(&rt, &mut cut, &mut window, 8, None, 2_048)
 }
 
 #[test]

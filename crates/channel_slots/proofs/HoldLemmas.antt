@@ -16,7 +16,7 @@ use Rattle.channels.specs.declared.dump.Dump.{Dump}
 use Rattle.channels.specs.declared.followed.Followed.{Followed}
 use Rattle.channels.specs.Dumps.{plain_dump, steered_events_in}
 use Rattle.channels.specs.FollowedChannels as followed
-use Rattle.channels.proofs.LateLemmas.{begun as channel-begun}
+use Rattle.channels.proofs.FollowingLemmas.{channel-begun}
 use Rattle.channel_slots.specs.Stages.{IsFollowed}
 use Rattle.channel_slots.proofs.TakesLemmas.{Brings, Dumped}
 

@@ -1,20 +1,25 @@
 pub mod BankLemmas
 pub mod CellLemmas
+pub mod ChanceLemmas
 pub mod CommandLemmas
+pub mod GoesLemmas
 mod HoldLemmas
 pub mod NewsLemmas
 pub mod OrderLemmas
 pub mod PutLemmas
 pub mod QuietLemmas
+pub mod QuietSlotLemmas
 pub mod ReadyLemmas
 pub mod RestLemmas
 pub mod SearchLemmas
 pub mod SeatLemmas
 pub mod ShareLemmas
 pub mod SlotLemmas
+pub mod SoundLemmas
 pub mod StageLemmas
+pub mod StayLemmas
 pub mod SteeredLemmas
-pub mod TakenLemmas
+pub mod TakeLemmas
 pub mod TakesLemmas
 pub mod TellingLemmas
 pub mod TrackLemmas

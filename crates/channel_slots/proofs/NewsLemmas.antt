@@ -25,7 +25,7 @@ use Rattle.channel_slots.specs.declared.slot_news.SlotNews.{SlotNews}
 use Rattle.channel_slots.specs.declared.slot_news.SlotNews.TheVariants as slot_news
 use Rattle.slot_protocol.specs.Events.{event_in}
 use Rattle.channel_slots.specs.NewsEvents.{if_any, count_events, lock_events, message_events}
-use Rattle.channel_slots.specs.NewsEvents.{events_with}
+use Rattle.channel_slots.specs.NewsEvents.{dump_events, events_with}
 
 counts-are : (is_shown : Bool) (c : Counts)
     → map event_in (count_events is_shown c) ≡ when is_shown (count (counts_in c))
@@ -61,7 +61,7 @@ messages-are (messages.Frame found reports) =
 
 -- all that comes with a dump
 pub all-are : (d : Dump) (is_shown : Bool)
-    → map event_in (events_with (slot_news.Dump is_shown) d)
+    → map event_in (dump_events is_shown d)
     ≡ when is_shown (count (counts_in d.counts)) ++ steered_events_in d
 all-are d is_shown =
     map-append event_in (count_events is_shown d.counts)
@@ -108,9 +108,9 @@ few-counts false c = omega arith
 
 -- six at most
 pub few-events : (news : SlotNews) (d : Dump) → length (events_with news d) ≤ 6
-few-events (slot_news.Acquired prn cell) d = omega arith
-few-events (slot_news.Dump is_shown) d =
-    let parts : length (events_with (slot_news.Dump is_shown) d)
+few-events (slot_news.Acquired time prn cell) d = omega arith
+few-events (slot_news.Dump time is_shown) d =
+    let parts : length (dump_events is_shown d)
     ≡ length (count_events is_shown d.counts) + (length (lock_events d.lock)
     + length (message_events d.message)) =
     length-append (count_events is_shown d.counts) _

@@ -1,89 +1,166 @@
--- What is known of slots at a time.
-use Rattle.std.proofs.Common.{◌≡◌, ◌≤◌, ◌+◌, ◌-◌, ℕ, List, [], ◌∷◌, refl, true, arith}
-use Rattle.std.specs.Prelude.{nat_eq, nat_lt, nat_le}
-use Rattle.std.proofs.lemmas.Bool.{eq-eqb, eqb-true, lt-ltb, ltb-true, le-leb, leb-true, and_parts}
-use Rattle.channels.specs.Searching.{due_of, start_of, to_due_of}
-use Rattle.channels.specs.declared.lazy_follower.TheConstants.{MOST_WAITING}
+-- What is known of slots that begin, of all of a bank over its window, and before their next event.
+use Rattle.std.proofs.Common.{◌≡◌, ◌≤◌, ◌<◌, ◌+◌, ◌-◌, ◌*◌, ◌/◌, ℕ, List, [], ◌∷◌}
+use Rattle.std.proofs.Common.{refl, true, arith}
+use Rattle.std.specs.Prelude.{Bool, min}
+use Rattle.std.proofs.lemmas.Bool.{le-leb, and_parts}
+use Rattle.definitions.specs.Samples.{Packing, real1, real2, iq1, iq2, samples_per_byte}
+use Rattle.definitions.specs.Oscillators.{Settings}
+use Rattle.definitions.specs.Acquisition.{Plan}
+use Rattle.sample_history.specs.declared.history.SampleHistory.{SampleHistory}
+use Rattle.sample_history.specs.Histories as histories
+use Rattle.sample_planes.specs.declared.planes.TheConstants.{MAX_SAMPLES}
+use Rattle.channels.specs.declared.followed.Followed.{Followed}
+use Rattle.channels.specs.declared.searched.Searched.{Searched}
+use Rattle.channels.specs.declared.window.Window.{Window}
+use Rattle.channels.specs.Windows.{first_of, end_of, history_of}
+use Rattle.channels.specs.Searching.{Begins, start_of}
+use Rattle.channels.specs.FollowedChannels.{HasBegun}
 use Rattle.channel_slots.specs.declared.stage.Stage.{Stage}
 use Rattle.channel_slots.specs.declared.stage.Stage.TheVariants.{Idle, Searching, Following}
 use Rattle.channel_slots.specs.Stages as stages
+use Rattle.channel_slots.specs.Stages.{most_wait}
+use Rattle.channel_slots.specs.declared.slot.TheConstants.{NEVER}
 use Rattle.channel_slots.specs.declared.seat.Seat.{Seat}
-use Rattle.channel_slots.specs.Slots.{is_sound}
-use Rattle.channel_slots.specs.Banks.{AllSound, are_sound}
+use Rattle.channel_slots.specs.declared.slot.Slot.{Slot}
+use Rattle.channel_slots.specs.Slots.{is_sound, IsSound, next_event}
+use Rattle.channel_slots.specs.Banks.{AllSound, AllRest, AllIdle, are_sound}
+use Rattle.channel_slots.proofs.SoundLemmas.{due-soon, due-tested, in-time, time-tested}
 
--- a source may hold fewer samples than it did before a search's first one, and before those that
--- wait
-sound-from : (reach time first : ℕ) (stage : Stage) → stages.IsSound 0 time reach stage
-    → MOST_WAITING ≤ reach → first ≤ time - reach → stages.IsSound first time reach stage
-sound-from reach time first Idle sound most late = tt
-sound-from reach time first (Searching a) sound most late =
-    (omega (arith, sound.1, sound.2, sound.3, late), sound.1, sound.2, sound.3)
-sound-from reach time first (Following f) sound most late = record {
-  few = sound.few;
-  held = omega (arith, sound.waits, f.follower.few, most, late);
-  begun = sound.begun;
-  waits = sound.waits;
-}
+-- ---- one stage
+-- an idle one
+pub idle-is-sound : (first time reach : ℕ) (stage : Stage) → stages.is_idle stage ≡ true
+    → stages.is_sound first time reach stage ≡ true
+idle-is-sound first time reach Idle e = refl
+idle-is-sound first time reach (Searching s) e = cc
+idle-is-sound first time reach (Following f) e = cc
 
-pub all-sound-from : (reach time first : ℕ) (seats : List Seat) → AllSound 0 time reach seats
-    → MOST_WAITING ≤ reach → first ≤ time - reach → AllSound first time reach seats
-all-sound-from reach time first [] sound most late = tt
-all-sound-from reach time first (p ∷ seats) sound most late = (
-  sound-from reach time first p.slot.stage sound.0 most late,
-  all-sound-from reach time first seats sound.1 most late,
+-- one that begins now
+pub search-begins-sound : (settings : Settings) (plan : Plan) (first time : ℕ) (s : Searched)
+    → first ≤ time → Begins settings plan time s
+    → stages.is_sound first time (most_wait settings) (Searching s) ≡ true
+search-begins-sound settings plan first time s later b =
+    due-tested first time (most_wait settings) s (record {
+      begun = later;
+      early = b.waits;
+      near = omega (arith, b.near, b.begun);
+    })
+
+pub channel-begins-sound : (steered : Bool) (first time reach : ℕ) (f : Followed)
+    → first ≤ time → HasBegun time steered f
+    → stages.is_sound first time reach (Following f) ≡ true
+channel-begins-sound steered first time reach f later b =
+    time-tested first time reach f (record {
+      few = omega (arith, b.dumps);
+      held = omega (arith, b.at, later);
+      begun = omega (arith, b.at);
+      waits = omega (arith, b.at, f.follower.waits);
+    })
+
+-- and its first event comes later
+pub search-begins-quiet : (settings : Settings) (plan : Plan) (time : ℕ) (s : Searched)
+    → Begins settings plan time s → time < stages.next_event (Searching s)
+search-begins-quiet settings plan time s b = omega (arith, b.none, b.begun, b.waits)
+
+pub channel-begins-quiet : (steered : Bool) (time : ℕ) (f : Followed) → HasBegun time steered f
+    → time < stages.next_event (Following f)
+channel-begins-quiet steered time f b = omega (arith, b.at, f.follower.waits)
+
+pub idle-is-quiet : (time : ℕ) (stage : Stage) → stages.is_idle stage ≡ true → time < NEVER
+    → time < stages.next_event stage
+idle-is-quiet time Idle e early = early
+idle-is-quiet time (Searching s) e early = cc
+idle-is-quiet time (Following f) e early = cc
+
+-- ---- over a window
+
+-- a history holds its last samples, as many as it has room for
+pub history-holds : (h : SampleHistory) → histories.first_of h ≤ histories.taken_of h
+    - histories.room_of h
+history-holds h = by_packing (histories.packing_in h) _ _ _ h.kept
+  where
+    by_packing : (packing : Packing) (taken room held : ℕ)
+        → held ≡ min room (taken / samples_per_byte packing)
+        → samples_per_byte packing * (taken / samples_per_byte packing - held)
+        ≤ taken - samples_per_byte packing * room
+    by_packing real1 taken room held is = omega (arith, is)
+    by_packing real2 taken room held is = omega (arith, is)
+    by_packing iq1 taken room held is = omega (arith, is)
+    by_packing iq2 taken room held is = omega (arith, is)
+
+module _ (w : Window) (time reach : ℕ)
+    (room : reach + MAX_SAMPLES ≤ histories.room_of (history_of w))
+    (near : end_of w - time ≤ MAX_SAMPLES) where
+  dwell-is-held : (stage : Stage) → stages.is_sound (first_of w) time reach stage ≡ true
+      → stages.is_held w stage ≡ true
+  dwell-is-held Idle test = refl
+  dwell-is-held (Searching s) test =
+      let k = due-soon (first_of w) time reach s test in
+      le-leb (histories.first_of (history_of w)) (start_of s)
+      (omega (arith, history-holds (history_of w), room, near, k.early, k.near))
+  dwell-is-held (Following f) test = refl
+
+  -- where the open samples are few enough, each search finds its dwell in the history
+  pub all-sound : (seats : List Seat) → are_sound (first_of w) time reach seats ≡ true
+      → AllSound w time reach seats
+  all-sound [] test = tt
+  all-sound (p ∷ seats) test =
+      let parts = and_parts (is_sound (first_of w) time reach p.slot) _ test in
+      ((parts.0, dwell-is-held p.slot.stage parts.0), all-sound seats parts.1)
+
+pub all-tested : (w : Window) (time reach : ℕ) (seats : List Seat) → AllSound w time reach seats
+    → are_sound (first_of w) time reach seats ≡ true
+all-tested w time reach [] sound = refl
+all-tested w time reach (p ∷ seats) sound =
+    rw sound.0.0 (all-tested w time reach seats sound.1)
+
+-- before its next event a stage stays sound
+later-tested : (first time end reach : ℕ) (stage : Stage) → time ≤ end
+    → end < stages.next_event stage → stages.is_sound first time reach stage ≡ true
+    → stages.is_sound first end reach stage ≡ true
+later-tested first time end reach Idle later before test = refl
+later-tested first time end reach (Searching s) later before test =
+    let k = due-soon first time reach s test in
+    due-tested first end reach s (record {
+      begun = omega (arith, k.begun, later);
+      early = omega (arith, before);
+      near = k.near;
+    })
+later-tested first time end reach (Following f) later before test =
+    let k = in-time first time reach f test in
+    time-tested first end reach f (record {
+      few = omega (arith, k.few, later);
+      held = k.held;
+      begun = omega (arith, k.begun, later);
+      waits = before;
+    })
+
+pub sound-later : (w : Window) (time end reach : ℕ) (slot : Slot) → time ≤ end
+    → end < next_event slot → IsSound w time reach slot → IsSound w end reach slot
+sound-later w time end reach slot later before sound =
+    (later-tested (first_of w) time end reach slot.stage later before sound.0, sound.1)
+
+pub all-sound-later : (w : Window) (time end reach next : ℕ) (seats : List Seat) → time ≤ end
+    → end < next → AllRest next seats → AllSound w time reach seats → AllSound w end reach seats
+all-sound-later w time end reach next [] later before rest sound = tt
+all-sound-later w time end reach next (p ∷ seats) later before rest sound = (
+  sound-later w time end reach p.slot later (omega (arith, before, rest.0)) sound.0,
+  all-sound-later w time end reach next seats later before rest.1 sound.1,
 )
 
--- by the test and by the facts
-in-time-tested : (time dumps taken rests : ℕ) → stages.IsInTime 0 time dumps taken rests
-    → stages.is_in_time time dumps taken rests ≡ true
-in-time-tested time dumps taken rests s =
-    rw (le-leb dumps time s.few, le-leb taken time s.begun, le-leb time rests s.waits) refl
+-- the same by the test alone
+pub all-tested-later : (first time end reach next : ℕ) (seats : List Seat) → time ≤ end
+    → end < next → AllRest next seats → are_sound first time reach seats ≡ true
+    → are_sound first end reach seats ≡ true
+all-tested-later first time end reach next [] later before rest test = refl
+all-tested-later first time end reach next (p ∷ seats) later before rest test =
+    let parts = and_parts (is_sound first time reach p.slot) _ test in
+    rw (later-tested first time end reach p.slot.stage later (omega (arith, before, rest.0))
+    parts.0) (all-tested-later first time end reach next seats later before rest.1 parts.1)
 
-in-time : (time dumps taken rests : ℕ) → stages.is_in_time time dumps taken rests ≡ true
-    → stages.IsInTime 0 time dumps taken rests
-in-time time dumps taken rests test =
-    let outer = and_parts (nat_le dumps time) _ test in
-    let inner = and_parts (nat_le taken time) _ outer.1 in
-    record {
-      few = leb-true dumps time outer.0;
-      held = omega arith;
-      begun = leb-true taken time inner.0;
-      waits = leb-true time rests inner.1;
-    }
-
-tested : (time reach : ℕ) (stage : Stage) → stages.IsSound 0 time reach stage
-    → stages.is_sound time reach stage ≡ true
-tested time reach Idle sound = refl
-tested time reach (Searching a) sound =
-    rw (
-      eq-eqb (due_of a) (time + to_due_of a) sound.1,
-      lt-ltb 0 (to_due_of a) sound.2,
-      le-leb (due_of a) (start_of a + reach) sound.3,
-    ) refl
-tested time reach (Following f) sound = in-time-tested time _ _ _ sound
-
-by-test : (time reach : ℕ) (stage : Stage) → stages.is_sound time reach stage ≡ true
-    → stages.IsSound 0 time reach stage
-by-test time reach Idle test = tt
-by-test time reach (Searching a) test =
-    let outer = and_parts (nat_eq (due_of a) (time + to_due_of a)) _ test in
-    let inner = and_parts (nat_lt 0 (to_due_of a)) _ outer.1 in (
-      omega arith,
-      eqb-true (due_of a) (time + to_due_of a) outer.0,
-      ltb-true 0 (to_due_of a) inner.0,
-      leb-true (due_of a) (start_of a + reach) inner.1,
-    )
-by-test time reach (Following f) test = in-time time _ _ _ test
-
-pub all-tested : (time reach : ℕ) (seats : List Seat) → AllSound 0 time reach seats
-    → are_sound time reach seats ≡ true
-all-tested time reach [] sound = refl
-all-tested time reach (p ∷ seats) sound =
-    rw (tested time reach p.slot.stage sound.0) (all-tested time reach seats sound.1)
-
-pub all-sound : (time reach : ℕ) (seats : List Seat) → are_sound time reach seats ≡ true
-    → AllSound 0 time reach seats
-all-sound time reach [] test = tt
-all-sound time reach (p ∷ seats) test =
-    let parts = and_parts (is_sound time reach p.slot) _ test in
-    (by-test time reach p.slot.stage parts.0, all-sound time reach seats parts.1)
+-- idle ones
+pub all-idle-tested : (first time reach : ℕ) (seats : List Seat) → AllIdle seats
+    → are_sound first time reach seats ≡ true
+all-idle-tested first time reach [] idle = refl
+all-idle-tested first time reach (p ∷ seats) idle =
+    rw (idle-is-sound first time reach p.slot.stage idle.0)
+    (all-idle-tested first time reach seats idle.1)

@@ -21,23 +21,17 @@ use Rattle.definitions.proofs.DueLemmas.{due-no_dumps}
 use Rattle.definitions.proofs.EndLemmas.{no_counts-not_lost}
 use Rattle.acquisition.specs.declared.cell.Cell.{Cell}
 use Rattle.acquisition.specs.Cells.{cell_in}
-use Rattle.sample_planes.specs.Sources.{AreSamplesOf}
 use Rattle.channels.specs.declared.searched.Searched.{Searched}
 use Rattle.channels.specs.declared.followed.Followed.{Followed}
 use Rattle.channels.specs.Searching as searched
 use Rattle.channels.specs.Searching.{Searches, Answers}
 use Rattle.channels.specs.FollowedChannels.{counts_so_far}
+use Rattle.channels.proofs.SearchedLemmas.{due}
 use Rattle.channels.specs.FollowedChannels as followed
 use Rattle.channel_slots.specs.declared.stage.Stage.{Stage}
 use Rattle.channel_slots.specs.declared.stage.Stage.TheVariants.{Idle, Searching, Following}
 use Rattle.channel_slots.specs.Stages.{IsSearched, IsSettled, Follows}
 use Rattle.channel_slots.proofs.TakesLemmas.{Takes, Acquired}
-
--- samples from a later one on
-pub from-later : (xs : List Sample) (first begun to : ℕ) (held : ℕ → Sample) → first ≤ begun
-    → AreSamplesOf xs first to held → AreSamplesOf xs begun to held
-from-later xs first begun to held later samples n low high =
-    samples n (omega (arith, later, low)) high
 
 -- before the first dump of a channel no signal is lost
 pub none-yet : (settings : Settings) (xs : List Sample) (channel : Channel)
@@ -75,7 +69,7 @@ early-is-on settings xs life plan is early =
 module _ (settings : Settings) (xs : List Sample) (life : Life) (a : Searched)
     (s : IsSearched settings xs life a) where
   early : length xs < due_time settings s.plan life.begun
-  early = omega (arith, s.searches.due, s.waits)
+  early = omega (arith, due settings s.plan life.begun xs a s.searches, s.waits)
 
   pub searched-dumps : dumps_of_life settings xs life ≡ []
   searched-dumps = acquire-no_dumps settings xs life s.plan s.start early
@@ -135,7 +129,7 @@ module _ (settings : Settings) (xs : List Sample) (life : Life) (a : Searched)
         plan = s.plan;
         start = s.start;
         searches = searches;
-        waits = omega (arith, later, searches.due);
+        waits = omega (arith, later, due settings s.plan life.begun (xs ++ ys) b searches);
       };
     }
 
@@ -201,19 +195,19 @@ module _ (settings : Settings) (xs : List Sample) (life : Life) (a : Searched)
       not-found none = answers Idle (over none)
 
       pub settled : (b : Searched) → Searches settings s.plan life.begun (xs ++ ys) b
-          → searched.to_due_of b ≡ 0 → (stage : Stage)
-          → IsSettled cell b (length (xs ++ ys)) stage
+          → (stage : Stage) → IsSettled cell b stage
           → Takes settings xs ys life stage (Some (Acquired prn cell))
-      settled b searches due Idle is = not-found is
-      settled b searches due (Searching other) is = absurd is
-      settled b searches due (Following f) is =
+      settled b searches Idle is = not-found is
+      settled b searches (Searching other) is = absurd is
+      settled b searches (Following f) is =
           found f is.2.steered_is
-          (is.1 settings s.plan life.begun (xs ++ ys) refl searches due) is.0
+          (is.1 settings s.plan life.begun (xs ++ ys)
+          (answer.0 ∙ sym (due settings s.plan life.begun (xs ++ ys) b searches)) searches) is.0
 
 -- a life that begins now
 pub starts-searched : (settings : Settings) (xs : List Sample) (life : Life) (a : Searched)
     (plan : Plan) → life.begun ≡ length xs → life.start ≡ acquire plan
-    → Searches settings plan (length xs) xs a → 0 < searched.to_due_of a
+    → Searches settings plan (length xs) xs a → length xs < searched.due_of a
     → IsSearched settings xs life a
 starts-searched settings xs life a plan begun start searches waits = record {
   plan = plan;

@@ -16,11 +16,7 @@ use Rattle.definitions.specs.Banks.{layout}
 use Rattle.channel_slots.specs.declared.seat.Seat.{Seat}
 use Rattle.channel_slots.specs.Banks.{total, keys_of, IsAt, row_of as row, AddsIdle, AllIdle}
 use Rattle.channel_slots.proofs.CommandLemmas.{Once}
-use Rattle.channel_slots.specs.Banks.{AllSound}
 use Rattle.channel_slots.specs.Slots.{StandsFor, is_idle}
-use Rattle.channel_slots.specs.Stages as stages
-use Rattle.channel_slots.specs.declared.stage.Stage.{Stage}
-use Rattle.channel_slots.specs.declared.stage.Stage.TheVariants.{Idle, Searching, Following}
 use Rattle.slot_protocol.specs.declared.command.TheConstants.{MOST_SLOTS}
 use Rattle.channel_slots.proofs.SlotLemmas.{stands-new}
 use Rattle.definitions.specs.Oscillators.{Settings}
@@ -222,15 +218,6 @@ idle-more client share before after idle adds =
     all-append P (x ∷ xs) ys a b = (a.0, all-append P xs ys a.1 b)
 
 -- ---- idle slots
-
-pub idle-sound : (reach : ℕ) (ps : List Seat) → AllIdle ps → AllSound 0 0 reach ps
-idle-sound reach [] idle = tt
-idle-sound reach (p ∷ ps) idle = (of_stage p.slot.stage idle.0, idle-sound reach ps idle.1)
-  where
-    of_stage : (stage : Stage) → stages.is_idle stage ≡ true → stages.IsSound 0 0 reach stage
-    of_stage Idle e = tt
-    of_stage (Searching a) e = cc
-    of_stage (Following f) e = cc
 
 pub idle-stand : (settings : Settings) (ps : List Seat) → AllIdle ps
     → AllByRecursion (λ (p : Seat). StandsFor settings [] [] p.slot) ps

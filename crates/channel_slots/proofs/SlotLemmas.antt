@@ -22,8 +22,7 @@ use Rattle.definitions.proofs.EndLemmas.{is_over-append}
 use Rattle.channels.specs.Dumps.{steered_events_in}
 use Rattle.channel_slots.specs.declared.slot.Slot.{Slot}
 use Rattle.slot_protocol.specs.Events.{event_in}
-use Rattle.channel_slots.specs.NewsEvents.{events_with}
-use Rattle.channel_slots.specs.declared.slot_news.SlotNews.TheVariants as slot_news
+use Rattle.channel_slots.specs.NewsEvents.{dump_events}
 use Rattle.slot_protocol.specs.declared.event.Event.{Event}
 use Rattle.slot_protocol.specs.declared.event.Event.TheVariants as events
 use Rattle.channel_slots.specs.Stages.{Follows}
@@ -103,7 +102,7 @@ all-to-print settings xs life slot follows on from left =
 abbrev pub events_told : Option Told → List Event
 events_told None = []
 events_told (Some (Acquired prn cell)) = events.Acquired prn cell ∷ []
-events_told (Some (Dumped d is_shown)) = events_with (slot_news.Dump is_shown) d
+events_told (Some (Dumped d is_shown)) = dump_events is_shown d
 
 -- what is left to print after samples that bring news
 abbrev pub Prints : ℕ → ℕ → Option Told → Type 0
@@ -225,6 +224,17 @@ module _ (settings : Settings) (xs : List Sample) (commands : List TimedRequest)
           ++ record { time = length xs; request = state } ∷ []) slot
       by_test true e = stays-idle e state refl
       by_test false e = keeps-on e state (λ life. refl)
+
+  -- one that has taken the samples that waited
+  pub passes : is_idle slot ≡ false → (new : Slot) → new.unprinted ≡ slot.unprinted
+      → ((life : Life) → Follows settings xs life slot.stage
+      → Follows settings xs life new.stage)
+      → StandsFor settings xs commands new
+  unfolding HaveCome
+  passes e new left follows =
+      let i = has-life e in
+      stands-by settings xs commands new s.early i.life i.of (follows i.life i.follows)
+      (λ on. left ∙ i.left) i.asked
 
   -- ---- what it emits with ys after xs
   module _ (ys : List Sample) (some : 0 < length ys) where

@@ -1,6 +1,6 @@
 -- What a life follows: what is shown of it, and what it brings to the life.
-use Rattle.std.proofs.Common.{◌≡◌, ℕ, ◌<◌, ◌≤◌, List, ◌++◌, length, take, refl, sym, ap}
-use Rattle.std.proofs.Common.{◌∙◌, arith, true, false}
+use Rattle.std.proofs.Common.{◌≡◌, ℕ, ◌<◌, ◌≤◌, List, [], ◌++◌, length, take, refl, sym, ap}
+use Rattle.std.proofs.Common.{◌∙◌, arith, append-nil, true, false}
 use Rattle.std.specs.Prelude.{ℤ, Bool, Option, Some, None, is_some}
 use Rattle.std.specs.List.{AllByRecursion}
 use Rattle.std.proofs.lemmas.List.{length-take, length-map}
@@ -125,6 +125,18 @@ module _ (settings : Settings) (xs : List Sample) (life : Life) (f : Followed)
       )
       (sym (followed-view settings xs life f s ∙ ap shown (view-tracked life.start
       (progress settings s.channel xs).dumps s.channel steered)))
+
+-- one that takes the samples that waited goes on
+pub still-followed : (settings : Settings) (xs : List Sample) (life : Life) (f g : Followed)
+    → (s : IsFollowed settings xs life f) → followed.is_steered g ≡ followed.is_steered f
+    → followed.Takes settings s.channel xs [] g None → IsFollowed settings xs life g
+still-followed settings xs life f g s same took = record {
+  channel = s.channel;
+  given = s.given;
+  steered = same ∙ s.steered;
+  follows = rw (append-nil xs) at took.stands;
+  not_lost = s.not_lost;
+}
 
 -- all dumps are among the samples
 pub dumps-by-now : (settings : Settings) (xs : List Sample) (life : Life) (stage : Stage)

@@ -24,7 +24,7 @@ use Rattle.tracking_loops.specs.declared.news.News.{News}
 use Rattle.tracking_loops.specs.declared.news.News.TheVariants as locks
 use Rattle.channels.specs.declared.dump.Dump.{Dump}
 use Rattle.channels.specs.declared.followed.Followed.{Followed}
-use Rattle.channels.proofs.LateLemmas.{begun as channel-begun}
+use Rattle.channels.proofs.FollowingLemmas.{channel-begun}
 use Rattle.channels.specs.Dumps.{is_loss}
 use Rattle.channels.specs.Trackings as trackings
 use Rattle.channels.specs.FollowedChannels as followed

@@ -12,13 +12,13 @@ use Rattle.slot_protocol.specs.declared.event.SlotEvent.{SlotEvent}
 use Rattle.sample_planes.specs.PackedRuns.{PackedRun}
 use Rattle.sample_planes.specs.declared.planes.TheConstants.{MAX_SAMPLES}
 use Rattle.channel_slots.specs.declared.bank.TheConstants.{MOST_TIME}
-use Rattle.sample_history.specs.Histories as histories
+use Rattle.channels.specs.Windows as windows
 use Rattle.channel_slots.specs.Banks.{BankStands, cells_done_at}
 use Rattle.slot_protocol.specs.Events.{AreEvents}
 
 -- how many samples there were
 abbrev pub time_of : Bank → ℕ
-time_of bank = bank.time
+time_of bank = windows.end_of bank.window
 
 -- how many slots each of its clients has
 abbrev pub shares_of : Bank → List ℕ
@@ -55,9 +55,9 @@ Fits bank run = (run.packing ≡ (settings_of bank).packing)
 pub record StandsFor (settings : Settings) (xs : List Sample)
     (asked : ℕ → ℕ → List TimedRequest) (bank : Bank) : Type 0 where
   pub recorded : bank.settings ≡ settings
-  pub now : bank.time ≡ length xs
-  pub history : histories.StandsFor xs bank.history
-  pub slots : BankStands settings xs asked bank.time (boxed_slice_items bank.seats)
+  pub now : time_of bank ≡ length xs
+  pub window : windows.StandsFor xs bank.window
+  pub slots : BankStands settings xs asked (time_of bank) (boxed_slice_items bank.seats)
 
 -- whatever a bank stood for: these events are what its slots emit over a run of samples
 abbrev pub Emits : Bank → List Sample → List SlotEvent → Type 0

@@ -1,5 +1,5 @@
 -- The events that come with a dump of a slot, in their order.
-use Rattle.std.specs.Prelude.{Bool, if◌then◌else◌, List, [], ◌∷◌, ◌++◌, Option, Some, None}
+use Rattle.std.specs.Prelude.{ℕ, Bool, if◌then◌else◌, List, [], ◌∷◌, ◌++◌, Option, Some, None}
 use Rattle.std.specs.Prelude.{option_map}
 use Rattle.lane_correlator.specs.declared.counts.Counts.{Counts}
 use Rattle.tracking_loops.specs.declared.news.News.{News}
@@ -46,10 +46,20 @@ dump_events is_shown dump =
     count_events is_shown dump.counts
     ++ (lock_events dump.lock ++ message_events dump.message)
 
--- what an acquisition names, or what is emitted with a dump, which is in the room for it
+-- what an acquisition names, or what is emitted with a dump, which is the window's
 abbrev pub events_with : SlotNews → Dump → List Event
-events_with (slot_news.Acquired prn cell) dump = events.Acquired prn cell ∷ []
-events_with (slot_news.Dump is_shown) dump = dump_events is_shown dump
+events_with (slot_news.Acquired time prn cell) dump = events.Acquired prn cell ∷ []
+events_with (slot_news.Dump time is_shown) dump = dump_events is_shown dump
+
+-- and when
+abbrev pub time_of : SlotNews → ℕ
+time_of (slot_news.Acquired time prn cell) = time
+time_of (slot_news.Dump time is_shown) = time
+
+-- how far a slot has gone that was to go to a number
+abbrev pub time_after : ℕ → Option SlotNews → ℕ
+time_after most None = most
+time_after most (Some news) = time_of news
 
 -- all that is emitted, if anything is
 abbrev pub events_of : Option SlotNews → Dump → List Event

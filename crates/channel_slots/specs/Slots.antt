@@ -7,6 +7,7 @@ use Rattle.definitions.specs.Oscillators.{Settings}
 use Rattle.definitions.specs.Commands.{TimedRequest, Start}
 use Rattle.definitions.specs.Lives.{Life, life_of, life_now, dumps_of_life}
 use Rattle.definitions.specs.Events.{events_at_end, unprinted_count}
+use Rattle.channels.specs.declared.window.Window.{Window}
 use Rattle.channel_slots.specs.declared.slot.Slot.{Slot}
 use Rattle.slot_protocol.specs.declared.event.Event.{Event}
 use Rattle.slot_protocol.specs.Events.{event_in}
@@ -16,21 +17,21 @@ use Rattle.channel_slots.specs.Stages as stages
 abbrev pub is_idle : Slot → Bool
 is_idle slot = stages.is_idle slot.stage
 
--- up to how many samples of the recording may come while the slot takes none
-abbrev pub rests_until : Slot → ℕ
-rests_until slot = stages.rests_until slot.stage
+-- with how many samples of the recording it has something to do next
+abbrev pub next_event : Slot → ℕ
+next_event slot = stages.next_event slot.stage
 
--- how many events the slot may emit in a run of samples after so many
-abbrev pub chances : ℕ → Slot → ℕ
-chances time slot = stages.chance time slot.stage
+-- how many events it may emit with the open samples that it hasn't taken
+abbrev pub chances : Slot → ℕ
+chances slot = stages.chance slot.stage
 
 -- what is known of it at a time
-abbrev pub IsSound : ℕ → ℕ → ℕ → Slot → Type 0
-IsSound first time reach slot = stages.IsSound first time reach slot.stage
+abbrev pub IsSound : Window → ℕ → ℕ → Slot → Type 0
+IsSound w time reach slot = stages.IsSound w time reach slot.stage
 
--- the same as a test, whatever sample comes first
-abbrev pub is_sound : ℕ → ℕ → Slot → Bool
-is_sound time reach slot = stages.is_sound time reach slot.stage
+-- the same as a test, without the samples of a dwell
+abbrev pub is_sound : ℕ → ℕ → ℕ → Slot → Bool
+is_sound first time reach slot = stages.is_sound first time reach slot.stage
 
 -- how many cells its search has done: none where it doesn't search
 abbrev pub cells_done_of : Slot → Option ℕ

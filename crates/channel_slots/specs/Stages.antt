@@ -1,5 +1,5 @@
 -- What a stage follows over the samples so far.
-use Rattle.std.specs.Prelude.{◌≡◌, ◌<◌, ◌≤◌, ◌+◌, ◌*◌, ◌==◌, ◌&&◌, nat_le, if◌then◌else◌, ℕ}
+use Rattle.std.specs.Prelude.{◌≡◌, ◌<◌, ◌+◌, ◌*◌, ◌&&◌, nat_le, if◌then◌else◌, ℕ}
 use Rattle.std.specs.Prelude.{Bool, true, false, List, length, nat_lt, Option, Some, None}
 use Rattle.definitions.specs.Samples.{Sample}
 use Rattle.definitions.specs.Oscillators.{Settings, samples_per_ms}
@@ -14,6 +14,9 @@ use Rattle.definitions.specs.Lives.{is_over, lost_after}
 use Rattle.tracking_loops.specs.declared.news.News.{News}
 use Rattle.channels.specs.declared.followed.Followed.{Followed}
 use Rattle.channels.specs.declared.searched.Searched.{Searched}
+use Rattle.channels.specs.declared.window.Window.{Window}
+use Rattle.channels.specs.Windows.{first_of, history_of}
+use Rattle.sample_history.specs.Histories as histories
 use Rattle.channels.specs.Searching as searched
 use Rattle.channels.specs.Searching.{Searches}
 use Rattle.channels.specs.Dumps.{is_loss}
@@ -22,7 +25,7 @@ use Rattle.channels.specs.FollowedChannels.{HasBegun, counts_so_far}
 use Rattle.channel_slots.specs.declared.stage.Stage.{Stage}
 use Rattle.channel_slots.specs.declared.stage.Stage.TheVariants.{Idle, Searching, Following}
 use Rattle.channel_slots.specs.declared.slot_news.TheConstants.{DUMP_EVENTS}
-use Rattle.channel_slots.specs.declared.bank.TheConstants.{MOST_TIME}
+use Rattle.channel_slots.specs.declared.slot.TheConstants.{NEVER}
 
 -- whether it follows nothing
 abbrev pub is_idle : Stage → Bool
@@ -36,51 +39,42 @@ cells_done_of Idle = None
 cells_done_of (Searching s) = Some (searched.done_of s)
 cells_done_of (Following f) = None
 
--- up to how many samples of the recording may come while it takes none: one that is idle needs
--- none, and one that searches takes all
-abbrev pub rests_until : Stage → ℕ
-rests_until Idle = MOST_TIME
-rests_until (Searching s) = 0
-rests_until (Following f) = followed.rests_until f
+-- with how many samples of the recording it has something to do next: a cell, or a dump
+abbrev pub next_event : Stage → ℕ
+next_event Idle = NEVER
+next_event (Searching s) = searched.next_cell s
+next_event (Following f) = followed.next_dump f
 
--- how many events may come in a run of samples after so many: those of a dump, and the answer of an
--- acquisition before it
-abbrev pub chance : ℕ → Stage → ℕ
-chance time Idle = 0
-chance time (Searching s) = 1 + DUMP_EVENTS
-chance time (Following f) = DUMP_EVENTS * followed.chance time f
+-- how many events may come with the open samples that it hasn't taken: those of a dump, and the
+-- answer of an acquisition before it
+abbrev pub chance : Stage → ℕ
+chance Idle = 0
+chance (Searching s) = 1 + DUMP_EVENTS
+chance (Following f) = DUMP_EVENTS * followed.chance f
 
--- a channel has had a dump a sample at most; it has taken all samples before sample `first` and
--- perhaps more, and those that it hasn't taken may wait
-pub record IsInTime (first time dumps taken rests : ℕ) : Type 0 where
-  pub few : dumps ≤ time
-  pub held : first ≤ taken
-  pub begun : taken ≤ time
-  pub waits : time ≤ rests
+-- what is known of it at a time, as a test, where the samples from number `first` on are open: the
+-- answer of one that searches isn't due yet, and comes no further than `reach` from its start; a
+-- channel has had a dump a sample at most, and has taken all samples before the open ones, and
+-- perhaps more, but not the next dump's
+abbrev pub is_sound : ℕ → ℕ → ℕ → Stage → Bool
+is_sound first time reach Idle = true
+is_sound first time reach (Searching s) =
+    nat_le first time && nat_lt time (searched.due_of s)
+    && nat_le (searched.due_of s) (searched.start_of s + reach)
+is_sound first time reach (Following f) =
+    nat_le (followed.dumps_of f) time && nat_le first (followed.at_of f)
+    && nat_le (followed.at_of f) time && nat_lt time (followed.next_dump f)
 
--- what is known of it at a time: that of its channel; one that searches is on its way to its due
--- time, which isn't further than `reach` from its start, and its dwell begins with sample `first`
--- or later
-abbrev pub IsSound : ℕ → ℕ → ℕ → Stage → Type 0
-IsSound first time reach Idle = Unit
-IsSound first time reach (Searching s) =
-    (first ≤ searched.start_of s) × (searched.due_of s ≡ time + searched.to_due_of s)
-    × (0 < searched.to_due_of s) × (searched.due_of s ≤ searched.start_of s + reach)
-IsSound first time reach (Following f) =
-    IsInTime first time (followed.dumps_of f) (followed.taken_of f) (followed.rests_until f)
+-- and one that searches finds its dwell in the history
+abbrev pub is_held : Window → Stage → Bool
+is_held w Idle = true
+is_held w (Searching s) = nat_le (histories.first_of (history_of w)) (searched.start_of s)
+is_held w (Following f) = true
 
--- the same as a test, whatever sample comes first
-abbrev pub is_in_time : ℕ → ℕ → ℕ → ℕ → Bool
-is_in_time time dumps taken rests =
-    nat_le dumps time && (nat_le taken time && nat_le time rests)
-
-abbrev pub is_sound : ℕ → ℕ → Stage → Bool
-is_sound time reach Idle = true
-is_sound time reach (Searching s) =
-    (searched.due_of s == time + searched.to_due_of s)
-    && (nat_lt 0 (searched.to_due_of s) && nat_le (searched.due_of s) (searched.start_of s + reach))
-is_sound time reach (Following f) =
-    is_in_time time (followed.dumps_of f) (followed.taken_of f) (followed.rests_until f)
+-- both, over a window
+abbrev pub IsSound : Window → ℕ → ℕ → Stage → Type 0
+IsSound w time reach stage =
+    (is_sound (first_of w) time reach stage ≡ true) × (is_held w stage ≡ true)
 
 -- how far the due time of an acquisition may be from its start
 abbrev pub most_wait : Settings → ℕ
@@ -90,17 +84,17 @@ most_wait settings = MOST_DWELL * samples_per_ms settings + 4 * MOST_CELLS
 abbrev pub after_dump : News → Stage → Stage
 after_dump lock stage = if is_loss lock then Idle else stage
 
--- what a search leaves with the cell that it named, after so many samples: the signal that was
--- found, tracked, and nothing where none was
-abbrev pub IsSettled : Cell → Searched → ℕ → Stage → Type 0
-IsSettled cell s time Idle = cell.found ≡ false
-IsSettled cell s time (Searching other) = ⊥
-IsSettled cell s time (Following f) =
+-- what a search leaves with the cell that it named: the signal that was found, tracked from the
+-- due time on, and nothing where none was
+abbrev pub IsSettled : Cell → Searched → Stage → Type 0
+IsSettled cell s Idle = cell.found ≡ false
+IsSettled cell s (Searching other) = ⊥
+IsSettled cell s (Following f) =
     (cell.found ≡ true)
-    × ((settings : Settings) (plan : Plan) (begun : ℕ) (xs : List Sample) → length xs ≡ time
-    → Searches settings plan begun xs s → searched.to_due_of s ≡ 0
+    × ((settings : Settings) (plan : Plan) (begun : ℕ) (xs : List Sample)
+    → length xs ≡ searched.due_of s → Searches settings plan begun xs s
     → followed.Follows settings (found_channel settings plan begun (cell_in cell)) xs f)
-    × HasBegun time true f
+    × HasBegun (searched.due_of s) true f
 
 -- a life that began with an acquisition has come as far with it, and it isn't due yet
 pub record IsSearched (settings : Settings) (xs : List Sample) (life : Life) (s : Searched)
@@ -108,7 +102,7 @@ pub record IsSearched (settings : Settings) (xs : List Sample) (life : Life) (s 
   pub plan : Plan
   pub start : life.start ≡ acquire plan
   pub searches : Searches settings plan life.begun xs s
-  pub waits : 0 < searched.to_due_of s
+  pub waits : length xs < searched.due_of s
 
 -- a life follows the channel that its start has given it, steered by loops or not, and the signal
 -- isn't lost where they steer it

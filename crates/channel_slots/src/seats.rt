@@ -5,26 +5,22 @@ ghost use Rattle.std.specs.Box.{boxed_slice_items};
 ghost use Rattle.std.specs.List.{AllByRecursion};
 ghost use Rattle.definitions.specs.Banks.{layout};
 ghost use Rattle.acquisition.specs.declared.dwell.TheConstants.{MOST_START};
-ghost use Rattle.sample_planes.specs.declared.planes.TheConstants.{MAX_SAMPLES};
 ghost use Rattle.slot_protocol.specs.Commands.{request_in};
 ghost use Rattle.slot_protocol.specs.declared.command.TheConstants.{MOST_SLOTS};
-ghost use Rattle.channel_slots.specs.Banks.{keys_of, AllSound, RunsAll, IsCommanded, HasDone};
-ghost use Rattle.channel_slots.specs.Banks.{total, AddsIdle, AllIdle, AllRest, RestsUntil};
+ghost use Rattle.channels.specs.Windows.{IsSame, end_of};
+ghost use Rattle.channel_slots.specs.Banks.{keys_of, AllSound, AllRest, RunsAll, PassAll};
+ghost use Rattle.channel_slots.specs.Banks.{IsCommanded, HasDone, NextIs, total, AddsIdle, AllIdle};
 ghost use Rattle.channel_slots.specs.Timelines.{count_of, events_in};
-ghost use Rattle.channel_slots.specs.declared.bank.TheConstants.{MOST_TIME};
 ghost use Rattle.channel_slots.specs.declared.seats.TheConstants.{MOST_CLIENTS};
 ghost use Rattle.channel_slots.specs.declared.slot.TheConstants.{SLOT_EVENTS};
 ghost use Rattle.channel_slots.specs.declared.timeline.TheConstants.{RUN_EVENTS};
 
-use crate::bank::MOST_TIME;
 use crate::seat::Seat;
-use crate::slot::{SLOT_EVENTS, Slot};
+use crate::slot::{NEVER, SLOT_EVENTS, Slot};
 use crate::timeline::Timeline;
 use ca_codes::CodeBook;
-use channels::Dump;
-use lane_correlator::Counts;
+use channels::Window;
 use oscillators::Settings;
-use sample_planes::{PackedSamples, Planes, SampleSource};
 use slot_protocol::{Answer, Command, MOST_SLOTS};
 use std::alloc::{AllocError, Global};
 use std::boxed::BoxedSlice;
@@ -73,61 +69,48 @@ fn add_idle(seats: &mut Vec<Seat>, client: u8, share: u8) -> Result<(), AllocErr
     Ok(())
 }
 
-/// Each slot in turn takes a run, and puts its events by time. All of them rest up to
-/// `rests_until` samples of the recording: where the run ends by then, none takes it. It answers up
-/// to how many samples they rest from then on. The planes are room for the run, whatever they hold.
-pub fn run_all<S: SampleSource>(
+/// Each slot in turn goes to its last event that comes within a window, and puts all of them by
+/// time. None of the slots has one before sample `next_event` of the recording: where the window
+/// ends before it, none goes. It answers with how many samples one of them has its next event.
+pub fn run_all(
     seats: &mut [Seat],
-    run: &PackedSamples,
-    source: &S,
+    window: &mut Window,
     book: &mut CodeBook,
-    planes: &mut Planes,
-    time: u64,
-    rests_until: u64,
+    next_event: u64,
     timeline: &mut Timeline,
 ) -> u64
-    requires short { length run.now.samples ≤ MAX_SAMPLES }
-    requires room { time + length run.now.samples ≤ MOST_TIME }
-    requires sound { (reach : ℕ) × AllSound (S.from source.now) time reach seats.old }
-    requires to { time + length run.now.samples ≡ S.to source.now }
+    requires sound { (time reach : ℕ) × (time ≤ end_of window.old)
+        × AllSound window.old time reach seats.old }
+    requires rest { AllRest next_event seats.old }
     requires fits { count_of timeline.old + SLOT_EVENTS * (length seats.old + 1) ≤ RUN_EVENTS }
-    requires rest { AllRest rests_until seats.old }
-    ensures runs { RunsAll run.now.samples time (S.from source.now) (S.held source.now) seats.old
-        seats.new (events_in timeline.old) (events_in timeline.new) }
+    ensures runs { RunsAll window.old seats.old seats.new (events_in timeline.old)
+        (events_in timeline.new) }
     ensures rest { AllRest result seats.new }
+    ensures later { end_of window.old < result }
+    ensures same { IsSame window.old window.new }
 {
-    if time + run.len() as u64 <= rests_until {
-        return rests_until;
+    if window.end() < next_event {
+        return next_event;
     }
-    run.unpack_into(planes);
-    run_each(seats, planes, source, book, time, timeline)
+    let mut earliest = NEVER;
+    for seat in seats.iter_mut() {
+        seat.run(window, book, timeline);
+        earliest = earliest.min(seat.slot.next_event());
+    }
+    earliest
 }
 
-/// Each slot in turn takes a run, and puts its events by time. It answers up to how many samples
-/// of the recording all of them rest from then on.
-fn run_each<S: SampleSource>(
-    seats: &mut [Seat],
-    run: &Planes,
-    source: &S,
-    book: &mut CodeBook,
-    time: u64,
-    timeline: &mut Timeline,
-) -> u64
-    requires room { time + length run.now ≤ MOST_TIME }
-    requires sound { (reach : ℕ) × AllSound (S.from source.now) time reach seats.old }
-    requires to { time + length run.now ≡ S.to source.now }
-    requires fits { count_of timeline.old + SLOT_EVENTS * (length seats.old + 1) ≤ RUN_EVENTS }
-    ensures runs { RunsAll run.now time (S.from source.now) (S.held source.now) seats.old seats.new
-        (events_in timeline.old) (events_in timeline.new) }
-    ensures rest { AllRest result seats.new }
+/// Each slot takes the samples of a window that wait, none of which brings anything.
+pub fn pass_all(seats: &mut [Seat], window: &mut Window, book: &mut CodeBook)
+    requires sound { (reach : ℕ) × AllSound window.old (end_of window.old) reach seats.old }
+    requires rest { (next : ℕ) × (end_of window.old < next) × AllRest next seats.old }
+    ensures passes { PassAll window.old seats.old seats.new }
+    ensures same { IsSame window.old window.new }
 {
-    let mut dump = Dump::plain(Counts::NONE);
-    let mut rests_until = MOST_TIME;
+    let end = window.end();
     for seat in seats.iter_mut() {
-        seat.run(run, source, book, time, &mut dump, timeline);
-        rests_until = rests_until.min(seat.slot.rests_until());
+        seat.slot.take(end, window, book);
     }
-    rests_until
 }
 
 /// One of the slots does what its client asks, and answers it.
@@ -145,12 +128,12 @@ pub fn command_at(
     seats[at].slot.command(settings, time, command)
 }
 
-/// Up to how many samples of the recording may come while one of the slots takes none of them.
-pub fn rests_until_at(seats: &[Seat], at: usize) -> u64
+/// With how many samples of the recording one of the slots has something to do next.
+pub fn next_event_at(seats: &[Seat], at: usize) -> u64
     requires { at < length seats.now }
-    ensures { RestsUntil seats.now at result }
+    ensures { NextIs seats.now at result }
 {
-    seats[at].slot.rests_until()
+    seats[at].slot.next_event()
 }
 
 /// How many cells the search of one of the slots has done, if it searches.

@@ -10,19 +10,20 @@ ghost use Rattle.slot_protocol.specs.Answers.{view_in};
 ghost use Rattle.channel_slots.specs.Stages.{IsFollowed};
 ghost use Rattle.channel_slots.specs.declared.bank.TheConstants.{MOST_TIME};
 
-use crate::bank::MOST_TIME;
 use crate::slot_news::SlotNews;
 use crate::stage::Stage;
 use ca_codes::CodeBook;
-use channels::{Dump, Followed, Searched};
+use channels::{Followed, Searched, Window};
 use oscillators::Settings;
-use sample_planes::{Planes, SampleSource};
 use slot_protocol::{Answer, Command, Phase, Refusal, SlotState};
 use tracking_loops::News;
 
 /// The most events that a slot emits over a run of samples: the answer of an acquisition, and those
 /// of a dump.
 pub const SLOT_EVENTS: usize = 7;
+
+/// The number of a sample that doesn't come.
+pub const NEVER: u64 = u64::MAX;
 
 /// A slot: how many dumps are still to be printed, which only commands and dumps change, and what
 /// it follows.
@@ -33,27 +34,23 @@ pub struct Slot {
 }
 
 impl Slot {
-    ghost use Rattle.std.specs.Prelude.{ℕ, List, [], ◌∷◌, ◌++◌, length, IfSome, nat_lt, true};
-    ghost use Rattle.definitions.specs.Samples.{Sample};
-    ghost use Rattle.definitions.specs.Oscillators.{Settings as DefinedSettings};
-    ghost use Rattle.definitions.specs.Commands.{TimedRequest, Start, begin, state};
-    ghost use Rattle.definitions.specs.Answers.{answer_at_end, shown};
-    ghost use Rattle.sample_planes.specs.Sources.{AreSamplesOf};
+    ghost use Rattle.std.specs.Prelude.{ℕ, [], ◌∷◌, ◌++◌, length, IfSome, IsNone, nat_lt, true};
+    ghost use Rattle.definitions.specs.Commands.{TimedRequest, Start, begin};
+    ghost use Rattle.definitions.specs.Answers.{answer_at_end};
     ghost use Rattle.acquisition.specs.declared.dwell.TheConstants.{MOST_START};
-    ghost use Rattle.channels.specs.Parts.{part, IsAsFar};
+    ghost use Rattle.channels.specs.Windows.{IsOver, IsSame, end_of, dump_of};
     ghost use Rattle.slot_protocol.specs.Commands.{request_in};
-    ghost use Rattle.slot_protocol.specs.Answers.{answer_in, view_in, IsRefusal};
-    ghost use Rattle.channel_slots.specs.NewsEvents.{events_of, events_with};
-    ghost use Rattle.channel_slots.specs.declared.slot_news.SlotNews.TheVariants as news;
+    ghost use Rattle.slot_protocol.specs.Answers.{answer_in, IsRefusal};
+    ghost use Rattle.channel_slots.specs.NewsEvents.{events_of, events_with, time_of, time_after};
     ghost use Rattle.channel_slots.specs.Stages as stages;
     ghost use Rattle.channel_slots.specs.Stages.{most_wait, after_dump};
-    ghost use Rattle.channel_slots.specs.Slots.{StandsFor, Emits, IsSound, chances, is_idle};
-    ghost use Rattle.channel_slots.specs.Slots.{rests_until, cells_done_of, first_life};
+    ghost use Rattle.channel_slots.specs.Slots.{StandsFor, Emits, IsSound, is_sound, chances};
+    ghost use Rattle.channel_slots.specs.Slots.{is_idle, next_event, cells_done_of, first_life};
 
     /// A slot that was never asked for anything.
     pub fn new() -> Slot
         ensures stands { (settings : DefinedSettings) → StandsFor settings [] [] result }
-        ensures sound { (first time reach : ℕ) → IsSound first time reach result }
+        ensures sound { (first time reach : ℕ) → is_sound first time reach result ≡ true }
         ensures idle { is_idle result ≡ true }
     {
         Slot {
@@ -62,83 +59,71 @@ impl Slot {
         }
     }
 
-    /// Up to how many samples of the recording may come while the slot takes none of them: nothing
-    /// is emitted with them.
-    pub fn rests_until(&self) -> u64
-        ensures value { result ≡ rests_until self.now }
+    /// With how many samples of the recording the slot has something to do next: those before may
+    /// wait, since nothing is emitted with them.
+    pub fn next_event(&self) -> u64
+        ensures value { result ≡ next_event self.now }
         ensures quiet { (settings : DefinedSettings) (xs ys : List Sample)
             (commands : List TimedRequest) → StandsFor settings xs commands self.now
-            → 0 < length ys → length (xs ++ ys) ≤ result
+            → 0 < length ys → length (xs ++ ys) < result
             → Emits settings xs ys commands self.now [] }
     {
         match &self.stage {
-            Stage::Idle => MOST_TIME,
-            Stage::Searching(_) => 0,
-            Stage::Following(followed) => followed.rests_until(),
+            Stage::Idle => NEVER,
+            Stage::Searching(searched) => searched.next_cell(),
+            Stage::Following(followed) => followed.next_dump(),
         }
     }
 
-    /// Takes the samples that wait and those of a run, from sample `from` on, up to the slot's next
-    /// event or the end of the run. It answers how many of the run these are, and what comes with
-    /// the last of them: where that is a dump it replaces `dump`. The source holds the samples of
-    /// the recording to the end of the run, from the first one on that a search looks at or that
-    /// waits. The book is any book of codes.
-    pub fn take<S: SampleSource>(
-        &mut self,
-        run: &Planes,
-        from: usize,
-        source: &S,
-        book: &mut CodeBook,
-        dump: &mut Dump,
-    ) -> (usize, Option<SlotNews>)
-        requires some { from < length run.now }
-        requires to { length run.now - from ≤ S.to source.now }
-        requires early { S.to source.now ≤ MOST_TIME }
-        requires sound { (reach : ℕ) × IsSound (S.from source.now)
-            (S.to source.now - (length run.now - from)) reach self.old }
-        ensures as_far { IsAsFar (length run.now - from) result.0 result.1 }
-        ensures tells { (settings : DefinedSettings) (xs : List Sample)
-            (commands : List TimedRequest)
-            → length xs + (length run.now - from) ≡ S.to source.now
-            → AreSamplesOf (xs ++ part run.now from result.0) (S.from source.now)
-            (length (xs ++ part run.now from result.0)) (S.held source.now)
+    /// Goes to sample number `to` of a window, or to the slot's next event if that comes before. It
+    /// answers what came: where that is a dump it is the window's. The book is any book of codes.
+    pub fn take(&mut self, to: u64, window: &mut Window, book: &mut CodeBook) -> Option<SlotNews>
+        requires early { to ≤ MOST_TIME }
+        requires taken { to ≤ end_of window.old }
+        requires sound { (time reach : ℕ) × (time ≤ to) × IsSound window.old time reach self.old }
+        ensures emits { (settings : DefinedSettings) (xs ys : List Sample)
+            (commands : List TimedRequest) → 0 < length ys
+            → length (xs ++ ys) ≡ time_after to result → IsOver (xs ++ ys) window.old
             → StandsFor settings xs commands self.old
-            → Emits settings xs (part run.now from result.0) commands self.new
-            (events_of result.1 dump.new) }
-        ensures chances { IfSome result.1 (λ news.
-            chances (S.to source.now - (length run.now - from) + result.0) self.new
-            + length (events_with news dump.new)
-            ≤ chances (S.to source.now - (length run.now - from)) self.old) }
-        ensures sound { (first reach : ℕ)
-            → IsSound first (S.to source.now - (length run.now - from)) reach self.old
-            → IsSound first (S.to source.now - (length run.now - from) + result.0) reach self.new }
+            → Emits settings xs ys commands self.new (events_of result (dump_of window.new)) }
+        ensures passes { (settings : DefinedSettings) (xs : List Sample)
+            (commands : List TimedRequest) → length xs ≡ to → IsOver xs window.old
+            → StandsFor settings xs commands self.old → StandsFor settings xs commands self.new }
+        ensures chances { IfSome result (λ news. chances self.new
+            + length (events_with news (dump_of window.new)) ≤ chances self.old) }
+        ensures sound { (time reach : ℕ) → IsSound window.old time reach self.old
+            → IsSound window.new (time_after to result) reach self.new }
+        ensures all_taken { (time reach : ℕ) → IsSound window.old time reach self.old
+            → IsNone result → is_sound to to reach self.new ≡ true }
+        ensures later { IfSome result (λ news. next_event self.old ≤ time_of news) }
+        ensures goes_on { time_after to result < next_event self.new }
+        ensures waits { to < next_event self.old → next_event self.new ≡ next_event self.old }
+        ensures within { time_after to result ≤ to }
+        ensures same { IsSame window.old window.new }
     {
         match &mut self.stage {
-            Stage::Idle => (run.len() - from, None),
+            Stage::Idle => None,
             Stage::Searching(searched) => {
-                let (count, cell) = searched.take(run.len() - from, source, book);
-                let Some(cell) = cell else {
-                    return (count, None);
-                };
-                let prn = searched.prn();
-                let left = run.len() - from - count;
-                self.stage.settle(&cell, source.end() - left as u64);
-                (count, Some(SlotNews::Acquired { prn, cell }))
+                let cell = searched.take(to, window.history(), book)?;
+                let (time, prn) = (searched.due(), searched.prn());
+                self.stage.settle(&cell);
+                Some(SlotNews::Acquired { time, prn, cell })
             }
             Stage::Following(followed) => {
-                let (count, is_dump) = followed.take(run, from, source, book, dump);
-                if !is_dump {
-                    return (count, None);
+                let time = followed.next_dump();
+                if !followed.take(to, window, book) {
+                    return None;
                 }
-                (count, Some(self.note_dump(dump.lock)))
+                let is_shown = self.note_dump(window.dump().lock);
+                Some(SlotNews::Dump { time, is_shown })
             }
         }
     }
 
-    /// What a dump of the slot's satellite is for its client: while dumps are to be printed it is
-    /// one of them, and where the signal is lost with it the slot is idle from here on.
-    fn note_dump(&mut self, lock: News) -> SlotNews
-        ensures news { result ≡ news.Dump (nat_lt 0 self.old.unprinted) }
+    /// Whether a dump of the slot's satellite is to be printed: while dumps are, it is one of them.
+    /// Where the signal is lost with it the slot is idle from here on.
+    fn note_dump(&mut self, lock: News) -> bool
+        ensures shown { result ≡ nat_lt 0 self.old.unprinted }
         ensures left { self.new.unprinted ≡ self.old.unprinted - 1 }
         ensures stage { self.new.stage ≡ after_dump lock self.old.stage }
     {
@@ -147,7 +132,7 @@ impl Slot {
         if matches!(lock, News::Lost) {
             self.stage = Stage::Idle;
         }
-        SlotNews::Dump { is_shown }
+        is_shown
     }
 
     /// The number of cells that the search has done, if the slot searches.
@@ -184,7 +169,9 @@ impl Slot {
         }
     }
 
-    /// Makes the slot follow a stage, and print no dump, if it is idle.
+    /// Makes the slot follow a stage, and print no dump, if it is idle. It is inlined, so that a
+    /// stage is made where it stays: it is large.
+    #[inline(always)]
     fn start(&mut self, stage: Stage) -> Answer
         ensures answer { (settings : DefinedSettings) (xs : List Sample)
             (commands : List TimedRequest) (start : Start)
@@ -197,8 +184,11 @@ impl Slot {
             → StandsFor settings xs (commands
             ++ record { time = length xs; request = begin start } ∷ []) self.new }
         ensures refused { IsRefusal result → self.new ≡ self.old }
-        ensures sound { (first time reach : ℕ) → IsSound first time reach self.old
-            → stages.IsSound first time reach stage → IsSound first time reach self.new }
+        ensures sound { (first time reach : ℕ) → is_sound first time reach self.old ≡ true
+            → stages.is_sound first time reach stage ≡ true
+            → is_sound first time reach self.new ≡ true }
+        ensures waits { (time : ℕ) → time < next_event self.old → time < stages.next_event stage
+            → time < next_event self.new }
     {
         if !self.is_idle() {
             return Answer::Refused(Refusal::Busy);
@@ -221,8 +211,9 @@ impl Slot {
             ++ record { time = length xs; request = request_in command } ∷ []) self.new }
         ensures refused { IsRefusal result → self.new ≡ self.old }
         ensures sound { (first : ℕ) → first ≤ time
-            → IsSound first time (most_wait settings.now) self.old
-            → IsSound first time (most_wait settings.now) self.new }
+            → is_sound first time (most_wait settings.now) self.old ≡ true
+            → is_sound first time (most_wait settings.now) self.new ≡ true }
+        ensures waits { time < next_event self.old → time < next_event self.new }
     {
         match command {
             Command::Acquire { slot: _, plan } => {

@@ -1,5 +1,8 @@
 //! What comes with a sample of a slot.
 
+ghost use Rattle.std.specs.Prelude.{◌≡◌};
+ghost use Rattle.channel_slots.specs.NewsEvents.{time_of};
+
 use acquisition::Cell;
 use ca_codes::Prn;
 
@@ -7,14 +10,25 @@ use ca_codes::Prn;
 /// and a set of almanacs.
 pub const DUMP_EVENTS: usize = 6;
 
-/// What comes with a sample of a slot. A dump with its news is large, so it stands beside this, in
-/// the room that the slot was given for it.
+/// What comes with a sample of a slot, and at which time: the number of samples by then. A dump
+/// with its news is large, so it stands beside this, in the window that the slot looked at.
 #[derive(Clone, Copy, Debug, PartialEq, Eq)]
 pub enum SlotNews {
     /// What an acquisition names. Where nothing was found the slot is idle, else it tracks the
     /// signal from here on.
-    Acquired { prn: Prn, cell: Cell },
+    Acquired { time: u64, prn: Prn, cell: Cell },
     /// A dump, and whether its six sums are to be printed. Where the signal is lost with it the
     /// slot is idle.
-    Dump { is_shown: bool },
+    Dump { time: u64, is_shown: bool },
+}
+
+impl SlotNews {
+    /// The number of samples of the recording with which it comes.
+    pub fn time(&self) -> u64
+        ensures { result ≡ time_of self.now }
+    {
+        match self {
+            SlotNews::Acquired { time, .. } | SlotNews::Dump { time, .. } => *time,
+        }
+    }
 }

@@ -1,7 +1,6 @@
 //! What a slot follows.
 
 ghost use Rattle.std.specs.Prelude.{◌≡◌, ◌≤◌, unsigned_abs};
-ghost use Rattle.channels.specs.declared.lazy_follower.TheConstants.{MOST_TAKEN};
 
 use acquisition::Cell;
 use channels::{Followed, Searched};
@@ -21,21 +20,19 @@ impl Stage {
     ghost use Rattle.channel_slots.specs.Stages.{IsSettled};
 
     /// Where a search has named a cell, it follows the signal from here on that was found, and
-    /// nothing where none was; the next sample is number `time`, at most `MOST_TAKEN`. It isn't
-    /// inlined, since a stage is large and this comes rarely.
+    /// nothing where none was. It isn't inlined, since a stage is large and this comes rarely.
     #[cold]
     #[inline(never)]
-    pub fn settle(&mut self, cell: &Cell, time: u64)
-        requires time { time ≤ MOST_TAKEN }
+    pub fn settle(&mut self, cell: &Cell)
         requires bin { (searched : Searched) → self.old ≡ stages.Searching searched
             → unsigned_abs cell.now.bin ≤ (plan_of searched).bins }
         ensures { (searched : Searched) → self.old ≡ stages.Searching searched
-            → IsSettled cell.now searched time self.new }
+            → IsSettled cell.now searched self.new }
     {
         let Stage::Searching(searched) = &*self else {
             return;
         };
-        *self = match searched.follow(cell, time) {
+        *self = match searched.follow(cell) {
             Some(followed) => Stage::Following(followed),
             None => Stage::Idle,
         };

@@ -1,8 +1,8 @@
 -- A followed satellite, when it begins and when it takes samples.
-use Rattle.std.proofs.Common.{◌≡◌, ◌≤◌, ℕ, ℤ, ◌+◌, List, [], ◌∷◌, ◌++◌, length, refl, sym, ap}
+use Rattle.std.proofs.Common.{◌≡◌, ◌<◌, ℕ, ℤ, ◌+◌, List, [], ◌∷◌, ◌++◌, length, take, refl, sym, ap}
 use Rattle.std.proofs.Common.{subst, ◌∙◌, arith, length-append}
 use Rattle.std.specs.Prelude.{Some, None}
-use Rattle.std.proofs.lemmas.List.{map-append}
+use Rattle.std.proofs.lemmas.List.{map-append, take_all}
 use Rattle.definitions.specs.Samples.{Sample}
 use Rattle.definitions.specs.Oscillators.{Settings, code_step, carrier_step}
 use Rattle.definitions.specs.Correlation.{Counts}
@@ -20,11 +20,10 @@ use Rattle.channels.specs.declared.dump.Dump.{Dump}
 use Rattle.channels.specs.Dumps.{plain_dump}
 use Rattle.channels.specs.Following as segments
 use Rattle.channels.specs.Following.{Opens, Stays, Closes}
-use Rattle.channels.specs.LateFollowing as late
 use Rattle.channels.specs.Trackings as trackings
 use Rattle.channels.specs.FollowedChannels.{Follows, Takes, IsSteeredFrom, IsSteady, HasLoops}
 use Rattle.channels.specs.FollowedChannels.{counts_so_far}
-use Rattle.channels.proofs.LateLemmas.{fresh, waits, quiet, quiet-inside}
+use Rattle.channels.proofs.FollowingLemmas.{at-once, waits, waits_same, waits_inside}
 
 module _ (settings : Settings) (xs : List Sample) (prn : ℕ) (doppler : ℤ) (half_chip : ℕ) where
   abbrev held : Channel
@@ -40,13 +39,16 @@ module _ (settings : Settings) (xs : List Sample) (prn : ℕ) (doppler : ℤ) (h
   tracked-none = progress-begun settings tracked xs (omega arith)
 
   -- before its first dump it goes on as one that is held
-  pub as-held : (f : Follower) → segments.Follows settings held xs f
-      → segments.Follows settings tracked xs f
+  pub as-held : (f : Follower) → segments.at_of f ≡ length xs
+      → segments.Follows settings held xs f → segments.Follows settings tracked xs f
   unfolding loops_after
-  as-held f s =
-      let at = rw held-none at s.at in
-      record {
+  as-held f all s =
+      let whole : take f.at xs ≡ xs = take_all f.at xs (omega (arith, all)) in
+      let now : segments.FollowsNow settings held xs f = rw whole at s.now in
+      let at = rw held-none at now.at in
+      at-once settings tracked xs f (record {
         at = rw tracked-none (record {
+          taken = at.taken;
           begun = at.begun;
           opened = at.opened;
           prn = at.prn;
@@ -54,12 +56,12 @@ module _ (settings : Settings) (xs : List Sample) (prn : ℕ) (doppler : ℤ) (h
           carrier = at.carrier;
           sums = at.sums;
         });
-        code_step = rw tracked-none s.code_step;
-        carrier_step = rw tracked-none s.carrier_step;
-      }
+        code_step = rw tracked-none now.code_step;
+        carrier_step = rw tracked-none now.carrier_step;
+      })
 
   -- at a fixed shift
-  pub begins-held : (f : Followed) → late.Follows settings held xs f.follower → f.dumps ≡ 0
+  pub begins-held : (f : Followed) → segments.Follows settings held xs f.follower → f.dumps ≡ 0
       → f.tracking ≡ None → Follows settings held xs f
   begins-held f follows dumps none = record {
     follows = follows;
@@ -69,7 +71,7 @@ module _ (settings : Settings) (xs : List Sample) (prn : ℕ) (doppler : ℤ) (h
 
 -- loops that begin with a channel's shift steer it
 pub begins-steered : (settings : Settings) (channel : Channel) (xs : List Sample) (shift : ℤ)
-    (f : Followed) (s : Tracking) → late.Follows settings channel xs f.follower → f.dumps ≡ 0
+    (f : Followed) (s : Tracking) → segments.Follows settings channel xs f.follower → f.dumps ≡ 0
     → f.tracking ≡ Some s → progress settings channel xs ≡ first_progress channel
     → IsSteeredFrom shift channel → trackings.StandsFor settings shift [] s
     → Follows settings channel xs f
@@ -82,14 +84,13 @@ begins-steered settings channel xs shift f s follows dumps is none steered stand
 module _ (settings : Settings) (channel : Channel) (xs ys : List Sample) (old new : Followed)
     (s : Follows settings channel xs old) where
   -- no dump comes
-  pub takes-on : Stays settings channel xs ys new.follower.follower
-      → length (xs ++ ys) ≡ new.follower.taken → new.dumps ≡ old.dumps
+  pub takes-on : Stays settings channel xs ys new.follower → new.dumps ≡ old.dumps
       → new.tracking ≡ old.tracking → Takes settings channel xs ys new None
-  takes-on st many dumps steering = record {
+  takes-on st dumps steering = record {
     inside = st.inside;
     brings = st.same;
     stands = record {
-      follows = fresh settings channel (xs ++ ys) new.follower many st.follows;
+      follows = st.follows;
       dumps = rw st.same (dumps ∙ s.dumps);
       steers = rw (st.same, steering) s.steers;
     };
@@ -104,11 +105,10 @@ module _ (settings : Settings) (channel : Channel) (xs ys : List Sample) (old ne
   one-more c more dumps = rw more (simp length-append (omega (arith, dumps, s.dumps)))
 
   -- one without loops
-  pub takes-plain : (c : Sums) → Closes settings channel xs ys (counts_in c) new.follower.follower
-      → length (xs ++ ys) ≡ new.follower.taken → new.dumps ≡ old.dumps + 1
-      → old.tracking ≡ None → new.tracking ≡ None
+  pub takes-plain : (c : Sums) → Closes settings channel xs ys (counts_in c) new.follower
+      → new.dumps ≡ old.dumps + 1 → old.tracking ≡ None → new.tracking ≡ None
       → Takes settings channel xs ys new (Some (plain_dump c))
-  takes-plain c cl many dumps none still =
+  takes-plain c cl dumps none still =
       let steady : IsSteady channel = rw none at s.steers in
       let same : channel.steering (counts_of (progress settings channel xs).dumps)
       ≡ channel.steering (counts_of (progress settings channel (xs ++ ys)).dumps) =
@@ -117,7 +117,7 @@ module _ (settings : Settings) (channel : Channel) (xs ys : List Sample) (old ne
         inside = cl.inside;
         brings = rw still (cl.dumps, refl);
         stands = record {
-          follows = fresh settings channel (xs ++ ys) new.follower many (record {
+          follows = at-once settings channel (xs ++ ys) new.follower (record {
             at = cl.at;
             code_step = cl.code_step ∙ ap (λ (d : Shift). code_step settings d.v d.w) same;
             carrier_step = cl.carrier_step ∙ ap (λ (d : Shift). carrier_step settings d.v) same;
@@ -131,16 +131,15 @@ module _ (settings : Settings) (channel : Channel) (xs ys : List Sample) (old ne
   GoesOn : Follower → ℤ → ℤ → Settings → Type 0
   GoesOn mid v w known = (channel : Channel) (xs : List Sample) → Opens known channel xs mid
       → channel.steering (counts_of (progress known channel xs).dumps) ≡ record { v = v; w = w }
-      → segments.Follows known channel xs new.follower.follower
+      → segments.Follows known channel xs new.follower
 
   -- one that goes to loops
   pub takes-steered : (d : Dump) (mid : Follower) (v w : ℤ) (before after : Tracking)
       → Closes settings channel xs ys (counts_in d.counts) mid
-      → length (xs ++ ys) ≡ new.follower.taken → new.dumps ≡ old.dumps + 1
-      → old.tracking ≡ Some before → new.tracking ≡ Some after
+      → new.dumps ≡ old.dumps + 1 → old.tracking ≡ Some before → new.tracking ≡ Some after
       → ((channel : Channel) (xs : List Sample) → Opens after.settings channel xs mid
       → channel.steering (counts_of (progress after.settings channel xs).dumps)
-      ≡ record { v = v; w = w } → segments.Follows after.settings channel xs new.follower.follower)
+      ≡ record { v = v; w = w } → segments.Follows after.settings channel xs new.follower)
       → ((settings : Settings) (shift : ℤ) (dumps : List Counts)
       → trackings.StandsFor settings shift dumps before
       → trackings.StandsFor settings shift (dumps ++ counts_in d.counts ∷ []) after)
@@ -153,7 +152,7 @@ module _ (settings : Settings) (channel : Channel) (xs ys : List Sample) (old ne
       → trackings.StandsFor settings shift dumps after → w ≡ (shift_after shift dumps).w)
       → Takes settings channel xs ys new (Some d)
   unfolding GoesOn
-  takes-steered d mid v w before after cl many dumps was is steers stands tells v-is w-is =
+  takes-steered d mid v w before after cl dumps was is steers stands tells v-is w-is =
       let has : HasLoops settings channel (counts_so_far settings channel xs) before =
       rw was at s.steers in
       let dump : DefinedDump = record { time = length (xs ++ ys); counts = counts_in d.counts } in
@@ -180,8 +179,7 @@ module _ (settings : Settings) (channel : Channel) (xs ys : List Sample) (old ne
                   (counts_so_far settings channel xs) has.stands),
             );
         stands = record {
-          follows = fresh settings channel (xs ++ ys) new.follower many
-              (go channel (xs ++ ys) (record { at = cl.at; opens = cl.opens }) shift);
+          follows = go channel (xs ++ ys) (record { at = cl.at; opens = cl.opens }) shift;
           dumps = one-more d.counts cl.dumps dumps;
           steers = rw (is, all)
               (record { shift = has.shift; steered = has.steered; stands = loops });
@@ -196,13 +194,13 @@ module _ (settings : Settings) (channel : Channel) (xs ys : List Sample) (old ne
 
 -- more samples that it lets wait bring no dump
 pub lets-wait : (settings : Settings) (channel : Channel) (xs ys : List Sample) (f : Followed)
-    → Follows settings channel xs f → length (xs ++ ys) ≤ f.follower.rests_until
+    → Follows settings channel xs f → length (xs ++ ys) < f.follower.ends
     → Takes settings channel xs ys f None
 lets-wait settings channel xs ys f s rests =
     let same : progress settings channel (xs ++ ys) ≡ progress settings channel xs =
-    quiet settings channel xs ys f.follower s.follows rests in
+    waits_same settings channel xs ys f.follower s.follows rests in
     record {
-      inside = quiet-inside settings channel xs ys f.follower s.follows rests;
+      inside = waits_inside settings channel xs ys f.follower s.follows (omega (arith, rests));
       brings = same;
       stands = record {
         follows = waits settings channel xs ys f.follower s.follows rests;

@@ -1,7 +1,7 @@
 -- A follower that takes a block stands for the samples with that block after them.
 use Rattle.std.proofs.Common.{◌≡◌, ℕ, ◌+◌, ◌-◌, ◌*◌, ◌%◌, ◌^◌, ◌<◌, ◌≤◌, List, [], ◌∷◌, ◌++◌}
-use Rattle.std.proofs.Common.{length, take, sym, ap, ◌∙◌, arith, length-append}
-use Rattle.std.proofs.lemmas.List.{length-take}
+use Rattle.std.proofs.Common.{length, take, drop, sym, ap, ◌∙◌, arith, length-append}
+use Rattle.std.proofs.lemmas.List.{length-take, take_all, take-append-drop, take-append-le}
 use Rattle.std.specs.Prelude.{false, true}
 use Rattle.std.proofs.Math.Nat.{mul-le-mul_right}
 use Rattle.definitions.specs.Samples.{Sample, sample_at}
@@ -16,8 +16,8 @@ use Rattle.definitions.proofs.BlockLemmas.{quiet-through, last-through, phase-sp
 use Rattle.definitions.proofs.SplitLemmas.{counts_over-more, counts_over-none, carrier_on}
 use Rattle.channels.specs.declared.follower.Follower.{Follower}
 use Rattle.lane_correlator.specs.Counting.{counts_in}
-use Rattle.channels.specs.Following.{IsAt, Follows, Stays, Closes, QuietInside}
-use Rattle.channels.proofs.WrapLemmas.{at-least-one, before-end}
+use Rattle.channels.specs.Following.{IsAt, FollowsNow, Follows, Stays, Closes, QuietInside}
+use Rattle.channels.proofs.WrapLemmas.{before-end}
 
 -- what a block does to a follower, before the end of a segment is looked at
 pub record Moves (ys : List Sample) (f : Follower) (phase turn : ℕ) (total : Counts) : Type 0 where
@@ -43,16 +43,30 @@ same_phases code carrier a b other turned e h =
     ∙ ap (λ (x : ℕ). let p : Phases =
     record { code = other; carrier = x; code_step = a; carrier_step = b } in p) h
 
--- a segment has a sample left at least, and doesn't end before the last of those
-pub some-left : (f : Follower) → 0 < f.to_end
-some-left f = at-least-one f.code.phase f.code.step f.to_end f.in_cycle f.ends
-
-pub low-before : (f : Follower) (k : ℕ) → k < f.to_end
+-- a segment doesn't end before the last sample that is left of it
+pub low-before : (f : Follower) (k : ℕ) → k < f.ends - f.at
     → f.code.phase + k * f.code.step < 1023 * 2 ^ 32
-low-before f k less = before-end f.code.phase f.code.step f.to_end f.before k less
+low-before f k less = before-end f.code.phase f.code.step (f.ends - f.at) f.before k less
+
+-- its channel has begun
+pub channel-begun : (settings : Settings) (channel : Channel) (xs : List Sample) (f : Follower)
+    → Follows settings channel xs f → channel.start ≤ length xs
+channel-begun settings channel xs f s =
+    omega (arith, s.now.at.begun, s.now.at.taken, s.taken)
+
+-- one that has taken all samples
+pub at-once : (settings : Settings) (channel : Channel) (xs : List Sample) (f : Follower)
+    → FollowsNow settings channel xs f → Follows settings channel xs f
+at-once settings channel xs f s =
+    let all : take f.at xs ≡ xs = take_all f.at xs (omega (arith, s.at.taken)) in
+    record {
+      taken = omega (arith, s.at.taken);
+      goes_on = omega (arith, s.at.taken, f.waits);
+      now = rw all s;
+    }
 
 module _ (settings : Settings) (channel : Channel) (xs ys : List Sample) (f : Follower)
-    (s : Follows settings channel xs f) where
+    (s : FollowsNow settings channel xs f) where
   both : length (xs ++ ys) ≡ length xs + length ys
   both = simp length-append (omega arith)
 
@@ -76,7 +90,7 @@ module _ (settings : Settings) (channel : Channel) (xs ys : List Sample) (f : Fo
       short j b = omega (arith, length-take j ys)
 
   -- as few samples as leave it open end no segment
-  pub none-ends : length ys < f.to_end
+  pub none-ends : length ys < f.ends - f.at
       → progress settings channel (xs ++ ys) ≡ progress settings channel xs
   none-ends few =
       progress-quiet settings channel xs ys
@@ -152,11 +166,12 @@ module _ (settings : Settings) (channel : Channel) (xs ys : List Sample) (f : Fo
         ∙ sym (counts_over-more channel.prn own xs ys start s.at.opened)
 
     -- the segment stays open
-    pub stays : 0 < length ys → phase < 1023 * 2 ^ 32 → (g : Follower) → g.prn ≡ f.prn
+    pub stays : phase < 1023 * 2 ^ 32 → (g : Follower)
+        → g.at ≡ length xs + length ys → g.prn ≡ f.prn
         → g.code.phase ≡ phase → g.carrier.phase ≡ turn → g.code.step ≡ f.code.step
         → g.carrier.step ≡ f.carrier.step → counts_in g.sums ≡ total
         → Stays settings channel xs ys g
-    stays some low g prn code carrier code_step carrier_step sums =
+    stays low g taken prn code carrier code_step carrier_step sums =
         let before : f.code.phase + length ys * f.code.step < 1023 * 2 ^ 32 =
         omega (arith, m.code, low) in
         let less : (length ys - 1) * f.code.step ≤ length ys * f.code.step =
@@ -164,10 +179,12 @@ module _ (settings : Settings) (channel : Channel) (xs ys : List Sample) (f : Fo
         let same : progress settings channel (xs ++ ys) ≡ progress settings channel xs =
         progress-quiet settings channel xs ys (none_by (length ys) before) in
         record {
-          inside = inside some (omega (arith, before, less));
+          -- where there are no samples nothing is asked
+          inside = λ j b. inside (omega (arith, b)) (omega (arith, before, less)) j b;
           same = same;
-          follows = record {
+          follows = at-once settings channel (xs ++ ys) g (record {
             at = rw same (record {
+              taken = omega (arith, both, taken);
               begun = omega (arith, both, s.at.begun);
               opened = omega (arith, both, s.at.opened);
               prn = prn ∙ s.at.prn;
@@ -177,7 +194,7 @@ module _ (settings : Settings) (channel : Channel) (xs ys : List Sample) (f : Fo
             });
             code_step = rw same (code_step ∙ s.code_step);
             carrier_step = rw same (carrier_step ∙ s.carrier_step);
-          };
+          });
         }
 
     -- the segment after it
@@ -197,12 +214,12 @@ module _ (settings : Settings) (channel : Channel) (xs ys : List Sample) (f : Fo
 
     -- it closes with the last sample
     pub closes : 0 < length ys → f.code.phase + (length ys - 1) * f.code.step < 1023 * 2 ^ 32
-        → 1023 * 2 ^ 32 ≤ phase → (g : Follower) → g.prn ≡ f.prn
+        → 1023 * 2 ^ 32 ≤ phase → (g : Follower) → g.at ≡ length xs + length ys → g.prn ≡ f.prn
         → g.code.phase ≡ phase - 1023 * 2 ^ 32 → g.carrier.phase ≡ turn → g.code.step ≡ f.code.step
         → g.carrier.step ≡ f.carrier.step → counts_in g.sums ≡ no_counts
         → Closes settings channel xs ys total g
     unfolding closed
-    closes some before high g prn code carrier code_step carrier_step sums =
+    closes some before high g taken prn code carrier code_step carrier_step sums =
         let last : is_through (progress settings channel xs).open_segment
         (open_phases settings channel (progress settings channel xs)).code_step
         (length xs + length ys) ≡ true =
@@ -219,6 +236,7 @@ module _ (settings : Settings) (channel : Channel) (xs ys : List Sample) (f : Fo
           dumps = rw ends;
           opens = rw ends;
           at = rw ends (record {
+            taken = omega (arith, both, taken);
             begun = omega (arith, both, s.at.begun);
             opened = omega arith;
             prn = prn ∙ s.at.prn;
@@ -232,16 +250,18 @@ module _ (settings : Settings) (channel : Channel) (xs ys : List Sample) (f : Fo
 
 -- a follower that starts at the next sample
 pub started : (settings : Settings) (channel : Channel) (xs : List Sample) (f : Follower)
-    → channel.start ≡ length xs → f.prn ≡ channel.prn → f.code.phase ≡ channel.code
+    → channel.start ≡ length xs → f.at ≡ length xs → f.prn ≡ channel.prn
+    → f.code.phase ≡ channel.code
     → f.carrier.phase ≡ 0 → f.code.step ≡ code_step settings (channel.steering []).v
     (channel.steering []).w → f.carrier.step ≡ carrier_step settings (channel.steering []).v
-    → counts_in f.sums ≡ no_counts → Follows settings channel xs f
-started settings channel xs f now p code carrier a b sums =
+    → counts_in f.sums ≡ no_counts → FollowsNow settings channel xs f
+started settings channel xs f now taken p code carrier a b sums =
     let none : progress settings channel xs ≡ first_progress channel =
     progress-begun settings channel xs (omega (arith, now)) in
     let zero : length xs - channel.start ≡ 0 = omega (arith, now) in
     record {
       at = rw none (record {
+        taken = taken;
         begun = omega (arith, now);
         opened = omega (arith, now);
         prn = p;
@@ -257,16 +277,18 @@ started settings channel xs f now p code carrier a b sums =
 pub steered : (settings : Settings) (channel : Channel) (xs : List Sample) (f g : Follower)
     → IsAt channel xs (progress settings channel xs) f
     → (progress settings channel xs).open_segment.start ≡ length xs
-    → g.prn ≡ f.prn → g.code.phase ≡ f.code.phase → g.carrier.phase ≡ f.carrier.phase
+    → g.at ≡ f.at → g.prn ≡ f.prn → g.code.phase ≡ f.code.phase
+    → g.carrier.phase ≡ f.carrier.phase
     → counts_in g.sums ≡ no_counts
     → g.code.step ≡ (open_phases settings channel (progress settings channel xs)).code_step
     → g.carrier.step ≡ (open_phases settings channel (progress settings channel xs)).carrier_step
-    → Follows settings channel xs g
-steered settings channel xs f g at opens prn code carrier sums a b =
+    → FollowsNow settings channel xs g
+steered settings channel xs f g at opens taken prn code carrier sums a b =
     let start : ℕ = (progress settings channel xs).open_segment.start in
     let zero : length xs - start ≡ 0 = omega (arith, opens) in
     record {
       at = record {
+        taken = taken ∙ at.taken;
         begun = at.begun;
         opened = at.opened;
         prn = prn ∙ at.prn;
@@ -277,3 +299,98 @@ steered settings channel xs f g at opens prn code carrier sums a b =
       code_step = a;
       carrier_step = b;
     }
+
+-- the samples that wait end no segment
+module _ (settings : Settings) (channel : Channel) (xs : List Sample) (f : Follower)
+    (s : Follows settings channel xs f) where
+  whole : take f.at xs ++ drop f.at xs ≡ xs
+  whole = take-append-drop f.at xs
+
+  same_to : (zs : List Sample) → length (take f.at xs ++ zs) < f.ends
+      → progress settings channel (take f.at xs ++ zs) ≡ progress settings channel (take f.at xs)
+  same_to zs less =
+      none-ends settings channel (take f.at xs) zs f s.now
+      (omega (arith, less, length-append (take f.at xs) zs, s.now.at.taken))
+
+  pub taken_same : progress settings channel xs ≡ progress settings channel (take f.at xs)
+  taken_same =
+      ap (λ zs. progress settings channel zs) (sym whole)
+      ∙ same_to (drop f.at xs) (rw whole s.goes_on)
+
+  -- those that it has taken, and then those that wait and more
+  pub taken_first : (ys : List Sample) → take f.at xs ++ drop f.at (xs ++ ys) ≡ xs ++ ys
+  taken_first ys =
+      ap (λ zs. zs ++ drop f.at (xs ++ ys)) (sym (take-append-le f.at xs ys s.taken))
+      ∙ take-append-drop f.at (xs ++ ys)
+
+-- more may wait
+module _ (settings : Settings) (channel : Channel) (xs ys : List Sample) (f : Follower)
+    (s : Follows settings channel xs f) (few : length (xs ++ ys) < f.ends) where
+  pub waits_same : progress settings channel (xs ++ ys) ≡ progress settings channel xs
+  waits_same =
+      let one : take f.at xs ++ drop f.at (xs ++ ys) ≡ xs ++ ys =
+      taken_first settings channel xs f s ys in
+      ap (λ zs. progress settings channel zs) (sym one)
+      ∙ same_to settings channel xs f s (drop f.at (xs ++ ys)) (rw one few)
+      ∙ sym (taken_same settings channel xs f s)
+
+  pub waits : Follows settings channel (xs ++ ys) f
+  waits = record {
+    taken = omega (arith, s.taken, length-append xs ys);
+    goes_on = few;
+    now = rw (take-append-le f.at xs ys s.taken) s.now;
+  }
+
+-- up to the segment's end none ends it but perhaps the last
+pub quiet_to_end : (settings : Settings) (channel : Channel) (xs ys : List Sample) (f : Follower)
+    → Follows settings channel xs f → length (xs ++ ys) ≤ f.ends
+    → QuietInside settings channel xs ys
+quiet_to_end settings channel xs ys f s few j b =
+    waits_same settings channel xs (take j ys) f s
+    (omega (
+      arith,
+      length-append xs (take j ys),
+      length-append xs ys,
+      length-take j ys,
+      b,
+      few,
+    ))
+
+pub waits_inside : (settings : Settings) (channel : Channel) (xs ys : List Sample) (f : Follower)
+    → Follows settings channel xs f → length (xs ++ ys) < f.ends
+    → QuietInside settings channel xs ys
+waits_inside settings channel xs ys f s few =
+    quiet_to_end settings channel xs ys f s (omega (arith, few))
+
+-- what waits is taken with the samples after it: what that comes to, by those samples alone
+module _ (settings : Settings) (channel : Channel) (xs ys : List Sample) (f g : Follower)
+    (s : Follows settings channel xs f) (few : length (xs ++ ys) ≤ f.ends) where
+  pub stays_over : Stays settings channel (take f.at xs) (drop f.at (xs ++ ys)) g
+      → Stays settings channel xs ys g
+  stays_over t =
+      let one : take f.at xs ++ drop f.at (xs ++ ys) ≡ xs ++ ys =
+      taken_first settings channel xs f s ys in
+      record {
+        inside = quiet_to_end settings channel xs ys f s few;
+        same =
+            ap (λ zs. progress settings channel zs) (sym one) ∙ t.same
+            ∙ sym (taken_same settings channel xs f s);
+        follows = rw one at t.follows;
+      }
+
+  pub closes_over : (counts : Counts)
+      → Closes settings channel (take f.at xs) (drop f.at (xs ++ ys)) counts g
+      → Closes settings channel xs ys counts g
+  closes_over counts t =
+      let one : take f.at xs ++ drop f.at (xs ++ ys) ≡ xs ++ ys =
+      taken_first settings channel xs f s ys in
+      let before : progress settings channel xs ≡ progress settings channel (take f.at xs) =
+      taken_same settings channel xs f s in
+      record {
+        inside = quiet_to_end settings channel xs ys f s few;
+        dumps = rw before (rw one at t.dumps);
+        opens = rw one at t.opens;
+        at = rw one at t.at;
+        code_step = rw before t.code_step;
+        carrier_step = rw before t.carrier_step;
+      }

@@ -1,12 +1,11 @@
 pub mod ChanceLemmas
 pub mod FollowedLemmas
 pub mod FollowingLemmas
-pub mod LateLemmas
 pub mod LockedLemmas
-pub mod MoveLemmas
-pub mod PartLemmas
+pub mod OverLemmas
 pub mod SearchedLemmas
 pub mod ShiftLemmas
 pub mod SizeLemmas
 pub mod TrackingLemmas
+pub mod WindowLemmas
 pub mod WrapLemmas

@@ -1,8 +1,8 @@
 -- A satellite that is searched for, when it begins and when it goes on.
 use Rattle.std.proofs.Common.{◌≡◌, ℤ, ℕ, zero, suc, ◌+◌, ◌-◌, ◌*◌, ◌/◌, ◌<◌, ◌≤◌, List, ◌++◌}
-use Rattle.std.proofs.Common.{length, refl, sym, ap, ◌∙◌, arith, pos, ◌^◌, length-append}
+use Rattle.std.proofs.Common.{length, refl, sym, ap, ◌∙◌, arith, pos, ◌^◌, length-append, inl, inr}
 use Rattle.std.specs.Prelude.{Option, Some, None, IsSome, IfSome, min, ◌↔◌}
-use Rattle.std.proofs.lemmas.Bool.{iff_false}
+use Rattle.std.proofs.lemmas.Bool.{iff_false, cases_lt}
 use Rattle.definitions.specs.Samples.{Sample}
 use Rattle.definitions.specs.Oscillators.{Settings, code_step, code_phase_after}
 use Rattle.definitions.specs.Segments.{Shift}
@@ -10,120 +10,103 @@ use Rattle.definitions.specs.Loops.{loops_after}
 use Rattle.definitions.specs.Lives.{found_channel, doppler_shift}
 use Rattle.definitions.specs.Acquisition.{Plan, cell_count, cells_done, dwell_end, due_time}
 use Rattle.definitions.specs.Acquisition.{Cell as DefinedCell, result_of, bin_shift}
-use Rattle.acquisition.specs.declared.cell.Cell.{Cell}
 use Rattle.acquisition.specs.declared.search.Search.{Search}
+use Rattle.acquisition.specs.declared.cell.Cell.{Cell}
 use Rattle.acquisition.specs.Cells.{cell_in}
 use Rattle.acquisition.specs.Searches.{StandsFor, plan_of, end_of, done_of}
 use Rattle.acquisition.proofs.StandingLemmas.{stands-begun, stands-longer}
 use Rattle.channels.specs.declared.searched.Searched.{Searched}
-use Rattle.channels.specs.Cells.{done_before}
 use Rattle.channels.specs.Following.{BeginsAfter}
-use Rattle.channels.specs.Searching.{Searches, Answers}
+use Rattle.channels.specs.Searching.{Searches, Takes, Answers, next_cell, due_of}
 
--- after a dwell's end, by the samples that have come and by those that are left
-done-by : (cells end left time : ℕ) → time + left ≡ end + 4 * cells
-    → cells - (left + 3) / 4 ≡ min cells ((time - end) / 4)
-done-by cells end left time h = omega (arith, h)
+-- the cells that are done with `time` samples, or with `to` where the answer is due before: as many
+-- as are left, of four samples each, are missing
+done-to : (cells end before time to done : ℕ) → before ≤ time → time ≡ min to (end + 4 * cells)
+    → done ≡ min cells ((before - end) / 4)
+    → min cells (done + (cells - (end + 4 * cells - to + 3) / 4 - done))
+    ≡ min cells ((time - end) / 4)
+done-to cells end before time to done more now was = omega (arith, more, now, was)
 
-pub done-at : (settings : Settings) (plan : Plan) (begun left time : ℕ)
-    → time + left ≡ due_time settings plan begun
-    → done_before plan left ≡ cells_done settings plan begun time
-done-at settings plan begun left time h =
-    done-by (cell_count plan) (dwell_end settings plan begun) left time h
-
--- one that has just begun
-module _ (settings : Settings) (plan : Plan) (start left : ℕ) (search : Search)
-    (is : start + left ≡ due_time settings plan start) (same : plan_of search ≡ plan)
-    (end : end_of search ≡ dwell_end settings plan start) (none : done_of search ≡ 0) where
-  pub left-first : start + left ≡ end_of search + 4 * cell_count (plan_of search)
-  left-first =
-      let cells : 4 * cell_count (plan_of search) ≡ 4 * cell_count plan =
-      ap (λ (p : Plan). 4 * cell_count p) same in
-      omega (arith, is, end, cells)
-
-  pub none-first : done_of search ≡ done_before (plan_of search) left
-  none-first =
-      let zero-left : done_before plan left ≡ 0 = omega (arith, is) in
-      none ∙ sym (ap (λ (p : Plan). done_before p left) same ∙ zero-left)
-
-  pub begins : (xs : List Sample) (s : Searched) → length xs ≡ start → s.settings ≡ settings
-      → s.search ≡ search → s.to_due ≡ left → StandsFor settings plan start xs search
-      → Searches settings plan start xs s
-  begins xs s now recorded searched waits stands = record {
-    recorded = recorded;
-    search = rw searched stands;
-    begins = omega (arith, now);
-    due = omega (arith, now, waits, is);
-    done = rw searched (omega (arith, none, now));
-  }
-
-module _ (settings : Settings) (plan : Plan) (begun : ℕ) (xs ys : List Sample) (old : Searched)
+module _ (settings : Settings) (plan : Plan) (begun : ℕ) (xs : List Sample) (old : Searched)
     (s : Searches settings plan begun xs old) where
-  -- the cells that it has done are the same after more samples
-  stands-on : (n : ℕ) → done_of old.search ≡ n
-      → StandsFor settings plan begun (xs ++ ys) old.search
-  stands-on zero none = stands-begun settings plan begun xs (xs ++ ys) old.search none s.search
-  stands-on (suc n) some =
-      let whole : dwell_end settings plan begun ≤ length xs = omega (arith, some, s.done) in
-      stands-longer settings plan begun xs ys old.search whole s.search
+  cells : cell_count (plan_of old.search) ≡ cell_count plan
+  cells = ap (λ (p : Plan). cell_count p) s.search.plan_is
 
-  pub stays : StandsFor settings plan begun (xs ++ ys) old.search
-  stays = stands-on (done_of old.search) refl
+  end : end_of old.search ≡ dwell_end settings plan begun
+  end = rw (s.search.start_is, s.search.periods, s.search.per_period) refl
 
-  both : length (xs ++ ys) ≡ length xs + length ys
-  both = simp length-append (omega arith)
+  -- its answer is due when the acquisition's is
+  pub due : due_of old ≡ due_time settings plan begun
+  due = rw (end, cells) refl
 
-  module _ (left : ℕ) (now : left + length ys ≡ old.to_due) where
-    pub left-now : length (xs ++ ys) + left ≡ due_time settings plan begun
-    left-now = omega (arith, both, now, s.due)
+  -- its next cell comes with a later sample
+  pub next-later : length xs < due_of old → length xs < next_cell old
+  next-later early = omega (arith, s.done, end, cells, early)
 
-    -- where cells are done, the dwell is whole
-    pub whole : (cells : ℕ) → cells ≡ cell_count plan → 0 < cells - (left + 3) / 4
-        → dwell_end settings plan begun ≤ length (xs ++ ys)
-    whole cells same some = omega (arith, same, some, left-now)
+  module _ (ys : List Sample) where
+    -- the cells that it has done are the same after more samples
+    stands-on : (n : ℕ) → done_of old.search ≡ n
+        → StandsFor settings plan begun (xs ++ ys) old.search
+    stands-on zero none = stands-begun settings plan begun xs (xs ++ ys) old.search none s.search
+    stands-on (suc n) some =
+        let whole : dwell_end settings plan begun ≤ length xs = omega (arith, some, s.done) in
+        stands-longer settings plan begun xs ys old.search whole s.search
 
-  pub searches-on : (new : Searched) → new.settings ≡ old.settings
-      → new.to_due + length ys ≡ old.to_due
-      → StandsFor settings plan begun (xs ++ ys) new.search
-      → Searches settings plan begun (xs ++ ys) new
-  searches-on new same left stands = record {
-    recorded = same ∙ s.recorded;
-    search = stands;
-    begins = omega (arith, both, s.begins);
-    due = left-now new.to_due left;
-    done = new.in_time ∙ ap (λ (p : Plan). done_before p new.to_due) stands.plan_is
-        ∙ done-at settings plan begun new.to_due (length (xs ++ ys))
-        (left-now new.to_due left);
-  }
+    pub stays : StandsFor settings plan begun (xs ++ ys) old.search
+    stays = stands-on (done_of old.search) refl
 
-same_cells : (settings : Settings) (plan : Plan) (begun : ℕ) (zs : List Sample) (s : Searched)
-    → Searches settings plan begun zs s → cell_count (plan_of s.search) ≡ cell_count plan
-same_cells settings plan begun zs s stands =
-    ap (λ (p : Plan). cell_count p) stands.search.plan_is
+    both : length (xs ++ ys) ≡ length xs + length ys
+    both = simp length-append (omega arith)
 
--- what a search names is the answer where all cells are done
-pub answers-with : (settings : Settings) (plan : Plan) (begun : ℕ) (zs : List Sample) (s : Searched)
-    (r : Option Cell) → Searches settings plan begun zs s
-    → (IsSome r ↔ (done_of s.search ≡ cell_count (plan_of s.search)))
-    → IfSome r (λ cell. (settings : Settings) (plan : Plan) (begun : ℕ) (zs : List Sample)
-    → StandsFor settings plan begun zs s.search
-    → cell_in cell ≡ result_of settings plan zs begun) → Answers settings plan begun zs r
-answers-with settings plan begun zs s None stands done cell = early s.to_due refl
-  where
-    early : (n : ℕ) → s.to_due ≡ n → length zs < due_time settings plan begun
-    early zero now =
-        absurd (iff_false (done.0, done.1) refl (omega (
-          arith,
-          now,
-          stands.due,
-          stands.done,
-          same_cells settings plan begun zs s stands,
-        )))
-    early (suc n) later = omega (arith, later, stands.due)
-answers-with settings plan begun zs s (Some c) stands done cell = (
-  omega (arith, done.0 refl, stands.done, stands.due, same_cells settings plan begun zs s stands),
-  cell settings plan begun zs stands.search,
-)
+    -- no cell is done with samples that don't bring the next one, and nothing is named
+    pub waits : length (xs ++ ys) < next_cell old → Takes settings plan begun (xs ++ ys) None old
+    waits early = record {
+      stands = record {
+        recorded = s.recorded;
+        search = stays;
+        begins = omega (arith, both, s.begins);
+        done = omega (arith, both, s.done, end, cells, early);
+      };
+      answers = omega (arith, due, early);
+    }
+
+    module _ (to : ℕ) (now : length (xs ++ ys) ≡ min to (due_of old)) where
+      -- where the next cell is done, the dwell is whole
+      pub whole : next_cell old ≤ to → dwell_end settings plan begun ≤ length (xs ++ ys)
+      whole late = omega (arith, now, end, late)
+
+      pub searches-on : (new : Searched) → new.settings ≡ old.settings
+          → done_of new.search ≡ min (cell_count (plan_of old.search)) (done_of old.search
+          + (cell_count (plan_of old.search) - (due_of old - to + 3) / 4 - done_of old.search))
+          → StandsFor settings plan begun (xs ++ ys) new.search
+          → Searches settings plan begun (xs ++ ys) new
+      searches-on new same done stands = record {
+        recorded = same ∙ s.recorded;
+        search = stands;
+        begins = omega (arith, both, s.begins);
+        done = done ∙ rw (cells, end) (done-to (cell_count plan) (dwell_end settings plan begun)
+            (length xs) (length (xs ++ ys)) to (done_of old.search) (omega (arith, both))
+            (rw due at now) s.done);
+      }
+
+      -- what it names is the answer where all cells are done
+      pub answers-with : (r : Option Cell) (new : Search)
+          → done_of new ≡ cells_done settings plan begun (length (xs ++ ys))
+          → (IsSome r ↔ (done_of new ≡ cell_count (plan_of new)))
+          → IfSome r (λ cell. (settings : Settings) (plan : Plan) (begun : ℕ) (zs : List Sample)
+          → StandsFor settings plan begun zs new → cell_in cell ≡ result_of settings plan zs begun)
+          → StandsFor settings plan begun (xs ++ ys) new
+          → Answers settings plan begun (xs ++ ys) r
+      answers-with None new done named cell stands = elim (cases_lt (length (xs ++ ys))
+          (due_time settings plan begun)) [
+            | inl early ↦ early
+            | inr late ↦ absurd (iff_false (named.0, named.1) refl
+                (omega (arith, late, done, ap (λ (p : Plan). cell_count p) stands.plan_is)))
+          ]
+      answers-with (Some c) new done named cell stands = (
+        omega (arith, named.0 refl, done, ap (λ (p : Plan). cell_count p) stands.plan_is, now, due),
+        cell settings plan begun (xs ++ ys) stands,
+      )
 
 -- the channel of a cell that was found begins at the due time, with its bin's shift and with its
 -- code where that has come since the dwell began

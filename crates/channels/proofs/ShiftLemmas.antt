@@ -2,7 +2,7 @@
 use Rattle.std.proofs.Common.{◌≡◌, ◌≤◌, ℤ, ◌∙◌, arith, w64, to_z, of_z}
 use Rattle.std.specs.Prelude.{unsigned_abs}
 use Rattle.std.proofs.lemmas.Int.{to_z-of_z, fits_signed_from_abs}
-use Rattle.tracking_loops.specs.declared.limits.TheConstants.{MOST_SHIFT}
+use Rattle.oscillators.specs.declared.settings.TheConstants.{MOST_SHIFT}
 
 pub as-number : (v : ℤ) → unsigned_abs v ≤ MOST_SHIFT → to_z w64 (of_z w64 v) ≡ v
 as-number v small = to_z-of_z w64 v (fits_signed_from_abs w64 v (omega (arith, small)))

@@ -85,3 +85,12 @@ pub left-ends : (phase step n w : ℕ) → n < w → code_cycle ≤ phase + w * 
 left-ends phase step n w less ends =
     let whole : n + (w - n) ≡ w = omega (arith, less) in
     rw (nearer phase step n (w - n), whole) ends
+
+-- and not many
+pub end-near : (phase step w : ℕ) → 0 < step
+    → ((k : ℕ) → k < w → phase + k * step < code_cycle) → w ≤ code_cycle
+end-near phase step zero some least = omega arith
+end-near phase step (suc w) some least =
+    let each : 1 ≤ step = omega (arith, some) in
+    let low : phase + w * step < code_cycle = least w (omega arith) in
+    omega (arith, low, mul-le-mul_right w each)

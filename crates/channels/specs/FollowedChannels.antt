@@ -11,8 +11,8 @@ use Rattle.channels.specs.declared.dump.Dump.{Dump}
 use Rattle.channels.specs.declared.followed.Followed.{Followed}
 use Rattle.channels.specs.declared.tracking.Tracking.{Tracking}
 use Rattle.channels.specs.Dumps.{plain_dump}
+use Rattle.channels.specs.Following as segments
 use Rattle.channels.specs.Following.{QuietInside}
-use Rattle.channels.specs.LateFollowing as segments
 use Rattle.channels.specs.Trackings as trackings
 
 -- which satellite it is
@@ -24,16 +24,16 @@ abbrev pub dumps_of : Followed → ℕ
 dumps_of f = f.dumps
 
 -- how many samples it has taken; the others wait
-abbrev pub taken_of : Followed → ℕ
-taken_of f = segments.taken_of f.follower
+abbrev pub at_of : Followed → ℕ
+at_of f = segments.at_of f.follower
 
--- up to how many samples may come while it takes none
-abbrev pub rests_until : Followed → ℕ
-rests_until f = segments.rests_until f.follower
+-- with how many samples of the recording the next dump comes
+abbrev pub next_dump : Followed → ℕ
+next_dump f = segments.ends_of f.follower
 
--- how many dumps may come in a run of samples after so many
-abbrev pub chance : ℕ → Followed → ℕ
-chance time f = segments.chance time f.follower
+-- how many dumps may come with the next samples, at most 1,024
+abbrev pub chance : Followed → ℕ
+chance f = segments.chance f.follower
 
 -- what steers it, if anything does
 abbrev pub tracking_of : Followed → Option Tracking
@@ -44,7 +44,7 @@ is_steered f = is_some f.tracking
 
 -- one that begins after so many samples, steered by loops or not
 pub record HasBegun (time : ℕ) (steered : Bool) (f : Followed) : Type 0 where
-  pub taken : taken_of f ≡ time
+  pub at : at_of f ≡ time
   pub dumps : dumps_of f ≡ 0
   pub steered_is : is_steered f ≡ steered
 

@@ -8,6 +8,7 @@ use Rattle.definitions.specs.Lives.{doppler_shift}
 use Rattle.definitions.specs.Correlation.{Counts, counts_over}
 use Rattle.definitions.specs.Segments.{Channel, Progress, progress, open_phases}
 use Rattle.channels.specs.declared.follower.Follower.{Follower}
+use Rattle.channels.specs.declared.follower.TheConstants.{MOST_STEP}
 use Rattle.lane_correlator.specs.Counting.{counts_in}
 use Rattle.lane_correlator.specs.declared.counts.Counts.{Counts as Sums}
 
@@ -15,14 +16,18 @@ use Rattle.lane_correlator.specs.declared.counts.Counts.{Counts as Sums}
 abbrev pub prn_of : Follower → ℕ
 prn_of f = f.prn
 
--- how many samples there are to the end of the segment
-abbrev pub to_end_of : Follower → ℕ
-to_end_of f = f.to_end
+-- how many samples it has taken; the others wait
+abbrev pub at_of : Follower → ℕ
+at_of f = f.at
 
--- how many segments may end in a run of at most 1,024 samples: none where the code is so far from
--- the end of its cycle that it doesn't come there, whatever its step is
+-- with how many samples its segment ends
+abbrev pub ends_of : Follower → ℕ
+ends_of f = f.ends
+
+-- how many segments may end with the next samples, at most 1,024: none where the code is so far
+-- from the end of its cycle that it doesn't come there, whatever its step is
 abbrev pub phase_chance : ℕ → ℕ
-phase_chance code = if nat_lt code 3000000000 then 0 else 1
+phase_chance code = if nat_lt code MOST_STEP then 0 else 1
 
 abbrev pub chance : Follower → ℕ
 chance f = phase_chance f.code.phase
@@ -31,8 +36,10 @@ abbrev pub how_many : {A : Type 0} → Option A → ℕ
 how_many None = 0
 how_many (Some x) = 1
 
--- the phases and sums of the open segment, by the follower's own steps
+-- the phases and sums of the open segment after samples that it has all taken, by the follower's
+-- own steps
 pub record IsAt (channel : Channel) (xs : List Sample) (p : Progress) (f : Follower) : Type 0 where
+  pub taken : at_of f ≡ length xs
   pub begun : channel.start ≤ length xs
   pub opened : p.open_segment.start ≤ length xs
   pub prn : prn_of f ≡ channel.prn
@@ -50,13 +57,20 @@ pub record IsAt (channel : Channel) (xs : List Sample) (p : Progress) (f : Follo
       (length xs)
 
 -- and those steps are the channel's
-pub record Follows (settings : Settings) (channel : Channel) (xs : List Sample)
+pub record FollowsNow (settings : Settings) (channel : Channel) (xs : List Sample)
     (f : Follower) : Type 0 where
   pub at : IsAt channel xs (progress settings channel xs) f
   pub code_step : f.code.step
       ≡ (open_phases settings channel (progress settings channel xs)).code_step
   pub carrier_step : f.carrier.step
       ≡ (open_phases settings channel (progress settings channel xs)).carrier_step
+
+-- it is so for the samples that it has taken, and the others, with which the segment goes on, wait
+pub record Follows (settings : Settings) (channel : Channel) (xs : List Sample)
+    (f : Follower) : Type 0 where
+  pub taken : at_of f ≤ length xs
+  pub goes_on : length xs < ends_of f
+  pub now : FollowsNow settings channel (take (at_of f) xs) f
 
 -- a channel begins after n samples with this shift: its code was at the half chip so many samples
 -- ago, and has gone on since

@@ -1,10 +1,9 @@
-pub mod Cells
 pub mod Dumps
 pub mod FollowedChannels
 pub mod Following
-pub mod LateFollowing
 pub mod LockedMessages
-pub mod Parts
+pub mod OpenSamples
 pub mod Searching
 pub mod Sizes
 pub mod Trackings
+pub mod Windows

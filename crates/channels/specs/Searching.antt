@@ -1,5 +1,5 @@
 -- What a satellite that is searched for stands for: an acquisition over the samples so far.
-use Rattle.std.specs.Prelude.{◌≡◌, ◌≤◌, ◌<◌, ◌+◌, ◌*◌, ℕ, List, length, Option, Some, None}
+use Rattle.std.specs.Prelude.{◌≡◌, ◌≤◌, ◌<◌, ◌+◌, ◌*◌, ℕ, List, length, min, Option, Some, None}
 use Rattle.definitions.specs.Samples.{Sample}
 use Rattle.definitions.specs.Oscillators.{Settings, samples_per_ms}
 use Rattle.definitions.specs.Acquisition.{Plan, cell_count, cells_done, due_time, result_of}
@@ -17,40 +17,37 @@ plan_of s = searches.plan_of s.search
 abbrev pub start_of : Searched → ℕ
 start_of s = searches.start_of s.search
 
--- the time at which its answer is due
-abbrev pub due_of : Searched → ℕ
-due_of s = searches.end_of s.search + 4 * cell_count (plan_of s)
-
--- how many samples there are until then
-abbrev pub to_due_of : Searched → ℕ
-to_due_of s = s.to_due
-
 -- how many cells it has done
 abbrev pub done_of : Searched → ℕ
 done_of s = searches.done_of s.search
+
+-- the time at which its answer is due, and that of the next cell: where all are done it is the same
+abbrev pub due_of : Searched → ℕ
+due_of s = searches.end_of s.search + 4 * cell_count (plan_of s)
+
+abbrev pub next_cell : Searched → ℕ
+next_cell s = min (searches.end_of s.search + 4 * (done_of s + 1)) (due_of s)
 
 -- one that begins with sample `start`: what it searches, and when its answer is due
 pub record Begins (settings : Settings) (plan : Plan) (start : ℕ) (s : Searched) : Type 0 where
   pub searched : plan_of s ≡ plan
   pub begun : start_of s ≡ start
+  pub none : done_of s ≡ 0
   pub due : due_of s ≡ due_time settings plan start
-  pub left : start + to_due_of s ≡ due_of s
-  pub waits : 0 < to_due_of s
-  pub near : to_due_of s ≤ MOST_DWELL * samples_per_ms settings + 4 * MOST_CELLS
+  pub waits : start < due_of s
+  pub near : due_of s ≤ start + (MOST_DWELL * samples_per_ms settings + 4 * MOST_CELLS)
 
--- its answer isn't due yet, and a source of the samples from one on up to another has all that it
--- looks at with so many more
-pub record IsReady (first end more : ℕ) (s : Searched) : Type 0 where
-  pub waits : 0 < to_due_of s
+-- a source of the samples from one on up to another has all that it looks at up to number `most`
+pub record IsReady (first end most : ℕ) (s : Searched) : Type 0 where
   pub from : first ≤ start_of s
-  pub to : due_of s + more ≤ end + to_due_of s
+  pub to : min most (due_of s) ≤ end
 
--- so many samples later it searches the same, and its answer is due at the same time
-pub record IsLater (count : ℕ) (old new : Searched) : Type 0 where
+-- it searches the same, its answer is due at the same time, and its next cell comes after `to`
+pub record IsLater (to : ℕ) (old new : Searched) : Type 0 where
   pub plan : plan_of new ≡ plan_of old
   pub start : start_of new ≡ start_of old
   pub due : due_of new ≡ due_of old
-  pub left : to_due_of new + count ≡ to_due_of old
+  pub next : to < due_of old → to < next_cell new
 
 -- an acquisition of this plan, from sample begun on, has come as far as the samples xs bring it
 pub record Searches (settings : Settings) (plan : Plan) (begun : ℕ) (xs : List Sample)
@@ -58,7 +55,6 @@ pub record Searches (settings : Settings) (plan : Plan) (begun : ℕ) (xs : List
   pub recorded : s.settings ≡ settings
   pub search : searches.StandsFor settings plan begun xs s.search
   pub begins : begun ≤ length xs
-  pub due : length xs + to_due_of s ≡ due_time settings plan begun
   pub done : done_of s ≡ cells_done settings plan begun (length xs)
 
 -- what was answered after the samples zs: nothing where the answer isn't due yet, and where it is

@@ -3,8 +3,8 @@
 ghost use Rattle.std.specs.Prelude.{◌≡◌, ◌≤◌, ◌<◌, ◌+◌, unsigned_abs};
 ghost use Rattle.tracking_loops.specs.Standing as loops_stand;
 ghost use Rattle.channels.specs.LockedMessages.{bit_count};
-ghost use Rattle.tracking_loops.specs.declared.limits.TheConstants.{MOST_STEERED_DUMPS, MOST_SHIFT};
-ghost use Rattle.tracking_loops.specs.declared.limits.TheConstants.{MOST_CORRECTION, MOST_SUM};
+ghost use Rattle.tracking_loops.specs.declared.limits.TheConstants.{MOST_STEERED_DUMPS, MOST_SUM};
+ghost use Rattle.oscillators.specs.declared.settings.TheConstants.{MOST_SHIFT, MOST_CORRECTION};
 ghost use Rattle.lane_correlator.specs.Counting.{counts_in, AreWithin};
 
 use crate::dump::Dump;

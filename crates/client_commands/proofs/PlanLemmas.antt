@@ -4,18 +4,19 @@ use Rattle.std.specs.Prelude.{ℤ, pos, Result, Ok, Err, IfOk}
 use Rattle.std.specs.Result.{result_or}
 use Rattle.definitions.specs.Acquisition.{Plan}
 use Rattle.acquisition.specs.Plans.{IsCentre, IsDwell, IsThreshold}
+use Rattle.acquisition.specs.declared.plan.TheConstants.{MOST_SIDE_BINS}
 use Rattle.acquisition.specs.declared.plan.PlanFault.{PlanFault}
 use Rattle.acquisition.specs.declared.plan.PlanFault.TheVariants.{Centre, Bins, Dwell, Threshold}
 use Rattle.client_commands.specs.declared.refusal.Refusal.{Refusal}
 use Rattle.client_commands.specs.Reading.{values_of_plan}
 
 pub in_range_is_plan : (prn : ℕ) (centre : ℤ) (bins dwell threshold : ℕ)
-    (tried : Result Plan PlanFault) (refusal : Refusal) → IsCentre centre → bins ≤ 40
+    (tried : Result Plan PlanFault) (refusal : Refusal) → IsCentre centre → bins ≤ MOST_SIDE_BINS
     → IsDwell dwell → IsThreshold threshold → (tried ≡ Err Centre ↔ (¬ IsCentre centre))
-    → (tried ≡ Err Bins ↔ (IsCentre centre × (40 < bins)))
-    → (tried ≡ Err Dwell ↔ (IsCentre centre × (bins ≤ 40) × (¬ IsDwell dwell)))
+    → (tried ≡ Err Bins ↔ (IsCentre centre × (MOST_SIDE_BINS < bins)))
+    → (tried ≡ Err Dwell ↔ (IsCentre centre × (bins ≤ MOST_SIDE_BINS) × (¬ IsDwell dwell)))
     → (tried ≡ Err Threshold
-    ↔ (IsCentre centre × (bins ≤ 40) × IsDwell dwell × (¬ IsThreshold threshold)))
+    ↔ (IsCentre centre × (bins ≤ MOST_SIDE_BINS) × IsDwell dwell × (¬ IsThreshold threshold)))
     → IfOk tried (λ plan. plan ≡ record {
       prn = prn;
       centre = centre;

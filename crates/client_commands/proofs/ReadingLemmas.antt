@@ -4,7 +4,7 @@ use Rattle.std.proofs.Common.{get_or}
 use Rattle.std.proofs.Common.{drop, Bool, true, false, FitsSigned, refl, ap, sym, ◌∙◌, rules, arith}
 use Rattle.std.specs.Prelude.{ℤ, pos, negsuc, unsigned_abs, int_le, ◌&&◌, if◌then◌else◌, Result, Ok}
 use Rattle.std.specs.Prelude.{Err, Option, Some, None, ok_or, option_map, OkIff, MatchOption}
-use Rattle.std.specs.Prelude.{IsSome, IfSome}
+use Rattle.std.specs.Prelude.{IsSome, IfSome, IsErrAnd}
 use Rattle.std.specs.Result.{result_ok}
 use Rattle.std.specs.Option.{SomeIff}
 use Rattle.std.specs.Int.{FitsUnsignedBits, Width}
@@ -156,24 +156,31 @@ taken_before range (Some number) value others is =
     by_range true refusal is = let e : value ≡ number = cc in rw e refl
     by_range false refusal is = cc
 
+-- a refusal that is passed on
+pub passed_on : {T : Type 0} (r : Result T Refusal) {refusal : Refusal}
+    → IsErrAnd r (λ other. other ≡ refusal) → r ≡ Err refusal
+passed_on (Ok value) is = absurd is
+passed_on (Err other) is = ap Err is
+
 -- a word that is refused, whatever follows it
-pub refused_first : (range : Range) (ranges : List Range) (words : List (List ℕ)) (refusal : ℕ)
+pub refused_first : (range : Range) (ranges : List Range) (words : List (List ℕ)) {refusal : ℕ}
     → length words ≡ length (range ∷ ranges) → Err refusal ≡ values_in (range ∷ []) words
     → Err refusal ≡ values_in (range ∷ ranges) words
 unfolding values_in
-refused_first range ranges [] refusal all is = absurd (omega arith)
-refused_first range ranges (word ∷ words) refusal all is =
+refused_first range ranges [] all is = absurd (omega arith)
+refused_first range ranges (word ∷ words) {refusal = refusal} all is =
     refused_before range (signed_number_in word) refusal (values_in ranges words) is
 
 -- a word that gives its value, before the others
-pub taken_first : (range : Range) (ranges : List Range) (words left : List (List ℕ)) (value : ℤ)
-    (values : Result (List ℤ) ℕ) → length words ≡ length (range ∷ ranges)
+pub taken_first : (range : Range) (ranges : List Range) (words : List (List ℕ))
+    {left : List (List ℕ)} {value : ℤ} {values : Result (List ℤ) ℕ}
+    → length words ≡ length (range ∷ ranges)
     → Ok (value ∷ []) ≡ values_in (range ∷ []) words → left ≡ drop 1 words
     → (length left ≡ length ranges → values ≡ values_in ranges left)
     → with_value value values ≡ values_in (range ∷ ranges) words
 unfolding values_in
-taken_first range ranges [] left value values all is next others = absurd (omega arith)
-taken_first range ranges (word ∷ words) left value values all is next others =
+taken_first range ranges [] all is next others = absurd (omega arith)
+taken_first range ranges (word ∷ words) {value = value} all is next others =
     rw (others (rw next (omega (arith, all))), next)
     (taken_before range (signed_number_in word) value (values_in ranges words) is)
 
@@ -187,7 +194,7 @@ no_slot verb share count line words refusal all is refused =
     let many : length words ≡ length (up_to 0 (share - 1) ∷ verb.ranges) =
     rw is.1 (omega (arith, whole)) in
     rw (eq-eqb (length line) (length verb.ranges + 1) whole, sym is.1)
-    (ap (meant verb) (refused_first (up_to 0 (share - 1)) verb.ranges words refusal many refused))
+    (ap (meant verb) (refused_first (up_to 0 (share - 1)) verb.ranges words many refused))
 
 -- what a verb asks of a slot with the words after it
 pub asked : (verb : Verb) (share count : ℕ) (line words left : List (List ℕ)) (slot : ℕ)
@@ -201,9 +208,7 @@ asked verb share count line words left slot values all is named next read =
     let many : length words ≡ length (up_to 0 (share - 1) ∷ verb.ranges) =
     rw is.1 (omega (arith, whole)) in
     rw (eq-eqb (length line) (length verb.ranges + 1) whole, sym is.1)
-    (ap (meant verb)
-    (taken_first (up_to 0 (share - 1)) verb.ranges words left (pos slot) values many named next
-    read))
+    (ap (meant verb) (taken_first (up_to 0 (share - 1)) verb.ranges words many named next read))
 
 pub none_left : (words : List (List ℕ)) → Ok [] ≡ values_in [] words
 unfolding values_in

@@ -24,7 +24,7 @@ abbrev pub integer_alone : Result ℤ Refusal → Result (List ℤ) ℕ
 integer_alone (Ok integer) = Ok (integer ∷ [])
 integer_alone (Err refusal) = Err (number_of refusal)
 
--- the same where it gives a number
+-- the values of one word alone: the number that it gives, or its refusal
 abbrev pub number_alone : Result ℕ Refusal → Result (List ℤ) ℕ
 number_alone (Ok number) = Ok (pos number ∷ [])
 number_alone (Err refusal) = Err (number_of refusal)

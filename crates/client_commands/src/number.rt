@@ -1,6 +1,6 @@
 //! The numbers that words write.
 
-ghost use Rattle.std.specs.Prelude.{◌≡◌, ◌<◌, ◌^◌, IfSome, unsigned_abs};
+ghost use Rattle.std.specs.Prelude.{◌≡◌, ◌<◌, ◌^◌, IfSome};
 ghost use Rattle.definitions.specs.Scripts.{number_in as defined_number_in};
 ghost use Rattle.definitions.specs.Scripts.{signed_number_in as defined_signed_number_in};
 
@@ -25,7 +25,7 @@ pub(crate) fn number_in(word: &[u8]) -> Option<u64>
     Some(number)
 }
 
-/// The number, with or without a leading `-`.
+/// The number that a word writes: 1 to 13 digits, with or without a leading `-`.
 pub(crate) fn signed_number_in(word: &[u8]) -> Option<i64>
     ensures { result ≡ defined_signed_number_in word.now }
 {

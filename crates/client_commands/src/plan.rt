@@ -1,6 +1,6 @@
 //! The words with which a slot begins to search for a satellite.
 
-ghost use Rattle.std.specs.Prelude.{◌≡◌, ◌∷◌, [], length};
+ghost use Rattle.std.specs.Prelude.{◌≡◌, length};
 ghost use Rattle.definitions.specs.Scripts.{plan_ranges, values_in};
 ghost use Rattle.client_commands.specs.Reading.{values_of_plan};
 

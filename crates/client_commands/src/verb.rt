@@ -14,7 +14,7 @@ use crate::start::Start;
 use crate::words::Words;
 use slot_protocol::Command;
 
-/// The verbs.
+/// A verb of a script's line: what a client asks of a slot.
 #[derive(Clone, Copy)]
 pub(crate) enum Verb {
     /// Follow a satellite at a fixed Doppler shift.
@@ -32,7 +32,7 @@ pub(crate) enum Verb {
 }
 
 impl Verb {
-    /// The verb of that name.
+    /// The verb with a name, if there is one.
     pub(crate) fn with_name(name: &[u8]) -> Option<Verb>
         ensures { option_map verb_in result ≡ find (λ v. bytes_eq v.name name.now) verbs }
     {

@@ -37,7 +37,7 @@ reports_in r = record {
 abbrev pub ephemeris_fields : List fields.Field
 ephemeris_fields = clock_fields ++ eph2_fields ++ eph3_fields
 
--- the place of a field among these, from 0, if it is one of them
+-- the place of a field among those of a clock and ephemeris, from 0, if it is one of them
 abbrev pub place_in_ephemeris : Field → Option ℕ
 place_in_ephemeris f = if is_ephemeris (record { kind = kind_with f; values = [] })
     then Some (place_of (name_of f) ephemeris_fields) else None
@@ -47,7 +47,7 @@ abbrev pub fields_in : sets.Report → List fields.Field
 fields_in (ephemeris values) = ephemeris_fields
 fields_in (single page) = named_fields_of page.kind
 
--- the numbers of these
+-- the numbers of a report's fields that have names
 abbrev pub numbers_in : sets.Report → List ℤ
 numbers_in (ephemeris values) = values
 numbers_in (single page) = numbers_of page

@@ -6,6 +6,8 @@ use Rattle.definitions.specs.Pages.{Kind, clock, eph2, eph3, almanac, Page}
 use Rattle.definitions.specs.DataSets.{is_of, last_page, belong_together, joined_values}
 use Rattle.definitions.specs.DataSets.{last_almanac, all_there, values_for_one_toa}
 use Rattle.definitions.specs.DataSets.{ephemerides, almanac_sets, reported_so_far}
+use Rattle.subframes.specs.declared.almanac.TheConstants.{FIELDS_OF_ALMANAC}
+use Rattle.data_sets.specs.declared.almanac_set.TheConstants.{SATELLITES}
 use Rattle.data_sets.specs.declared.almanacs.Almanacs.{Almanacs}
 use Rattle.data_sets.specs.declared.last_pages.LastPages.{LastPages}
 use Rattle.data_sets.specs.declared.ephemerides.Ephemerides.{Ephemerides}
@@ -25,7 +27,7 @@ pub record AreLast (pages : List Page) (last : LastPages) : Type 0 where
   pub eph2 : last.eph2 ≡ last_values eph2 pages
   pub eph3 : last.eph3 ≡ last_values eph3 pages
 
--- and the set that was reported last, if one was
+-- the last pages of the three kinds, and the set of them that was reported last, if one was
 pub record Follows (pages : List Page) (sets : Ephemerides) : Type 0 where
   pub last : AreLast pages sets.last
   pub reported : sets.reported ≡ reported_so_far ephemerides pages
@@ -41,15 +43,15 @@ unfoldable pub almanac_values : List (Option (List ℤ)) → Option (List ℤ)
 almanac_values almanacs =
     option_and_then values_for_one_toa (all_there (map (option_map (page_with almanac)) almanacs))
 
--- an almanac has 13 values, if it is there
+-- an almanac has a value for each of its fields, if it is there
 abbrev pub IsWhole : Option (List ℤ) → Type 0
-IsWhole known = IfSome known (λ values. length values ≡ 13)
+IsWhole known = IfSome known (λ values. length values ≡ FIELDS_OF_ALMANAC)
 
 -- the last almanacs, and those of the set that was reported last, or none if none was
 pub record FollowsAlmanacs (pages : List Page) (almanacs : Almanacs) : Type 0 where
   pub last : almanacs.last ≡ last_almanacs pages
   pub reported : almanac_values almanacs.reported ≡ reported_so_far almanac_sets pages
-  pub long : length almanacs.reported ≡ 32
+  pub long : length almanacs.reported ≡ SATELLITES
   pub whole : AllByRecursion IsWhole almanacs.reported
 
 -- what is kept is what these pages leave, taken in this order

@@ -6,7 +6,7 @@ ghost use Rattle.definitions.specs.DataSets.{almanac_set};
 ghost use Rattle.data_sets.specs.Reports.{almanacs_in};
 ghost use Rattle.data_sets.specs.Standing.{IsWhole, almanac_values};
 
-use subframes::AlmanacField;
+use subframes::{AlmanacField, FIELDS_OF_ALMANAC};
 
 /// Where the time of applicability stands among the numbers of an almanac.
 const TOA: usize = AlmanacField::Toa as usize;
@@ -28,8 +28,8 @@ pub struct AlmanacSet {
 }
 
 impl AlmanacSet {
-    /// The set of these almanacs of satellites 1 to 32, where all are there for one time.
-    pub(crate) fn of(last: &[Option<[i64; 13]>; SATELLITES]) -> Option<AlmanacSet>
+    /// The set of the almanacs of satellites 1 to 32, where all are there for one time.
+    pub(crate) fn of(last: &[Option<[i64; FIELDS_OF_ALMANAC]>; SATELLITES]) -> Option<AlmanacSet>
         ensures set { option_map almanacs_in result
             ≡ option_map almanac_set (almanac_values last.now) }
         ensures whole { IfSome result (λ set. AllByRecursion IsWhole last.now) }

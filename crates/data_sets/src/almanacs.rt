@@ -8,7 +8,7 @@ ghost use Rattle.data_sets.specs.Reports.{almanacs_in};
 ghost use Rattle.data_sets.specs.Standing.{last_almanacs, page_with};
 
 use crate::almanac_set::{AlmanacSet, SATELLITES};
-use subframes::{AlmanacField, Page};
+use subframes::{AlmanacField, FIELDS_OF_ALMANAC, Page};
 
 /// Where the number of the satellite stands among the numbers of an almanac.
 const SV: usize = AlmanacField::Sv as usize;
@@ -16,8 +16,8 @@ const SV: usize = AlmanacField::Sv as usize;
 /// The last almanac of each of the satellites 1 to 32, and those of the set that was reported last.
 #[derive(Debug, Drop)]
 pub struct Almanacs {
-    last: [Option<[i64; 13]>; SATELLITES],
-    reported: [Option<[i64; 13]>; SATELLITES],
+    last: [Option<[i64; FIELDS_OF_ALMANAC]>; SATELLITES],
+    reported: [Option<[i64; FIELDS_OF_ALMANAC]>; SATELLITES],
 }
 
 impl Almanacs {
@@ -54,13 +54,13 @@ impl Almanacs {
     }
 
     /// Keeps an almanac as the last of its satellite, if that is one of 1 to 32.
-    fn keep(&mut self, numbers: &[i64; 13])
+    fn keep(&mut self, numbers: &[i64; FIELDS_OF_ALMANAC])
         ensures last { (pages : List DefinedPage) → self.old.last ≡ last_almanacs pages
             → self.new.last ≡ last_almanacs (pages ++ page_with almanac numbers.now ∷ []) }
         ensures reported { self.new.reported ≡ self.old.reported }
     {
         let sv = numbers[SV];
-        if 1 <= sv && sv <= 32 {
+        if 1 <= sv && sv <= SATELLITES as i64 {
             self.last[sv as usize - 1] = Some(*numbers);
         }
     }

@@ -6,8 +6,7 @@ ghost use Rattle.definitions.specs.DataSets.{ephemerides, new_set, differing, la
 ghost use Rattle.subframes.specs.PageViews.{page_in};
 
 use crate::last_pages::LastPages;
-use crate::report::FIELDS_OF_EPHEMERIS;
-use subframes::Page;
+use subframes::{FIELDS_OF_EPHEMERIS, Page};
 
 /// The last pages of which a set is made, and the set that was reported last.
 #[derive(Debug, Drop)]

@@ -4,8 +4,10 @@
 ghost use Rattle.std.specs.Prelude.{◌≡◌, ◌++◌};
 ghost use Rattle.data_sets.specs.Standing.{are_of_one_issue};
 
-use crate::report::{FIELDS_OF_CLOCK, FIELDS_OF_EPH2, FIELDS_OF_EPH3, FIELDS_OF_EPHEMERIS};
-use subframes::{ClockField, Eph2Field, Eph3Field};
+use subframes::{
+    ClockField, Eph2Field, Eph3Field, FIELDS_OF_CLOCK, FIELDS_OF_EPH2, FIELDS_OF_EPH3,
+    FIELDS_OF_EPHEMERIS,
+};
 
 /// Where the issue of data stands among the numbers of a clock page (ten bits).
 const IODC: usize = ClockField::Iodc as usize;
@@ -28,7 +30,7 @@ pub fn are_of_one_issue(
     clock[IODC].rem_euclid(256) == eph2[IODE] && eph2[IODE] == eph3[IODE3]
 }
 
-/// The numbers of the three pages, one page after the other.
+/// The numbers of a clock page and of both ephemeris pages, one page after the other.
 #[tactic(auto, using(crate::proofs::Parts::two_written, crate::proofs::Parts::three_written))]
 pub fn numbers_of_pages(
     clock: &[i64; FIELDS_OF_CLOCK],
@@ -38,8 +40,8 @@ pub fn numbers_of_pages(
     ensures { result ≡ clock.now ++ eph2.now ++ eph3.now }
 {
     let mut numbers = [0; FIELDS_OF_EPHEMERIS];
-    numbers[..11].copy_from_slice(clock);
-    numbers[11..22].copy_from_slice(eph2);
-    numbers[22..].copy_from_slice(eph3);
+    numbers[..FIELDS_OF_CLOCK].copy_from_slice(clock);
+    numbers[FIELDS_OF_CLOCK..FIELDS_OF_CLOCK + FIELDS_OF_EPH2].copy_from_slice(eph2);
+    numbers[FIELDS_OF_CLOCK + FIELDS_OF_EPH2..].copy_from_slice(eph3);
     numbers
 }

@@ -6,8 +6,7 @@ ghost use Rattle.definitions.specs.DataSets.{is_ephemeris};
 ghost use Rattle.subframes.specs.PageViews.{page_in};
 
 use crate::issue::{are_of_one_issue, numbers_of_pages};
-use crate::report::{FIELDS_OF_CLOCK, FIELDS_OF_EPH2, FIELDS_OF_EPH3, FIELDS_OF_EPHEMERIS};
-use subframes::Page;
+use subframes::{FIELDS_OF_CLOCK, FIELDS_OF_EPH2, FIELDS_OF_EPH3, FIELDS_OF_EPHEMERIS, Page};
 
 /// The numbers of the last clock page and of the last of both ephemeris pages.
 #[derive(Debug, Drop)]
@@ -46,7 +45,8 @@ impl LastPages {
         true
     }
 
-    /// The numbers of all three, where they are there and are of one issue of data.
+    /// The numbers of the last clock page and of the last of both ephemeris pages, where all three
+    /// are there and are of one issue of data.
     pub fn set(&self) -> Option<[i64; FIELDS_OF_EPHEMERIS]>
         ensures { result ≡ set_in self.now }
     {

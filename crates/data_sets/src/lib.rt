@@ -38,5 +38,5 @@ mod reports;
 
 pub use almanac_set::{AlmanacSet, SATELLITES};
 pub use data_sets::DataSets;
-pub use report::{FIELDS_OF_EPHEMERIS, Report};
+pub use report::Report;
 pub use reports::Reports;

@@ -4,22 +4,12 @@ ghost use Rattle.std.specs.Prelude.{◌≡◌, ◌<◌, IfSome, length, map};
 ghost use Rattle.subframes.specs.Entries.{entry_of};
 ghost use Rattle.data_sets.specs.Reports.{fields_in, number_named, numbers_in, report_in};
 ghost use Rattle.data_sets.specs.Reports.{place_in_ephemeris};
-ghost use Rattle.data_sets.specs.declared.report.TheConstants.{FIELDS_OF_EPHEMERIS};
+ghost use Rattle.subframes.specs.declared.ephemeris.TheConstants.{FIELDS_OF_EPHEMERIS};
 
-use subframes::{Field, Kind, Page, ephemeris_fields};
-
-/// The fields of a clock page: of subframe 1 (IS-GPS-200, section 20.3.3.3.1).
-pub const FIELDS_OF_CLOCK: usize = 11;
-
-/// The fields of the first ephemeris page: of subframe 2 (IS-GPS-200, section 20.3.3.4.1).
-pub const FIELDS_OF_EPH2: usize = 11;
-
-/// The fields of the second ephemeris page: of subframe 3 (IS-GPS-200, section 20.3.3.4.1).
-pub const FIELDS_OF_EPH3: usize = 9;
-
-/// The fields of a clock and ephemeris: of subframes 1, 2 and 3 (IS-GPS-200, sections 20.3.3.3.1
-/// and 20.3.3.4.1).
-pub const FIELDS_OF_EPHEMERIS: usize = FIELDS_OF_CLOCK + FIELDS_OF_EPH2 + FIELDS_OF_EPH3;
+use subframes::{
+    CHARACTERS_OF_MESSAGE, FIELDS_OF_ALMANAC, FIELDS_OF_CLOCK, FIELDS_OF_EPH2, FIELDS_OF_EPHEMERIS,
+    FIELDS_OF_HEALTH, FIELDS_OF_UTC, Field, Kind, Page, ephemeris_fields,
+};
 
 /// A set of pages or a single page: the numbers of its fields in the order of their tables, or the
 /// characters of its message (IS-GPS-200, section 20.3.3).
@@ -29,13 +19,13 @@ pub enum Report {
     /// then of subframe 3 (sections 20.3.3.3.1 and 20.3.3.4.1).
     Eph([i64; FIELDS_OF_EPHEMERIS]),
     /// An almanac (section 20.3.3.5.1.2).
-    Alm([i64; 13]),
+    Alm([i64; FIELDS_OF_ALMANAC]),
     /// The ionosphere and coordinated universal time (sections 20.3.3.5.1.6 and 20.3.3.5.1.7).
-    Utc([i64; 18]),
+    Utc([i64; FIELDS_OF_UTC]),
     /// The health of satellites 1 to 24 (section 20.3.3.5.1.3).
-    Hlt([i64; 28]),
+    Hlt([i64; FIELDS_OF_HEALTH]),
     /// The characters of a special message, as they are sent (section 20.3.3.5.1.8).
-    Msg([u8; 22]),
+    Msg([u8; CHARACTERS_OF_MESSAGE]),
 }
 
 impl Report {

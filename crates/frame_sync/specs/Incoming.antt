@@ -10,12 +10,12 @@ abbrev pub StartsHere : ℕ → ℕ → Option ℕ → Type 0
 StartsHere window pushed awaited =
     (unwrap_or awaited 2 + 60 ≤ pushed) × IsTrue (has_header_in window)
 
--- the subframe that starts with them
+-- the subframe whose header is the newest 60 bits
 abbrev pub header_in : ℕ → ℕ → Incoming
 header_in window pushed =
     record { start = pushed - 60; subframe = record { words = header_words_in window } }
 
--- with the word that ends with the newest bit, if one does
+-- a subframe with the word that ends with the newest bit, if one does
 abbrev pub with_word_in : ℕ → ℕ → Incoming → Incoming
 with_word_in window pushed incoming =
     let taken = pushed - incoming.start in

@@ -10,7 +10,7 @@ use Rattle.frame_sync.specs.declared.sync.Found.{Found}
 use Rattle.frame_sync.specs.declared.incoming.Incoming.{Incoming}
 use Rattle.frame_sync.specs.declared.sync.FrameSync.{FrameSync}
 
--- the same in the words of the definition
+-- what a search found, in the words of the definition
 abbrev pub found_in : Option Found → Option frames.Found
 found_in found = option_map (λ (f : Found). record { subframe = f.subframe; gap = f.gap }) found
 

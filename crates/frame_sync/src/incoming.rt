@@ -43,7 +43,7 @@ impl Incoming {
         Some(Incoming { start, subframe })
     }
 
-    /// With the word that ends with the newest bit, if one does.
+    /// The subframe with the word that ends with the newest bit, if one does.
     pub(crate) fn with_word(self, window: &Window, pushed: u64) -> Self
         requires behind_header { self.start + HEADER_BITS < pushed }
         requires within { pushed ≤ self.start + SUBFRAME_BITS }

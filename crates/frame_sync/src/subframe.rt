@@ -1,6 +1,6 @@
 //! The ten words of a subframe, as far as they passed.
 
-ghost use Rattle.std.specs.Prelude.{◌≡◌, ◌-◌, ◌^◌, ◌<◌, ◌≤◌, ◌↔◌, IsTrue, IfSome, SomeIff, Some};
+ghost use Rattle.std.specs.Prelude.{◌≡◌, ◌-◌, ◌<◌, ◌≤◌, ◌↔◌, IsTrue, IfSome, SomeIff, Some};
 ghost use Rattle.std.specs.Prelude.{slice_set, length};
 ghost use Rattle.definitions.specs.Frames.{word_of, id_of, tow_of, id_in, is_complete};
 ghost use Rattle.frame_sync.specs.Words.{IsWord, IsSubframe, has_header};

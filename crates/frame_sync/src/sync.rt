@@ -1,6 +1,6 @@
 //! The search for subframes: where they start, and what gap is before each.
 
-ghost use Rattle.std.specs.Prelude.{◌≡◌, ◌+◌, ◌^◌, ◌<◌, ◌≤◌, Bool, List, [], ◌∷◌, ◌++◌, length};
+ghost use Rattle.std.specs.Prelude.{◌≡◌, ◌+◌, ◌<◌, ◌≤◌, Bool, List, [], ◌∷◌, ◌++◌, length};
 ghost use Rattle.std.specs.Option.{ForSome};
 ghost use Rattle.definitions.specs.Frames.{gap_from};
 ghost use Rattle.frame_sync.specs.declared.incoming.TheConstants.{HEADER_BITS, SUBFRAME_BITS};

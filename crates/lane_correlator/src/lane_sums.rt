@@ -1,6 +1,6 @@
 //! Two sums of products, in lanes of bytes.
 
-ghost use Rattle.std.specs.Prelude.{◌≡◌, ◌+◌, ◌*◌, ◌<◌, ◌≤◌, ℕ, length, slice_index};
+ghost use Rattle.std.specs.Prelude.{◌≡◌, ◌+◌, ◌<◌, ◌≤◌, ℕ, length, slice_index};
 ghost use Rattle.std.specs.Prelude.{unsigned_abs};
 ghost use Rattle.bit_planes.specs.declared.plane.TheConstants.{WORD_PLACES};
 ghost use Rattle.lane_correlator.specs.Bytes.{sum_of_lanes};

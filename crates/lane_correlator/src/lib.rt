@@ -30,5 +30,5 @@ mod wiped;
 mod with_replica;
 
 pub use counts::Counts;
-pub use wiped::MOST_PRODUCT;
+pub use oscillators::MOST_PRODUCT;
 pub use with_replica::replica_sums;

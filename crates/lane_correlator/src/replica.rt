@@ -44,7 +44,7 @@ enum Words {
     Real,
     /// The code has windows, and the samples may be complex.
     Complex,
-    /// Nothing.
+    /// Nothing is known of the code or of the samples.
     Any,
 }
 
@@ -59,8 +59,7 @@ impl RunPart<'_> {
     {
         match words {
             Words::Real => None,
-            Words::Complex => self.samples.codes_q(w),
-            Words::Any => self.samples.codes_q(w),
+            Words::Complex | Words::Any => self.samples.codes_q(w),
         }
     }
 

@@ -25,11 +25,11 @@ pub(crate) const MOST_OF_LANE: u32 = 127;
 pub(crate) struct Tally {
     /// All products.
     all: LaneSums,
-    /// Those whose early chips are -1.
+    /// The products whose early chips are -1.
     early: LaneSums,
-    /// Those whose prompt chips are -1.
+    /// The products whose prompt chips are -1.
     prompt: LaneSums,
-    /// Those whose late chips are -1.
+    /// The products whose late chips are -1.
     late: LaneSums,
 }
 

@@ -1,6 +1,6 @@
 //! 64 samples with their carrier taken off, in lanes of bytes.
 
-ghost use Rattle.std.specs.Prelude.{◌≡◌, ◌+◌, ◌*◌, ◌<◌, ◌≤◌, ◌%◌, ℕ, ℤ, length};
+ghost use Rattle.std.specs.Prelude.{◌≡◌, ◌+◌, ◌*◌, ◌<◌, ◌≤◌, ℕ, ℤ, length};
 ghost use Rattle.std.specs.Prelude.{slice_index, bit_xor};
 ghost use Rattle.std.specs.Prelude.{List, IfSome, IfNone};
 ghost use Rattle.definitions.specs.Samples.{Sample};
@@ -13,10 +13,6 @@ ghost use Rattle.lane_correlator.specs.Bytes.{AreNibbles, IsTableOf, AreFound};
 use bit_planes::WORD_PLACES;
 use std::simd::prelude::*;
 
-/// The greatest size of the product of a sample and a carrier, in phase or in quadrature: each part
-/// of a sample is at most 3 in size, and of the two carriers one is 1 in size and the other 2.
-pub const MOST_PRODUCT: u32 = 9;
-
 /// Products of the cosine with the sizes of samples, modulo 256: that of each eighth of a cycle,
 /// and then three times that of each. They stand there once for each sixteen lanes.
 const COSINES: [u8; WORD_PLACES] = [
@@ -25,14 +21,14 @@ const COSINES: [u8; WORD_PLACES] = [
     2, 1, 255, 254, 254, 255, 1, 2, 6, 3, 253, 250, 250, 253, 3, 6,
 ];
 
-/// Those of the sine.
+/// Products of the sine with the sizes of samples, as those of the cosine stand.
 const SINES: [u8; WORD_PLACES] = [
     1, 2, 2, 1, 255, 254, 254, 255, 3, 6, 6, 3, 253, 250, 250, 253, 1, 2, 2, 1, 255, 254, 254, 255,
     3, 6, 6, 3, 253, 250, 250, 253, 1, 2, 2, 1, 255, 254, 254, 255, 3, 6, 6, 3, 253, 250, 250, 253,
     1, 2, 2, 1, 255, 254, 254, 255, 3, 6, 6, 3, 253, 250, 250, 253,
 ];
 
-/// Those of minus the sine.
+/// Products of minus the sine with the sizes of samples, as those of the cosine stand.
 const MINUS_SINES: [u8; WORD_PLACES] = [
     255, 254, 254, 255, 1, 2, 2, 1, 253, 250, 250, 253, 3, 6, 6, 3, 255, 254, 254, 255, 1, 2, 2, 1,
     253, 250, 250, 253, 3, 6, 6, 3, 255, 254, 254, 255, 1, 2, 2, 1, 253, 250, 250, 253, 3, 6, 6, 3,
@@ -91,7 +87,7 @@ impl Wiped {
         }
     }
 
-    /// Those at places `first` to `end` - 1, and 0 at the others.
+    /// The products at places `first` to `end` - 1, and 0 at the others.
     #[inline(always)]
     pub(crate) fn within(self, first: usize, end: usize) -> Wiped
         requires long { HasLanes self }

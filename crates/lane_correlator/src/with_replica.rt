@@ -5,7 +5,7 @@ ghost use Rattle.definitions.specs.Samples.{sample_at};
 ghost use Rattle.definitions.specs.Correlation.{six_sums, replica_of};
 ghost use Rattle.lane_correlator.specs.Counting.{counts_in, AreWithin};
 ghost use Rattle.lane_correlator.specs.ReplicaWords.{phases_of, HaveRoom};
-ghost use Rattle.lane_correlator.specs.declared.wiped.TheConstants.{MOST_PRODUCT};
+ghost use Rattle.oscillators.specs.declared.carrier.TheConstants.{MOST_PRODUCT};
 ghost use Rattle.sample_planes.specs.declared.planes.TheConstants.{MAX_SAMPLES};
 
 use crate::counts::Counts;

@@ -24,7 +24,8 @@ pub enum MessageNews {
 impl MessageNews {
     ghost use Rattle.nav_message.specs.declared.news.MessageNews.TheVariants as messages;
 
-    /// Makes it report nothing. It is large, so it's written only where it reports something.
+    /// Makes the news report nothing. They are large, so they're written only where they report
+    /// something.
     pub fn clear(&mut self)
         ensures { self.new ≡ messages.Nothing }
     {

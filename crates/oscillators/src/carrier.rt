@@ -12,7 +12,13 @@ ghost use Rattle.bit_planes.specs.declared.plane.TheConstants.{PLACES};
 use crate::carrier_strides::CarrierStrides;
 use crate::carrier_words::CarrierWords;
 use bit_planes::Plane;
+use sample_planes::MOST_SIZE;
 use std::marker::Model;
+
+/// The greatest size of the product of a sample and a carrier, in phase or in quadrature: each part
+/// of a sample is at most `MOST_SIZE` in size, and of the two carriers one is 1 in size and the
+/// other 2.
+pub const MOST_PRODUCT: u32 = 3 * MOST_SIZE as u32;
 
 /// An oscillator at the carrier's frequency. Its phase is in 2^-32 cycle, from 0 to below 2^32, and
 /// its step is what a sample adds to it. The fixed-point form and the values of `planes` are this

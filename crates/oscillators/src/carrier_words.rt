@@ -33,7 +33,7 @@ impl<'a> Model for CarrierWords<'a> {
 }
 
 impl<'a> CarrierWords<'a> {
-    /// Those of a carrier from a phase on, with the strides of its step.
+    /// The words of a carrier from a phase on, with the strides of its step.
     #[inline(always)]
     pub(crate) fn new(phase: u32, step: u32, strides: &'a CarrierStrides) -> CarrierWords<'a>
         requires { IsCarrierStrides step strides.now }

@@ -17,7 +17,7 @@ pub(crate) struct ChipSet {
 }
 
 impl ChipSet {
-    /// Those of samples that lay `more` half chips after others.
+    /// The chips of samples that lay `more` half chips after others.
     pub(crate) fn new(half: u8x64, more: u8) -> ChipSet
         requires half { length half ≡ WORD_PLACES }
         requires few { more < CHIP_SETS }

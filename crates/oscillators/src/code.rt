@@ -1,8 +1,8 @@
 //! The oscillator at the rate of the code.
 
-ghost use Rattle.std.specs.Prelude.{◌≡◌, ◌+◌, ◌-◌, ◌*◌, ◌/◌, ◌%◌, ◌<◌, ◌≤◌, ◌^◌, ℕ};
+ghost use Rattle.std.specs.Prelude.{◌≡◌, ◌+◌, ◌-◌, ◌*◌, ◌/◌, ◌%◌, ◌<◌, ◌≤◌, ℕ};
 ghost use Rattle.std.specs.Prelude.{pos};
-ghost use Rattle.std.specs.Prelude.{map, take, length, get_or, unsigned_abs};
+ghost use Rattle.std.specs.Prelude.{map, length, get_or, unsigned_abs};
 ghost use Rattle.std.specs.List.{range_with_len};
 ghost use Rattle.definitions.specs.Oscillators.{code_cycle, code_phase_after, early_sign};
 ghost use Rattle.definitions.specs.Oscillators.{prompt_sign, late_sign};
@@ -21,8 +21,8 @@ use bit_planes::Plane;
 use ca_codes::{CODE_CHIPS, CodeBook, Prn};
 use std::marker::Model;
 
-/// The code's cycle of 1,023 chips, in 2^-32 chip.
-const CODE_CYCLE: u64 = (CODE_CHIPS as u64) << 32;
+/// The code's cycle of 1,023 chips (IS-GPS-200, section 3.3.2.3), in 2^-32 chip.
+pub const CODE_CYCLE: u64 = (CODE_CHIPS as u64) << 32;
 
 /// An oscillator at the code's rate. Its phase is in 2^-32 chip, from 0 to below the cycle of
 /// 1,023 * 2^32 (IS-GPS-200, section 3.3.2.3: the code has 1,023 chips); its step is what a sample

@@ -136,9 +136,9 @@ impl CodeStrides {
 /// The chips in which 64 samples lie, by their numbers in windows.
 #[derive(Clone, Copy, Debug)]
 pub(crate) struct WindowChips {
-    /// Those at the early phase, from the chip on at which a window begins.
+    /// The chips at the early phase, from the chip on at which a window begins.
     pub(crate) early: u8x64,
-    /// Those at the prompt phase, half a chip less, from the chip before it on.
+    /// The chips at the prompt phase, half a chip less, from the chip before that one on.
     pub(crate) prompt: u8x64,
 }
 

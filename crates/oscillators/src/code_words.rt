@@ -46,7 +46,7 @@ impl<'a> Model for CodeWords<'a> {
 }
 
 impl<'a> CodeWords<'a> {
-    /// Those of a code from a phase on, with the strides of its step.
+    /// The words of a code from a phase on, with the strides of its step.
     #[inline(always)]
     pub(crate) fn new(phase: u64, step: u32, strides: &'a CodeStrides) -> CodeWords<'a>
         requires phase { phase < code_cycle }

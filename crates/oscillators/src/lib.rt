@@ -28,13 +28,13 @@ mod doppler;
 mod half_chip;
 mod settings;
 
-pub use carrier::{CarrierOsc, CarrierPlanes};
+pub use carrier::{CarrierOsc, CarrierPlanes, MOST_PRODUCT};
 pub use carrier_words::CarrierWords;
-pub use code::{CodeOsc, CodePlanes};
+pub use code::{CODE_CYCLE, CodeOsc, CodePlanes};
 pub use code_strides::HALF_CHIP;
 pub use code_words::{ChipLanes, CodeWords, MOST_WINDOW_STEP};
-pub use doppler::{Doppler, DopplerFault, MOST_DOPPLER};
-pub use half_chip::{HalfChip, HalfChipFault, LAST_HALF_CHIP};
+pub use doppler::{Doppler, MOST_DOPPLER};
+pub use half_chip::{HalfChip, LAST_HALF_CHIP};
 pub use settings::{
     LEAST_CODE_STEP, LEAST_PER_MS, LEAST_RATE, MOST_CODE_STEP, MOST_CORRECTION, MOST_PER_MS,
     MOST_RATE, MOST_SHIFT, Settings, SettingsFault,

@@ -8,7 +8,8 @@ use Rattle.sample_planes.specs.declared.format.Format.{Format}
 use Rattle.recordings.specs.declared.choice.Choice.{Choice}
 use Rattle.recordings.specs.declared.kind.Kind.{Kind}
 use Rattle.recordings.specs.declared.recipe.Recipe.{Recipe}
-use Rattle.packer.specs.Devices.{Devices, SaysWhich}
+use Rattle.devices.specs.Moments.{Devices}
+use Rattle.packer.specs.Devices.{SaysWhich}
 use Rattle.packer.specs.Options.{Asks, IsAsked, IsStretch, HasNoStretch, is_measured_in}
 use Rattle.packer.specs.Options.{kind_in, from_in, is_pairs_name, format_in, threshold_in}
 use Rattle.packer.specs.Runs.{Packs}
@@ -54,8 +55,8 @@ refused found devices recipe r failure is status asked none = inl (record {
 pub packed : (found : Found) (recipe made : Recipe) (skip most : ℕ) (old new : Devices)
     (r answer : Result (Unit {0}) Failure) → answer ≡ r → is_measured_in found ≡ false
     → IsAsked found recipe → IsStretch found recipe skip most → made ≡ recipe → SaysWhich old new r
-    → ((all : List ℕ) → old.input ≡ Some all
-    → Packs made (take most (drop skip all)) old.output new.output r)
+    → ((all : List ℕ) → old.remaining ≡ Some all
+    → Packs made (take most (drop skip all)) old.contents new.contents r)
     → CarriesOut found old new answer
 packed found recipe made skip most old new r answer is plain asked stretch same which packs =
     subst (CarriesOut found old new) (sym is) (inr (inr (inr (record {
@@ -67,6 +68,7 @@ packed found recipe made skip most old new r answer is plain asked stretch same 
       stretch = stretch;
       which = which;
       packs = λ all known.
-          subst (λ (m : Recipe). Packs m (take most (drop skip all)) old.output new.output r) same
+          subst (λ (m : Recipe). Packs m (take most (drop skip all)) old.contents
+          new.contents r) same
           (packs all known);
     }))))

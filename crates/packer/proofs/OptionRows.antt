@@ -5,7 +5,8 @@ use Rattle.sample_planes.specs.declared.format.Format.TheVariants.{Real1, Real2,
 use Rattle.recordings.specs.declared.kind.Kind.TheVariants.{U8, I8, I16, I16Be, F32}
 use Rattle.recordings.specs.declared.kind.Kind.TheVariants.{Bits2Low, SignSizeLow}
 use Rattle.recordings.specs.declared.kind.Kind.TheVariants.{Bits1Low, Bits1High}
-use Rattle.packer.specs.Options.{kind_in, is_pairs_name, named_format, halves_in, halves_or}
+use Rattle.sample_planes.specs.Names.{named_format}
+use Rattle.packer.specs.Options.{kind_in, is_pairs_name, halves_in, halves_or}
 use Rattle.packer.specs.Options.{usual_centre, threshold_in, is_second, twice_in, is_below_zero}
 
 kinds : map kind_in (codes "u8" ∷ codes "i8" ∷ codes "i16" ∷ codes "i16be" ∷ codes "f32"

@@ -6,7 +6,8 @@ use Rattle.clap.specs.declared.error.kind.ErrorKind.{ErrorKind}
 use Rattle.clap.specs.declared.error.kind.ErrorKind.TheVariants.{OutOfMemory, DisplayHelp}
 use Rattle.clap.specs.declared.error.kind.ErrorKind.TheVariants.{DisplayVersion}
 use Rattle.recordings.specs.declared.recipe.Recipe.{Recipe}
-use Rattle.packer.specs.Devices.{Devices, SaysWhich}
+use Rattle.devices.specs.Moments.{Devices}
+use Rattle.packer.specs.Devices.{SaysWhich}
 use Rattle.packer.specs.Options.{IsAsked, IsStretch, CannotBeHad, HasNoStretch, is_measured_in}
 use Rattle.packer.specs.Runs.{Packs}
 use Rattle.packer.specs.Statuses.{status_of}
@@ -50,7 +51,7 @@ pub record IsMeasured (found : Found) (old new : Devices) (answer : Result (Unit
     : Type 0 where
   pub asks : is_measured_in found ≡ true
   pub fault : IfErr answer EndsMeasuring
-  pub untouched : new.output ≡ old.output
+  pub untouched : new.contents ≡ old.contents
   pub none_failed : new.write_failed ≡ old.write_failed
 
 -- there was no memory for the packer
@@ -68,8 +69,8 @@ pub record IsPackedAsAsked (found : Found) (old new : Devices)
   pub most : ℕ
   pub stretch : IsStretch found recipe skip most
   pub which : SaysWhich old new answer
-  pub packs : (all : List ℕ) → old.input ≡ Some all
-      → Packs recipe (take most (drop skip all)) old.output new.output answer
+  pub packs : (all : List ℕ) → old.remaining ≡ Some all
+      → Packs recipe (take most (drop skip all)) old.contents new.contents answer
 
 abbrev pub CarriesOut : Found → Devices → Devices → Result (Unit {0}) Failure → Type 0
 CarriesOut found old new answer =

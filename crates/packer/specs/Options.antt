@@ -11,9 +11,10 @@ use Rattle.std.specs.Float.Parse.{parse_float}
 use Rattle.std.specs.Float.{Float, binary32}
 use Rattle.clap.specs.declared.parser.matches.Found.{Found}
 use Rattle.clap.specs.Matches.{first_value, one_text}
+use Rattle.sample_planes.specs.Names.{named_format}
 use Rattle.sample_planes.specs.Packings.{packing_of, has_sizes}
 use Rattle.sample_planes.specs.declared.format.Format.{Format}
-use Rattle.sample_planes.specs.declared.format.Format.TheVariants.{Real1, Real2, Iq1, Iq2}
+use Rattle.sample_planes.specs.declared.format.Format.TheVariants.{Real1, Iq1}
 use Rattle.recordings.specs.Recordings.{sample_bits}
 use Rattle.recordings.specs.Choices.{Makes, LacksPairs, LacksSizes, AsksPart}
 use Rattle.recordings.specs.declared.choice.Choice.{Choice}
@@ -115,14 +116,6 @@ from_in found = unwrap_or (first_value found (codes "from")) (codes "u8")
 
 abbrev pub is_measured_in : Found → Bool
 is_measured_in found = flag_in (one_text found (codes "measure"))
-
--- a packing by its name
-abbrev pub named_format : List ℕ → Option Format
-named_format name =
-    if bytes_eq name (codes "real1") then Some Real1
-    else if bytes_eq name (codes "real2") then Some Real2
-    else if bytes_eq name (codes "iq1") then Some Iq1
-    else if bytes_eq name (codes "iq2") then Some Iq2 else None
 
 -- an option is there that says how to pack
 abbrev pub says_how_to_pack : Found → Bool

@@ -1,7 +1,8 @@
 //! The options that the program takes, and its help.
 
-use crate::formats::{FORMATS, KINDS};
+use crate::formats::KINDS;
 use clap::{Arg, ArgAction, ArgMatches, Command, Error, value_parser};
+use sample_planes::Format;
 use std::alloc::{AllocError, Global};
 use version::VERSION;
 
@@ -62,9 +63,7 @@ fn with_kinds<'a>(alloc: Global, command: Command<'a>) -> Result<Command<'a>, Al
     let kind = named(alloc, "from", "KIND", "The kind of the recording's values")
         .value_parser(KINDS.as_slice())
         .required(true);
-    let format = named(alloc, "to", "FORMAT", "The packing to write").value_parser(
-        FORMATS.as_slice(),
-    );
+    let format = named(alloc, "to", "FORMAT", "The packing to write").value_parser(Format::names());
     let threshold = "Size 3 begins farther than N from the centre";
     let centre = "The centre, 0 or N; 127.5 for unsigned bytes";
     let centre_q = "That of the part in quadrature, where it is another";

@@ -3,9 +3,10 @@
 ghost use Rattle.std.specs.Prelude.{◌≡◌, Err, IfErr, true, codes, option_and_then, is_some};
 ghost use Rattle.std.specs.Result.{result_ok};
 ghost use Rattle.clap.specs.Matches.{found_of, first_value};
+ghost use Rattle.sample_planes.specs.Names.{named_format};
 ghost use Rattle.packer.specs.Statuses.{status_of};
 ghost use Rattle.packer.specs.Options.{from_in, is_pairs_name, kind_in, named_kind, is_measured_in};
-ghost use Rattle.packer.specs.Options.{named_format, format_in, says_how_to_pack};
+ghost use Rattle.packer.specs.Options.{format_in, says_how_to_pack};
 
 use crate::failure::Failure;
 use crate::options::{is_measured, is_set};
@@ -34,9 +35,6 @@ pub static KINDS: [&str; 18] = [
     "iq-bits1-low",
     "iq-bits1-high",
 ];
-
-/// The formats that `--to` takes.
-pub static FORMATS: [&str; 4] = ["real1", "real2", "iq1", "iq2"];
 
 /// Whether the recording's values are pairs, and their kind.
 pub fn from(matches: &ArgMatches) -> (bool, Kind)
@@ -124,11 +122,11 @@ fn written_format(matches: &ArgMatches) -> Result<Format, Failure>
         ≡ option_and_then named_format (first_value (found_of matches.now) (codes "to")) }
     ensures status { IfErr result (λ failure. status_of (Err failure) ≡ 2) }
 {
-    match matches.get_str("to") {
-        Some("real1") => Ok(Format::Real1),
-        Some("real2") => Ok(Format::Real2),
-        Some("iq1") => Ok(Format::Iq1),
-        Some("iq2") => Ok(Format::Iq2),
-        _ => Err(Failure::NoFormat),
+    let Some(name) = matches.get_str("to") else {
+        return Err(Failure::NoFormat);
+    };
+    match Format::named(name) {
+        Some(format) => Ok(format),
+        None => Err(Failure::NoFormat),
     }
 }

@@ -2,24 +2,23 @@
 //! the receiver reads out. `carry_out` takes the words of the command line, has the option parser
 //! read them, and packs or measures a recording from a reader to a writer. It reports on standard
 //! error what went wrong, and gives the status. The crate `recordings` has what is written. This
-//! one has the options, the devices and the texts. The program is proved to end without words,
+//! one has the options and the texts. The program is proved to end without words,
 //! without options, or with what was done with the options that were found: they are refused, the
 //! recording is measured, there is no memory, or the stretch that is asked for is packed as asked.
 //! Which words give which options is only tested.
 //!
-//!     use packer::{Device, carry_out};
+//!     use packer::{Plain, carry_out};
 //!     use std::io;
 //!     use std::process::ExitCode;
 //!
 //!     fn program(rt: HostRuntime) -> ExitCode {
-//!         let (mut reader, mut writer) = (Device::new(rt.reader()), Device::new(io::writer(&rt)));
+//!         let (mut reader, mut writer) = (Plain::new(rt.reader()), Plain::new(io::writer(&rt)));
 //!         carry_out(&rt, &mut reader, &mut writer)
 //!     }
 #![tactic(auto)]
 
 mod command;
 mod decimals;
-mod devices;
 mod failure;
 mod floats;
 mod formats;
@@ -29,7 +28,7 @@ mod options;
 mod program;
 mod running;
 
-pub use devices::{Device, DeviceFault};
+pub use devices::{DeviceFault, Plain, Sink, Source};
 pub use failure::{Failure, status};
 pub use program::carry_out;
 pub use running::run;

@@ -6,22 +6,22 @@ ghost use Rattle.recordings.specs.declared.recipe.TheConstants.{MOST_BYTES};
 ghost use Rattle.packer.specs.Endings.{EndsMeasuring};
 
 use crate::decimals::{Halves, Hundredths};
-use crate::devices::Device;
 use crate::failure::Failure;
 use crate::floats::measure_floats;
 use crate::halves::MOST_HALVES;
 use crate::running::{read, zeros};
+use devices::Source;
 use recordings::{Kind, MOST_BYTES, MOST_PIECE, Measure, Part, Recipe, Window};
 use std::alloc::{AllocGlobal, Global};
-use std::io::{self, Print, Read};
+use std::io::{self, Print};
 
 /// Measures the stretch of a recording that is wanted, at most its first `MOST_BYTES`, and prints
 /// what was found and the options that it suggests.
-pub fn measure<T: AllocGlobal + Print, R: Read>(
+pub fn measure<T: AllocGlobal + Print, R: Source>(
     rt: &T,
     recipe: &Recipe,
     window: &mut Window,
-    reader: &mut Device<R>,
+    reader: &mut R,
 ) -> Result<(), Failure>
     ensures fault { IfErr result EndsMeasuring }
 {
@@ -145,11 +145,7 @@ fn share(part: u64, count: u64) -> Hundredths {
 }
 
 /// The bytes of the stretch that is wanted, at most `MOST_BYTES`.
-fn gather<R: Read>(
-    alloc: Global,
-    window: &mut Window,
-    reader: &mut Device<R>,
-) -> Result<Vec<u8>, Failure>
+fn gather<R: Source>(alloc: Global, window: &mut Window, reader: &mut R) -> Result<Vec<u8>, Failure>
     ensures few { IfOk result (λ bytes. length bytes.items ≤ MOST_BYTES) }
     ensures fault { IfErr result EndsMeasuring }
 {

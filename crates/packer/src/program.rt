@@ -4,32 +4,32 @@ ghost use Rattle.std.specs.Prelude.{◌≡◌, ◌⊎◌, Bool, IfErr};
 ghost use Rattle.std.specs.Process.{exit_status};
 ghost use Rattle.clap.specs.Matches.{found_of};
 ghost use Rattle.clap.specs.Values.{kind_of};
-ghost use Rattle.packer.specs.Devices.{devices_at};
+ghost use Rattle.devices.specs.Moments.{devices_at};
 ghost use Rattle.packer.specs.Statuses.{status_of};
 ghost use Rattle.packer.specs.Endings.{HasEnded, CarriesOut, parser_status};
 
-use crate::devices::Device;
 use crate::failure::{Failure, status};
 use crate::measuring::measure;
 use crate::options;
 use crate::running::run;
 use clap::error::ErrorKind;
 use clap::{ArgMatches, Error};
+use devices::{Sink, Source};
 use recordings::Packer;
 use std::alloc::AllocGlobal;
 use std::env::{self, Env};
-use std::io::{self, Eprint, Print, Read, Write};
+use std::io::{self, Eprint, Print};
 use std::process::ExitCode;
 
 /// Does what the words of the command line ask for, with this reader and writer, and gives the
 /// status. It reports on standard error what went wrong, and which bytes at the end are left out.
-pub fn carry_out<T, R, W>(rt: &T, reader: &mut Device<R>, writer: &mut Device<W>) -> ExitCode
+pub fn carry_out<T, R, W>(rt: &T, reader: &mut R, writer: &mut W) -> ExitCode
 where
     T: AllocGlobal + Env + Print + Eprint,
-    R: Read,
-    W: Write,
-    ensures status { HasEnded (devices_at R.remaining W.contents reader.old writer.old)
-        (devices_at R.remaining W.contents reader.new writer.new) (exit_status result) }
+    R: Source,
+    W: Sink,
+    ensures status { HasEnded (devices_at R.Source W.Sink reader.old writer.old)
+        (devices_at R.Source W.Sink reader.new writer.new) (exit_status result) }
 {
     let words = match words(rt) {
         Ok(words) => words,
@@ -62,16 +62,16 @@ fn words<T: AllocGlobal + Env>(rt: &T) -> Result<Vec<String>, Failure>
 fn pack<T, R, W>(
     rt: &T,
     matches: &ArgMatches,
-    reader: &mut Device<R>,
-    writer: &mut Device<W>,
+    reader: &mut R,
+    writer: &mut W,
 ) -> Result<(), Failure>
 where
     T: AllocGlobal + Print + Eprint,
-    R: Read,
-    W: Write,
+    R: Source,
+    W: Sink,
     ensures carries_out { CarriesOut (found_of matches.now)
-        (devices_at R.remaining W.contents reader.old writer.old)
-        (devices_at R.remaining W.contents reader.new writer.new) result }
+        (devices_at R.Source W.Sink reader.old writer.old)
+        (devices_at R.Source W.Sink reader.new writer.new) result }
 {
     let recipe = options::recipe(matches)?;
     let mut window = options::window(matches, &recipe)?;

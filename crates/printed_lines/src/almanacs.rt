@@ -1,13 +1,13 @@
 //! The words of the almanacs of all satellites.
 
-ghost use Rattle.std.specs.Prelude.{◌≡◌, ◌++◌, ◌∷◌, ◌+◌, ◌*◌};
+ghost use Rattle.std.specs.Prelude.{◌≡◌, ◌++◌, ◌+◌, ◌*◌};
 ghost use Rattle.std.specs.Fmt.{signed_decimal};
 ghost use Rattle.definitions.specs.Events.{almanacs};
 ghost use Rattle.definitions.specs.Texts.{event_text};
 ghost use Rattle.data_sets.specs.Reports.{almanacs_in};
 ghost use Rattle.data_sets.specs.declared.almanac_set.TheConstants.{SATELLITES};
 ghost use Rattle.printed_lines.specs.Room.{HasRoom, TakesUp};
-ghost use Rattle.printed_lines.specs.SpacedWords.{with_spaces};
+ghost use Rattle.printed_lines.specs.SpacedWords.{with_spaces, with_word};
 ghost use Rattle.printed_lines.specs.declared.almanacs.TheConstants.{ALMANACS_BYTES};
 ghost use Rattle.printed_lines.specs.declared.words.TheConstants.{WORD_BYTES};
 
@@ -21,7 +21,8 @@ pub const ALMANACS_BYTES: usize = KIND_BYTES + NUMBER_BYTES + 8 + SATELLITES * W
 /// (IS-GPS-200, section 20.3.3.5.1.2).
 pub(crate) fn put_almanacs(line: &mut Line, slot: u8, set: &AlmanacSet)
     requires room { HasRoom ALMANACS_BYTES line.old }
-    ensures text { line.new ≡ line.old ++ 32 ∷ event_text slot (almanacs (almanacs_in set.now)) }
+    ensures text { line.new
+        ≡ with_word line.old (event_text slot (almanacs (almanacs_in set.now))) }
     ensures longer { TakesUp ALMANACS_BYTES line.old line.new }
 {
     line.kind(b"als", slot);

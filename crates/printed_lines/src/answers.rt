@@ -1,6 +1,6 @@
 //! The words of what slots answer, and of refusals.
 
-ghost use Rattle.std.specs.Prelude.{◌≡◌, ◌≤◌, ◌++◌, ◌∷◌, ◌+◌, ◌*◌, length, codes};
+ghost use Rattle.std.specs.Prelude.{◌≡◌, ◌≤◌, ◌+◌, ◌*◌, length, codes};
 ghost use Rattle.std.specs.Prelude.{if◌then◌else◌};
 ghost use Rattle.std.specs.Fmt.{decimal};
 ghost use Rattle.definitions.specs.Texts.{answer_text, refusal_text};
@@ -8,6 +8,7 @@ ghost use Rattle.definitions.specs.Answers.{shown};
 ghost use Rattle.slot_protocol.specs.Answers.{answer_in, view_in};
 ghost use Rattle.slot_protocol.specs.Answers.{is_locked_in, has_edge_in};
 ghost use Rattle.printed_lines.specs.Room.{HasRoom, TakesUp};
+ghost use Rattle.printed_lines.specs.SpacedWords.{with_word};
 ghost use Rattle.printed_lines.specs.declared.answers.TheConstants.{STATE_BYTES};
 ghost use Rattle.printed_lines.specs.declared.words.TheConstants.{NUMBER_BYTES, WORD_BYTES};
 
@@ -20,7 +21,7 @@ pub const STATE_BYTES: usize = KIND_BYTES + 6 * WORD_BYTES;
 /// Adds the words of an answer.
 pub(crate) fn put_answer(line: &mut Line, slot: u8, answer: &Answer)
     requires room { HasRoom STATE_BYTES line.old }
-    ensures text { line.new ≡ line.old ++ 32 ∷ answer_text slot (answer_in answer.now) }
+    ensures text { line.new ≡ with_word line.old (answer_text slot (answer_in answer.now)) }
     ensures longer { TakesUp STATE_BYTES line.old line.new }
 {
     match answer {
@@ -33,7 +34,7 @@ pub(crate) fn put_answer(line: &mut Line, slot: u8, answer: &Answer)
 /// Adds the words of a refusal.
 pub(crate) fn put_refusal(line: &mut Line, number: u8)
     requires room { HasRoom (2 * WORD_BYTES) line.old }
-    ensures text { line.new ≡ line.old ++ 32 ∷ refusal_text number }
+    ensures text { line.new ≡ with_word line.old (refusal_text number) }
     ensures longer { TakesUp (2 * WORD_BYTES) line.old line.new }
 {
     line.word(b"err");
@@ -43,7 +44,7 @@ pub(crate) fn put_refusal(line: &mut Line, number: u8)
 /// Adds the words of what a slot shows.
 fn put_state(line: &mut Line, slot: u8, state: SlotState)
     requires room { HasRoom STATE_BYTES line.old }
-    ensures text { line.new ≡ line.old ++ 32 ∷ answer_text slot (shown (view_in state)) }
+    ensures text { line.new ≡ with_word line.old (answer_text slot (shown (view_in state))) }
     ensures longer { TakesUp STATE_BYTES line.old line.new }
 {
     line.kind(b"state", slot);
@@ -73,8 +74,8 @@ fn put_state(line: &mut Line, slot: u8, state: SlotState)
 fn put_followed(line: &mut Line, how: &[u8], prn: u8, dumps: u64)
     requires short { length how.now ≤ NUMBER_BYTES }
     requires room { HasRoom (3 * WORD_BYTES) line.old }
-    ensures text { line.new ≡ ((line.old ++ 32 ∷ how.now) ++ 32 ∷ decimal prn)
-        ++ 32 ∷ decimal dumps }
+    ensures text { line.new
+        ≡ with_word (with_word (with_word line.old how.now) (decimal prn)) (decimal dumps) }
     ensures longer { TakesUp (3 * WORD_BYTES) line.old line.new }
 {
     line.word(how);

@@ -1,6 +1,6 @@
 //! The words of the events that slots emit.
 
-ghost use Rattle.std.specs.Prelude.{◌≡◌, ◌++◌, ◌∷◌, ◌+◌, ◌*◌};
+ghost use Rattle.std.specs.Prelude.{◌≡◌, ◌+◌, ◌*◌};
 ghost use Rattle.definitions.specs.Texts.{event_text};
 ghost use Rattle.definitions.specs.Events.{acquired, count, gap};
 ghost use Rattle.acquisition.specs.Cells.{cell_in};
@@ -10,6 +10,7 @@ ghost use Rattle.printed_lines.specs.declared.words.TheConstants.{NUMBER_BYTES};
 ghost use Rattle.lane_correlator.specs.Counting.{counts_in};
 ghost use Rattle.slot_protocol.specs.Events.{event_in};
 ghost use Rattle.printed_lines.specs.Room.{HasRoom, TakesUp};
+ghost use Rattle.printed_lines.specs.SpacedWords.{with_word};
 ghost use Rattle.printed_lines.specs.declared.events.TheConstants.{COUNTS_BYTES, EVENT_BYTES};
 ghost use Rattle.printed_lines.specs.declared.words.TheConstants.{WORD_BYTES, KIND_BYTES};
 
@@ -33,7 +34,7 @@ pub const COUNTS_BYTES: usize = KIND_BYTES + 6 * WORD_BYTES;
 /// Adds the words of an event.
 pub(crate) fn put_event(line: &mut Line, slot: u8, event: &Event)
     requires room { HasRoom EVENT_BYTES line.old }
-    ensures text { line.new ≡ line.old ++ 32 ∷ event_text slot (event_in event.now) }
+    ensures text { line.new ≡ with_word line.old (event_text slot (event_in event.now)) }
     ensures longer { TakesUp EVENT_BYTES line.old line.new }
 {
     match event {
@@ -54,7 +55,7 @@ pub(crate) fn put_event(line: &mut Line, slot: u8, event: &Event)
 fn put_acquired(line: &mut Line, slot: u8, prn: u8, cell: &Cell)
     requires room { HasRoom ACQUIRED_BYTES line.old }
     ensures text { line.new
-        ≡ line.old ++ 32 ∷ event_text slot (acquired prn (cell_in cell.now)) }
+        ≡ with_word line.old (event_text slot (acquired prn (cell_in cell.now))) }
     ensures longer { TakesUp ACQUIRED_BYTES line.old line.new }
 {
     line.kind(b"acq", slot);
@@ -76,7 +77,7 @@ fn word_of(found: bool) -> &'static [u8]
 /// Adds the words of a dump.
 fn put_counts(line: &mut Line, slot: u8, counts: Counts)
     requires room { HasRoom COUNTS_BYTES line.old }
-    ensures text { line.new ≡ line.old ++ 32 ∷ event_text slot (count (counts_in counts)) }
+    ensures text { line.new ≡ with_word line.old (event_text slot (count (counts_in counts))) }
     ensures longer { TakesUp COUNTS_BYTES line.old line.new }
 {
     line.kind(b"count", slot);
@@ -91,7 +92,7 @@ fn put_counts(line: &mut Line, slot: u8, counts: Counts)
 /// Adds the words of a gap of so many bits.
 fn put_gap(line: &mut Line, slot: u8, bits: u64)
     requires room { HasRoom (KIND_BYTES + WORD_BYTES) line.old }
-    ensures text { line.new ≡ line.old ++ 32 ∷ event_text slot (gap bits) }
+    ensures text { line.new ≡ with_word line.old (event_text slot (gap bits)) }
     ensures longer { TakesUp (KIND_BYTES + WORD_BYTES) line.old line.new }
 {
     line.kind(b"gap", slot);

@@ -52,7 +52,7 @@ pub fn end_line(client: u8, time: u64) -> Line
 }
 
 impl Line {
-    /// Makes it the line of what a client's slot answers at a time, with its end.
+    /// Makes the line that of what a client's slot answers at a time, with its end.
     pub fn make_answer(&mut self, client: u8, time: u64, slot: u8, answer: &Answer)
         ensures { self.new ≡ ended_line
             (for_client client (at_time time (answer_text slot (answer_in answer.now)))) }
@@ -62,7 +62,7 @@ impl Line {
         self.end();
     }
 
-    /// Makes it the line that refuses a line of a client's script at a time, with its end. The
+    /// Makes the line one that refuses a line of a client's script at a time, with its end. The
     /// number is that of the refusal.
     pub fn make_refusal(&mut self, client: u8, time: u64, number: u8)
         ensures { self.new ≡ ended_line (for_client client (at_time time (refusal_text number))) }

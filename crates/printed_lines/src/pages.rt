@@ -1,6 +1,6 @@
 //! The words of pages, and of a clock and ephemeris.
 
-ghost use Rattle.std.specs.Prelude.{◌≡◌, ◌≤◌, ◌++◌, ◌∷◌, ◌+◌, ◌*◌, length, map, zip};
+ghost use Rattle.std.specs.Prelude.{◌≡◌, ◌≤◌, ◌++◌, ◌∷◌, ◌+◌, ◌*◌, length, zip};
 ghost use Rattle.std.specs.Fmt.{decimal};
 ghost use Rattle.definitions.specs.Events.{reported};
 ghost use Rattle.definitions.specs.Texts.{event_text, field_text, field_texts, hex_of_bytes};
@@ -8,14 +8,14 @@ ghost use Rattle.definitions.specs.Texts.{words_text};
 ghost use Rattle.subframes.specs.Entries.{entry_of};
 ghost use Rattle.data_sets.specs.Reports.{fields_in, numbers_in, report_in};
 ghost use Rattle.printed_lines.specs.Room.{HasRoom, TakesUp};
-ghost use Rattle.printed_lines.specs.SpacedWords.{with_spaces};
+ghost use Rattle.printed_lines.specs.SpacedWords.{with_spaces, with_word};
 ghost use Rattle.printed_lines.specs.declared.pages.TheConstants.{FIELD_BYTES, PAGE_BYTES};
 ghost use Rattle.printed_lines.specs.declared.pages.TheConstants.{MESSAGE_BYTES, MESSAGE_DIGITS};
 ghost use Rattle.printed_lines.specs.declared.words.TheConstants.{NUMBER_BYTES, KIND_LETTERS};
 
 use crate::words::{KIND_BYTES, Line, NUMBER_BYTES};
-use data_sets::{FIELDS_OF_EPHEMERIS, Report};
-use subframes::Field;
+use data_sets::Report;
+use subframes::{CHARACTERS_OF_MESSAGE, FIELDS_OF_EPHEMERIS, Field};
 
 /// The most bytes that a field takes up: a space, a name, `=`, a number of 64 bits, `:` and an
 /// exponent. A name and its exponent have at most 8 bytes.
@@ -25,9 +25,8 @@ pub const FIELD_BYTES: usize = NUMBER_BYTES + 11;
 /// exponent a line wants room for a number of any length.
 pub const PAGE_BYTES: usize = KIND_BYTES + FIELDS_OF_EPHEMERIS * FIELD_BYTES + NUMBER_BYTES;
 
-/// The digits of a message: two for each of its 22 characters (IS-GPS-200, section
-/// 20.3.3.5.1.8).
-pub const MESSAGE_DIGITS: usize = 44;
+/// The digits of a message: two for each of its characters (IS-GPS-200, section 20.3.3.5.1.8).
+pub const MESSAGE_DIGITS: usize = 2 * CHARACTERS_OF_MESSAGE;
 
 /// The bytes that the characters of a message take up: a space and their digits.
 pub const MESSAGE_BYTES: usize = MESSAGE_DIGITS + 1;
@@ -36,7 +35,8 @@ pub const MESSAGE_BYTES: usize = MESSAGE_DIGITS + 1;
 /// 20.3.3.5).
 pub(crate) fn put_report(line: &mut Line, slot: u8, report: &Report)
     requires room { HasRoom PAGE_BYTES line.old }
-    ensures text { line.new ≡ line.old ++ 32 ∷ event_text slot (reported (report_in report.now)) }
+    ensures text { line.new
+        ≡ with_word line.old (event_text slot (reported (report_in report.now))) }
     ensures longer { TakesUp PAGE_BYTES line.old line.new }
 {
     match report {
@@ -52,8 +52,8 @@ pub(crate) fn put_report(line: &mut Line, slot: u8, report: &Report)
 fn put_page(line: &mut Line, kind: &[u8], slot: u8, report: &Report)
     requires short { length kind.now ≤ KIND_LETTERS }
     requires room { HasRoom PAGE_BYTES line.old }
-    ensures text { line.new ≡ line.old ++ 32 ∷ words_text (kind.now ∷ decimal slot
-        ∷ field_texts (fields_in (report_in report.now)) (numbers_in (report_in report.now))) }
+    ensures text { line.new ≡ with_word line.old (words_text (kind.now ∷ decimal slot
+        ∷ field_texts (fields_in (report_in report.now)) (numbers_in (report_in report.now)))) }
     ensures longer { TakesUp PAGE_BYTES line.old line.new }
 {
     line.kind(kind, slot);
@@ -77,7 +77,7 @@ fn put_fields(line: &mut Line, fields: &[Field], values: &[i64])
 /// Adds a field: its name, its number and the power of two of its unit.
 fn put_field(line: &mut Line, field: Field, value: i64)
     requires room { HasRoom (FIELD_BYTES + NUMBER_BYTES) line.old }
-    ensures text { line.new ≡ line.old ++ 32 ∷ field_text (entry_of field) value }
+    ensures text { line.new ≡ with_word line.old (field_text (entry_of field) value) }
     ensures longer { TakesUp FIELD_BYTES line.old line.new }
 {
     line.text(b" ");
@@ -89,10 +89,10 @@ fn put_field(line: &mut Line, field: Field, value: i64)
 }
 
 /// Adds the words of a message (IS-GPS-200, section 20.3.3.5.1.8).
-fn put_message(line: &mut Line, slot: u8, characters: &[u8; 22])
+fn put_message(line: &mut Line, slot: u8, characters: &[u8; CHARACTERS_OF_MESSAGE])
     requires room { HasRoom (KIND_BYTES + MESSAGE_BYTES) line.old }
-    ensures text { line.new ≡ line.old ++ 32 ∷ event_text slot
-        (reported (report_in (Report.Msg characters.now))) }
+    ensures text { line.new ≡ with_word line.old
+        (event_text slot (reported (report_in (Report.Msg characters.now)))) }
     ensures longer { TakesUp (KIND_BYTES + MESSAGE_BYTES) line.old line.new }
 {
     line.kind(b"msg", slot);
@@ -101,7 +101,7 @@ fn put_message(line: &mut Line, slot: u8, characters: &[u8; 22])
 }
 
 /// Adds two digits for each character to the last word.
-fn put_characters(line: &mut Line, characters: &[u8; 22])
+fn put_characters(line: &mut Line, characters: &[u8; CHARACTERS_OF_MESSAGE])
     requires room { HasRoom MESSAGE_DIGITS line.old }
     ensures text { line.new ≡ line.old ++ hex_of_bytes characters.now }
     ensures longer { TakesUp MESSAGE_DIGITS line.old line.new }

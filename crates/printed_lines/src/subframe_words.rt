@@ -1,11 +1,11 @@
 //! The words of a subframe, each as hexadecimal digits.
 
-ghost use Rattle.std.specs.Prelude.{◌≡◌, ◌++◌, ◌∷◌, ◌+◌, ◌*◌};
+ghost use Rattle.std.specs.Prelude.{◌≡◌, ◌++◌, ◌+◌, ◌*◌};
 ghost use Rattle.definitions.specs.Texts.{event_text, word_text};
 ghost use Rattle.definitions.specs.Events as events;
 ghost use Rattle.frame_sync.specs.declared.subframe.TheConstants.{SUBFRAME_WORDS};
 ghost use Rattle.printed_lines.specs.Room.{HasRoom, TakesUp};
-ghost use Rattle.printed_lines.specs.SpacedWords.{with_spaces};
+ghost use Rattle.printed_lines.specs.SpacedWords.{with_spaces, with_word};
 ghost use Rattle.printed_lines.specs.declared.subframe_words.TheConstants.{DATA_BYTES};
 ghost use Rattle.printed_lines.specs.declared.subframe_words.TheConstants.{SUBFRAME_BYTES};
 
@@ -21,7 +21,8 @@ pub const SUBFRAME_BYTES: usize = KIND_BYTES + 2 * WORD_BYTES + SUBFRAME_WORDS *
 /// Adds the ID, the time of week and the ten words of a subframe (IS-GPS-200, section 20.3.3).
 pub(crate) fn put_subframe(line: &mut Line, slot: u8, subframe: &Subframe)
     requires room { HasRoom SUBFRAME_BYTES line.old }
-    ensures text { line.new ≡ line.old ++ 32 ∷ event_text slot (events.subframe subframe.now) }
+    ensures text { line.new
+        ≡ with_word line.old (event_text slot (events.subframe subframe.now)) }
     ensures longer { TakesUp SUBFRAME_BYTES line.old line.new }
 {
     line.kind(b"sub", slot);
@@ -44,7 +45,7 @@ fn put_words(line: &mut Line, subframe: &Subframe)
 /// Adds the six digits of a data word, or six dashes where it is missing.
 fn put_word(line: &mut Line, word: Option<u32>)
     requires room { HasRoom DATA_BYTES line.old }
-    ensures text { line.new ≡ line.old ++ 32 ∷ word_text word }
+    ensures text { line.new ≡ with_word line.old (word_text word) }
     ensures longer { TakesUp DATA_BYTES line.old line.new }
 {
     line.text(b" ");

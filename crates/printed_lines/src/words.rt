@@ -60,6 +60,7 @@ impl Line {
     ghost use Rattle.printed_lines.specs.declared.words.TheConstants.{WORD_BYTES, HEAD_BYTES};
     ghost use Rattle.printed_lines.specs.declared.words.TheConstants.{KIND_LETTERS, KIND_BYTES};
     ghost use Rattle.printed_lines.specs.Room.{HasRoom, TakesUp};
+    ghost use Rattle.printed_lines.specs.SpacedWords.{with_word};
 
     /// A line with no word, in whose room others can be made.
     pub fn blank() -> Self
@@ -72,7 +73,7 @@ impl Line {
 
     /// A line of a client at a time.
     pub(crate) fn new(client: u8, time: u64) -> Self
-        ensures text { result ≡ decimal client ++ 32 ∷ decimal time }
+        ensures text { result ≡ with_word (decimal client) (decimal time) }
         ensures short { length result ≤ HEAD_BYTES }
     {
         let mut line = Line::blank();
@@ -82,7 +83,7 @@ impl Line {
 
     /// Begins a line of a client at a time, in the room of what was there.
     pub(crate) fn begin(&mut self, client: u8, time: u64)
-        ensures text { self.new ≡ decimal client ++ 32 ∷ decimal time }
+        ensures text { self.new ≡ with_word (decimal client) (decimal time) }
         ensures short { length self.new ≤ HEAD_BYTES }
     {
         self.bytes.clear();
@@ -94,7 +95,7 @@ impl Line {
     pub(crate) fn kind(&mut self, kind: &[u8], slot: u8)
         requires short { length kind.now ≤ KIND_LETTERS }
         requires room { HasRoom KIND_BYTES self.old }
-        ensures text { self.new ≡ (self.old ++ 32 ∷ kind.now) ++ 32 ∷ decimal slot }
+        ensures text { self.new ≡ with_word (with_word self.old kind.now) (decimal slot) }
         ensures longer { TakesUp KIND_BYTES self.old self.new }
     {
         self.text(b" ");
@@ -107,7 +108,7 @@ impl Line {
     pub(crate) fn word(&mut self, text: &[u8])
         requires short { length text.now ≤ NUMBER_BYTES }
         requires room { HasRoom WORD_BYTES self.old }
-        ensures text { self.new ≡ self.old ++ 32 ∷ text.now }
+        ensures text { self.new ≡ with_word self.old text.now }
         ensures longer { TakesUp WORD_BYTES self.old self.new }
     {
         self.text(b" ");
@@ -117,7 +118,7 @@ impl Line {
     /// Adds a number as a word.
     pub(crate) fn number(&mut self, n: u64)
         requires room { HasRoom WORD_BYTES self.old }
-        ensures text { self.new ≡ self.old ++ 32 ∷ decimal n }
+        ensures text { self.new ≡ with_word self.old (decimal n) }
         ensures longer { TakesUp WORD_BYTES self.old self.new }
     {
         self.text(b" ");
@@ -127,7 +128,7 @@ impl Line {
     /// Adds a number with its sign, where it is below zero, as a word.
     pub(crate) fn signed(&mut self, z: i64)
         requires room { HasRoom WORD_BYTES self.old }
-        ensures text { self.new ≡ self.old ++ 32 ∷ signed_decimal z }
+        ensures text { self.new ≡ with_word self.old (signed_decimal z) }
         ensures longer { TakesUp WORD_BYTES self.old self.new }
     {
         self.text(b" ");

@@ -1,7 +1,7 @@
 //! Runs over devices that fail.
 
 use crate::choices::{recipe_of, signs};
-use packer::{Device, Failure, run, status};
+use packer::{Failure, Plain, run, status};
 use recordings::{Kind, Packer, Window};
 use sample_planes::Format;
 use std::alloc::Global;
@@ -84,12 +84,12 @@ fn packer(alloc: Global) -> Result<Packer, Fail> {
 #[test]
 fn a_reader_that_fails(rt: HostRuntime) -> Result<(), Fail> {
     let (mut packer, mut window) = (packer(rt.alloc())?, Window::new(0, 100));
-    let mut writer = Device::new(Vec::new(rt.alloc()));
+    let mut writer = Plain::new(Vec::new(rt.alloc()));
     let ended = run(
         rt.alloc(),
         &mut packer,
         &mut window,
-        &mut Device::new(Breaking { is_broken: false }),
+        &mut Plain::new(Breaking { is_broken: false }),
         &mut writer,
     );
     assert_eq!(rt; ended, Err(Failure::Input));
@@ -100,19 +100,19 @@ fn a_reader_that_fails(rt: HostRuntime) -> Result<(), Fail> {
 /// How a run over 24 zeros ends.
 fn zeros_into<W: Write + Drop>(
     alloc: Global,
-    writer: &mut Device<W>,
+    writer: &mut Plain<W>,
 ) -> Result<Result<(), Failure>, Fail> {
     let (mut packer, mut window) = (packer(alloc)?, Window::new(0, 100));
-    let mut reader = Device::new(&[0; 24][..]);
+    let mut reader = Plain::new(&[0; 24][..]);
     Ok(run(alloc, &mut packer, &mut window, &mut reader, writer))
 }
 
 #[test]
 fn writers_that_fail(rt: HostRuntime) -> Result<(), Fail> {
     let output = Err(Failure::Output);
-    assert_eq!(rt; zeros_into(rt.alloc(), &mut Device::new(Full))?, output);
-    assert_eq!(rt; zeros_into(rt.alloc(), &mut Device::new(Clogged))?, output);
-    let mut narrow = Device::new(Narrow {
+    assert_eq!(rt; zeros_into(rt.alloc(), &mut Plain::new(Full))?, output);
+    assert_eq!(rt; zeros_into(rt.alloc(), &mut Plain::new(Clogged))?, output);
+    let mut narrow = Plain::new(Narrow {
         bytes: Vec::new(rt.alloc()),
         room: 2,
     });

@@ -3,8 +3,8 @@
 
 ghost use Rattle.std.specs.Prelude.{◌≡◌, ◌≤◌, ◌%◌, ◌^◌};
 
-mod devices;
 mod expected;
+mod failing;
 mod fakes;
 mod limits;
 mod runs;

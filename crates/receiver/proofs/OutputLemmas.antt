@@ -3,10 +3,10 @@ use Rattle.std.proofs.Common.{◌≡◌, ℕ, List, ◌++◌, refl, ◌∙◌, s
 use Rattle.std.specs.Borrow.{GName}
 use Rattle.std.specs.Prelude.{Bool, true, Option, Result, Ok, Err, IsErr}
 use Rattle.std.specs.Io.KnownBytes.{Appends, Keeps}
-use Rattle.receiver.specs.Devices.{ReportsFailure}
+use Rattle.devices.specs.Calls.{ReportsFailure}
 use Rattle.receiver.specs.Texts.{WroteUpTo, AppendsPart, Grows}
 use Rattle.receiver.specs.Outputs.{promised, Adds, Writes}
-use Rattle.receiver.specs.declared.devices.Sink.{Ghosts as Sink}
+use Rattle.devices.specs.declared.sink.Sink.{Ghosts as Sink}
 use Rattle.receiver.specs.declared.output.Output.{Output}
 use Rattle.std.proofs.KnownBytes.{Appends-kept}
 use Rattle.std.proofs.lemmas.Result.{MatchResult-from_err}

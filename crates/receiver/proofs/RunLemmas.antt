@@ -21,7 +21,7 @@ use Rattle.receiver.proofs.OpeningLemmas.{ends-are}
 use Rattle.receiver.proofs.SessionLemmas.{same-number}
 use Rattle.receiver.specs.LastLines.{ends, last_text}
 use Rattle.receiver.specs.Outputs.{held, promised}
-use Rattle.receiver.specs.declared.devices.Sink.{Ghosts as Sink}
+use Rattle.devices.specs.declared.sink.Sink.{Ghosts as Sink}
 use Rattle.receiver.specs.declared.output.Output.{Output}
 use Rattle.definitions.specs.Receiver.{answer_lines}
 use Rattle.receiver.specs.Sessions.{StandsFor, time_of}

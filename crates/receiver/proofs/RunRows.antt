@@ -27,7 +27,8 @@ use Rattle.definitions.specs.Receiver.{full, full_lines, at_each_time, lines_at,
 use Rattle.definitions.specs.Receiver.{answer_lines, for_each_client, event_texts, answer_texts}
 use Rattle.definitions.specs.PrintedLaws.{IsLineOf}
 use Rattle.receiver.specs.declared.faults.RunFault.TheVariants.{Read, Write}
-use Rattle.receiver.specs.Runs.{Devices, IsRun, EndedAs}
+use Rattle.devices.specs.Moments.{Devices}
+use Rattle.receiver.specs.Runs.{IsRun, EndedAs}
 use Rattle.receiver.specs.Printed.{LinesAreRight}
 use Rattle.receiver.proofs.PrintedLemmas.{lines-are-right}
 

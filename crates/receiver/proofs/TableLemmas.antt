@@ -34,7 +34,8 @@ use Rattle.receiver.proofs.OpeningLemmas.{first-lines}
 use Rattle.receiver.proofs.PrintedLemmas.{lines-are-right}
 use Rattle.receiver.proofs.ShareLemmas.{clients-number}
 use Rattle.receiver.specs.Printed.{LinesAreRight}
-use Rattle.receiver.specs.Runs.{Devices, IsOpen, IsRun, Ran, BrokeOff, StopsFor, EndedAs}
+use Rattle.devices.specs.Moments.{Devices}
+use Rattle.receiver.specs.Runs.{IsOpen, IsRun, Ran, BrokeOff, StopsFor, EndedAs}
 use Rattle.receiver.specs.Runs.{WriterReports, answer_of, task_of, samples_read, text_for}
 
 -- ---- scripts and shares

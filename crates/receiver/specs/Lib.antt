@@ -1,4 +1,3 @@
-pub mod Devices
 pub mod Texts
 pub mod Outputs
 pub mod Clients

@@ -1,9 +1,9 @@
 -- A writer with the text that is held back for it.
 use Rattle.std.specs.Prelude.{◌≡◌, ℕ, List, drop, Option, Result, MatchResult}
 use Rattle.std.specs.Io.KnownBytes.{Appends, Keeps, append_known}
-use Rattle.receiver.specs.Devices.{ReportsFailure}
+use Rattle.devices.specs.Calls.{ReportsFailure}
 use Rattle.receiver.specs.Texts.{AppendsPart, Grows}
-use Rattle.receiver.specs.declared.devices.Sink.{Ghosts as Sink}
+use Rattle.devices.specs.declared.sink.Sink.{Ghosts as Sink}
 use Rattle.receiver.specs.declared.output.Output.{Output}
 
 -- what the writer hasn't taken yet

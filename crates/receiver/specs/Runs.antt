@@ -1,5 +1,5 @@
 -- What a run reads and writes, by its answer.
-use Rattle.std.specs.Prelude.{◌≡◌, ◌≤◌, ◌<◌, ℕ, Bool, true, List, [], length, take}
+use Rattle.std.specs.Prelude.{◌≡◌, ◌≤◌, ◌<◌, ℕ, true, List, [], length, take}
 use Rattle.std.specs.Prelude.{◌++◌, Option, Result, Ok, Err, IfOk, MatchResult, OnOk}
 use Rattle.std.specs.Io.KnownBytes.{Appends, Consumes, IsAtEnd}
 use Rattle.definitions.specs.Oscillators.{Settings}
@@ -10,39 +10,21 @@ use Rattle.definitions.specs.Runs.{clients_of}
 use Rattle.definitions.specs.Runs as runs
 use Rattle.definitions.specs.Receiver.{body, full, body_lines}
 use Rattle.definitions.specs.Lines.{as_bytes}
+use Rattle.devices.specs.Moments.{Devices}
 use Rattle.receiver.specs.Printed.{LinesAreRight}
 use Rattle.receiver.specs.Texts.{AppendsPart, WroteUpTo}
 use Rattle.definitions.specs.Receiver.{answer_lines}
 use Rattle.receiver.specs.Sessions.{StandsFor, Gives}
 use Rattle.receiver.specs.Outputs.{Adds, Puts, promised}
 use Rattle.receiver.specs.declared.output.Output.{Output}
-use Rattle.receiver.specs.declared.devices.Source.{Ghosts as Source}
-use Rattle.receiver.specs.declared.devices.Sink.{Ghosts as Sink}
+use Rattle.devices.specs.declared.source.Source.{Ghosts as Source}
+use Rattle.devices.specs.declared.sink.Sink.{Ghosts as Sink}
 use Rattle.receiver.specs.declared.session.Session.{Session}
 use Rattle.receiver.specs.declared.faults.RunFault.{RunFault}
 use Rattle.receiver.specs.declared.faults.RunFault.TheVariants.{NoMemory, Clients, Share}
 use Rattle.receiver.specs.declared.faults.RunFault.TheVariants.{Read, Write, TooLong}
 use Rattle.receiver.specs.declared.faults.Stop.{Stop}
 use Rattle.receiver.specs.declared.faults.Stop.TheVariants.{AtEnd, ReadFailed, PastLimit}
-
--- what a reader and a writer show: the bytes to come and those held, whether a call has failed, and
--- whether a read has given no byte
-pub record Devices : Type 0 where
-  pub remaining : Option (List ℕ)
-  pub read_failed : Bool
-  pub gave_none : Bool
-  pub contents : Option (List ℕ)
-  pub write_failed : Bool
-
--- what they show at one moment, by the members of their traits
-abbrev pub devices_at : {R W : Type 0} → Source R → Sink W → R → W → Devices
-devices_at source sink reader writer = record {
-  remaining = source.remaining reader;
-  read_failed = source.has_failed reader;
-  gave_none = source.gave_none reader;
-  contents = sink.contents writer;
-  write_failed = sink.has_failed writer;
-}
 
 -- what a reader and an output show, as though the writer had taken all that is held back for it
 abbrev pub devices_once_sent : {R W : Type 0} → Source R → Sink W → R → Output W → Devices

@@ -17,7 +17,6 @@
 //!     }
 #![tactic(auto)]
 
-mod devices;
 mod due;
 mod faults;
 mod output;

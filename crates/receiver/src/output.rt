@@ -3,8 +3,8 @@
 
 ghost use Rattle.std.specs.Prelude.{◌≤◌, length};
 
-use crate::devices::{DeviceFault, Sink};
 use arrayvec::ArrayVec;
+use devices::{DeviceFault, Sink};
 
 /// The most bytes that are held back.
 pub const MOST_HELD: usize = 16_384;

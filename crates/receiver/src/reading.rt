@@ -1,17 +1,17 @@
 //! The samples of a run, read and taken piece by piece.
 
-ghost use Rattle.std.specs.Prelude.{◌≡◌, ◌≤◌, ◌<◌, ◌+◌, ◌%◌, ◌^◌, length, false, OnOk};
+ghost use Rattle.std.specs.Prelude.{◌≡◌, ◌≤◌, ◌<◌, ◌+◌, ◌%◌, length, false, OnOk};
 ghost use Rattle.channel_slots.specs.declared.bank.TheConstants.{MOST_TIME};
 ghost use Rattle.sample_planes.specs.declared.planes.TheConstants.{MAX_SAMPLES};
 ghost use Rattle.receiver.specs.Outputs.{promised, Writes};
 ghost use Rattle.receiver.specs.Runs.{devices_once_sent, ReadsOn, TakesOn};
 ghost use Rattle.receiver.specs.Sessions.{packing_in, time_of, until_next};
 
-use crate::devices::{DeviceFault, Sink, Source};
 use crate::faults::Stop;
 use crate::output::Output;
 use crate::session::Session;
 use crate::writing::{put_answers, put_events};
+use devices::{DeviceFault, Sink, Source};
 use sample_planes::{MAX_SAMPLES, PackedSamples};
 
 /// The most bytes of a read.

@@ -1,22 +1,23 @@
 //! A whole run: what is written, and what it answers.
 
-ghost use Rattle.std.specs.Prelude.{◌≡◌, ◌≤◌, ◌<◌, ◌%◌, ◌^◌, ◌⊎◌, ◌↔◌, ℕ, List, length, map};
+ghost use Rattle.std.specs.Prelude.{◌≡◌, ◌≤◌, ◌<◌, ◌%◌, ◌⊎◌, ◌↔◌, ℕ, List, length, map};
 ghost use Rattle.std.specs.Prelude.{false, OnErr, IfOk, Err, IsErrOf};
 ghost use Rattle.definitions.specs.Oscillators.{Settings as DefinedSettings};
 ghost use Rattle.channel_slots.specs.declared.bank.TheConstants.{MOST_TIME};
 ghost use Rattle.channel_slots.specs.declared.seats.TheConstants.{MOST_CLIENTS};
 ghost use Rattle.definitions.specs.Runs.{clients_of, are_shares};
 ghost use Rattle.receiver.specs.Clients.{four_each};
-ghost use Rattle.receiver.specs.Runs.{devices_at, task_of, IsOpen, Ran, BrokeOff, IsRun};
+ghost use Rattle.devices.specs.Moments.{devices_at};
+ghost use Rattle.receiver.specs.Runs.{task_of, IsOpen, Ran, BrokeOff, IsRun};
 ghost use Rattle.receiver.specs.Sessions.{time_of};
 
-use crate::devices::{DeviceFault, Sink, Source};
 use crate::faults::{RunFault, Stop};
 use crate::output::Output;
 use crate::reading::read_all;
 use crate::session::Session;
 use crate::writing::{finish, put_answers};
 use channel_slots::{MOST_CLIENTS, MOST_TIME, OpenFault};
+use devices::{DeviceFault, Sink, Source};
 use oscillators::Settings;
 use std::alloc::Global;
 

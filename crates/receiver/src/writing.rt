@@ -10,11 +10,11 @@ ghost use Rattle.receiver.specs.Outputs.{held, promised, Adds, Puts, Writes};
 ghost use Rattle.receiver.specs.Runs.{AddsAnswers, PutsNext};
 ghost use Rattle.receiver.specs.Sessions.{packing_in, time_of, until_next, lines_left, TakesNext};
 
-use crate::devices::{DeviceFault, Sink};
 use crate::due::Due;
 use crate::faults::Stop;
 use crate::output::Output;
 use crate::session::Session;
+use devices::{DeviceFault, Sink};
 use printed_lines::{Line, end_line, event_line};
 use slot_protocol::SlotEvent;
 

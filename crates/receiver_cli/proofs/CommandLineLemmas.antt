@@ -7,7 +7,7 @@ use Rattle.clap.specs.Kinds.{IsAmong}
 use Rattle.clap.specs.declared.builder.value_parser.ValueParser.{ValueParser}
 use Rattle.clap.specs.declared.error.kind.ErrorKind.{ErrorKind}
 use Rattle.clap.specs.declared.error.kind.ErrorKind.TheVariants.{OutOfMemory}
-use Rattle.receiver.specs.Runs.{Devices}
+use Rattle.devices.specs.Moments.{Devices}
 use Rattle.receiver_options.proofs.CommandLineLemmas.{some-names, names-formats}
 use Rattle.receiver_options.specs.CommandLines.{receiver, NamesFormats}
 use Rattle.receiver_cli.specs.Endings.{HasEnded, ShowsFor, without_words, without_options}

@@ -5,7 +5,8 @@ use Rattle.std.proofs.lemmas.List.{length-map}
 use Rattle.std.specs.Prelude.{Option, Some, None, IsSome, Result, Ok, Err, IsErrAnd, ◌⊎◌}
 use Rattle.definitions.specs.Oscillators.{Settings as DefinedSettings}
 use Rattle.receiver.specs.declared.faults.RunFault.{RunFault}
-use Rattle.receiver.specs.Runs.{Devices, IsRun, task_of}
+use Rattle.devices.specs.Moments.{Devices}
+use Rattle.receiver.specs.Runs.{IsRun, task_of}
 use Rattle.receiver_cli.specs.declared.failure.Failure.{Failure}
 use Rattle.receiver_cli.specs.declared.failure.Failure.TheVariants.{Options}
 use Rattle.receiver_cli.specs.declared.failure.Failure.TheVariants.{Settings, Run}

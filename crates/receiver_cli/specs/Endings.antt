@@ -9,7 +9,7 @@ use Rattle.clap.specs.declared.builder.value_parser.ValueParser.{ValueParser}
 use Rattle.clap.specs.declared.error.kind.ErrorKind.{ErrorKind}
 use Rattle.clap.specs.declared.error.kind.ErrorKind.TheVariants.{OutOfMemory, DisplayHelp}
 use Rattle.clap.specs.declared.error.kind.ErrorKind.TheVariants.{DisplayVersion}
-use Rattle.receiver.specs.Runs.{Devices}
+use Rattle.devices.specs.Moments.{Devices}
 use Rattle.receiver_options.specs.CommandLines.{receiver, NamesFormats}
 use Rattle.receiver_options.specs.Requests.{asked_in, paths_in}
 use Rattle.receiver_cli.specs.Programs.{Receives, status_of}

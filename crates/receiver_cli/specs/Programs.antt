@@ -7,7 +7,8 @@ use Rattle.oscillators.specs.declared.settings.SettingsFault.TheVariants.{Rate, 
 use Rattle.channel_slots.specs.declared.bank.TheConstants.{MOST_TIME}
 use Rattle.receiver.specs.declared.faults.RunFault.{RunFault}
 use Rattle.receiver.specs.declared.faults.RunFault.TheVariants as faults
-use Rattle.receiver.specs.Runs.{Devices, IsRun, task_of}
+use Rattle.devices.specs.Moments.{Devices}
+use Rattle.receiver.specs.Runs.{IsRun, task_of}
 use Rattle.receiver_options.specs.Requests.{Asked, IsAllowed, recording_of, shares_by}
 use Rattle.receiver_options.specs.ScriptTexts.{AreTextsOf, SomeMayBeRefused}
 use Rattle.receiver_options.specs.declared.fault.OptionFault.TheVariants as options

@@ -2,7 +2,7 @@
 
 ghost use Rattle.std.specs.Prelude.{◌≡◌};
 ghost use Rattle.clap.specs.Values.{kind_of};
-ghost use Rattle.receiver.specs.Runs.{devices_at};
+ghost use Rattle.devices.specs.Moments.{devices_at};
 ghost use Rattle.receiver_cli.specs.Programs.{status_of};
 ghost use Rattle.receiver_cli.specs.Endings.{HasEnded, ShowsFor, parser_status, status_in};
 

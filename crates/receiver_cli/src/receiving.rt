@@ -3,7 +3,7 @@
 ghost use Rattle.std.specs.Prelude.{◌≡◌, map, IfOk, IfErr};
 ghost use Rattle.receiver_options.specs.CommandLines.{options_in};
 ghost use Rattle.receiver_options.specs.Requests.{asked_in, paths_in};
-ghost use Rattle.receiver.specs.Runs.{devices_at};
+ghost use Rattle.devices.specs.Moments.{devices_at};
 ghost use Rattle.receiver_options.specs.declared.fault.OptionFault.TheVariants as options;
 ghost use Rattle.receiver_cli.specs.Programs.{Receives, RunsTexts, IsBeforeReading, one_or_more};
 

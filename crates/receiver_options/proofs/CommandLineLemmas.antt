@@ -1,5 +1,5 @@
 -- The command of the program, and the option parser's answer.
-use Rattle.std.proofs.Common.{◌≡◌, refl, ap, subst, ◌∙◌, inl, map, codes, true, List, [], ◌∷◌}
+use Rattle.std.proofs.Common.{◌≡◌, refl, ap, subst, ◌∙◌, inl, map, true, List}
 use Rattle.std.specs.Prelude.{Option, Some, None, IsSomeAnd}
 use Rattle.std.specs.Prelude.{Result, Ok, Err, IfOk, IsErrAnd}
 use Rattle.clap.specs.Walk.{Text}
@@ -13,6 +13,7 @@ use Rattle.clap.specs.declared.error.kind.ErrorKind.TheVariants.{OutOfMemory}
 use Rattle.clap.specs.declared.parser.matches.ArgMatches.{ArgMatches}
 use Rattle.clap.specs.declared.error.Error.{Error}
 use Rattle.clap.proofs.OnLiterals.{clap_on_literals}
+use Rattle.sample_planes.specs.Names.{format_names}
 use Rattle.receiver_options.specs.CommandLines.{receiver, NamesFormats, Parses, options_in}
 
 -- what an option is, if it is there
@@ -52,8 +53,7 @@ parses words names app r formats e matches kinds = record {
 pub some-names : ValueParser
 some-names = parsers.Names (record {
   ref_ptr = (0, 0);
-  now = map (λ (name : Text). record { ref_ptr = (0, 0); now = name })
-      (codes "real1" ∷ codes "real2" ∷ codes "iq1" ∷ codes "iq2" ∷ []);
+  now = map (λ (name : Text). record { ref_ptr = (0, 0); now = name }) format_names;
 })
 
 pub names-formats : NamesFormats some-names

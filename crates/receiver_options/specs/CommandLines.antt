@@ -3,6 +3,7 @@
 use Rattle.std.specs.Prelude.{◌≡◌, pos, true, List, [], ◌∷◌, map, Some}
 use Rattle.std.specs.Prelude.{Result, IfOk, codes}
 use Rattle.std.specs.Borrow.{Bor}
+use Rattle.sample_planes.specs.Names.{format_names}
 use Rattle.clap.specs.Lexer.{usize_max}
 use Rattle.clap.specs.Walk.{Row, Rule, Text, rows_of}
 use Rattle.clap.specs.Matches.{found_of}
@@ -69,8 +70,7 @@ receiver names =
 -- the parser has the names of the four formats; it refers to them, so it is not one value
 abbrev pub NamesFormats : ValueParser → Type 0
 NamesFormats parser = (names : Bor (List (Bor Text))) × (parser ≡ parsers.Names names)
-    × (map (λ name. name.now) names.now
-    ≡ codes "real1" ∷ codes "real2" ∷ codes "iq1" ∷ codes "iq2" ∷ [])
+    × (map (λ name. name.now) names.now ≡ format_names)
 
 -- ---- what the parser answers
 

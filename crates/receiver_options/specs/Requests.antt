@@ -1,14 +1,18 @@
 -- What the options of a command line ask for.
 use Rattle.std.specs.Prelude.{◌≤◌, ◌*◌, ◌^◌, ℕ, pos, neg_ℤ, Bool, true, false}
 use Rattle.std.specs.Prelude.{if◌then◌else◌, List, [], ◌∷◌, length, map, Option, Some, None}
-use Rattle.std.specs.Prelude.{unwrap_or, codes, nat_lt, nat_le, ◌&&◌, ◌==◌, ◌-◌, replicate}
+use Rattle.std.specs.Prelude.{unwrap_or, option_and_then, codes, nat_lt, nat_le, ◌&&◌, ◌==◌, ◌-◌}
+use Rattle.std.specs.Prelude.{replicate}
 use Rattle.std.specs.List.{list_all}
 use Rattle.std.specs.Str.{bytes_eq}
 use Rattle.std.specs.Str.Parse.{digits_value, without_leading_plus}
 use Rattle.std.specs.Char.{digit_value}
 use Rattle.clap.specs.Walk.{Row, all_of, first_of, one_of}
 use Rattle.definitions.specs.Oscillators.{Settings as DefinedSettings}
-use Rattle.definitions.specs.Samples.{Packing, real1, real2, iq1, iq2}
+use Rattle.definitions.specs.Samples.{Packing}
+use Rattle.sample_planes.specs.Names.{named_format}
+use Rattle.sample_planes.specs.Packings.{packing_of}
+use Rattle.sample_planes.specs.declared.format.Format.TheVariants.{Real1}
 use Rattle.oscillators.specs.Limits.{IsRate}
 
 -- digits alone, in decimal
@@ -33,13 +37,9 @@ abbrev pub flag_in : Option (List ℕ) → Bool
 flag_in None = false
 flag_in (Some text) = bytes_eq text (codes "true")
 
--- a format by its name
+-- the packing of an option's text, or `real1` where it names none
 abbrev pub format_in : Option (List ℕ) → Packing
-format_in None = real1
-format_in (Some name) =
-    if bytes_eq name (codes "real2") then real2
-    else if bytes_eq name (codes "iq1") then iq1
-    else if bytes_eq name (codes "iq2") then iq2 else real1
+format_in text = packing_of (unwrap_or (option_and_then named_format text) Real1)
 
 -- what the options of a command line say of the recording and of the slots
 pub record Asked : Type 0 where

@@ -78,12 +78,10 @@ pub fn text<'w>(matches: &ArgMatches<'w>, id: &str) -> Option<&'w str>
 fn packing(matches: &ArgMatches) -> Format
     ensures { packing_of result ≡ format_in (first_of (codes "format") (options_in matches.now)) }
 {
-    match text(matches, "format") {
-        Some("real2") => Format::Real2,
-        Some("iq1") => Format::Iq1,
-        Some("iq2") => Format::Iq2,
-        _ => Format::Real1,
-    }
+    let Some(name) = text(matches, "format") else {
+        return Format::Real1;
+    };
+    Format::named(name).unwrap_or(Format::Real1)
 }
 
 /// The names of the script files, in the order of the command line.

@@ -8,15 +8,13 @@ ghost use Rattle.receiver_options.specs.CommandLines as line;
 ghost use Rattle.receiver_options.specs.CommandLines.{NamesFormats, Parses};
 
 use clap::{Arg, ArgAction, ArgMatches, Command, Error, value_parser};
+use sample_planes::Format;
 use std::alloc::{AllocError, Global};
 use version::VERSION;
 
 const ABOUT: &str = "\
 Runs scripts of timed commands over recorded GPS L1 C/A samples.
 Reads the samples from standard input and prints a line for each result.";
-
-/// The formats that `--format` takes.
-static FORMATS: [&str; 4] = ["real1", "real2", "iq1", "iq2"];
 
 /// The help after the options: scripts, printed lines, refusals and statuses.
 const MORE: &str = "\
@@ -165,7 +163,7 @@ fn format<'a>(alloc: Global) -> Arg<'a>
     Arg::new(alloc, "format")
         .long("format")
         .action(ArgAction::Set)
-        .value_parser(FORMATS.as_slice())
+        .value_parser(Format::names())
         .default_value("real1")
         .help("Real samples of one or two bits, or complex ones of one or two bits a part")
 }

@@ -1,7 +1,6 @@
 //! Script files, read whole.
 
 ghost use Rattle.std.specs.Prelude.{◌≡◌, ◌≤◌, ◌⊎◌, ℕ, List, Option, None, length, map, IfOk, IfErr};
-ghost use Rattle.std.specs.Prelude.{IfSome};
 ghost use Rattle.receiver_options.specs.declared.script_files.TheConstants.{MOST_SCRIPT_BYTES};
 ghost use Rattle.receiver_options.specs.ScriptTexts.{IsTextOf, AreTextsOf};
 ghost use Rattle.receiver_options.specs.ScriptTexts.{MayBeRefused, SomeMayBeRefused};

@@ -1,7 +1,7 @@
 //! The kinds of values that recordings have.
 
 ghost use Rattle.std.specs.Prelude.{true, false, ◌≡◌, ◌+◌, ◌*◌};
-ghost use Rattle.std.specs.Prelude.{◌<◌, ◌≤◌, ◌^◌, length, unsigned_abs};
+ghost use Rattle.std.specs.Prelude.{◌<◌, ◌≤◌, length, unsigned_abs};
 ghost use Rattle.recordings.specs.Readings.{bits_of, reading, AreNumbers};
 ghost use Rattle.recordings.specs.declared.numbers.TheConstants.{READING_LIMIT};
 

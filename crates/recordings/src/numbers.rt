@@ -1,7 +1,7 @@
 //! Numbers by their bytes and bits.
 
 ghost use Rattle.std.specs.Prelude.{ℕ, true, false, ◌≡◌, ◌+◌};
-ghost use Rattle.std.specs.Prelude.{◌*◌, ◌<◌, ◌≤◌, ◌^◌, length, unsigned_abs};
+ghost use Rattle.std.specs.Prelude.{◌*◌, ◌<◌, ◌≤◌, length, unsigned_abs};
 ghost use Rattle.definitions.specs.Samples.{sign_of};
 ghost use Rattle.recordings.specs.Readings.{signed, sized, float_order, two_bytes, four_bytes};
 ghost use Rattle.recordings.specs.Readings.{IsNumber};

@@ -4,8 +4,9 @@ use Rattle.std.proofs.Common.{length, drop, refl, sym, ap, ◌∙◌, append_ass
 use Rattle.std.specs.Prelude.{min}
 use Rattle.std.proofs.lemmas.List.{drop-append-le, drop-drop, length-drop}
 use Rattle.circular_buffer.specs.Buffer.{keep_last}
-use Rattle.sample_history.specs.Shifts.{byte_from, bytes_from}
+use Rattle.sample_history.specs.Shifts.{byte_from, bytes_from, byte_of_two}
 use Rattle.sample_history.proofs.ShiftLemmas.{bytes_from-more, bytes_from-none}
+use Rattle.sample_history.proofs.ShiftLemmas.{bytes_from-first, bytes_from-length}
 
 kept_twice : (c : ℕ) (xs ys : List ℕ) → keep_last c (keep_last c xs ++ ys) ≡ keep_last c (xs ++ ys)
 kept_twice c xs ys =
@@ -54,6 +55,43 @@ grows c ring head bytes place n count kept is_kept is_count long =
     ap (λ (xs : List ℕ). xs ++ z ∷ []) once ∙ sym behind
     ∙ ap (drop (length all - c)) order
     ∙ ap (λ (k : ℕ). drop k (ring ++ (head ∷ bytes_from bytes place (n + 1)))) gone
+
+-- where no bit of the byte stays
+pub grows-whole : (c : ℕ) (ring : List ℕ) (begun : ℕ) (bytes : List ℕ) (start n count : ℕ)
+    (kept : List ℕ) → kept ≡ keep_last c (ring ++ bytes_from bytes start n)
+    → count ≡ length ring + n - length kept
+    → kept ++ byte_from bytes (start + 8 * n) ∷ []
+    ≡ drop count (ring
+    ++ (byte_of_two begun (byte_from bytes start) 0 ∷ bytes_from bytes (start + 8) n))
+grows-whole c ring begun bytes start n count kept is_kept is_count =
+    let S : List ℕ = bytes_from bytes start n in
+    let z : ℕ = byte_from bytes (start + 8 * n) in
+    let all : List ℕ = ring ++ S in
+    let behind_all : List ℕ =
+    ring ++ (byte_of_two begun (byte_from bytes start) 0 ∷ bytes_from bytes (start + 8) n) in
+    let size : length all ≡ length ring + n =
+    rw (length-append, bytes_from-length bytes start n) refl in
+    let known : count ≡ length ring + n - (length all - (length all - c)) =
+    rw (is_kept, length-drop) at is_count in
+    let gone : length all - c ≡ count = omega (arith, known, size) in
+    let behind : drop (length all - c) (all ++ z ∷ []) ≡ drop (length all - c) all ++ z ∷ [] =
+    drop-append-le (length all - c) all (z ∷ []) (omega arith) in
+    let order : all ++ z ∷ [] ≡ behind_all =
+    append_assoc ring S (z ∷ [])
+    ∙ ap (λ (xs : List ℕ). ring ++ xs) (bytes_from-first begun bytes start n) in
+    ap (λ (xs : List ℕ). xs ++ z ∷ []) is_kept ∙ sym behind
+    ∙ ap (drop (length all - c)) order ∙ ap (λ (k : ℕ). drop k behind_all) gone
+
+pub grows_whole-count : (c : ℕ) (ring : List ℕ) (bytes : List ℕ) (start n : ℕ) (kept : List ℕ)
+    → kept ≡ keep_last c (ring ++ bytes_from bytes start n) → length ring ≤ c
+    → length kept ≡ min c (length ring + n)
+grows_whole-count c ring bytes start n kept is_kept room =
+    let all : length (ring ++ bytes_from bytes start n) ≡ length ring + n =
+    rw (length-append, bytes_from-length bytes start n) refl in
+    let left : length kept ≡ length (ring ++ bytes_from bytes start n)
+    - (length (ring ++ bytes_from bytes start n) - c) =
+    ap length is_kept ∙ kept-length c (ring ++ bytes_from bytes start n) in
+    omega (arith, all, left, room)
 
 pub grows-count : (c : ℕ) (ring : List ℕ) (head n : ℕ) (more kept : List ℕ)
     → kept ≡ keep_last c (keep_last c (ring ++ head ∷ []) ++ more) → length more ≡ n

@@ -1,6 +1,6 @@
 -- The bits of bytes that are read from any bit on.
-use Rattle.std.proofs.Common.{inl, inr, ◌≡◌, ℕ, ◌+◌, ◌-◌, ◌*◌, ◌/◌, ◌%◌, ◌^◌, ◌<◌, ◌≤◌, List, ◌∷◌}
-use Rattle.std.proofs.Common.{[], ◌++◌, length, take, drop, refl, sym, ap, ◌∙◌, arith}
+use Rattle.std.proofs.Common.{inl, inr, ◌≡◌, ℕ, zero, suc, ◌+◌, ◌-◌, ◌*◌, ◌/◌, ◌%◌, ◌^◌, ◌<◌, ◌≤◌}
+use Rattle.std.proofs.Common.{List, ◌∷◌, [], ◌++◌, length, take, drop, refl, sym, ap, ◌∙◌, arith}
 use Rattle.std.specs.Prelude.{slice_index}
 use Rattle.std.specs.Int.{bit_at}
 use Rattle.std.proofs.lemmas.Bool.{cases_lt}
@@ -146,6 +146,34 @@ bytes_from-more bytes place n =
 pub bytes_from-none : (bytes : List ℕ) (place : ℕ) → bytes_from bytes place 0 ≡ []
 unfolding bytes_from
 bytes_from-none bytes place = refl
+
+none_begun : (begun behind : ℕ) → behind < 256 → byte_of_two begun behind 0 ≡ behind
+unfolding byte_of_two
+none_begun begun behind small = omega arith
+
+byte_from-small : (bytes : List ℕ) (place : ℕ) → byte_from bytes place < 256
+unfolding byte_from eight_bits
+byte_from-small bytes place = omega arith
+
+-- where no bit of a byte stays, it is the first of those that follow
+pub bytes_from-first : (begun : ℕ) (bytes : List ℕ) (place n : ℕ)
+    → bytes_from bytes place n ++ byte_from bytes (place + 8 * n) ∷ []
+    ≡ byte_of_two begun (byte_from bytes place) 0 ∷ bytes_from bytes (place + 8) n
+bytes_from-first begun bytes place zero =
+    let at : place + 8 * 0 ≡ place = omega arith in
+    rw (bytes_from-none bytes place, bytes_from-none bytes (place + 8), at)
+    (ap (λ (x : ℕ). x ∷ []) (sym (none_begun begun (byte_from bytes place)
+    (byte_from-small bytes place))))
+bytes_from-first begun bytes place (suc n) =
+    let next : suc n ≡ n + 1 = omega arith in
+    let at : place + 8 + 8 * n ≡ place + 8 * (n + 1) = omega arith in
+    rw (
+      next,
+      bytes_from-more bytes place n,
+      bytes_from-more bytes (place + 8) n,
+      bytes_from-first begun bytes place n,
+      at,
+    ) refl
 
 -- bytes that are copied whole
 pub copied : (bytes : List ℕ) (place count : ℕ) → place % 8 ≡ 0

@@ -6,19 +6,15 @@ ghost use Rattle.std.specs.List.{range_with_len};
 ghost use Rattle.definitions.specs.Samples.{sample_count, samples_per_byte};
 ghost use Rattle.sample_planes.specs.Packings.{packing_of};
 ghost use Rattle.sample_planes.specs.declared.planes.TheConstants.{MAX_SAMPLES};
-ghost use Rattle.sample_history.specs.declared.history.TheConstants.{MOST_TAKEN, MOST_SPAN_BYTES};
+ghost use Rattle.sample_history.specs.declared.history.TheConstants.{MOST_TAKEN};
 
 use crate::ring_bytes::{copy_out, grow};
 use circular_buffer::HeapCircularBuffer;
-use sample_planes::{Format, PackedSamples, Planes, SampleSource};
+use sample_planes::{Format, NEAR_BYTES, PackedSamples, Planes, SampleSource};
 use std::alloc::{AllocError, Global};
 
 /// The most samples that a history takes.
 pub const MOST_TAKEN: u64 = 1 << 40;
-
-/// The bytes that `MAX_SAMPLES` samples of any packing lie in, and those that are read with the
-/// last of them.
-const MOST_SPAN_BYTES: usize = 520;
 
 /// The last samples of a stream, packed. The earliest sample of a byte stands in its top bits.
 #[derive(Drop)]
@@ -76,8 +72,8 @@ impl SampleHistory {
         ensures taken { taken_of self.new ≡ taken_of self.old + length run.now.samples }
         ensures kept { first_of self.new ≤ taken_of self.new - room_of self.new }
     {
-        let place = run.place();
-        self.take_bytes(place.bytes, place.first, place.len);
+        let (bytes, first) = run.place();
+        self.take_bytes(bytes, first, run.len());
     }
 
     /// Takes the `len` samples of `bytes` from sample `first` of the first byte on, as `take` does.
@@ -119,27 +115,26 @@ impl SampleHistory {
         let width = 8 / per_byte;
         let place = (n - self.first()) as usize;
         let start = place % per_byte;
-        let near = self.near_bytes(place / per_byte, (width * (start + len) + 7) / 8);
+        let mut near = [0; NEAR_BYTES];
+        self.put_bytes(place / per_byte, (width * (start + len) + 7) / 8, &mut near);
         planes.fill(self.format, &near, start, len);
     }
 
-    /// `count` of its bytes from byte `from` of the ring on, and zeros after them. The byte that
-    /// isn't full comes after those of the ring.
-    fn near_bytes(&self, from: usize, count: usize) -> [u8; MOST_SPAN_BYTES]
+    /// Puts `count` of its bytes, from byte `from` of the ring on, at the start of `near`. The byte
+    /// that isn't full comes after those of the ring.
+    fn put_bytes(&self, from: usize, count: usize, near: &mut [u8])
         requires from { from ≤ length self.now.whole.items }
         requires within { from + count ≤ length self.now.whole.items + 1 }
-        requires short { count ≤ MOST_SPAN_BYTES }
+        requires short { count ≤ length near.old }
         ensures bytes { (k : ℕ) → k < count
-            → slice_index result k ≡ slice_index (bytes_of self.now) (from + k) }
-        ensures long { length result ≡ MOST_SPAN_BYTES }
+            → slice_index near.new k ≡ slice_index (bytes_of self.now) (from + k) }
+        ensures long { length near.new ≡ length near.old }
     {
-        let mut near = [0; MOST_SPAN_BYTES];
         let inside = count.min(self.whole.len() - from);
         copy_out(&self.whole, from, &mut near[..inside]);
         if inside < count {
             near[inside] = self.partial;
         }
-        near
     }
 }
 

@@ -53,6 +53,11 @@ pub(crate) fn grow(
         ≡ drop (length ring.old.items + whole - length ring.new.items)
         (with_bits_behind ring.old.items begun used bytes.now start whole) }
 {
+    if used == 0 {
+        // No byte is begun, so that all come at once.
+        append_bits(ring, bytes, start, whole);
+        return shifted_byte(bytes, start + 8 * whole);
+    }
     let head = filled_byte(begun, shifted_byte(bytes, start), used);
     if whole == 0 {
         return head;

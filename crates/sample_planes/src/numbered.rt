@@ -1,6 +1,6 @@
 //! A run of packed samples by their numbers in a recording.
 
-ghost use Rattle.std.specs.Prelude.{◌≡◌, ◌+◌, ◌-◌, ◌<◌, ◌≤◌, ◌^◌, length};
+ghost use Rattle.std.specs.Prelude.{◌≡◌, ◌+◌, ◌-◌, ◌<◌, ◌^◌, length};
 ghost use Rattle.definitions.specs.Samples.{sample_at};
 ghost use Rattle.sample_planes.specs.Sources.{Numbered};
 

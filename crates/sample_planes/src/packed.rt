@@ -1,7 +1,7 @@
 //! A run of samples as they lie in bytes.
 
-ghost use Rattle.std.specs.Prelude.{◌≡◌, ◌+◌, ◌<◌, ◌≤◌, ◌^◌, List, length, take, drop};
-ghost use Rattle.definitions.specs.Samples.{Sample, samples, samples_from, sample_count};
+ghost use Rattle.std.specs.Prelude.{◌≡◌, ◌+◌, ◌<◌, ◌≤◌, ◌^◌, length};
+ghost use Rattle.definitions.specs.Samples.{samples, samples_from, sample_count};
 ghost use Rattle.definitions.specs.Samples.{samples_per_byte};
 ghost use Rattle.sample_planes.specs.Packings.{packing_of};
 ghost use Rattle.sample_planes.specs.PackedRuns.{PackedRun, front_of, back_of};
@@ -10,17 +10,6 @@ ghost use Rattle.sample_planes.specs.declared.planes.TheConstants.{MAX_SAMPLES};
 use crate::format::Format;
 use crate::planes::{Planes, unpack};
 use std::marker::Model;
-
-/// Where a run of packed samples lies among bytes.
-#[derive(Clone, Copy, Debug)]
-pub struct RunPlace<'a> {
-    /// The bytes that the samples lie in, and perhaps more bytes after these.
-    pub bytes: &'a [u8],
-    /// The place of the first sample in the first byte, counted from 0.
-    pub first: usize,
-    /// How many samples there are.
-    pub len: usize,
-}
 
 /// A run of samples, packed into bytes. Clauses see it as the list of its samples and their
 /// packing, wherever in a byte they begin.
@@ -91,20 +80,16 @@ impl<'a> PackedSamples<'a> {
         self.len
     }
 
-    /// Where the samples lie.
-    pub fn place(&self) -> RunPlace<'a>
-        ensures samples { samples_from self.now.packing result.bytes.now result.first result.len
-            ≡ self.now.samples }
-        ensures first { result.first < samples_per_byte self.now.packing }
-        ensures within { result.first + result.len
-            ≤ sample_count self.now.packing result.bytes.now }
-        ensures count { result.len ≡ length self.now.samples }
+    /// The bytes that the samples lie in, and perhaps more bytes after these; and the place of the
+    /// first sample in the first byte, counted from 0.
+    pub fn place(&self) -> (&'a [u8], usize)
+        ensures samples { samples_from self.now.packing result.0.now result.1
+            (length self.now.samples) ≡ self.now.samples }
+        ensures first { result.1 < samples_per_byte self.now.packing }
+        ensures within { result.1 + length self.now.samples
+            ≤ sample_count self.now.packing result.0.now }
     {
-        RunPlace {
-            bytes: self.bytes,
-            first: self.first,
-            len: self.len,
-        }
+        (self.bytes, self.first)
     }
 
     /// The first `n` samples, and those after them. There are at least `n`.

@@ -2,7 +2,6 @@
 
 ghost use Rattle.std.specs.Prelude.{◌≡◌, ◌+◌, ◌-◌, ◌*◌, ◌%◌, ◌<◌, ◌≤◌, ℕ, length, slice_index};
 ghost use Rattle.std.specs.Prelude.{unsigned_abs, true};
-ghost use Rattle.std.specs.Int.{bit_at};
 ghost use Rattle.bit_planes.specs.declared.lanes.TheConstants.{LANES};
 ghost use Rattle.bit_planes.specs.ByteLanes.{place_in};
 ghost use Rattle.definitions.specs.Samples.{samples_per_byte};
@@ -33,10 +32,10 @@ pub(crate) struct Part {
 }
 
 impl Part {
-    ghost use Rattle.sample_planes.specs.Signs.{part_of, part_at, part_in};
+    ghost use Rattle.sample_planes.specs.Signs.{part_at, part_in};
     ghost use Rattle.sample_planes.specs.Codes.{IsCode};
 
-    /// That of samples which are not known yet.
+    /// The parts of samples that are not known yet.
     pub(crate) fn new() -> Part {
         Part {
             codes: [0; MAX_SAMPLES],
@@ -59,7 +58,7 @@ impl Part {
         let width = format.width();
         let has_sizes = format.has_sizes();
         let sign = Layout::new(width, at, start);
-        let size = Layout::new(width, size_place(format, at), start);
+        let size = size_layout(format, at, start, sign);
         for group in 0..(len + 15) / 16 {
             let sixteen = sixteen_codes(&sign, &size, has_sizes, near, group);
             put_codes(&mut self.codes, group, sixteen);
@@ -92,15 +91,20 @@ impl Part {
     }
 }
 
-/// Which bit of a sample says the size of the part that begins at bit `at`, or `at` where no part
-/// has a size.
-fn size_place(format: Format, at: usize) -> usize
-    requires at { at < width_of (packing_of format) }
+/// The layout of the sizes, where parts have one: the bit after that of the sign says it. Else it
+/// is that of the signs, and nothing is read by it.
+fn size_layout(format: Format, at: usize, start: usize, sign: Layout) -> Layout
     requires size { has_sizes (packing_of format) ≡ true → at + 1 < width_of (packing_of format) }
-    ensures inside { result < width_of (packing_of format) }
-    ensures next { has_sizes (packing_of format) ≡ true → result ≡ at + 1 }
+    requires start { start < samples_per_byte (packing_of format) }
+    requires sign { sign.width ≡ width_of (packing_of format) }
+    ensures width { result.width ≡ width_of (packing_of format) }
+    ensures layout { has_sizes (packing_of format) ≡ true → IsLayout (at + 1) start result }
 {
-    if format.has_sizes() { at + 1 } else { at }
+    if format.has_sizes() {
+        Layout::new(format.width(), at + 1, start)
+    } else {
+        sign
+    }
 }
 
 /// Codes of sixteen samples, that of the first in the last lane.

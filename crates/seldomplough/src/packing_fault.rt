@@ -1,7 +1,6 @@
 //! Why values aren't packed.
 
 ghost use Rattle.std.specs.Prelude.{◌≡◌};
-ghost use Rattle.recordings.specs.declared.fault.PackFault.TheVariants as pack_faults;
 ghost use Rattle.seldomplough.specs.declared.packing_fault.PackingFault.TheVariants.{NoMemory};
 ghost use Rattle.seldomplough.specs.Packings.{fault_of};
 

@@ -209,16 +209,17 @@ fn kept_planes_hold_the_last_run_alone(rt: HostRuntime) {
 #[test]
 fn a_run_tells_where_it_lies(rt: HostRuntime) {
     let run = PackedSamples::new(Format::Real2, &[0xb3, 0x71]);
-    assert_place(&rt, &run.place(), &[0xb3, 0x71], (0, 8));
-    assert_place(&rt, &run.part(3, 5).place(), &[0xb3, 0x71], (3, 5));
+    assert_place(&rt, &run, &[0xb3, 0x71], 0);
+    assert_place(&rt, &run.part(3, 5), &[0xb3, 0x71], 3);
     // From sample 4 on the first byte is passed over.
-    assert_place(&rt, &run.part(5, 2).place(), &[0x71], (1, 2));
+    assert_place(&rt, &run.part(5, 2), &[0x71], 1);
 }
 
-/// Asserts the bytes of a place, its first sample and their count.
-fn assert_place(rt: &impl Abort, place: &RunPlace, bytes: &[u8], expected: (usize, usize)) {
-    assert_same!(rt; place.bytes, bytes);
-    assert_same!(rt; (place.first, place.len), expected);
+/// Asserts the bytes in which a run lies, and the place of its first sample.
+fn assert_place(rt: &impl Abort, run: &PackedSamples, bytes: &[u8], first: usize) {
+    let place = run.place();
+    assert_same!(rt; place.0, bytes);
+    assert_same!(rt; place.1, first);
 }
 
 // The same samples, the first of them being number 1,000.

@@ -29,7 +29,7 @@ abbrev pub slot_event_in : SlotEvent → DefinedSlotEvent
 slot_event_in e =
     record { client = e.client; slot = e.slot; time = e.time; event = event_in e.event }
 
--- they are these events
+-- slots emit these events
 abbrev pub AreEvents : List SlotEvent → List DefinedSlotEvent → Type 0
 AreEvents events defined = map slot_event_in events ≡ defined
 
@@ -37,7 +37,7 @@ AreEvents events defined = map slot_event_in events ≡ defined
 abbrev pub line_of : SlotEvent → List ℕ
 line_of e = defined_line_of (slot_event_in e)
 
--- when
+-- the time of an event
 abbrev pub time_in : SlotEvent → ℕ
 time_in e = e.time
 

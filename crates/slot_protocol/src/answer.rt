@@ -11,9 +11,9 @@ use thiserror::Error;
 pub enum Phase {
     /// The loops aren't locked.
     Unlocked,
-    /// They are locked, and the edge of the data bits isn't found.
+    /// The loops are locked, and the edge of the data bits isn't found.
     Locked,
-    /// They are locked, and the edge is found.
+    /// The loops are locked, and the edge of the data bits is found.
     Edged,
 }
 

@@ -27,7 +27,7 @@ impl Model for SlotNo {
 }
 
 impl SlotNo {
-    /// The slot of that number, or `None` outside 0 to 7.
+    /// The slot with a number, or `None` where that is outside 0 to 7.
     pub fn new(number: u8) -> Option<SlotNo>
         ensures valid { IsSome result ↔ (number < MOST_SLOTS) }
         ensures same { IfSome result (λ slot. slot ≡ number) }

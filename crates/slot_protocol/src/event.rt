@@ -45,7 +45,7 @@ pub struct SlotEvent {
     pub client: u8,
     /// The client's slot, from 0 on.
     pub slot: u8,
-    /// The time in samples: it rests on the samples before it.
+    /// The time in samples: the event rests on the samples before it.
     pub time: u64,
     /// What the slot emits.
     pub event: Event,

@@ -29,12 +29,12 @@ layout_in l = record {
 abbrev pub size_of : fields.Bits → ℕ
 size_of b = b.last + 1 - b.first
 
--- whether they are data bits of one word
+-- whether bits of a subframe are data bits of one word
 abbrev pub is_in_one_word : fields.Bits → Bool
 is_in_one_word b = nat_le 1 b.first && nat_le b.first b.last && nat_le b.last 300
     && ((b.first - 1) / 30 == (b.last - 1) / 30) && nat_lt ((b.last - 1) % 30) 24
 
--- whether each part is, and at most 32 bits are in all of them
+-- whether each part of a field is in one word, and at most 32 bits are in all of them
 abbrev pub is_readable : fields.Field → Bool
 is_readable f = list_all is_in_one_word f.parts && nat_le (sum_by size_of f.parts) 32
 

@@ -72,5 +72,8 @@ impl AlmanacField {
     }
 }
 
-/// The fields in the order of the table.
-pub(crate) static ALMANAC_FIELDS: [Field; 13] = almanac_rows!(fields_of);
+/// The fields of an almanac page (IS-GPS-200, section 20.3.3.5.1.2).
+pub const FIELDS_OF_ALMANAC: usize = 13;
+
+/// The fields of an almanac page in the order of the table.
+pub(crate) static ALMANAC_FIELDS: [Field; FIELDS_OF_ALMANAC] = almanac_rows!(fields_of);

@@ -66,7 +66,10 @@ impl ClockField {
     }
 }
 
-/// The fields in the order of the table.
-pub(crate) static CLOCK_FIELDS: [Field; 11] = clock_rows!(fields_of);
+/// The fields of a clock page: of subframe 1 (IS-GPS-200, section 20.3.3.3.1).
+pub const FIELDS_OF_CLOCK: usize = 11;
+
+/// The fields of subframe 1 in the order of the table.
+pub(crate) static CLOCK_FIELDS: [Field; FIELDS_OF_CLOCK] = clock_rows!(fields_of);
 
 pub(crate) use clock_rows;

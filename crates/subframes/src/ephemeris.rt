@@ -6,7 +6,7 @@ ghost use Rattle.definitions.specs.Fields.{clock_fields, eph2_fields, eph3_field
 ghost use Rattle.subframes.specs.Entries.{entry_of, eph2_name, eph3_name, field_named};
 ghost use Rattle.subframes.specs.Layouts.{layout_in, is_readable};
 
-use crate::clock::{ClockField, clock_rows};
+use crate::clock::{ClockField, FIELDS_OF_CLOCK, clock_rows};
 use crate::fields::Field;
 use crate::layout::{Bits, Layout};
 use crate::rows::{fields_of, layout, layout_of, signed, unsigned};
@@ -68,8 +68,11 @@ impl Eph2Field {
     }
 }
 
-/// The fields in the order of the table.
-pub(crate) static EPH2_FIELDS: [Field; 11] = eph2_rows!(fields_of);
+/// The fields of the first ephemeris page: of subframe 2 (IS-GPS-200, section 20.3.3.4.1).
+pub const FIELDS_OF_EPH2: usize = 11;
+
+/// The fields of subframe 2 in the order of the table.
+pub(crate) static EPH2_FIELDS: [Field; FIELDS_OF_EPH2] = eph2_rows!(fields_of);
 
 /// A field of subframe 3, in the order of its bits (IS-GPS-200, section 20.3.3.4.1, table 20-III).
 #[derive(Clone, Copy, Debug, PartialEq, Eq)]
@@ -122,11 +125,18 @@ impl Eph3Field {
     }
 }
 
-/// The fields in the order of the table.
-pub(crate) static EPH3_FIELDS: [Field; 9] = eph3_rows!(fields_of);
+/// The fields of the second ephemeris page: of subframe 3 (IS-GPS-200, section 20.3.3.4.1).
+pub const FIELDS_OF_EPH3: usize = 9;
 
-/// The fields of a clock and ephemeris.
-static EPHEMERIS_FIELDS: [Field; 31] = clock_rows!(eph2_rows eph3_rows fields_of);
+/// The fields of subframe 3 in the order of the table.
+pub(crate) static EPH3_FIELDS: [Field; FIELDS_OF_EPH3] = eph3_rows!(fields_of);
+
+/// The fields of a clock and ephemeris: of subframes 1, 2 and 3 (IS-GPS-200, sections 20.3.3.3.1
+/// and 20.3.3.4.1).
+pub const FIELDS_OF_EPHEMERIS: usize = FIELDS_OF_CLOCK + FIELDS_OF_EPH2 + FIELDS_OF_EPH3;
+
+/// The fields of a clock and ephemeris, in the order of the three tables.
+static EPHEMERIS_FIELDS: [Field; FIELDS_OF_EPHEMERIS] = clock_rows!(eph2_rows eph3_rows fields_of);
 
 /// The fields of a clock and ephemeris, those of the three pages one after the other: subframe 1,
 /// subframe 2, subframe 3 (IS-GPS-200, sections 20.3.3.3.1 and 20.3.3.4.1).

@@ -50,7 +50,7 @@ impl Field {
         self.layout().exponent
     }
 
-    /// The kind of the page that has it.
+    /// The kind of the pages that have the field.
     pub(crate) fn kind(self) -> Kind
         ensures { kind_in result ≡ kind_with self }
     {

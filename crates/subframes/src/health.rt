@@ -18,7 +18,7 @@ pub enum HealthField {
     Sv,
     /// The time of applicability of the almanacs, in seconds of the week.
     Toa,
-    /// The week of that time, modulo 256.
+    /// The week of the time of applicability of the almanacs, modulo 256.
     Wna,
     /// The health of satellite 1.
     H1,
@@ -118,5 +118,8 @@ impl HealthField {
     }
 }
 
-/// The fields in the order of the table.
-pub(crate) static HEALTH_FIELDS: [Field; 28] = health_rows!(fields_of);
+/// The fields of the page with SV ID 51 of subframe 5 (IS-GPS-200, section 20.3.3.5.1.3).
+pub const FIELDS_OF_HEALTH: usize = 28;
+
+/// The fields of a health page in the order of the table.
+pub(crate) static HEALTH_FIELDS: [Field; FIELDS_OF_HEALTH] = health_rows!(fields_of);

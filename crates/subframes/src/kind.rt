@@ -66,8 +66,8 @@ impl Kind {
         }
     }
 
-    /// The fields of such a page, in the order of its table, which is that of the values of a
-    /// [`Page`](crate::Page). The characters of a message are no fields.
+    /// The fields of a page of this kind, in the order of its table, which is that of the values of
+    /// a [`Page`](crate::Page). The characters of a message are no fields.
     #[tactic(auto, unfolding(crate::specs::Entries::entry_of, crate::specs::Entries::name_of))]
     pub fn fields(self) -> &'static [Field]
         ensures { map entry_of result.now ≡ named_fields_of (kind_in self) }

@@ -82,7 +82,7 @@ impl Layout {
         }
     }
 
-    /// The number that stands there, missing words read as 0.
+    /// The number that the field has in a subframe, missing words read as 0.
     pub(crate) fn value(&self, subframe: &Subframe) -> i64
         requires { IsTrue (is_readable (layout_in self.now)) }
         ensures { result ≡ value_of subframe.now (layout_in self.now) }

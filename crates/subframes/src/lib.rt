@@ -34,12 +34,15 @@ mod reading;
 mod rows;
 mod utc;
 
-pub use almanac::AlmanacField;
-pub use clock::ClockField;
-pub use ephemeris::{Eph2Field, Eph3Field, ephemeris_fields};
+pub use almanac::{AlmanacField, FIELDS_OF_ALMANAC};
+pub use clock::{ClockField, FIELDS_OF_CLOCK};
+pub use ephemeris::{
+    Eph2Field, Eph3Field, FIELDS_OF_EPH2, FIELDS_OF_EPH3, FIELDS_OF_EPHEMERIS, ephemeris_fields,
+};
 pub use fields::Field;
-pub use health::HealthField;
+pub use health::{FIELDS_OF_HEALTH, HealthField};
 pub use kind::Kind;
+pub use message::CHARACTERS_OF_MESSAGE;
 pub use page::Page;
 pub use reading::field;
-pub use utc::UtcField;
+pub use utc::{FIELDS_OF_UTC, UtcField};

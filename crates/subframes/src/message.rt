@@ -7,20 +7,20 @@ ghost use Rattle.subframes.specs.Layouts.{is_in_one_word};
 use crate::layout::Bits;
 use frame_sync::Subframe;
 
-/// The characters of a message.
-pub(crate) const CHARACTERS: usize = 22;
+/// The characters of a special message (IS-GPS-200, section 20.3.3.5.1.8).
+pub const CHARACTERS_OF_MESSAGE: usize = 22;
 
 /// The bits of a character.
 const WIDTH: usize = 8;
 
-/// The characters with these first bits.
+/// The characters of a subframe that have these first bits.
 macro_rules! characters_at {
     ($subframe:ident; $($first:literal),*) => { [$(character($subframe, $first)),*] };
 }
 
 /// The characters of a message as they are sent, missing words read as 0: two in word 3, three in
 /// each of words 4 to 9, two in word 10.
-pub(crate) fn characters(subframe: &Subframe) -> [u8; CHARACTERS]
+pub(crate) fn characters(subframe: &Subframe) -> [u8; CHARACTERS_OF_MESSAGE]
     ensures { map (λ c. pos c) result ≡ map (value_of subframe.now) message_fields }
 {
     characters_at!(subframe;
@@ -29,7 +29,7 @@ pub(crate) fn characters(subframe: &Subframe) -> [u8; CHARACTERS]
     )
 }
 
-/// The character with this first bit.
+/// The character whose first bit is `first`.
 fn character(subframe: &Subframe, first: usize) -> u8
     requires { IsTrue (is_in_one_word (bits first (first + 7))) }
     ensures { pos result ≡ value_of subframe.now (character first) }

@@ -7,15 +7,15 @@ ghost use Rattle.subframes.specs.Entries.{entry_of};
 ghost use Rattle.subframes.specs.PageViews.{kind_in, named_fields_of, page_as, page_in};
 ghost use Rattle.subframes.specs.Values.{number_named, numbers_of};
 
-use crate::almanac::ALMANAC_FIELDS;
-use crate::clock::CLOCK_FIELDS;
-use crate::ephemeris::{EPH2_FIELDS, EPH3_FIELDS};
+use crate::almanac::{ALMANAC_FIELDS, FIELDS_OF_ALMANAC};
+use crate::clock::{CLOCK_FIELDS, FIELDS_OF_CLOCK};
+use crate::ephemeris::{EPH2_FIELDS, EPH3_FIELDS, FIELDS_OF_EPH2, FIELDS_OF_EPH3};
 use crate::fields::Field;
-use crate::health::HEALTH_FIELDS;
+use crate::health::{FIELDS_OF_HEALTH, HEALTH_FIELDS};
 use crate::kind::Kind;
-use crate::message::{CHARACTERS, characters};
+use crate::message::{CHARACTERS_OF_MESSAGE, characters};
 use crate::reading::value;
-use crate::utc::UTC_FIELDS;
+use crate::utc::{FIELDS_OF_UTC, UTC_FIELDS};
 use frame_sync::Subframe;
 
 /// The page of a complete subframe: the numbers of its fields in the order of its table, each from
@@ -23,19 +23,19 @@ use frame_sync::Subframe;
 #[derive(Clone, Copy, Debug, PartialEq, Eq)]
 pub enum Page {
     /// Subframe 1 (section 20.3.3.3.1).
-    Clock([i64; 11]),
+    Clock([i64; FIELDS_OF_CLOCK]),
     /// Subframe 2 (section 20.3.3.4.1).
-    Eph2([i64; 11]),
+    Eph2([i64; FIELDS_OF_EPH2]),
     /// Subframe 3 (section 20.3.3.4.1).
-    Eph3([i64; 9]),
+    Eph3([i64; FIELDS_OF_EPH3]),
     /// SV ID 1 to 32 in subframe 4 or 5 (section 20.3.3.5.1.2).
-    Almanac([i64; 13]),
+    Almanac([i64; FIELDS_OF_ALMANAC]),
     /// SV ID 56 in subframe 4 (section 20.3.3.5.1.6).
-    Utc([i64; 18]),
+    Utc([i64; FIELDS_OF_UTC]),
     /// SV ID 51 in subframe 5 (section 20.3.3.5.1.3).
-    Health([i64; 28]),
+    Health([i64; FIELDS_OF_HEALTH]),
     /// SV ID 55 in subframe 4, as it is sent (section 20.3.3.5.1.8).
-    Message([u8; CHARACTERS]),
+    Message([u8; CHARACTERS_OF_MESSAGE]),
 }
 
 impl Page {
@@ -83,8 +83,8 @@ impl Page {
         }
     }
 
-    /// The numbers of its fields, in the order of its kind's [`fields`](Kind::fields). A message
-    /// has none: its characters are no fields.
+    /// The numbers of the page's fields, in the order of its kind's [`fields`](Kind::fields). A
+    /// message has none: its characters are no fields.
     pub fn values(&self) -> &[i64]
         ensures numbers { result.now ≡ numbers_of (page_in self.now) }
         ensures one_each { length result.now ≡ length (named_fields_of (page_in self.now).kind) }
@@ -113,7 +113,7 @@ impl Page {
     }
 }
 
-/// The numbers of these fields, missing words read as 0.
+/// The numbers that fields have in a subframe, missing words read as 0.
 fn values<const N: usize>(subframe: &Subframe, fields: &[Field; N]) -> [i64; N]
     ensures { result ≡ map (λ field. value_of subframe.now (entry_of field)) fields.now }
 {

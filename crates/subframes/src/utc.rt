@@ -39,7 +39,7 @@ pub enum UtcField {
     A0,
     /// The reference time of the UTC data, in seconds of the week.
     Tot,
-    /// The week of that reference time, modulo 256.
+    /// The week of the reference time of the UTC data, modulo 256.
     Wnt,
     /// The leap seconds so far.
     Dtls,
@@ -88,5 +88,8 @@ impl UtcField {
     }
 }
 
-/// The fields in the order of the table.
-pub(crate) static UTC_FIELDS: [Field; 18] = utc_rows!(fields_of);
+/// The fields of the page with SV ID 56 of subframe 4 (IS-GPS-200, section 20.3.3.5.1.6).
+pub const FIELDS_OF_UTC: usize = 18;
+
+/// The fields of a page of UTC in the order of the table.
+pub(crate) static UTC_FIELDS: [Field; FIELDS_OF_UTC] = utc_rows!(fields_of);

@@ -1,6 +1,6 @@
 //! What a dump says of the frequency, the phase and the code.
 
-ghost use Rattle.std.specs.Prelude.{◌≡◌, ◌^◌, ◌≤◌, ◌+◌, ◌*◌, ℤ, ◌*ℤ◌, ◌+ℤ◌, ◌-ℤ◌, unsigned_abs};
+ghost use Rattle.std.specs.Prelude.{◌≡◌, ◌≤◌, ◌+◌, ◌*◌, ℤ, ◌*ℤ◌, ◌+ℤ◌, ◌-ℤ◌, unsigned_abs};
 ghost use Rattle.definitions.specs.Loops.{sgn, ratio as defined_ratio};
 ghost use Rattle.definitions.specs.Loops.{frequency_error as defined_frequency_error};
 ghost use Rattle.definitions.specs.Loops.{phase_error as defined_phase_error};

@@ -25,6 +25,6 @@ mod news;
 mod steering;
 mod window;
 
-pub use limits::{MOST_CORRECTION, MOST_ERROR, MOST_SHIFT, MOST_STEERED_DUMPS, MOST_SUM};
+pub use limits::{MOST_ERROR, MOST_STEERED_DUMPS, MOST_SUM};
 pub use loops::Loops;
 pub use news::News;

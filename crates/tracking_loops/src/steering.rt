@@ -1,21 +1,22 @@
 //! The carrier's shift and the code's rate, dump by dump.
 
-ghost use Rattle.std.specs.Prelude.{◌≡◌, ◌^◌, ◌≤◌, ◌<◌, unsigned_abs};
+ghost use Rattle.std.specs.Prelude.{◌≡◌, ◌≤◌, ◌<◌, unsigned_abs};
 ghost use Rattle.definitions.specs.Loops.{loops_start, loops_after_dump};
 ghost use Rattle.definitions.specs.Loops.{clamp_shift as defined_clamp_shift};
 ghost use Rattle.lane_correlator.specs.Counting.{counts_in, AreWithin};
-ghost use Rattle.tracking_loops.specs.declared.limits.TheConstants.{MOST_SUM, MOST_SHIFT};
+ghost use Rattle.tracking_loops.specs.declared.limits.TheConstants.{MOST_SUM};
 ghost use Rattle.tracking_loops.specs.declared.limits.TheConstants.{MOST_STEERED_DUMPS};
-ghost use Rattle.tracking_loops.specs.declared.limits.TheConstants.{MOST_CORRECTION};
+ghost use Rattle.oscillators.specs.declared.settings.TheConstants.{MOST_SHIFT, MOST_CORRECTION};
 
 use crate::discriminators::{code_error, frequency_error, phase_error};
 use lane_correlator::Counts;
+use oscillators::MOST_SHIFT;
 
 /// The first dump, numbered from 1, that holds the phase. Those before it pull the frequency in.
 pub const FIRST_HOLDING: u64 = 200;
 
-/// The carrier's shift is kept within this size, in 1/65536 Hz: 16,384 Hz.
-const SHIFT_LIMIT: i64 = 1 << 30;
+/// The carrier's shift is kept within this size, in 1/65536 Hz: `MOST_SHIFT`.
+const SHIFT_LIMIT: i64 = MOST_SHIFT as i64;
 
 /// What a frequency error of one unit moves the shift by, while the frequency is pulled in.
 const PULLING_GAIN: i64 = 160;

@@ -1,6 +1,6 @@
 //! The windows of dumps that decide the lock.
 
-ghost use Rattle.std.specs.Prelude.{◌≡◌, ◌^◌, ◌≤◌, ◌<◌, ◌*◌, List, [], ◌∷◌, ◌++◌, length};
+ghost use Rattle.std.specs.Prelude.{◌≡◌, ◌≤◌, ◌<◌, ◌*◌, List, [], ◌∷◌, ◌++◌, length};
 ghost use Rattle.std.specs.Prelude.{unsigned_abs, ◌+◌};
 ghost use Rattle.definitions.specs.Correlation.{Counts as DefinedCounts};
 ghost use Rattle.lane_correlator.specs.Counting.{counts_in};

@@ -1,11 +1,14 @@
 //! The slots of several clients over one stream.
 
+use super::searches::feed_to;
 use super::{IDLE, hold, one_count, plain_settings, sums};
 use crate::commands;
 use assertions::{assert_same, assert_same_at};
 use channel_slots::{
     Answer, Bank, Command, Event, FeedFault, OpenFault, Refusal, SlotEvent, SlotNo, Timeline,
 };
+use made_signals::RECORDING;
+use oscillators::Settings;
 use sample_planes::{Format, PackedSamples};
 use std::alloc::{Alloc, Global};
 use std::process::Abort;
@@ -33,6 +36,52 @@ fn a_feed_begins_anywhere(rt: HostRuntime) -> Result<(), Fail> {
         event: Event::Count(sums([-2, 1, 2, -1, 2, -1])),
     }];
     assert_same!(rt; timeline.events(), told.as_slice());
+    Ok(())
+}
+
+/// The dump of a client's slot.
+fn count_at(time: u64, client: u8, slot: u8, counts: [i32; 6]) -> SlotEvent {
+    SlotEvent {
+        client,
+        slot,
+        time,
+        event: Event::Count(sums(counts)),
+    }
+}
+
+/// The sums of the recording's first two segments of satellite 5, by two references apart from this
+/// project: the first ends with sample 1,345, and the second with sample 3,391.
+const SEGMENTS: [[i32; 6]; 2] = [
+    [-354, -50, -704, -12, -432, -42],
+    [-623, -73, -1_079, 11, -483, 143],
+];
+
+// Two slots that hold the same satellite emit its dumps when they come, the first client's first,
+// however many samples a run has: also where most runs bring nothing, so that their samples wait.
+#[test]
+fn dumps_do_not_depend_on_the_runs(rt: HostRuntime) -> Result<(), Fail> {
+    let [first, second] = SEGMENTS;
+    let wanted = [
+        count_at(1_346, 1, 0, first),
+        count_at(1_346, 2, 1, first),
+        count_at(3_392, 1, 0, second),
+        count_at(3_392, 2, 1, second),
+    ];
+    let recording = PackedSamples::new(Format::Real1, &RECORDING);
+    for piece in [1, 7, 64, 513, 1_000, 1_024] {
+        let settings = Settings::new(2_046_000, 511_500, Format::Real1)?;
+        let mut bank = Bank::open(rt.alloc(), settings, &[1, 2])?;
+        for (client, slot) in [(1, 0), (2, 1)] {
+            bank.command(client, commands::hold(slot, 5, 1_250, 700).ok_or("a hold")?);
+            bank.command(
+                client,
+                commands::counts(slot, 2).ok_or("a number of dumps")?,
+            );
+        }
+        let told = feed_to(&mut bank, &recording, piece, 4_000)?;
+        assert_same_at!(rt; piece, told.as_slice(), wanted.as_slice());
+        assert_same_at!(rt; piece, bank.time(), 4_000);
+    }
     Ok(())
 }
 

@@ -16,7 +16,7 @@ use std::process::Abort;
 use std::test::Fail;
 
 /// The most events that these tests wait for.
-const MOST_TOLD: usize = 32;
+pub(super) const MOST_TOLD: usize = 32;
 
 /// The longest recording of these tests, in samples.
 const LONGEST: u64 = 100_000;
@@ -27,7 +27,7 @@ fn bank_of_one(alloc: Global) -> Result<Bank, Fail> {
 }
 
 /// Feeds a bank the samples of a recording up to a time, in pieces, and gives its events.
-fn feed_to(
+pub(super) fn feed_to(
     bank: &mut Bank,
     recording: &PackedSamples,
     piece: usize,

@@ -1,7 +1,7 @@
 //! A made stream of bits: whole subframes, cut ones, damaged ones, bare and false headers, inverted
 //! parts and noise, as a shift register chooses them.
 
-ghost use Rattle.std.specs.Prelude.{◌+◌, ◌^◌, ◌<◌, ◌≤◌};
+ghost use Rattle.std.specs.Prelude.{◌+◌, ◌^◌, ◌<◌};
 
 use super::fixture::add_bits;
 use crate::sent::{TELEMETRY, ended};

@@ -1,20 +1,21 @@
 //! A satellite that is searched for, sample by sample, and tracked from the due time on.
 
-ghost use Rattle.std.specs.Prelude.{◌≡◌, ◌<◌, ◌≤◌, ◌+◌, ◌^◌, IfOk, length};
+ghost use Rattle.std.specs.Prelude.{◌≡◌, ◌<◌, ◌≤◌, ◌+◌, IfOk, length};
 ghost use Rattle.definitions.specs.Acquisition.{due_time};
-ghost use Rattle.channels.specs.Searching.{start_of, due_of, to_due_of};
-ghost use Rattle.channels.specs.FollowedChannels.{taken_of};
+ghost use Rattle.channels.specs.FollowedChannels.{at_of};
+ghost use Rattle.channels.specs.Searching.{due_of};
+ghost use Rattle.channels.specs.Windows.{first_of, end_of};
 ghost use Rattle.sample_planes.specs.declared.planes.TheConstants.{MAX_SAMPLES};
 
-use super::so_far;
+use super::open_to;
 use acquisition::{Cell, Plan};
 use assertions::{assert_same, assert_same_at};
 use ca_codes::{CodeBook, Prn};
-use channels::{Dump, Followed, Searched};
-use lane_correlator::Counts;
+use channels::{Followed, Searched, Window};
 use made_signals::code_file;
 use oscillators::{HalfChip, Settings};
-use sample_planes::{Format, NumberedSamples, PackedSamples, unpack};
+use sample_planes::{Format, NumberedSamples, PackedSamples};
+use std::alloc::{Alloc, Global};
 use std::process::Abort;
 use std::test::Fail;
 
@@ -26,8 +27,17 @@ fn padded() -> [u8; 1_408] {
     bytes
 }
 
-/// The search from sample 2 on, taken so many samples at a time up to its answer, with the time and
-/// the cell that this names. One more cell has to be done with every four samples after the dwell.
+/// The number of samples with which the next cell of a search is to be done, whose dwell ends with
+/// sample 2,047: the fourth after it, and then each fourth.
+fn next_cell_at(time: u64) -> u64
+    requires { time ≤ 20000 }
+{
+    2_052 + time.saturating_sub(2_048) / 4 * 4
+}
+
+/// The search from sample 2 on, taken so many samples at a time up to its answer, with the number
+/// of samples by then and the cell that this names. One more cell has to be done with every four
+/// samples after the dwell, and the answer comes just where they go as far as sample 10,231.
 fn search_in_pieces(
     rt: &impl Abort,
     settings: &Settings,
@@ -41,61 +51,78 @@ fn search_in_pieces(
     requires due { due_time settings.now plan 2 ≡ 10232 }
     requires from { source.now.first ≡ 0 }
     requires to { 11264 ≤ length source.now.samples }
+    ensures due { due_of result.0 ≡ 10232 }
 {
     let mut search = Searched::start(settings, plan, 2);
-    let mut time = 2;
-    let mut named = None;
+    assert_same!(rt; (search.due(), search.next_cell()), (10_232, 2_052));
+    let mut to = 2;
     for _ in 0..10_230 {
-        let (count, answer) = search.take(piece, source, book);
-        time += count as u64;
-        assert_same_at!(rt; time, search.done(), time.saturating_sub(2_048) / 4);
-        named = answer;
-        if answer.is_some() {
-            break;
+        to += piece as u64;
+        let answer = search.take(to, source, book);
+        if 10_232 <= to {
+            assert_same!(rt; search.done(), 2_046);
+            return (search, to, answer);
         }
+        let told = (search.done(), search.next_cell(), answer);
+        assert_same_at!(rt; to, told, (to.saturating_sub(2_048) / 4, next_cell_at(to), None));
     }
-    (search, time, named)
+    (search, to, None)
 }
 
-/// Takes the file's first 1,024 samples as those before sample `end`, as far as the next dump.
-fn next(
-    tracked: &mut Followed,
-    bytes: &[u8; 1_408],
-    end: u64,
-    book: &mut CodeBook,
-) -> Result<(usize, Option<Dump>), Fail>
-    requires begun { taken_of tracked.old + MAX_SAMPLES ≡ end }
-    requires from { 11256 ≤ end }
-    requires early { end < 2 ^ 32 }
-    ensures taken { IfOk result (λ next. taken_of tracked.new + MAX_SAMPLES ≡ end + next.0) }
+/// A window after the samples of some bytes up to number 10,232, none of which is open.
+fn window_at_10_232(alloc: Global, bytes: &[u8; 1_408]) -> Result<Window, Fail>
+    ensures first { IfOk result (λ window. first_of window ≡ 10232) }
+    ensures end { IfOk result (λ window. end_of window ≡ 10232) }
 {
-    if tracked.dumps() != 0 || tracked.rests_until() < end - 1_024 {
+    let mut window = Window::new(alloc, Format::Real1, 1_024)?;
+    for k in 0..10u64 {
+        open_to(&mut window, bytes, 1_024 * k)?;
+        window.close();
+    }
+    open_to(&mut window, bytes, 10_232)?;
+    window.close();
+    Ok(window)
+}
+
+/// Opens the file's first 1,024 samples as the next ones, in place of those that are open.
+fn open_file(window: &mut Window, bytes: &[u8; 1_408]) -> Result<(), Fail>
+    ensures first { IfOk result (λ _. first_of window.new ≡ end_of window.old) }
+    ensures end { IfOk result (λ _. end_of window.new ≡ end_of window.old + MAX_SAMPLES) }
+{
+    window.close();
+    let format = window.history().format();
+    if 20_000 < window.end() || format != Format::Real1 {
         return Err(Fail::new("no run can be taken"));
     }
-    let run = unpack(Format::Real1, bytes, 0, 1_024);
-    if run.len() != 1_024 {
+    let file = PackedSamples::new(format, bytes);
+    if file.len() < 1_024 {
         return Err(Fail::new("samples are missing"));
     }
-    let source = so_far(PackedSamples::new(Format::Real1, bytes), 10_232, end)?;
-    let mut dump = Dump::plain(Counts::NONE);
-    let (count, is_dump) = tracked.take(&run, 0, &source, book, &mut dump);
-    Ok((count, is_dump.then_some(dump)))
+    window.take(&file.part(0, 1_024));
+    Ok(())
 }
 
-/// Asserts that a satellite tracked from sample 10,232 on comes to a dump with sample 12,275.
+/// Asserts that a satellite tracked from sample 10,232 on comes to a dump with sample 12,275, and
+/// to none before.
 fn assert_follows(
-    rt: &impl Abort,
+    rt: &(impl Abort + Alloc<A = Global>),
     mut tracked: Followed,
     bytes: &[u8; 1_408],
     book: &mut CodeBook,
 ) -> Result<(), Fail>
-    requires { taken_of tracked ≡ 10232 }
+    requires { at_of tracked ≡ 10232 }
 {
-    // The next call has its premise from this comparison.
-    assert_eq!(rt; next(&mut tracked, bytes, 11_256, book)?, (1_024, None));
-    assert_same!(rt; (tracked.dumps(), tracked.rests_until()), (0, 11_768));
-    let (count, dump) = next(&mut tracked, bytes, 12_280, book)?;
-    assert_same!(rt; (count, dump.is_some()), (1_020, true));
+    // The next calls have a premise from this comparison.
+    assert_eq!(rt; (tracked.dumps(), tracked.next_dump()), (0, 12_276));
+    let mut window = window_at_10_232(rt.alloc(), bytes)?;
+    open_file(&mut window, bytes)?;
+    assert!(rt; !tracked.take(11_256, &mut window, book));
+    assert_eq!(rt; (tracked.dumps(), tracked.next_dump()), (0, 12_276));
+    open_file(&mut window, bytes)?;
+    assert!(rt; !tracked.take(12_275, &mut window, book));
+    assert_eq!(rt; (tracked.dumps(), tracked.next_dump()), (0, 12_276));
+    assert!(rt; tracked.take(12_280, &mut window, book));
+    assert_same!(rt; tracked.dumps(), 1);
     Ok(())
 }
 
@@ -116,15 +143,12 @@ fn one_cell_with_four_samples(rt: HostRuntime) -> Result<(), Fail> {
         power: 20_930_580,
         found: true,
     };
-    for piece in [1, 3, 1_024] {
+    for piece in [1, 3, 7, 64, 1_024] {
         let mut book = CodeBook::new();
-        let (search, time, cell) = search_in_pieces(
-            &rt, &settings, plan, piece, &source, &mut book,
-        );
-        assert_same!(rt; (time, cell), (10_232, Some(named)));
-        let tracked = search
-            .follow(&named, 10_232)
-            .ok_or("a signal that was found")?;
+        let (search, to, cell) = search_in_pieces(&rt, &settings, plan, piece, &source, &mut book);
+        assert!(rt; to < 10_232 + piece as u64);
+        assert_same!(rt; cell, Some(named));
+        let tracked = search.follow(&named).ok_or("a signal that was found")?;
         let shift = tracked.tracking().ok_or("loops")?.v();
         let told = (tracked.prn().get(), tracked.dumps(), shift);
         assert_same!(rt; told, (1, 0, 0));
@@ -142,9 +166,10 @@ fn nothing_found_is_not_followed(rt: HostRuntime) -> Result<(), Fail> {
     let plan = Plan::new(Prn::new(1).ok_or("a satellite")?, 0, 0, 1, 11)?;
     let source = NumberedSamples::new(PackedSamples::new(Format::Real1, &bytes), 0);
     let mut search = Searched::start(&settings, plan, 0);
-    let (count, cell) = search.take(10_240, &source, &mut CodeBook::new());
+    assert!(rt; search.take(10_229, &source, &mut CodeBook::new()).is_none());
+    let cell = search.take(10_240, &source, &mut CodeBook::new());
     let cell = cell.ok_or("an answer")?;
-    assert_same!(rt; (count, cell.found, cell.power), (10_230, false, 20));
-    assert!(rt; search.follow(&cell, 10_230).is_none());
+    assert_same!(rt; (search.due(), cell.found, cell.power), (10_230, false, 20));
+    assert!(rt; search.follow(&cell).is_none());
     Ok(())
 }

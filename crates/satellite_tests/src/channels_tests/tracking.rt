@@ -1,16 +1,17 @@
 //! A tracked satellite beside the plain reference of tracking.
 
-ghost use Rattle.std.specs.Prelude.{◌≡◌, ◌+◌, ◌≤◌, IfOk};
-ghost use Rattle.channels.specs.FollowedChannels.{taken_of};
+ghost use Rattle.std.specs.Prelude.{◌≡◌, ◌≤◌, IfOk};
+ghost use Rattle.channels.specs.FollowedChannels.{at_of};
+ghost use Rattle.channels.specs.Windows.{first_of, end_of};
 
-use super::{so_far, sums};
+use super::{open_to, sums};
 use assertions::{assert_same, assert_same_at};
 use ca_codes::{CodeBook, Prn};
-use channels::{Dump, Followed};
+use channels::{Followed, Window};
 use lane_correlator::Counts;
 use made_signals::{MadeSignal, PlainDump, PlainNews, PlainTracker, SampleStream};
 use oscillators::{Doppler, HalfChip, Settings};
-use sample_planes::{Format, PackedSamples, unpack};
+use sample_planes::Format;
 use std::process::Abort;
 use std::test::Fail;
 use tracking_loops::News;
@@ -40,30 +41,35 @@ fn news_of(news: PlainNews) -> News {
     }
 }
 
-/// Takes the samples of a run from a place on, up to the next dump, and gives how many these are,
-/// and the dump's counts and news.
+/// Takes the samples of a window from a place on, up to the next dump, and gives the place after
+/// them, and the dump's counts and news. Where all are taken, the next 1,000 are opened first.
 fn next(
     tracked: &mut Followed,
+    window: &mut Window,
     bytes: &[u8; BYTES],
-    place: usize,
+    place: u64,
     book: &mut CodeBook,
-) -> Result<(usize, Option<(Counts, News)>), Fail>
-    requires begun { taken_of tracked.old ≡ place }
-    ensures taken { IfOk result (λ next. taken_of tracked.new ≡ place + next.0) }
-    ensures within { IfOk result (λ next. place + next.0 ≤ 600000) }
+) -> Result<(u64, Option<(Counts, News)>), Fail>
+    requires begun { at_of tracked.old ≡ place }
+    requires open { first_of window.old ≤ place }
+    requires within { place ≤ end_of window.old }
+    ensures at { IfOk result (λ next. at_of tracked.new ≡ next.0) }
+    ensures open { IfOk result (λ next. first_of window.new ≤ next.0) }
+    ensures within { IfOk result (λ next. next.0 ≤ end_of window.new) }
+    ensures later { IfOk result (λ next. place ≤ next.0) }
 {
-    if 599_000 < place || tracked.rests_until() < place as u64 || 1_000 <= tracked.dumps() {
-        return Err(Fail::new("no run can be taken"));
+    if window.end() == place {
+        window.close();
+        open_to(window, bytes, place + 1_000)?;
     }
-    let run = unpack(Format::Real2, bytes, place, 1_000);
-    if run.len() != 1_000 {
-        return Err(Fail::new("samples are missing"));
+    let end = window.end();
+    if 600_000 < end || 1_000 <= tracked.dumps() {
+        return Err(Fail::new("no samples can be taken"));
     }
-    let all = PackedSamples::new(Format::Real2, bytes);
-    let source = so_far(all, 0, place as u64 + 1_000)?;
-    let mut dump = Dump::plain(Counts::NONE);
-    let (count, is_dump) = tracked.take(&run, 0, &source, book, &mut dump);
-    Ok((count, is_dump.then_some((dump.counts, dump.lock))))
+    let to = end.min(tracked.next_dump());
+    let is_dump = tracked.take(end, window, book);
+    let dump = window.dump();
+    Ok((to, is_dump.then_some((dump.counts, dump.lock))))
 }
 
 /// Asserts that both came to a dump, or neither did.
@@ -102,7 +108,7 @@ fn assert_same_dump(
 
 /// The satellite of the signal, tracked from its first sample on.
 fn tracked(signal: &MadeSignal) -> Result<Followed, Fail>
-    ensures { IfOk result (λ tracked. taken_of tracked ≡ 0) }
+    ensures { IfOk result (λ tracked. at_of tracked ≡ 0) }
 {
     Ok(Followed::track(
         &Settings::new(signal.rate, signal.offset, Format::Real2)?,
@@ -124,13 +130,16 @@ fn tracked_as_the_reference(rt: HostRuntime) -> Result<(), Fail> {
     let mut tracker = PlainTracker::follow(&signal);
     let mut tracked = tracked(&signal)?;
     let mut book = CodeBook::new();
+    let mut window = Window::new(rt.alloc(), Format::Real2, 1_024)?;
     let mut place = 0;
-    for _ in 0..690 {
-        let (count, dump) = next(&mut tracked, &bytes, place, &mut book)?;
-        place += count;
-        let plain = plain_dump(&mut stream, &mut tracker, count)?;
+    // Some 580 runs, and 230 dumps.
+    for _ in 0..810 {
+        let (to, dump) = next(&mut tracked, &mut window, &bytes, place, &mut book)?;
+        let plain = plain_dump(&mut stream, &mut tracker, (to - place) as usize)?;
+        place = to;
         assert_both(&rt, &tracked, dump, plain)?;
     }
+    assert!(rt; 230 <= tracked.dumps());
     assert!(rt; tracked.tracking().ok_or("loops")?.is_locked());
     Ok(())
 }

@@ -13,9 +13,7 @@ loop-l-preserved c =
     let inside : l < length powers = omega (arith, here.long, c.loop-l-test.true) in
     let power : c.power.result
     ≡ power_of_pair (cell_pair c.args.whole (slice_index c.args.picked.now l)) =
-    c.power.ensures.value (omega (arith, c.sums_of.ensures.small_in_phase))
-    (omega (arith, c.sums_of.ensures.small_quadrature))
-    ∙ rw (c.sums_of.ensures.in_phase, c.sums_of.ensures.quadrature) refl in
+    c.power.ensures.value ∙ rw (c.sums_of.ensures.in_phase, c.sums_of.ensures.quadrature) refl in
     record {
       long = length-set powers l c.power.result ∙ here.long;
       most = each-one (λ i it. it ≤ MOST_PERIOD_POWER) l c.power.result powers inside

@@ -18,6 +18,7 @@ returns c =
       number = refl;
       refused = λ refusal. ap with-slot ((rw (← same) at c.command.ensures.refused) refusal);
       sound = rw (← same) at c.command.ensures.sound;
+      waits = rw (← same) at c.command.ensures.waits;
       answers = rw (← same) at c.command.ensures.answer;
       stands = rw (← same) at c.command.ensures.stands;
     }

@@ -1,10 +1,63 @@
-use Rattle.std.proofs.Common.{arith}
+use Rattle.std.proofs.Common.{ℕ, arith, get_or}
+use Rattle.channel_slots.specs.declared.seat.Seat.{Seat}
+use Rattle.channel_slots.specs.Slots.{IsSound}
+use Rattle.channel_slots.proofs.SeatLemmas.{runs-more, rest-more, one-of}
 use Rattle.channel_slots.specs.Timelines.{events_in}
-use Rattle.channel_slots.proofs.RestLemmas.{all-rest-runs}
+use Rattle.channel_slots.proofs.RestLemmas.{all-rest-runs, rests-more}
+use Rattle.channel_slots.proofs.StayLemmas.{same-again, sound-as, goes-as}
 use Rattle.channel_slots.proofs.seats.run_all.Goals as goal
 
-pub returns-then-time-len-clause-runs : goal.returns-then-time-len-clause-runs
-returns-then-time-len-clause-runs g c =
-    all-rest-runs c.args.run.now.samples c.args.time _ _ c.args.rests_until c.args.seats.now
+pub run-requires-clause-sound : goal.run-requires-clause-sound
+run-requires-clause-sound c =
+    let same = c.loop-seat.invariant.same in
+    let time : ℕ = c.requires.sound.0 in
+    let reach : ℕ = c.requires.sound.1 in
+    let own : Seat = get_or c.loop-seat.seats c.loop-seat.seat-index c.seat-item.result in
+    let known : IsSound c.args.window.now time reach own.slot =
+    one-of (λ (p : Seat). IsSound c.args.window.now time reach p.slot) c.args.seats.now
+    c.loop-seat.seats c.loop-seat.seat-index c.seat-item.result c.loop-seat-test.true
+    c.loop-seat.invariant.rest c.requires.sound.3 in (
+      time,
+      reach,
+      omega (arith, c.requires.sound.2, same.end),
+      sound-as c.args.window.now c.loop-seat.window time reach own.slot same.first same.history
+          known,
+    )
+
+pub loop-seat-preserved : goal.loop-seat-preserved
+loop-seat-preserved c =
+    let loop = c.loop-seat.invariant in
+    record {
+      rest =
+          rest-more c.args.seats.now c.loop-seat.seats c.loop-seat.seat-index c.run.new.self
+          loop.rest;
+      runs =
+          runs-more c.args.window.now c.args.seats.now c.loop-seat.seats
+          c.loop-seat.seat-index c.seat-item.result c.run.new.self (events_in c.args.timeline.now)
+          (events_in c.loop-seat.timeline) (events_in c.run.new.timeline) c.loop-seat-test.true
+          (omega (arith, c.loop-seat-test.true, c.loop-seat.auto.seats))
+          loop.rest (goes-as c.args.window.now c.loop-seat.window _ _ _ _ loop.same
+          c.run.ensures.goes) loop.runs;
+      all_rest =
+          rests-more c.loop-seat.earliest _ c.loop-seat.seats c.loop-seat.seat-index
+          c.run.new.self (omega (arith, c.loop-seat-test.true, c.loop-seat.auto.seats))
+          (omega (arith, c.min-earliest.ensures))
+          (omega (arith, c.min-earliest.ensures, c.next_event.ensures.value))
+          loop.all_rest;
+      later = omega (
+        arith,
+        loop.later,
+        loop.same.end,
+        c.run.ensures.rests,
+        c.min-earliest.ensures,
+        c.next_event.ensures.value,
+      );
+      fits = omega (arith, loop.fits, c.run.ensures.goes.few);
+      same = same-again c.args.window.now c.loop-seat.window _ loop.same c.run.ensures.same;
+    }
+
+pub returns-then-end-next_event-clause-runs : goal.returns-then-end-next_event-clause-runs
+returns-then-end-next_event-clause-runs c =
+    all-rest-runs c.args.window.now c.args.next_event c.args.seats.now
     (events_in c.args.timeline.now) c.requires.rest
-    (omega (arith, c.if-time-len.true, c.len.ensures))
+    (omega (arith, c.if-end-next_event.true, c.end.ensures))

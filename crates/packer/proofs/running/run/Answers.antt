@@ -15,7 +15,7 @@ returns-in_err-buffer-clause-packs g c skip most all known shows stands =
     packs_without_memory (recipe_in c.args.packer.now) skip most all _ _ _ _ _
     c.from_residual.ensures.1
     (beginning (recipe_in c.args.packer.now) skip most all
-    (g.R.Read.remaining c.args.reader.now.inner) (g.W.Write.contents c.args.writer.now.inner)
+    (g.R.Source.remaining c.args.reader.now) (g.W.Sink.contents c.args.writer.now)
     c.args.window.now c.args.packer.now known shows stands refl)
 
 pub returns-in_err-written-clause-packs : goal.returns-in_err-written-clause-packs
@@ -23,17 +23,17 @@ returns-in_err-written-clause-packs g c skip most all known shows stands =
     packs_without_memory (recipe_in c.args.packer.now) skip most all _ _ _ _ _
     c.from_residual-in_err-written.ensures.1
     (beginning (recipe_in c.args.packer.now) skip most all
-    (g.R.Read.remaining c.args.reader.now.inner) (g.W.Write.contents c.args.writer.now.inner)
+    (g.R.Source.remaining c.args.reader.now) (g.W.Sink.contents c.args.writer.now)
     c.args.window.now c.args.packer.now known shows stands refl)
 
 pub returns-in_err-goes_on-clause-packs : goal.returns-in_err-goes_on-clause-packs
 returns-in_err-goes_on-clause-packs g c skip most all known shows stands =
     packs_at_error (recipe_in c.args.packer.now) (take most (drop skip all))
-    (g.W.Write.contents c.args.writer.now.inner) (g.W.Write.contents c.step.new.writer.inner)
+    (g.W.Sink.contents c.args.writer.now) (g.W.Sink.contents c.step.new.writer)
     c.from_residual-in_err-goes_on.result c.in_err-goes_on.field-0.0
     c.from_residual-in_err-goes_on.ensures.1
     (c.in_err-goes_on.ensures.fails (recipe_in c.args.packer.now) skip most all
-    (g.W.Write.contents c.args.writer.now.inner)
+    (g.W.Sink.contents c.args.writer.now)
     (c.loop-written.invariant.course skip most all known shows stands))
 
 pub loop-written-preserved : goal.loop-written-preserved
@@ -47,16 +47,16 @@ loop-written-preserved g c =
           c.in_ok-goes_on.ensures.goes_on
           (ap (λ (b : Bool). answer b) c.if-not-goes_on.false)
           (recipe_in c.args.packer.now) skip most all
-          (g.W.Write.contents c.args.writer.now.inner)
+          (g.W.Sink.contents c.args.writer.now)
           (c.loop-written.invariant.course skip most all known shows stands);
     }
 
 pub returns-then-not-goes_on-clause-packs : goal.returns-then-not-goes_on-clause-packs
 returns-then-not-goes_on-clause-packs g c skip most all known shows stands =
     packs_at_end (recipe_in c.args.packer.now) (take most (drop skip all))
-    (g.W.Write.contents c.args.writer.now.inner) (g.W.Write.contents c.step.new.writer.inner)
-    (g.W.Write.contents c.flush.new.writer.inner) c.flush.result
+    (g.W.Sink.contents c.args.writer.now) (g.W.Sink.contents c.step.new.writer)
+    (g.W.Sink.contents c.flush.new.writer) c.flush.result
     (c.in_ok-goes_on.ensures.ends (ap (λ (b : Bool). answer b) c.if-not-goes_on.true)
-    (recipe_in c.args.packer.now) skip most all (g.W.Write.contents c.args.writer.now.inner)
+    (recipe_in c.args.packer.now) skip most all (g.W.Sink.contents c.args.writer.now)
     (c.loop-written.invariant.course skip most all known shows stands))
     c.flush.ensures.bytes c.flush.ensures.fault

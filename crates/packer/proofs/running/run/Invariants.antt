@@ -2,7 +2,8 @@ use Rattle.std.proofs.Common.{◌≡◌, ℕ, List, [], Some, length}
 use Rattle.recordings.specs.Packers.{StandsFor, recipe_in}
 use Rattle.recordings.specs.Windows.{Shows}
 use Rattle.recordings.specs.declared.packer.TheConstants.{MOST_PIECE}
-use Rattle.packer.specs.Devices.{NoneFailed, devices_at}
+use Rattle.devices.specs.Moments.{devices_at}
+use Rattle.packer.specs.Devices.{NoneFailed}
 use Rattle.packer.specs.Runs.{IsCourse, bytes_ahead}
 use Rattle.packer.proofs.running.run.Given as goal
 
@@ -10,13 +11,13 @@ abbrev pub invariant-loop-written : goal.invariant-loop-written
 invariant-loop-written g l = record {
   room : length l.buffer.items ≡ MOST_PIECE;
   none_failed : NoneFailed
-      (devices_at g.R.Read.remaining g.W.Write.contents l.fn.reader l.fn.writer)
-      (devices_at g.R.Read.remaining g.W.Write.contents l.reader l.writer);
-  course : (skip most : ℕ) (all : List ℕ) → g.R.Read.remaining l.fn.reader.inner ≡ Some all
+      (devices_at g.R.Source g.W.Sink l.fn.reader l.fn.writer)
+      (devices_at g.R.Source g.W.Sink l.reader l.writer);
+  course : (skip most : ℕ) (all : List ℕ) → g.R.Source.remaining l.fn.reader ≡ Some all
       → Shows skip most [] [] l.fn.window → StandsFor [] [] l.fn.packer
       → IsCourse (recipe_in l.fn.packer) skip most all
-      (g.W.Write.contents l.fn.writer.inner) (g.R.Read.remaining l.reader.inner)
-      (g.W.Write.contents l.writer.inner) l.window l.packer;
+      (g.W.Sink.contents l.fn.writer) (g.R.Source.remaining l.reader)
+      (g.W.Sink.contents l.writer) l.window l.packer;
 }
 
 abbrev pub decreases-loop-written : goal.decreases-loop-written

@@ -11,8 +11,8 @@ use Rattle.packer.proofs.running.step.Goals as goal
 
 pub returns-then-is_over-clause-ends : goal.returns-then-is_over-clause-ends
 returns-then-is_over-clause-ends g c ok recipe skip most all start course =
-    ends-over recipe skip most all start (g.R.Read.remaining c.args.reader.now.inner)
-    (g.W.Write.contents c.args.writer.now.inner) c.args.window.now c.args.packer.now course
+    ends-over recipe skip most all start (g.R.Source.remaining c.args.reader.now)
+    (g.W.Sink.contents c.args.writer.now) c.args.window.now c.args.packer.now course
     (c.is_over.ensures.0 c.if-is_over.true)
 
 pub returns-in_err-count-clause-fails : goal.returns-in_err-count-clause-fails
@@ -20,9 +20,9 @@ returns-in_err-count-clause-fails g c =
     broken c.from_residual.result c.in_err-count.field-0.0 _ c.from_residual.ensures.1
     (λ recipe skip most all start course. record {
       front =
-          front_of_course recipe skip most all start (g.R.Read.remaining c.args.reader.now.inner)
-          (g.W.Write.contents c.args.writer.now.inner) _ c.args.window.now c.args.packer.now course
-          (Keeps-refl (g.W.Write.contents c.args.writer.now.inner));
+          front_of_course recipe skip most all start (g.R.Source.remaining c.args.reader.now)
+          (g.W.Sink.contents c.args.writer.now) _ c.args.window.now c.args.packer.now course
+          (Keeps-refl (g.W.Sink.contents c.args.writer.now));
       number = λ e numbers.
           let clash : Input ≡ NotANumber = sym c.in_err-count.ensures.fault ∙ e in cc;
     })
@@ -32,14 +32,14 @@ returns-in_err-take-clause-fails g c =
     broken c.from_residual-in_err-take.result _ _ c.from_residual-in_err-take.ensures.1
     (λ recipe skip most all start course. record {
       front =
-          front_of_course recipe skip most all start (g.R.Read.remaining c.args.reader.now.inner)
-          (g.W.Write.contents c.args.writer.now.inner) _ c.args.window.now c.args.packer.now course
-          (Keeps-refl (g.W.Write.contents c.args.writer.now.inner));
+          front_of_course recipe skip most all start (g.R.Source.remaining c.args.reader.now)
+          (g.W.Sink.contents c.args.writer.now) _ c.args.window.now c.args.packer.now course
+          (Keeps-refl (g.W.Sink.contents c.args.writer.now));
       number = λ e.
           none_in_stretch recipe skip most all start
-          (g.R.Read.remaining c.args.reader.now.inner)
-          (g.R.Read.remaining c.read.new.reader.inner)
-          (g.W.Write.contents c.args.writer.now.inner) c.args.window.now c.part.new.self
+          (g.R.Source.remaining c.args.reader.now)
+          (g.R.Source.remaining c.read.new.reader)
+          (g.W.Sink.contents c.args.writer.now) c.args.window.now c.part.new.self
           c.args.packer.now (take c.in_ok-count.count c.read.new.buffer) c.part.result.now course
           c.in_ok-count.ensures.bytes.0 (c.part.ensures.shows skip most)
           (c.in_err-take.ensures.fault
@@ -58,9 +58,9 @@ returns-in-Ok-clause-fewer g c ok =
 
 pub returns-in-Ok-clause-goes_on : goal.returns-in-Ok-clause-goes_on
 returns-in-Ok-clause-goes_on g c ok recipe skip most all start course =
-    one_more recipe skip most all start (g.R.Read.remaining c.args.reader.now.inner)
-    (g.R.Read.remaining c.read.new.reader.inner) (g.W.Write.contents c.args.writer.now.inner)
-    (g.W.Write.contents c.write_all.new.self.inner) c.args.window.now c.part.new.self
+    one_more recipe skip most all start (g.R.Source.remaining c.args.reader.now)
+    (g.R.Source.remaining c.read.new.reader) (g.W.Sink.contents c.args.writer.now)
+    (g.W.Sink.contents c.write_all.new.writer) c.args.window.now c.part.new.self
     c.args.packer.now c.take.new.self (take c.in_ok-count.count c.read.new.buffer)
     c.part.result.now c.take.new.written.items course c.in_ok-count.ensures.bytes.0
     (c.part.ensures.shows skip most) c.in_ok-take.ensures.stands c.in_ok-take.ensures.recipe
@@ -69,9 +69,9 @@ returns-in-Ok-clause-goes_on g c ok recipe skip most all start course =
 pub returns-in-Err-clause-fails : goal.returns-in-Err-clause-fails
 returns-in-Err-clause-fails g c recipe skip most all start course = record {
   front =
-      front_of_more recipe skip most all start (g.R.Read.remaining c.args.reader.now.inner)
-      (g.R.Read.remaining c.read.new.reader.inner) (g.W.Write.contents c.args.writer.now.inner)
-      (g.W.Write.contents c.write_all.new.self.inner) c.args.window.now c.part.new.self
+      front_of_more recipe skip most all start (g.R.Source.remaining c.args.reader.now)
+      (g.R.Source.remaining c.read.new.reader) (g.W.Sink.contents c.args.writer.now)
+      (g.W.Sink.contents c.write_all.new.writer) c.args.window.now c.part.new.self
       c.args.packer.now c.take.new.self (take c.in_ok-count.count c.read.new.buffer)
       c.part.result.now c.take.new.written.items course c.in_ok-count.ensures.bytes.0
       (c.part.ensures.shows skip most) c.in_ok-take.ensures.stands c.in_ok-take.ensures.recipe

@@ -1,11 +1,10 @@
 use Rattle.std.proofs.Common.{◌≡◌, ◌∙◌, ℕ, ◌+◌, ◌≤◌, List, ◌++◌, length, take, drop, ap, sym}
 use Rattle.std.proofs.Common.{subst, append-nil, append_assoc, arith, refl}
-use Rattle.std.proofs.lemmas.List.{take-append-drop}
+use Rattle.std.proofs.lemmas.List.{take-append-drop, length-drop, length-take-le}
 use Rattle.std.proofs.lemmas.Result.{MatchResult-from_err}
 use Rattle.sample_planes.specs.PackedRuns.{PackedRun, front_of, back_of}
 use Rattle.definitions.specs.Samples.{Sample}
 use Rattle.channel_slots.proofs.TellingLemmas.{take_part}
-use Rattle.channels.proofs.PartLemmas.{part-length}
 use Rattle.receiver.specs.Runs.{IsWrittenTo}
 use Rattle.receiver.proofs.PartLemmas.{body-part-longer}
 use Rattle.receiver.specs.Sessions.{time_of}
@@ -20,7 +19,8 @@ same-samples r s e = ap (λ (t : PackedRun). t.samples) e
 part-many : (part run : PackedRun) (first len : ℕ) → part ≡ front_of len (back_of first run)
     → first + len ≤ length run.samples → length part.samples ≡ len
 part-many part run first len e within =
-    ap length (same-samples part _ e) ∙ part-length run.samples first len within
+    ap length (same-samples part _ e)
+    ∙ length-take-le len (drop first run.samples) (rw length-drop (omega (arith, within)))
 
 -- a part of the piece after those before it
 behind : (xs piece : List Sample) (n m : ℕ)

@@ -6,7 +6,8 @@ use Rattle.definitions.specs.Lines.{as_bytes}
 use Rattle.definitions.specs.Receiver.{body, answer_lines}
 use Rattle.definitions.specs.Runs.{clients_of}
 use Rattle.receiver.specs.Outputs.{held, promised}
-use Rattle.receiver.specs.Runs.{task_of, samples_read, devices_at, text_for, BrokeOff, Ran}
+use Rattle.devices.specs.Moments.{devices_at}
+use Rattle.receiver.specs.Runs.{task_of, samples_read, text_for, BrokeOff, Ran}
 use Rattle.receiver.specs.Texts.{AppendsPart}
 use Rattle.receiver.proofs.HeldLemmas.{none-held, unheld}
 use Rattle.receiver.proofs.OutputLemmas.{at-end, writes-then, writes-from}

@@ -4,7 +4,8 @@ use Rattle.std.specs.Prelude.{replicate}
 use Rattle.std.specs.List.{slice_range}
 use Rattle.std.proofs.lemmas.List.{length-map, take-replicate}
 use Rattle.receiver.specs.Clients.{four_each}
-use Rattle.receiver.specs.Runs.{IsRun, task_of, devices_at}
+use Rattle.devices.specs.Moments.{devices_at}
+use Rattle.receiver.specs.Runs.{IsRun, task_of}
 use Rattle.receiver.proofs.TableLemmas.{without-clients}
 use Rattle.receiver.proofs.running.run_to.Goals as goal
 

@@ -1,4 +1,5 @@
 use Rattle.std.proofs.Common.{arith}
+use Rattle.acquisition.proofs.CellLemmas.{small_cells, table_sizes}
 use Rattle.acquisition.proofs.TableLemmas.{total_size}
 use Rattle.acquisition.proofs.period_sums.PeriodSums.fill.Goals as goal
 
@@ -29,6 +30,16 @@ invariant_of-self-clause-quadrature_small g c is =
       total_size 2046 c.fill.new.self.quadrature.sums,
       (c.is_small-self.ensures.0 is).quadrature,
     ))
+
+pub invariant_of-self-clause-in_phase_cells : goal.invariant_of-self-clause-in_phase_cells
+invariant_of-self-clause-in_phase_cells g c =
+    small_cells c.fill.new.self.in_phase.sums _ _ (table_sizes c.fill.new.self.in_phase)
+    c.set.ensures c.whole-self.ensures.in_phase
+
+pub invariant_of-self-clause-quadrature_cells : goal.invariant_of-self-clause-quadrature_cells
+invariant_of-self-clause-quadrature_cells g c =
+    small_cells c.fill.new.self.quadrature.sums _ _ (table_sizes c.fill.new.self.quadrature)
+    c.set-2.ensures c.whole-self.ensures.quadrature
 
 pub returns : goal.returns
 returns g c x from code carrier same = record {

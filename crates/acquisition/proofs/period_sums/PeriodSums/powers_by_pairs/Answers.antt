@@ -11,7 +11,7 @@ use Rattle.acquisition.specs.Replicas.{phases}
 use Rattle.acquisition.specs.Rings.{IsPairAtOnes}
 use Rattle.acquisition.specs.declared.chip_ring.TheConstants.{RAISED}
 use Rattle.acquisition.specs.declared.sums.TheConstants.{MOST_PERIOD_POWER}
-use Rattle.acquisition.proofs.CellLemmas.{cell_sum, small_sum, IsCellSum}
+use Rattle.acquisition.proofs.CellLemmas.{is_cell_sum, small_sum, table_sizes, IsCellSum}
 use Rattle.acquisition.proofs.FoldLemmas.{fold_power}
 use Rattle.acquisition.proofs.PairLemmas.{pair_is, IsPairOf}
 use Rattle.acquisition.proofs.PowerLemmas.{AreEach, each-none, each-sixteen}
@@ -34,12 +34,14 @@ power c i lane inside is x step carrier_step from n of =
     let second : ℤ =
     sums.whole.quadrature -ℤ pos 2 *ℤ (pos is.of_second -ℤ pos (RAISED * ones.count)) in
     let at_first : IsCellSum ones.prn (c.args.half + i) of.fold.in_phase.sums first =
-    cell_sum ones c.args.half i is.of_first of.fold.in_phase sums.in_phase.chips
-    sums.whole.in_phase first c.requires.half inside of.in_phase of.whole.in_phase
+    is_cell_sum ones c.args.half i is.of_first of.fold.in_phase.sums sums.in_phase.chips
+    sums.whole.in_phase first c.requires.half inside (table_sizes of.fold.in_phase)
+    of.in_phase of.whole.in_phase
     is.is_first refl in
     let at_second : IsCellSum ones.prn (c.args.half + i) of.fold.quadrature.sums second =
-    cell_sum ones c.args.half i is.of_second of.fold.quadrature sums.quadrature.chips
-    sums.whole.quadrature second c.requires.half inside of.quadrature of.whole.quadrature
+    is_cell_sum ones c.args.half i is.of_second of.fold.quadrature.sums sums.quadrature.chips
+    sums.whole.quadrature second c.requires.half inside (table_sizes of.fold.quadrature)
+    of.quadrature of.whole.quadrature
     is.is_second refl in
     let small = of.small c.requires.small in
     let pair : IsPairOf (cell_pair c.raised_whole-whole.result lane) first second =

@@ -1,6 +1,7 @@
 use Rattle.std.proofs.Common.{◌∙◌, ℕ, List, sym, refl}
 use Rattle.channel_slots.specs.declared.seat.Seat.{Seat}
 use Rattle.channel_slots.specs.Banks.{HasDone}
+use Rattle.channel_slots.specs.BankStates.{time_of}
 use Rattle.channel_slots.proofs.CommandLemmas.{stands-at}
 use Rattle.channel_slots.proofs.CellLemmas.{cells-at, cells-nowhere, cells-shown}
 use Rattle.channel_slots.proofs.ShareLemmas.{once-of, nowhere}
@@ -11,7 +12,8 @@ returns-in_err-at-clause-done c =
     let ps : List Seat = c.args.self.now.seats.items.items in
     let shares : List ℕ = c.args.self.now.shares.items in
     c.from_residual.ensures ∙ sym (cells-nowhere ps c.args.client c.args.slot
-    (nowhere shares ps c.args.client c.args.slot c.args.self.now.keys (c.in_err-at.ensures.none refl)))
+    (nowhere shares ps c.args.client c.args.slot c.args.self.now.keys
+    (c.in_err-at.ensures.none refl)))
 
 pub returns-clause-done : goal.returns-clause-done
 returns-clause-done c =
@@ -28,6 +30,6 @@ returns-clause-shown c settings xs asked s has =
     rw c.deref.ensures.value at c.cells_done_at.ensures in
     d.done_is ∙ cells-shown settings xs _ d.seat.slot
     (stands-at settings xs asked ps c.in_ok-at.at c.args.client c.args.slot
-    c.args.self.now.time d.seat d.seat
+    (time_of c.args.self.now) d.seat d.seat
     (once-of c.args.self.now.shares.items ps c.args.self.now.keys) c.in_ok-at.ensures.there d.is
     s.slots)

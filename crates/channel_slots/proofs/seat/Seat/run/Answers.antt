@@ -1,160 +1,150 @@
-use Rattle.std.proofs.Common.{◌≡◌, ◌≤◌, ◌+◌, ◌-◌, arith, ℕ, List, [], length, refl, sym}
-use Rattle.std.proofs.Common.{length-append}
-use Rattle.definitions.specs.Samples.{Sample}
-use Rattle.channels.specs.Parts.{part}
-use Rattle.channel_slots.specs.NewsEvents.{events_with}
+use Rattle.std.proofs.Common.{◌≤◌, ◌<◌, ◌+◌, ℕ, [], ◌++◌, length, refl, sym}
+use Rattle.std.proofs.Common.{arith}
+use Rattle.channels.specs.declared.window.Window.{Window}
+use Rattle.channels.specs.Windows.{dump_of, end_of}
+use Rattle.channels.proofs.OverLemmas.{over-same}
+use Rattle.channel_slots.specs.NewsEvents.{events_with, time_of}
 use Rattle.channel_slots.specs.Timelines.{events_in}
-use Rattle.channel_slots.specs.Slots.{chances}
+use Rattle.channel_slots.specs.Slots.{chances, next_event}
 use Rattle.channel_slots.specs.declared.slot.TheConstants.{SLOT_EVENTS}
-use Rattle.channel_slots.proofs.SeatLemmas.{seated}
+use Rattle.channel_slots.proofs.ChanceLemmas.{one-chance}
+use Rattle.channel_slots.proofs.GoesLemmas.{begins, goes-to, goes}
 use Rattle.channel_slots.proofs.OrderLemmas.{put-nothing}
 use Rattle.channel_slots.proofs.PutLemmas.{put-count}
-use Rattle.channel_slots.proofs.RestLemmas.{seat-rests}
-use Rattle.channel_slots.proofs.TakenLemmas.{taken-length, time-there}
-use Rattle.channel_slots.proofs.TellingLemmas.{goes-begin, goes-on, one-chance}
+use Rattle.channel_slots.proofs.ReadyLemmas.{sound-later}
+use Rattle.channel_slots.proofs.StayLemmas.{same-again, sound-as, stands-before}
 use Rattle.channel_slots.proofs.seat.Seat.run.Goals as goal
 
-pub loop-done-init : goal.loop-done-init
-loop-done-init g c = record {
-  within = omega arith;
-  room = λ some. omega (arith, one-chance (c.args.time + 0) c.args.self.now.slot);
-  goes = goes-begin c.args.time c.args.self.now (events_in c.args.timeline.now) _ _;
+pub loop-self-init : goal.loop-self-init
+loop-self-init c = record {
+  goes = begins c.args.window.now c.args.self.now (events_in c.args.timeline.now);
+  few = omega arith;
+  room = λ _. omega (arith, one-chance c.args.self.now.slot);
+  same = record { first = refl; end = refl; history = refl; stands = λ xs s. s };
 }
 
-pub take-count-requires-clause-sound : goal.take-count-requires-clause-sound
-take-count-requires-clause-sound g c =
-    let within : c.loop-done.done ≤ length c.args.run.now =
-    omega (arith, c.len-len.ensures.count, c.loop-done.invariant.within) in
-    let now =
-    time-there c.args.run.now c.loop-done.done c.args.time
-    (g.S.SampleSource.to c.args.source.now) within c.requires.to in
-    (c.requires.sound.0, rw now (c.loop-done.invariant.goes.sound _ _ c.requires.sound.1))
+pub take-requires-clause-taken : goal.take-requires-clause-taken
+take-requires-clause-taken c = omega (arith, c.end-end.ensures, c.loop-self.invariant.same.end)
 
-pub loop-done-preserved-in-Some : goal.loop-done-preserved-in-Some
-loop-done-preserved-in-Some g c =
-    let run : List Sample = c.args.run.now in
-    let done : ℕ = c.loop-done.done in
-    let took = c.take-count in
-    let news = c.in-Some.news in
-    let zs : List Sample = part run done took.result.0 in
-    let is : took.result.0 ≡ length zs =
-    sym (taken-length run done took.result.0 took.result.1
-    (omega (arith, c.loop-done-test.true, c.len-len.ensures.count)) took.ensures.as_far) in
-    let here : ℕ = c.args.time + (done + took.result.0) in
-    let now : g.S.SampleSource.to c.args.source.now - (length run - done) ≡ c.args.time + done =
-    omega (arith, c.requires.to, c.len-len.ensures.count, c.loop-done-test.true) in
-    let later : c.args.time + done + took.result.0 ≡ here = omega arith in
-    let before : here - length zs ≡ c.args.time + done = omega (arith, is) in
-    let many =
-    put-count c.loop-done.self.client c.loop-done.self.number here (events_with news took.new.dump)
-    (events_in c.loop-done.timeline) (events_in c.put_news.new.self) c.put_news.ensures in
-    let room : length (events_in c.put_news.new.self) + chances here took.new.self
-    ≤ length (events_in c.args.timeline.now) + SLOT_EVENTS =
+pub take-requires-clause-sound : goal.take-requires-clause-sound
+take-requires-clause-sound c =
+    let same = c.loop-self.invariant.same in
+    let reach : ℕ = c.requires.sound.1 in
+    let come = c.loop-self.invariant.goes.sound c.requires.sound.0 reach c.requires.sound.2
+    c.requires.sound.3 in (
+      come.time,
+      reach,
+      omega (arith, come.within, c.end-end.ensures),
+      sound-as c.args.window.now c.loop-self.window come.time reach c.loop-self.self.slot
+          same.first same.history come.sound,
+    )
+
+pub put_news-requires : goal.put_news-requires
+put_news-requires c = omega (arith, c.loop-self.invariant.few, c.requires.fits)
+
+pub loop-self-smaller-in-Some : goal.loop-self-smaller-in-Some
+loop-self-smaller-in-Some c =
+    let took = c.take.ensures in
+    let due : ℕ = time_of c.in-Some.news in
     omega (
       arith,
-      many,
-      rw (c.in-Some.is, now, later) at took.ensures.chances,
-      c.loop-done.invariant.room c.loop-done-test.true,
-    ) in
+      c.loop-self-test.true,
+      c.next_event.ensures.value,
+      rw c.in-Some.is at took.goes_on,
+      rw c.in-Some.is at took.later,
+    )
+
+pub loop-self-preserved-in-Some : goal.loop-self-preserved-in-Some
+loop-self-preserved-in-Some c =
+    let first : Window = c.args.window.now in
+    let old : Window = c.loop-self.window in
+    let new : Window = c.take.new.window in
+    let same = c.loop-self.invariant.same in
+    let still = same-again first old new same c.take.ensures.same in
+    let news = c.in-Some.news in
+    let emits = rw c.in-Some.is at c.take.ensures.emits in
+    let sound = rw c.in-Some.is at c.take.ensures.sound in
+    let within = rw c.in-Some.is at c.take.ensures.within in
+    let few = rw c.in-Some.is at c.take.ensures.chances in
+    let put = rw c.dump.ensures at c.put_news.ensures in
+    let near : next_event c.loop-self.self.slot ≤ c.end-end.result =
+    omega (arith, c.loop-self-test.true, c.next_event.ensures.value) in
+    let due = rw c.in-Some.is at c.take.ensures.later in
+    let many =
+    put-count c.loop-self.self.client c.loop-self.self.number (time_of news)
+    (events_with news (dump_of new)) (events_in c.loop-self.timeline)
+    (events_in c.put_news.new.self) put in
+    let room : length (events_in c.put_news.new.self) + chances c.take.new.self
+    ≤ length (events_in c.args.timeline.now) + SLOT_EVENTS =
+    omega (arith, many, few, c.loop-self.invariant.room near) in
     record {
-      within = omega (
-        arith,
-        took.ensures.as_far.within,
-        c.len-len.ensures.count,
-        c.loop-done-test.true,
-      );
-      room = λ more. room;
-      goes = goes-on run done took.result.0 c.args.time _ _ c.args.self.now c.loop-done.self _
-          (events_in c.args.timeline.now) (events_in c.loop-done.timeline)
-          (events_in c.put_news.new.self)
-          took.ensures.as_far.some
-          (omega (
-            arith,
-            took.ensures.as_far.within,
-            c.len-len.ensures.count,
-            c.loop-done-test.true,
-          ))
-          c.loop-done.invariant.goes
-          (record {
-            events = _;
-            steps = seated zs here _ _ c.loop-done.self _ (events_with news took.new.dump) refl refl
-                (λ from reach sound.
-                rw (now, later) at (took.ensures.sound from reach) (rw before at sound))
-                (λ settings xs commands whole samples s.
-                rw c.in-Some.is at took.ensures.tells settings xs commands
-                (omega (
-                  arith,
-                  whole,
-                  length-append xs zs,
-                  is,
-                  now,
-                  c.loop-done-test.true,
-                  c.len-len.ensures.count,
-                  c.requires.to,
-                )) samples s);
-            added = c.put_news.ensures;
-          })
-          (omega (arith, room));
+      goes = goes-to first c.args.self.now c.loop-self.self _ (events_in c.args.timeline.now)
+          (events_in c.loop-self.timeline) (events_in c.put_news.new.self)
+          (events_with news (dump_of new)) (time_of news) c.loop-self.invariant.goes due
+          (omega (arith, within, c.end-end.ensures))
+          (λ settings xs ys commands some now over s.
+          emits settings xs ys commands some now (over-same (xs ++ ys) first old same over) s)
+          (λ settings xs commands s. stands-before settings xs commands c.loop-self.self.slot first
+          (omega (arith, near, c.end-end.ensures)) s)
+          (λ time reach known. sound-as new first (time_of news) reach c.take.new.self
+          (sym still.first) (sym still.history)
+          (sound time reach (sound-as first old time reach c.loop-self.self.slot same.first
+          same.history known))) refl refl put;
+      few = omega (arith, room);
+      room = λ _. room;
+      same = still;
     }
 
-pub loop-done-preserved : goal.loop-done-preserved
-loop-done-preserved g c =
-    let run : List Sample = c.args.run.now in
-    let done : ℕ = c.loop-done.done in
-    let took = c.take-count in
-    let zs : List Sample = part run done took.result.0 in
-    let is : took.result.0 ≡ length zs =
-    sym (taken-length run done took.result.0 took.result.1
-    (omega (arith, c.loop-done-test.true, c.len-len.ensures.count)) took.ensures.as_far) in
-    let here : ℕ = c.args.time + (done + took.result.0) in
-    let now : g.S.SampleSource.to c.args.source.now - (length run - done) ≡ c.args.time + done =
-    omega (arith, c.requires.to, c.len-len.ensures.count, c.loop-done-test.true) in
-    let later : c.args.time + done + took.result.0 ≡ here = omega arith in
-    let before : here - length zs ≡ c.args.time + done = omega (arith, is) in
-    let whole : took.result.0 ≡ length run - done =
-    took.ensures.as_far.whole (rw c.in_default.is refl) in
+pub loop-self-smaller : goal.loop-self-smaller
+loop-self-smaller c =
+    omega (
+      arith,
+      c.loop-self-test.true,
+      c.next_event.ensures.value,
+      rw c.in_default.is at c.take.ensures.goes_on,
+    )
+
+pub loop-self-preserved : goal.loop-self-preserved
+loop-self-preserved c =
+    let first : Window = c.args.window.now in
+    let old : Window = c.loop-self.window in
+    let new : Window = c.take.new.window in
+    let same = c.loop-self.invariant.same in
+    let still = same-again first old new same c.take.ensures.same in
+    let emits = rw c.in_default.is at c.take.ensures.emits in
+    let sound = rw c.in_default.is at c.take.ensures.sound in
+    let gone = rw c.in_default.is at c.take.ensures.goes_on in
+    let near : next_event c.loop-self.self.slot ≤ c.end-end.result =
+    omega (arith, c.loop-self-test.true, c.next_event.ensures.value) in
     record {
-      within = omega (
-        arith,
-        took.ensures.as_far.within,
-        c.len-len.ensures.count,
-        c.loop-done-test.true,
-      );
-      room = λ more. absurd (omega (arith, more, whole, c.len-len.ensures.count));
-      goes = goes-on run done took.result.0 c.args.time _ _ c.args.self.now c.loop-done.self _
-          (events_in c.args.timeline.now) (events_in c.loop-done.timeline)
-          (events_in c.loop-done.timeline)
-          took.ensures.as_far.some
-          (omega (
-            arith,
-            took.ensures.as_far.within,
-            c.len-len.ensures.count,
-            c.loop-done-test.true,
-          ))
-          c.loop-done.invariant.goes
-          (record {
-            events = [];
-            steps = seated zs here _ _ c.loop-done.self _ [] refl refl
-                (λ from reach sound.
-                rw (now, later) at (took.ensures.sound from reach) (rw before at sound))
-                (λ settings xs commands all samples s.
-                rw c.in_default.is at took.ensures.tells settings xs commands
-                (omega (
-                  arith,
-                  all,
-                  length-append xs zs,
-                  is,
-                  now,
-                  c.loop-done-test.true,
-                  c.len-len.ensures.count,
-                  c.requires.to,
-                )) samples s);
-            added = put-nothing _ _;
-          })
-          (omega (arith, c.loop-done.invariant.room c.loop-done-test.true));
+      goes = goes-to first c.args.self.now c.loop-self.self _ (events_in c.args.timeline.now)
+          (events_in c.loop-self.timeline) (events_in c.loop-self.timeline) [] c.end-end.result
+          c.loop-self.invariant.goes near (omega (arith, c.end-end.ensures))
+          (λ settings xs ys commands some now over s.
+          emits settings xs ys commands some now (over-same (xs ++ ys) first old same over) s)
+          (λ settings xs commands s. stands-before settings xs commands c.loop-self.self.slot first
+          (omega (arith, near, c.end-end.ensures)) s)
+          (λ time reach known. sound-as new first c.end-end.result reach c.take.new.self
+          (sym still.first) (sym still.history)
+          (sound time reach (sound-as first old time reach c.loop-self.self.slot same.first
+          same.history known))) refl refl (put-nothing _ _);
+      few = c.loop-self.invariant.few;
+      room = λ more. absurd (omega (arith, more, gone));
+      same = still;
     }
 
-pub returns-then-time-len : goal.returns-then-time-len
-returns-then-time-len g c =
-    seat-rests c.args.run.now c.args.time _ _ c.args.self.now (events_in c.args.timeline.now)
-    (omega (arith, c.if-time-len.true, c.len-len.ensures.count, c.rests_until.ensures))
+pub returns-clause-goes : goal.returns-clause-goes
+returns-clause-goes c =
+    let w : Window = c.args.window.now in
+    let next : end_of w < next_event c.loop-self.self.slot =
+    omega (arith, c.loop-self-test.false, c.next_event.ensures.value, c.end-end.ensures) in
+    goes w c.args.self.now c.loop-self.self (events_in c.args.timeline.now)
+    (events_in c.loop-self.timeline) c.loop-self.invariant.goes
+    (omega (arith, c.loop-self.invariant.few))
+    (λ settings xs ys commands s some now. c.next_event.ensures.quiet settings xs ys commands s
+    some (omega (arith, now, c.loop-self-test.false, c.end-end.ensures)))
+    (λ time reach early known. sound-later w time (end_of w) reach c.loop-self.self.slot early
+    next known)
+
+pub returns-clause-same : goal.returns-clause-same
+returns-clause-same c = c.loop-self.invariant.same

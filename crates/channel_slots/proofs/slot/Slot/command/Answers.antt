@@ -1,7 +1,11 @@
-use Rattle.std.proofs.Common.{ℕ, ap, arith, refl, subst, sym, ◌∙◌}
+use Rattle.std.proofs.Common.{ℕ, ap, arith, refl, subst, sym, ◌∙◌, true, false}
 use Rattle.std.specs.Prelude.{Some, None}
 use Rattle.channels.specs.Searching.{Searches}
 use Rattle.slot_protocol.specs.Commands.{request_in}
+use Rattle.channel_slots.specs.Stages.{most_wait}
+use Rattle.channel_slots.proofs.ReadyLemmas.{search-begins-sound, channel-begins-sound}
+use Rattle.channel_slots.proofs.ReadyLemmas.{search-begins-quiet, channel-begins-quiet}
+use Rattle.channel_slots.proofs.ReadyLemmas.{idle-is-quiet}
 use Rattle.channel_slots.proofs.SearchLemmas.{starts-searched}
 use Rattle.channel_slots.proofs.SlotLemmas.{idle-now, life-now, has-life, answers, stays-idle}
 use Rattle.channel_slots.proofs.SlotLemmas.{becomes-idle, prints, shown-stays}
@@ -13,7 +17,7 @@ returns-in-Acquire-clause-stands c xs commands now s =
     rw (ap request_in c.in-Acquire.is) (c.start-in-Acquire.ensures.stands _ xs commands _ s
     (starts-searched _ xs _ c.start.result c.in-Acquire.plan refl refl
     (subst (λ (n : ℕ). Searches c.args.settings.now c.in-Acquire.plan n xs c.start.result)
-    (sym now) (c.start.ensures.stands xs now)) c.start.ensures.begins.waits))
+    (sym now) (c.start.ensures.stands xs now)) (omega (arith, now, c.start.ensures.begins.waits))))
 
 pub returns-in-Hold-clause-stands : goal.returns-in-Hold-clause-stands
 returns-in-Hold-clause-stands c xs commands now s =
@@ -75,24 +79,36 @@ returns-else-is_idle-2-clause-stands c xs commands now s =
 
 pub returns-in-Acquire-clause-sound : goal.returns-in-Acquire-clause-sound
 returns-in-Acquire-clause-sound c first later sound =
-    c.start-in-Acquire.ensures.sound first _ _ sound (
-      omega (arith, later, c.start.ensures.begins.begun),
-      omega (arith, c.start.ensures.begins.left),
-      c.start.ensures.begins.waits,
-      omega (
-        arith,
-        c.start.ensures.begins.left,
-        c.start.ensures.begins.near,
-        c.start.ensures.begins.begun,
-      ),
-    )
+    c.start-in-Acquire.ensures.sound first _ _ sound
+    (search-begins-sound _ c.in-Acquire.plan first _ c.start.result later c.start.ensures.begins)
 
 pub returns-in-Hold-clause-sound : goal.returns-in-Hold-clause-sound
 returns-in-Hold-clause-sound c first later sound =
     c.start-in-Hold.ensures.sound first _ _ sound
-    (omega (arith, c.hold.ensures.begins.dumps, c.hold.ensures.begins.taken))
+    (channel-begins-sound false first c.args.time (most_wait c.args.settings.now) c.hold.result
+    later c.hold.ensures.begins)
 
 pub returns-in-Track-clause-sound : goal.returns-in-Track-clause-sound
 returns-in-Track-clause-sound c first later sound =
     c.start-in-Track.ensures.sound first _ _ sound
-    (omega (arith, c.track.ensures.begins.dumps, c.track.ensures.begins.taken))
+    (channel-begins-sound true first c.args.time (most_wait c.args.settings.now) c.track.result
+    later c.track.ensures.begins)
+
+pub returns-in-Acquire-clause-waits : goal.returns-in-Acquire-clause-waits
+returns-in-Acquire-clause-waits c before =
+    c.start-in-Acquire.ensures.waits _ before
+    (search-begins-quiet _ c.in-Acquire.plan _ c.start.result c.start.ensures.begins)
+
+pub returns-in-Hold-clause-waits : goal.returns-in-Hold-clause-waits
+returns-in-Hold-clause-waits c before =
+    c.start-in-Hold.ensures.waits _ before
+    (channel-begins-quiet false _ c.hold.result c.hold.ensures.begins)
+
+pub returns-in-Track-clause-waits : goal.returns-in-Track-clause-waits
+returns-in-Track-clause-waits c before =
+    c.start-in-Track.ensures.waits _ before
+    (channel-begins-quiet true _ c.track.result c.track.ensures.begins)
+
+pub returns-else-is_idle-2-clause-waits : goal.returns-else-is_idle-2-clause-waits
+returns-else-is_idle-2-clause-waits c before =
+    idle-is-quiet _ c.new.result.stage c.new.ensures.idle (omega (arith, c.requires))

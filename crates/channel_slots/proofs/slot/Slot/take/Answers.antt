@@ -1,134 +1,201 @@
-use Rattle.std.proofs.Common.{◌≡◌, ◌+◌, ◌<◌, ◌-◌, ◌++◌, ◌∙◌, ℕ, List, length, refl, ap, subst}
-use Rattle.std.proofs.Common.{arith, length-append, false}
-use Rattle.std.specs.Prelude.{Bool, nat_lt, Some, None}
-use Rattle.definitions.specs.Acquisition.{Plan}
+use Rattle.std.proofs.Common.{◌≡◌, ℕ, List, [], ◌++◌, length, refl, ap, ◌∙◌, arith, append-nil}
+use Rattle.std.proofs.Common.{false}
+use Rattle.std.specs.Prelude.{Some, None}
 use Rattle.definitions.specs.Samples.{Sample}
-use Rattle.channels.specs.Parts.{part}
-use Rattle.channels.specs.FollowedChannels as followed
-use Rattle.channels.specs.FollowedChannels.{taken_of}
-use Rattle.channels.proofs.PartLemmas.{part-some}
-use Rattle.channel_slots.specs.Stages.{is_idle, IsSettled}
+use Rattle.definitions.specs.Acquisition.{Plan}
+use Rattle.channels.specs.Windows.{first_of, dump_of}
+use Rattle.channel_slots.specs.Stages.{is_idle}
 use Rattle.channel_slots.specs.declared.slot_news.SlotNews.TheVariants.{Dump}
-use Rattle.channel_slots.proofs.TakesLemmas.{Acquired, Dumped}
-use Rattle.channel_slots.proofs.SearchLemmas.{from-later, searches-on, settled}
-use Rattle.channel_slots.proofs.SlotLemmas.{idle-tells, tells}
-use Rattle.channel_slots.proofs.StageLemmas.{followed-takes}
+use Rattle.channel_slots.proofs.ChanceLemmas.{dump-chance}
 use Rattle.channel_slots.proofs.NewsLemmas.{few-events}
-use Rattle.channel_slots.proofs.TellingLemmas.{earlier, dump-chance}
-use Rattle.channel_slots.proofs.TakenLemmas.{taken-length, taken-some}
+use Rattle.channel_slots.proofs.TakesLemmas.{Acquired, Dumped}
+use Rattle.channel_slots.proofs.SearchLemmas.{searches-on, settled}
+use Rattle.channel_slots.proofs.SlotLemmas.{idle-tells, tells, passes}
+use Rattle.channel_slots.proofs.StageLemmas.{followed-takes, still-followed}
+use Rattle.channel_slots.proofs.SoundLemmas.{in-time, time-tested, dump-tested, dump-held, IsInTime}
+use Rattle.channel_slots.proofs.SoundLemmas.{dump-later}
+use Rattle.channel_slots.proofs.TakeLemmas.{dwell-over, not-due, not-come}
 use Rattle.channel_slots.proofs.slot.Slot.take.Goals as goal
 
-pub returns-in-Idle-clause-tells : goal.returns-in-Idle-clause-tells
-returns-in-Idle-clause-tells g c settings xs commands now samples s =
-    let ys : List Sample = part c.args.run.now c.args.from (c.len.result - c.args.from) in
-    let more : 0 < length ys =
-    part-some c.args.run.now c.args.from (c.len.result - c.args.from)
-    (omega (arith, c.requires.some, c.len.ensures.count))
-    (omega (arith, c.requires.some, c.len.ensures.count)) in
+pub returns-in-Idle-clause-emits : goal.returns-in-Idle-clause-emits
+returns-in-Idle-clause-emits c settings xs ys commands more all over s =
     idle-tells settings xs commands c.args.self.now s ys more (ap is_idle c.in-Idle.is)
 
-pub returns-in_default-clause-tells : goal.returns-in_default-clause-tells
-returns-in_default-clause-tells g c settings xs commands now samples s =
-    let took = c.take-count in
-    let far = rw c.len-in-Searching.ensures.count at took.ensures.as_far in
-    let ys : List Sample = part c.args.run.now c.args.from took.result.0 in
-    let many = taken-length c.args.run.now c.args.from took.result.0 took.result.1
-    c.requires.some far in
-    let more = taken-some c.args.run.now c.args.from took.result.0 took.result.1
-    c.requires.some far in
-    let first = (rw c.in-Searching.is at c.requires.sound.1).0 in
+pub returns-in_err-cell-in-Searching-clause-emits :
+    goal.returns-in_err-cell-in-Searching-clause-emits
+returns-in_err-cell-in-Searching-clause-emits c = rw c.from_residual.ensures
+    (λ settings xs ys commands more all over s.
+    let took = c.take in
+    let none : took.result ≡ None = c.in_err-cell-in-Searching.was in
+    let later = not-due took.result _ c.args.to took.ensures.due none in
+    let held = rw c.in-Searching.is at c.requires.sound.3.1 in
     tells settings xs commands c.args.self.now s ys more (ap is_idle c.in-Searching.is) _ None
     (λ life follows.
     let a = rw c.in-Searching.is at follows in
-    let held = from-later (xs ++ ys) _ life.begun _ _
-    (omega (arith, first, a.searches.search.start_is)) samples in
-    let takes = took.ensures.takes settings a.plan life.begun xs ys many held a.searches in
+    let takes =
+    took.ensures.takes settings a.plan life.begun xs ys (omega (arith, all, later))
+    (dwell-over (xs ++ ys) _ _ c.in-Searching.searched life.begun over c.history.ensures held
+    a.searches.search.start_is) a.searches in
     searches-on settings xs life c.in-Searching.searched a ys took.new.self takes.stands
-    (rw c.in_default.is at takes.answers))
-    refl
+    (rw none at takes.answers))
+    refl)
 
-pub returns-in-Some-clause-tells : goal.returns-in-Some-clause-tells
-returns-in-Some-clause-tells g c settings xs commands now samples s =
-    let took = c.take-count in
-    let far = rw c.len-in-Searching.ensures.count at took.ensures.as_far in
-    let ys : List Sample = part c.args.run.now c.args.from took.result.0 in
-    let many = taken-length c.args.run.now c.args.from took.result.0 took.result.1
-    c.requires.some far in
-    let more = taken-some c.args.run.now c.args.from took.result.0 took.result.1
-    c.requires.some far in
-    let first = (rw c.in-Searching.is at c.requires.sound.1).0 in
+pub returns-in_ok-cell-in-Searching-clause-emits :
+    goal.returns-in_ok-cell-in-Searching-clause-emits
+returns-in_ok-cell-in-Searching-clause-emits c settings xs ys commands more all over s =
+    let took = c.take in
+    let some : took.result ≡ Some c.in_ok-cell-in-Searching.cell =
+    c.in_ok-cell-in-Searching.was in
+    let come = took.ensures.due.0 (rw some refl) in
+    let held = rw c.in-Searching.is at c.requires.sound.3.1 in
     tells settings xs commands c.args.self.now s ys more (ap is_idle c.in-Searching.is) _
-    (Some (Acquired c.prn-prn.result c.in-Some.cell))
+    (Some (Acquired c.prn-prn.result c.in_ok-cell-in-Searching.cell))
     (λ life follows.
     let a = rw c.in-Searching.is at follows in
-    let held = from-later (xs ++ ys) _ life.begun _ _
-    (omega (arith, first, a.searches.search.start_is)) samples in
-    let takes = took.ensures.takes settings a.plan life.begun xs ys many held a.searches in
+    let takes =
+    took.ensures.takes settings a.plan life.begun xs ys
+    (omega (arith, all, c.due-time.ensures.value, took.ensures.later.due, come))
+    (dwell-over (xs ++ ys) _ _ c.in-Searching.searched life.begun over c.history.ensures held
+    a.searches.search.start_is) a.searches in
     let stands = takes.stands in
-    let answer = rw c.in-Some.is at takes.answers in
+    let answer = rw some at takes.answers in
     let same = c.prn-prn.ensures ∙ ap (λ (p : Plan). p.prn) stands.search.plan_is in
-    settled settings xs life c.in-Searching.searched a ys _ c.in-Some.cell same answer took.new.self
-    stands ((rw c.in-Some.is at took.ensures.due).0 refl) _
-    (subst (λ (n : ℕ). IsSettled c.in-Some.cell took.new.self n c.settle.new.self)
-    (omega (
-      arith,
-      now,
-      many,
-      length-append xs ys,
-      c.end.ensures.value,
-      c.len-in-Searching-2.ensures.count,
-      far.within,
-    ))
-    (c.settle.ensures took.new.self refl)))
+    settled settings xs life c.in-Searching.searched a ys _ _ same answer took.new.self
+    stands _ (c.settle.ensures took.new.self refl))
     refl
 
-pub returns-then-not-is_dump-clause-tells : goal.returns-then-not-is_dump-clause-tells
-returns-then-not-is_dump-clause-tells g c settings xs commands now samples s =
-    let took = c.take-count-in-Following in
-    let ys : List Sample = part c.args.run.now c.args.from took.result.0 in
-    let more = taken-some c.args.run.now c.args.from took.result.0 _
-    c.requires.some took.ensures.as_far in
+pub returns-then-not-take-clause-emits : goal.returns-then-not-take-clause-emits
+returns-then-not-take-clause-emits c settings xs ys commands more all over s =
+    let took = c.take-in-Following in
+    let later = not-come took.result _ c.args.to took.ensures.came c.if-not-take.true in
     tells settings xs commands c.args.self.now s ys more (ap is_idle c.in-Following.is) _ None
     (λ life follows.
     let f = rw c.in-Following.is at follows in
     followed-takes settings xs ys life c.in-Following.followed f more false _ took.ensures.steered
-    None (rw c.if-not-is_dump.true at (took.ensures.takes settings _ xs now
-    (earlier xs ys _ _ samples) f.follows)))
+    None (rw c.if-not-take.true at (took.ensures.takes settings _ xs ys
+    (omega (arith, all, later)) over f.follows)))
     refl
 
-pub returns-else-not-is_dump-clause-tells : goal.returns-else-not-is_dump-clause-tells
-returns-else-not-is_dump-clause-tells g c settings xs commands now samples s =
-    let took = c.take-count-in-Following in
-    let ys : List Sample = part c.args.run.now c.args.from took.result.0 in
-    let more = taken-some c.args.run.now c.args.from took.result.0 _
-    c.requires.some took.ensures.as_far in
-    let is_shown : Bool = nat_lt 0 c.args.self.now.unprinted in
-    rw c.note_dump.ensures.news
-    (tells settings xs commands c.args.self.now s ys more (ap is_idle c.in-Following.is)
-    c.note_dump.new.self (Some (Dumped took.new.dump is_shown))
+pub returns-else-not-take-clause-emits : goal.returns-else-not-take-clause-emits
+returns-else-not-take-clause-emits c settings xs ys commands more all over s =
+    let took = c.take-in-Following in
+    let noted = c.note_dump-is_shown in
+    let come = took.ensures.came.0 c.if-not-take.false in
+    tells settings xs commands c.args.self.now s ys more (ap is_idle c.in-Following.is)
+    noted.new.self (Some (Dumped (dump_of took.new.window) noted.result))
     (λ life follows.
     let f = rw c.in-Following.is at follows in
-    rw c.note_dump.ensures.stage
-    (followed-takes settings xs ys life c.in-Following.followed f more is_shown _
+    rw (noted.ensures.stage, c.dump.ensures)
+    (followed-takes settings xs ys life c.in-Following.followed f more noted.result _
     took.ensures.steered (Some _)
-    (rw c.if-not-is_dump.false at (took.ensures.takes settings _ xs now
-    (earlier xs ys _ _ samples) f.follows))))
-    (refl, c.note_dump.ensures.left))
+    (rw c.if-not-take.false at (took.ensures.takes settings _ xs ys
+    (omega (arith, all, come, c.next_dump-time.ensures.value)) over f.follows))))
+    (noted.ensures.shown, noted.ensures.left)
 
-pub returns-else-not-is_dump-clause-chances : goal.returns-else-not-is_dump-clause-chances
-returns-else-not-is_dump-clause-chances g c =
-    let took = c.take-count-in-Following in
-    let before : ℕ =
-    g.S.SampleSource.to c.args.source.now - (length c.args.run.now - c.args.from) in
-    let now : taken_of took.new.self ≡ before + took.result.0 =
-    omega (arith, took.ensures.taken, c.requires.to) in
-    let is_shown : Bool = nat_lt 0 c.args.self.now.unprinted in
-    let noted = c.note_dump.ensures in
-    rw (c.in-Following.is, noted.stage, noted.news)
+pub returns-then-not-take-clause-passes : goal.returns-then-not-take-clause-passes
+returns-then-not-take-clause-passes c settings xs commands all over s =
+    let took = c.take-in-Following in
+    let later = not-come took.result _ c.args.to took.ensures.came c.if-not-take.true in
+    let same : length (xs ++ []) ≡ length xs =
+    ap (λ (zs : List Sample). length zs) (append-nil xs) in
+    passes settings xs commands c.args.self.now s (ap is_idle c.in-Following.is) _ refl
+    (λ life follows.
+    let f = rw c.in-Following.is at follows in
+    still-followed settings xs life c.in-Following.followed took.new.self f took.ensures.steered
+    (rw c.if-not-take.true at (took.ensures.takes settings _ xs []
+    (omega (arith, same, all, later)) (rw (append-nil xs) over) f.follows)))
+
+pub returns-then-not-take-clause-sound : goal.returns-then-not-take-clause-sound
+returns-then-not-take-clause-sound c time reach sound =
+    let took = c.take-in-Following in
+    let first : ℕ = first_of c.args.window.now in
+    let known : IsInTime first c.requires.sound.0 c.in-Following.followed =
+    in-time first c.requires.sound.0 c.requires.sound.1 c.in-Following.followed
+    (rw c.in-Following.is at c.requires.sound.3.0) in
+    let later = not-come took.result _ c.args.to took.ensures.came c.if-not-take.true in
+    let dumps = rw c.if-not-take.true at took.ensures.dumps in (
+      time-tested (first_of took.new.window) c.args.to reach took.new.self (record {
+        few = omega (arith, known.few, c.requires.sound.2, dumps);
+        held = omega (
+          arith,
+          known.held,
+          known.begun,
+          c.requires.sound.2,
+          took.ensures.at,
+          later,
+          took.ensures.same.first,
+        );
+        begun = omega (arith, took.ensures.at);
+        waits = omega (arith, later, took.ensures.waits c.if-not-take.true);
+      }),
+      refl,
+    )
+
+pub returns-else-not-take-clause-sound : goal.returns-else-not-take-clause-sound
+returns-else-not-take-clause-sound c time reach sound =
+    let took = c.take-in-Following in
+    let noted = c.note_dump-is_shown.ensures in
+    let first : ℕ = first_of c.args.window.now in
+    let known : IsInTime first c.requires.sound.0 c.in-Following.followed =
+    in-time first c.requires.sound.0 c.requires.sound.1 c.in-Following.followed
+    (rw c.in-Following.is at c.requires.sound.3.0) in
+    let come = took.ensures.came.0 c.if-not-take.false in
+    let dumps = rw c.if-not-take.false at took.ensures.dumps in
+    let at = took.ensures.at in
+    let time_is = c.next_dump-time.ensures.value in
+    rw noted.stage (
+      dump-tested (first_of took.new.window) c.next_dump-time.result reach took.new.self _
+          (record {
+            few = omega (arith, known.few, known.waits, dumps, time_is);
+            held = omega (
+              arith,
+              known.held,
+              known.begun,
+              known.waits,
+              at,
+              come,
+              took.ensures.same.first,
+            );
+            begun = omega (arith, at, come, time_is);
+            waits = omega (arith, at, come, time_is, took.new.self.follower.waits);
+          }),
+      dump-held took.new.window took.new.self _,
+    )
+
+pub returns-else-not-take-clause-chances : goal.returns-else-not-take-clause-chances
+returns-else-not-take-clause-chances c =
+    let took = c.take-in-Following in
+    let noted = c.note_dump-is_shown.ensures in
+    rw (c.in-Following.is, noted.stage)
     (omega (
       arith,
-      few-events (Dump is_shown) took.new.dump,
-      dump-chance (before + took.result.0) took.new.dump.lock took.new.self,
-      took.ensures.chance c.if-not-is_dump.false,
-      ap (λ (n : ℕ). followed.chance n took.new.self) now,
+      few-events (Dump 0 c.note_dump-is_shown.result) (dump_of took.new.window),
+      dump-chance c.dump.result.now.lock took.new.self,
+      took.ensures.chance c.if-not-take.false,
     ))
+
+pub returns-then-not-take-clause-all_taken : goal.returns-then-not-take-clause-all_taken
+returns-then-not-take-clause-all_taken c time reach sound none =
+    let took = c.take-in-Following in
+    let first : ℕ = first_of c.args.window.now in
+    let known : IsInTime first c.requires.sound.0 c.in-Following.followed =
+    in-time first c.requires.sound.0 c.requires.sound.1 c.in-Following.followed
+    (rw c.in-Following.is at c.requires.sound.3.0) in
+    let later = not-come took.result _ c.args.to took.ensures.came c.if-not-take.true in
+    let dumps = rw c.if-not-take.true at took.ensures.dumps in
+    time-tested c.args.to c.args.to reach took.new.self (record {
+      few = omega (arith, known.few, c.requires.sound.2, dumps);
+      held = omega (arith, took.ensures.at, later);
+      begun = omega (arith, took.ensures.at);
+      waits = omega (arith, later, took.ensures.waits c.if-not-take.true);
+    })
+
+pub returns-else-not-take-clause-goes_on : goal.returns-else-not-take-clause-goes_on
+returns-else-not-take-clause-goes_on c =
+    let took = c.take-in-Following in
+    let come = took.ensures.came.0 c.if-not-take.false in
+    let due = c.next_dump-time.ensures.value in
+    rw c.note_dump-is_shown.ensures.stage
+    (dump-later c.next_dump-time.result took.new.self _
+    (omega (arith, come, due, c.requires.early))
+    (omega (arith, took.ensures.at, come, due, took.new.self.follower.waits)))

@@ -1,71 +1,110 @@
-use Rattle.std.proofs.Common.{◌≡◌, ◌+◌, refl, arith}
-use Rattle.channels.specs.Parts.{part}
+use Rattle.std.proofs.Common.{◌≡◌, ◌≤◌, ◌+◌, ◌++◌, refl, arith}
+use Rattle.channels.specs.FollowedChannels.{next_dump}
 use Rattle.channels.specs.Trackings.{dump_count}
-use Rattle.channels.proofs.PartLemmas.{part-taken}
 use Rattle.channels.proofs.FollowedLemmas.{takes-on, takes-plain, takes-steered}
+use Rattle.channels.proofs.OverLemmas.{over-same}
 use Rattle.channels.proofs.ShiftLemmas.{as-number}
 use Rattle.channels.proofs.followed.Followed.take.Goals as goal
 
-pub take-requires-clause-few : goal.take-requires-clause-few
-take-requires-clause-few g c =
+pub returns-in_default-clause-came : goal.returns-in_default-clause-came
+returns-in_default-clause-came c =
+    let came = rw c.in_default.is at c.take.ensures.came in (
+      λ is. omega (arith, came.0 is, c.min-to.ensures, c.ends.ensures.value),
+      λ far. came.1 (omega (arith, far, c.min-to.ensures, c.ends.ensures.value)),
+    )
+
+pub returns-in_default-clause-takes : goal.returns-in_default-clause-takes
+returns-in_default-clause-takes c settings channel xs ys now over s =
+    takes-on settings channel xs ys c.args.self.now _ s
+    (rw c.in_default.is at (c.take.ensures.goes settings channel xs ys
+    (omega (arith, now, c.ends.ensures.value, c.min-to.ensures))
+    (over-same (xs ++ ys) _ _ c.unpack.ensures.same over) s.follows)) refl refl
+
+pub overflow_add-self : goal.overflow_add-self
+overflow_add-self c =
+    let came = (rw c.in-Some.is at c.take.ensures.came).0 refl in
+    let far : next_dump c.args.self.now ≤ c.args.to =
+    omega (arith, came, c.min-to.ensures, c.ends.ensures.value) in
+    omega (arith, c.requires.few far)
+
+pub take-requires-in-Some-tracking-clause-few : goal.take-requires-in-Some-tracking-clause-few
+take-requires-in-Some-tracking-clause-few c =
     let counted : dump_count c.in-Some-tracking.tracking ≡ c.args.self.now.dumps =
     c.args.self.now.counted c.in-Some-tracking.tracking c.in-Some-tracking.is in
-    omega (arith, counted, c.requires.few)
+    let came = (rw c.in-Some.is at c.take.ensures.came).0 refl in
+    let far : next_dump c.args.self.now ≤ c.args.to =
+    omega (arith, came, c.min-to.ensures, c.ends.ensures.value) in
+    omega (arith, counted, c.requires.few far)
 
 pub invariant_of-self-in-Some-tracking : goal.invariant_of-self-in-Some-tracking
-invariant_of-self-in-Some-tracking g c = record {
+invariant_of-self-in-Some-tracking c = record {
   counted = λ s is.
       let counted : dump_count c.in-Some-tracking.tracking ≡ c.args.self.now.dumps =
       c.args.self.now.counted c.in-Some-tracking.tracking c.in-Some-tracking.is in
-      let more : dump_count c.take.new.self ≡ c.args.self.now.dumps + 1 =
-      rw counted at c.take.ensures.dumps in
-      let same : c.take.new.self ≡ s = cc in
+      let more : dump_count c.take-in-Some-tracking.new.self ≡ c.args.self.now.dumps + 1 =
+      rw counted at c.take-in-Some-tracking.ensures.dumps in
+      let same : c.take-in-Some-tracking.new.self ≡ s = cc in
       rw same at more;
 }
 
-pub returns-in_default-clause-takes : goal.returns-in_default-clause-takes
-returns-in_default-clause-takes g c settings channel xs now samples s =
-    let took = c.take-count in
-    takes-on settings channel xs (part c.args.run.now c.args.from took.result.0) c.args.self.now _ s
-    (rw c.in_default.is at (took.ensures.goes settings channel xs now samples s.follows))
-    (part-taken xs c.args.run.now c.args.from took.result.0 _ _
-    (omega (arith, took.ensures.as_far.within, c.requires.some)) now took.ensures.taken)
-    refl refl
-
-pub returns-in-None-clause-as_far : goal.returns-in-None-clause-as_far
-returns-in-None-clause-as_far g c =
-    let far = c.take-count.ensures.as_far in
-    record { some = far.some; within = far.within; whole = λ none. cc }
+pub returns-in-None-clause-came : goal.returns-in-None-clause-came
+returns-in-None-clause-came c =
+    let came = rw c.in-Some.is at c.take.ensures.came in (
+      λ is. omega (arith, came.0 refl, c.min-to.ensures, c.ends.ensures.value),
+      λ far. refl,
+    )
 
 pub returns-in-None-clause-takes : goal.returns-in-None-clause-takes
-returns-in-None-clause-takes g c settings channel xs now samples s =
-    let took = c.take-count in
+returns-in-None-clause-takes c settings channel xs ys now over s =
     rw c.set_plain.ensures
-    (takes-plain settings channel xs (part c.args.run.now c.args.from took.result.0)
-    c.args.self.now _ s _
-    (rw c.in-Some.is at (took.ensures.goes settings channel xs now samples s.follows))
-    (part-taken xs c.args.run.now c.args.from took.result.0 _ _
-    (omega (arith, took.ensures.as_far.within, c.requires.some)) now took.ensures.taken)
+    (takes-plain settings channel xs ys c.args.self.now _ s _
+    (rw c.in-Some.is at (c.take.ensures.goes settings channel xs ys
+    (omega (arith, now, c.ends.ensures.value, c.min-to.ensures))
+    (over-same (xs ++ ys) _ _ c.unpack.ensures.same over) s.follows))
     refl c.in-None.is c.in-None.is)
 
+pub returns-in-None-clause-same : goal.returns-in-None-clause-same
+returns-in-None-clause-same c =
+    let same = c.unpack.ensures.same in
+    record {
+      first = same.first;
+      end = same.end;
+      history = same.history;
+      stands = λ xs s.
+          let t = same.stands xs s in
+          record { history = t.history; planes = t.planes };
+    }
+
+pub returns-in-Some-tracking-clause-came : goal.returns-in-Some-tracking-clause-came
+returns-in-Some-tracking-clause-came c =
+    let came = rw c.in-Some.is at c.take.ensures.came in (
+      λ is. omega (arith, came.0 refl, c.min-to.ensures, c.ends.ensures.value),
+      λ far. refl,
+    )
+
 pub returns-in-Some-tracking-clause-takes : goal.returns-in-Some-tracking-clause-takes
-returns-in-Some-tracking-clause-takes g c settings channel xs now samples s =
-    let took = c.take-count in
+returns-in-Some-tracking-clause-takes c settings channel xs ys now over s =
+    let took = c.take-in-Some-tracking in
     let v = as-number c.v.result c.v.ensures.small in
     let w = as-number c.w.result (omega (arith, c.w.ensures.small)) in
-    takes-steered settings channel xs (part c.args.run.now c.args.from took.result.0)
-    c.args.self.now _ s _ took.new.self.follower c.v.result c.w.result
-    c.in-Some-tracking.tracking c.take.new.self
-    (rw (c.in-Some.is, ← c.take.ensures.counts) at
-    (took.ensures.goes settings channel xs now samples s.follows))
-    (rw c.steer.ensures.taken (part-taken xs c.args.run.now c.args.from took.result.0 _ _
-    (omega (arith, took.ensures.as_far.within, c.requires.some)) now took.ensures.taken))
+    takes-steered settings channel xs ys c.args.self.now _ s _ c.take.new.self c.v.result
+    c.w.result c.in-Some-tracking.tracking took.new.self
+    (rw (c.in-Some.is, ← took.ensures.counts) at (c.take.ensures.goes settings channel xs ys
+    (omega (arith, now, c.ends.ensures.value, c.min-to.ensures))
+    (over-same (xs ++ ys) _ _ c.unpack.ensures.same over) s.follows))
     refl c.in-Some-tracking.is refl
     (rw (v, w, c.settings.ensures) at c.steer.ensures.follows)
-    (rw (← c.take.ensures.counts) at c.take.ensures.stands)
-    (rw (← c.take.ensures.counts) at c.take.ensures.tells) c.v.ensures.is c.w.ensures.is
+    (rw (← took.ensures.counts) at took.ensures.stands)
+    (rw (← took.ensures.counts) at took.ensures.tells) c.v.ensures.is c.w.ensures.is
 
-pub returns-in-Some-tracking-clause-chance : goal.returns-in-Some-tracking-clause-chance
-returns-in-Some-tracking-clause-chance g c came =
-    rw (c.steer.ensures.chance _, c.steer.ensures.taken)
-    (rw c.in-Some.is at c.take-count.ensures.chance)
+pub returns-in-Some-tracking-clause-same : goal.returns-in-Some-tracking-clause-same
+returns-in-Some-tracking-clause-same c =
+    let same = c.unpack.ensures.same in
+    record {
+      first = same.first;
+      end = same.end;
+      history = same.history;
+      stands = λ xs s.
+          let t = same.stands xs s in
+          record { history = t.history; planes = t.planes };
+    }

@@ -5,6 +5,5 @@ use Rattle.channels.proofs.followed.Followed.track_after.Goals as goal
 pub returns-clause-stands : goal.returns-clause-stands
 returns-clause-stands c channel xs now begins steered =
     c.with_loops.ensures.stands channel xs
-    (c.new.ensures.follows c.args.settings.now channel xs now
-    (c.start_after-follower.ensures channel xs begins))
+    (c.start_after-follower.ensures.follows channel xs now (rw now at begins))
     (progress-begun c.args.settings.now channel xs (omega (arith, begins.start))) steered

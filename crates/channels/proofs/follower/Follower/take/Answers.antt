@@ -1,14 +1,14 @@
-use Rattle.std.proofs.Common.{◌≡◌, ◌≤◌, ◌+◌, ◌-◌, ◌*◌, ◌<◌, ℕ, List, length, refl, ap, sym, arith}
+use Rattle.std.proofs.Common.{◌≡◌, ◌+◌, ◌-◌, ◌*◌, ◌<◌, ℕ, List, ◌++◌, length, take, drop}
+use Rattle.std.proofs.Common.{refl, ap, arith}
 use Rattle.definitions.specs.Samples.{Sample}
 use Rattle.definitions.specs.Oscillators.{code_cycle}
 use Rattle.oscillators.specs.Views.{Oscillation}
 use Rattle.lane_correlator.specs.Counting.{counts_in}
 use Rattle.channels.specs.Sizes.{GrowWith}
-use Rattle.channels.specs.Parts.{part}
-use Rattle.channels.proofs.FollowingLemmas.{stays, closes, some-left, low-before}
-use Rattle.channels.proofs.MoveLemmas.{moves_by}
-use Rattle.channels.proofs.PartLemmas.{part-length}
-use Rattle.channels.proofs.WrapLemmas.{quiet, wraps, past_less}
+use Rattle.channels.proofs.FollowingLemmas.{stays, closes, low-before}
+use Rattle.channels.proofs.FollowingLemmas.{stays_over, closes_over}
+use Rattle.channels.proofs.WindowLemmas.{many, moves_by}
+use Rattle.channels.proofs.WrapLemmas.{quiet, wraps, past_less, end-near}
 use Rattle.channels.proofs.WrapLemmas.{left-before, left-ends}
 use Rattle.channels.proofs.ChanceLemmas.{chance-less}
 use Rattle.channels.proofs.SizeLemmas.{sums_fit, sums_grow, sums_small, last-step}
@@ -18,114 +18,124 @@ pub add-sums-requires : goal.add-sums-requires
 add-sums-requires c =
     let f = c.args.self.now in
     let more = c.replica_sums-more in
-    sums_fit f.sums (counts_in more.result) f.code.step f.code.phase c.min-count.result f.small
+    sums_fit f.sums (counts_in more.result) f.code.step f.code.phase (c.args.to - f.at) f.small
     f.moves f.in_cycle more.ensures.small more.ensures.few
 
-pub invariant_of-self-else-count-self : goal.invariant_of-self-else-count-self
-invariant_of-self-else-count-self c =
+pub invariant_of-self : goal.invariant_of-self
+invariant_of-self c =
     let f = c.args.self.now in
-    let n : ℕ = c.min-count.result in
+    let n : ℕ = c.args.to - f.at in
+    let w : ℕ = f.ends - f.at in
+    let less : n < w = omega (arith, c.requires.begun, c.if-to-self.true) in
+    let left : f.ends - c.args.to ≡ w - n = omega (arith, c.requires.begun) in
     let after =
-    quiet f.code c.advance.new.self n n f.to_end refl c.advance.ensures
-    (omega (arith, c.min-count.ensures, c.if-count-self.false)) (low-before f) in
+    quiet f.code c.advance.new.self n n w refl c.advance.ensures less (low-before f) in
     let step : c.advance.new.self.step ≡ f.code.step =
     ap (λ (o : Oscillation). o.step) c.advance.ensures in
     let grown : GrowWith c.add-sums.result f.code.step (f.code.phase + n * f.code.step) =
     sums_grow f.sums c.add-sums.result (counts_in c.replica_sums-more.result) f.code.step
     f.code.phase n f.small c.replica_sums-more.ensures.small c.add-sums.ensures in
-    let less : n < f.to_end = omega (arith, c.min-count.ensures, c.if-count-self.false) in
     record {
+      early = c.requires.early;
+      waits = c.if-to-self.true;
       in_cycle = rw (after.1) (after.0);
       moves = rw step f.moves;
       slow = rw step f.slow;
       small = rw (step, after.1) grown;
-      before = rw (step, after.1) (left-before f.code.phase f.code.step n f.to_end less f.before);
-      ends = rw (step, after.1) (left-ends f.code.phase f.code.step n f.to_end less f.ends);
+      before = rw (left, step, after.1) (left-before f.code.phase f.code.step n w less f.before);
+      through = rw (left, step, after.1) (left-ends f.code.phase f.code.step n w less f.through);
     }
 
-pub returns-then-count-self-clause-goes : goal.returns-then-count-self-clause-goes
-returns-then-count-self-clause-goes c settings channel xs s =
+pub returns-then-to-self-clause-goes : goal.returns-then-to-self-clause-goes
+returns-then-to-self-clause-goes c settings channel xs ys all over s =
     let f = c.args.self.now in
-    let n : ℕ = c.min-count.result in
-    let within : c.args.from + n ≤ length c.args.run.now =
-    omega (arith, c.min-count.ensures, c.len.ensures.count, c.requires) in
-    let ys : List Sample = part c.args.run.now c.args.from n in
-    let is : n ≡ length ys = sym (part-length c.args.run.now c.args.from n within) in
-    let some : 0 < length ys =
-    omega (arith, is, c.if-count-self.true, some-left f) in
-    let before : f.code.phase + (length ys - 1) * f.code.step < code_cycle =
-    low-before f (length ys - 1)
-    (omega (arith, is, some, c.if-count-self.true)) in
+    let n : ℕ = c.args.to - f.at in
+    let w : ℕ = f.ends - f.at in
+    let zs : List Sample = drop f.at (xs ++ ys) in
+    let is : n ≡ length zs = many (xs ++ ys) f.at c.args.to all in
+    let less : length zs < w = omega (arith, is, c.requires.begun, c.if-to-self.true) in
     let after =
-    wraps f.code c.advance.new.self n (length ys) f.to_end is
-    c.advance.ensures some before f.slow f.ends
-    (sym c.if-count-self.true) in
+    quiet f.code c.advance.new.self n (length zs) w is c.advance.ensures less (low-before f) in
     let moves =
-    moves_by f c.args.run.now c.args.from n c.advance-2.new.self.phase
-    (counts_in c.replica_sums-more.result) (counts_in c.add-sums.result) within
+    moves_by f (xs ++ ys) c.args.window.now c.planes.result.now c.args.to c.place-from.result
+    c.advance-2.new.self.phase (counts_in c.replica_sums-more.result) (counts_in c.add-sums.result)
+    over all c.requires.unpacked c.place-from.ensures.place c.planes.ensures
     (ap (λ (o : Oscillation). o.phase) c.advance-2.ensures) c.replica_sums-more.ensures.sums
     c.add-sums.ensures in
-    closes settings channel xs ys f s _ c.advance-2.new.self.phase (counts_in c.add-sums.result)
-    moves some before (after.0) _ refl (after.1) refl
+    stays_over settings channel xs ys f _ s (omega (arith, all, c.requires.ends))
+    (stays settings channel (take f.at xs) zs f s.now _ c.advance-2.new.self.phase
+    (counts_in c.add-sums.result) moves (after.0) _
+    (omega (arith, s.now.at.taken, is, c.requires.begun)) refl (after.1) refl
     (ap (λ (o : Oscillation). o.step) c.advance.ensures)
-    (ap (λ (o : Oscillation). o.step) c.advance-2.ensures) refl
+    (ap (λ (o : Oscillation). o.step) c.advance-2.ensures) refl)
 
-pub returns-else-count-self-clause-goes : goal.returns-else-count-self-clause-goes
-returns-else-count-self-clause-goes c settings channel xs s =
+pub returns-clause-goes : goal.returns-clause-goes
+returns-clause-goes c settings channel xs ys all over s =
     let f = c.args.self.now in
-    let n : ℕ = c.min-count.result in
-    let within : c.args.from + n ≤ length c.args.run.now =
-    omega (arith, c.min-count.ensures, c.len.ensures.count, c.requires) in
-    let ys : List Sample = part c.args.run.now c.args.from n in
-    let is : n ≡ length ys = sym (part-length c.args.run.now c.args.from n within) in
-    let some : 0 < length ys =
-    omega (
-      arith,
-      is,
-      c.min-count.ensures,
-      c.len.ensures.count,
-      c.requires,
-      c.if-count-self.false,
-    ) in
+    let n : ℕ = c.args.to - f.at in
+    let w : ℕ = f.ends - f.at in
+    let last : w ≡ n = omega (arith, c.requires.ends, c.if-to-self.false) in
+    let zs : List Sample = drop f.at (xs ++ ys) in
+    let is : n ≡ length zs = many (xs ++ ys) f.at c.args.to all in
+    let some : 0 < length zs = omega (arith, is, last, f.waits) in
+    let before : f.code.phase + (length zs - 1) * f.code.step < code_cycle =
+    low-before f (length zs - 1) (omega (arith, is, last, some)) in
     let after =
-    quiet f.code c.advance.new.self n (length ys) f.to_end is c.advance.ensures
-    (omega (arith, is, c.min-count.ensures, c.if-count-self.false))
-    (low-before f) in
+    wraps f.code c.advance.new.self n (length zs) w is c.advance.ensures some before f.slow
+    f.through last in
     let moves =
-    moves_by f c.args.run.now c.args.from n c.advance-2.new.self.phase
-    (counts_in c.replica_sums-more.result) (counts_in c.add-sums.result) within
+    moves_by f (xs ++ ys) c.args.window.now c.planes.result.now c.args.to c.place-from.result
+    c.advance-2.new.self.phase (counts_in c.replica_sums-more.result) (counts_in c.add-sums.result)
+    over all c.requires.unpacked c.place-from.ensures.place c.planes.ensures
     (ap (λ (o : Oscillation). o.phase) c.advance-2.ensures) c.replica_sums-more.ensures.sums
     c.add-sums.ensures in
-    stays settings channel xs ys f s _ c.advance-2.new.self.phase (counts_in c.add-sums.result)
-    moves some (after.0) _ refl (after.1) refl
+    closes_over settings channel xs ys f _ s (omega (arith, all, c.requires.ends))
+    (counts_in c.add-sums.result)
+    (closes settings channel (take f.at xs) zs f s.now _ c.advance-2.new.self.phase
+    (counts_in c.add-sums.result) moves some before (after.0) _
+    (omega (arith, s.now.at.taken, is, c.requires.begun)) refl (after.1) refl
     (ap (λ (o : Oscillation). o.step) c.advance.ensures)
-    (ap (λ (o : Oscillation). o.step) c.advance-2.ensures) refl
+    (ap (λ (o : Oscillation). o.step) c.advance-2.ensures) refl)
 
-pub returns-then-count-self-clause-chance : goal.returns-then-count-self-clause-chance
-returns-then-count-self-clause-chance c =
+pub returns-clause-chance : goal.returns-clause-chance
+returns-clause-chance c =
     let f = c.args.self.now in
-    let n : ℕ = c.min-count.result in
-    let some : 0 < n =
-    omega (arith, c.if-count-self.true, some-left f) in
+    let n : ℕ = c.args.to - f.at in
+    let w : ℕ = f.ends - f.at in
+    let last : w ≡ n = omega (arith, c.requires.ends, c.if-to-self.false) in
+    let some : 0 < n = omega (arith, last, f.waits) in
     let before : f.code.phase + (n - 1) * f.code.step < code_cycle =
-    low-before f (n - 1) (omega (arith, some, c.if-count-self.true)) in
+    low-before f (n - 1) (omega (arith, some, last)) in
     let after =
-    wraps f.code c.advance.new.self n n f.to_end refl c.advance.ensures some before
-    f.slow f.ends (sym c.if-count-self.true) in
+    wraps f.code c.advance.new.self n n w refl c.advance.ensures some before f.slow f.through
+    last in
     chance-less f.code.phase f.code.step n _ c.replica_sums-more.ensures.few f.slow (after.0)
     (past_less f.code.phase f.code.step n _ some before (after.0) (after.1))
 
-pub returns-then-count-self-clause-small : goal.returns-then-count-self-clause-small
-returns-then-count-self-clause-small c =
+pub returns-clause-small : goal.returns-clause-small
+returns-clause-small c =
     let f = c.args.self.now in
-    let n : ℕ = c.min-count.result in
-    let some : 0 < n =
-    omega (arith, c.if-count-self.true, some-left f) in
+    let n : ℕ = c.args.to - f.at in
+    let w : ℕ = f.ends - f.at in
+    let last : w ≡ n = omega (arith, c.requires.ends, c.if-to-self.false) in
+    let some : 0 < n = omega (arith, last, f.waits) in
     let total : ℕ = f.code.phase + n * f.code.step in
     let grown : GrowWith c.add-sums.result f.code.step total =
     sums_grow f.sums c.add-sums.result (counts_in c.replica_sums-more.result) f.code.step
     f.code.phase n f.small c.replica_sums-more.ensures.small c.add-sums.ensures in
     let low : total < code_cycle + f.code.step =
     last-step f.code.phase n f.code.step some
-    (low-before f (n - 1) (omega (arith, some, c.if-count-self.true))) in
+    (low-before f (n - 1) (omega (arith, some, last))) in
     sums_small c.add-sums.result f.code.step total grown low f.moves
+
+pub overflow_add-self : goal.overflow_add-self
+overflow_add-self c =
+    let f = c.args.self.now in
+    let moves : 0 < c.advance.new.self.step =
+    rw c.advance.ensures (omega (arith, f.moves)) in
+    omega (
+      arith,
+      c.requires.early,
+      end-near c.advance.new.self.phase c.advance.new.self.step c.to_wrap.result moves
+          c.to_wrap.ensures.least,
+    )

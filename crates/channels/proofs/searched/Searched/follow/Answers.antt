@@ -7,14 +7,15 @@ use Rattle.channels.proofs.SearchedLemmas.{found-begins}
 use Rattle.channels.proofs.searched.Searched.follow.Goals as goal
 
 pub returns-clause-follows : goal.returns-clause-follows
-returns-clause-follows c settings plan begun xs now s due =
+returns-clause-follows c settings plan begun xs now s =
     let searched : c.plan-plan.result ≡ plan = c.plan-plan.ensures ∙ s.search.plan_is in
     let shift = rw searched at c.in_ok-doppler.ensures.shift in
-    let ago = rw (s.recorded, searched) at (c.wait-ago.ensures.value begun) in
+    let due = c.due-due.ensures.is settings plan begun xs s.search in
     let prn = c.prn-prn.ensures ∙ ap (λ (p : Plan). p.prn) searched in
     rw s.recorded at c.track_after.ensures.stands
-    (found_channel settings plan begun (cell_in c.args.cell.now)) xs now
+    (found_channel settings plan begun (cell_in c.args.cell.now)) xs
+    (omega (arith, now, c.due-due.ensures.value))
     (found-begins settings plan begun _ (cell_in c.args.cell.now) _ _ _ (sym prn)
-    (omega (arith, s.due, due))
-    (omega (arith, ago)) shift)
+    (omega (arith, now, c.due-due.ensures.value, due))
+    (omega (arith, due, c.start.ensures, s.search.start_is)) shift)
     (λ dumps. ap (λ v. shift_after v dumps) (sym shift))

@@ -9,6 +9,7 @@ use Rattle.receiver.specs.Queues.{least_gap_of}
 use Rattle.receiver.specs.Sessions.{until_next, asked_of}
 use Rattle.receiver.proofs.SessionLemmas.{queues-later, waiting-later}
 use Rattle.receiver.proofs.TellingLemmas.{told-stretch}
+use Rattle.channel_slots.specs.BankStates.{time_of as bank_time}
 use Rattle.receiver.proofs.session.Session.feed.Goals as goal
 
 -- the samples come before the entry that is next
@@ -21,8 +22,8 @@ unfolding until_next
 returns-clause-stands c settings clients xs s =
     let ys : List Sample = c.args.run.now.samples in
     let queues : List Queue = c.args.self.now.queues.items in
-    let free = before-next queues c.args.self.now.bank.time (length xs) (length ys) c.requires.quiet
-    s.bank.now in
+    let free = before-next queues (bank_time c.args.self.now.bank) (length xs) (length ys)
+    c.requires.quiet s.bank.now in
     record {
       done = s.done;
       bank = c.feed.ensures.stands settings xs (asked_of s.done) s.bank;
@@ -36,10 +37,10 @@ unfolding until_next
 returns-clause-told c settings clients xs s =
     let ys : List Sample = c.args.run.now.samples in
     let queues : List Queue = c.args.self.now.queues.items in
-    let free = before-next queues c.args.self.now.bank.time (length xs) (length ys) c.requires.quiet
-    s.bank.now in
-    told-stretch settings clients queues s.done xs ys (events_in c.feed.new.timeline) c.requires.some
-    s.queues free
+    let free = before-next queues (bank_time c.args.self.now.bank) (length xs) (length ys)
+    c.requires.quiet s.bank.now in
+    told-stretch settings clients queues s.done xs ys (events_in c.feed.new.timeline)
+    c.requires.some s.queues free
     (subst (λ (l : List ℕ). AreEvents (events_in c.feed.new.timeline)
     (at_each_sample (bank_events_at_end settings (layout l) (asked_of s.done)) xs ys))
     (sym s.shares)

@@ -13,7 +13,7 @@ returns c =
     let h = c.args.self.now in
     let packing = packing_in h in
     let per : ℕ = c.per_byte-per_byte.result in
-    let near = c.near_bytes-near.result in
+    let near = c.put_bytes.new.near in
     let place : ℕ = c.args.n - c.first.result in
     c.fill.ensures
     ∙ runs_agree (sample packing near) (held_in h) (place % per) c.args.n c.args.len (λ i inside.
@@ -22,5 +22,5 @@ returns c =
     same_sample packing near (bytes_of h) (place % per + i) (c.args.n + i - first_of h) (λ k bit.
     sample_near packing near (bytes_of h) per (8 / per) place c.args.len k i
     c.per_byte-per_byte.ensures (width_from packing per c.per_byte-per_byte.ensures)
-    c.near_bytes-near.ensures.bytes bit inside
+    c.put_bytes.ensures.bytes bit inside
     ∙ ap (λ (m : ℕ). bit_in (bytes_of h) (width_of packing * m + k)) there))

@@ -26,9 +26,8 @@ loop-group-preserved c =
           c.loop-group.invariant.coded
           (λ r h. c.sixteen_codes-sixteen.ensures.codes c.args.at c.args.start width
           c.new-sign.ensures.layout (c.new-sign.ensures.width ∙ c.width-width.ensures)
-          (λ e. rw (c.size_place.ensures.next (sym c.has_sizes-has_sizes.ensures ∙ e)) at
-          c.new-size.ensures.layout)
-          (c.new-size.ensures.width ∙ c.width-width.ensures) r h
+          (λ e. c.size_layout-size.ensures.layout (sym c.has_sizes-has_sizes.ensures ∙ e))
+          c.size_layout-size.ensures.width r h
           ∙ ap (λ (s : Bool). code_in s near
           (width * (c.args.start + (16 * g + r)) + c.args.at)) c.has_sizes-has_sizes.ensures));
     }
@@ -45,9 +44,8 @@ invariant_of-self c =
     c.loop-group.invariant.coded
     (λ r h. c.sixteen_codes-sixteen.ensures.codes c.args.at c.args.start width
     c.new-sign.ensures.layout (c.new-sign.ensures.width ∙ c.width-width.ensures)
-    (λ e. rw (c.size_place.ensures.next (sym c.has_sizes-has_sizes.ensures ∙ e)) at
-    c.new-size.ensures.layout)
-    (c.new-size.ensures.width ∙ c.width-width.ensures) r h
+    (λ e. c.size_layout-size.ensures.layout (sym c.has_sizes-has_sizes.ensures ∙ e))
+    c.size_layout-size.ensures.width r h
     ∙ ap (λ (s : Bool). code_in s near
     (width * (c.args.start + (16 * g + r)) + c.args.at)) c.has_sizes-has_sizes.ensures)) in
     record { few = small.few; fourth = small.fourth }

@@ -1,6 +1,6 @@
 use Rattle.std.proofs.Common.{◌≡◌, ◌∙◌, ◌+◌, ℕ, List, length, arith, ap}
 use Rattle.definitions.specs.Samples.{samples, sample_count}
-use Rattle.seldomplough.specs.Receivers.{packing_in}
+use Rattle.seldomplough.specs.Receivers.{packing_in, time_of}
 use Rattle.seldomplough.proofs.AloneLemmas.{alone}
 use Rattle.seldomplough.proofs.receiver.Receiver.take.Goals as goal
 
@@ -13,7 +13,7 @@ returns-clause-taken c =
     let size : length taken ≡ c.fitting-count.result = c.split_at.ensures.front_len in
     let time =
     c.feed.ensures.time
-    ∙ ap (λ n. c.args.self.now.bank.time + n)
+    ∙ ap (λ n. time_of c.args.self.now + n)
     (c.new-run.ensures.count ∙ ap (λ p. sample_count p taken) c.format.ensures) in
     record {
       taken = taken;

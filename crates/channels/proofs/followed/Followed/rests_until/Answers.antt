@@ -1,6 +1,0 @@
-use Rattle.channels.proofs.FollowedLemmas.{lets-wait}
-use Rattle.channels.proofs.followed.Followed.rests_until.Goals as goal
-
-pub returns-clause-waits : goal.returns-clause-waits
-returns-clause-waits c settings channel xs ys s rests =
-    lets-wait settings channel xs ys c.args.self.now s (rw c.rests_until.ensures.value at rests)

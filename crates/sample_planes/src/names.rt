@@ -1,0 +1,31 @@
+//! The names of the packings.
+
+ghost use Rattle.std.specs.Prelude.{◌≡◌, map};
+ghost use Rattle.sample_planes.specs.Names.{format_names, named_format};
+
+use crate::format::Format;
+
+/// The names of all packings.
+static NAMES: [&str; 4] = ["real1", "real2", "iq1", "iq2"];
+
+impl Format {
+    /// The names of all packings, for an option that takes one.
+    pub fn names() -> &'static [&'static str]
+        ensures { map (λ name. name.now) result.now ≡ format_names }
+    {
+        NAMES.as_slice()
+    }
+
+    /// The packing with this name.
+    pub fn named(name: &str) -> Option<Format>
+        ensures { result ≡ named_format name.now }
+    {
+        match name {
+            "real1" => Some(Format::Real1),
+            "real2" => Some(Format::Real2),
+            "iq1" => Some(Format::Iq1),
+            "iq2" => Some(Format::Iq2),
+            _ => None,
+        }
+    }
+}

@@ -1,0 +1,128 @@
+//! With how many samples dumps come, by the rate of the code.
+
+ghost use Rattle.std.specs.Prelude.{◌≡◌, ◌+◌, ◌≤◌, IfOk};
+ghost use Rattle.channels.specs.FollowedChannels.{at_of};
+ghost use Rattle.channels.specs.Windows.{first_of, end_of};
+
+use super::open_to;
+use assertions::{assert_same, assert_same_at};
+use ca_codes::{CodeBook, Prn};
+use channels::{Followed, Window};
+use oscillators::{Doppler, HalfChip, Settings};
+use sample_planes::Format;
+use std::alloc::{Alloc, Global};
+use std::process::Abort;
+use std::test::Fail;
+
+/// A satellite that is held: the rate of the samples, the shift, half chip and sample from which on
+/// it is held, and with how many samples its first three dumps come. A code has 1,023 chips, and
+/// 1,023,000 of them come in a second and one more with each 1,540 Hz of shift (IS-GPS-200, section
+/// 3.3.1.1): so dump k comes with the first sample that is 1,023 k chips or more after half chip 0.
+/// The step is a whole number of 2^-32 chip, rounded down. At 5,000,000 samples a second, where a
+/// code would be just 5,000 samples, it takes one more.
+static ROWS: [(u32, i32, u16, u64, [u64; 3]); 10] = [
+    (2_046_000, 1_250, 700, 0, [1_346, 3_392, 5_438]),
+    (2_046_000, -1_000, 2_045, 0, [2, 2_048, 4_094]),
+    (2_046_000, 0, 2_045, 0, [1, 2_047, 4_093]),
+    (2_046_000, 0, 2_045, 1_001, [1_002, 3_048, 5_094]),
+    (2_048_000, 0, 0, 0, [2_048, 4_096, 6_144]),
+    (4_092_000, -8_191, 1, 7, [4_098, 8_190, 12_282]),
+    (16_368_000, 0, 1, 0, [16_360, 32_728, 49_096]),
+    (5_000_000, 0, 0, 0, [5_001, 10_001, 15_001]),
+    (20_000_000, 5_000, 2_045, 0, [10, 20_010, 40_010]),
+    (20_000_000, -5_000, 0, 3, [20_004, 40_004, 60_004]),
+];
+
+/// Opens the next samples, all of which are 1, in place of those that are open.
+fn open_next(window: &mut Window, end: u64) -> Result<(), Fail>
+    ensures first { IfOk result (λ _. first_of window.new ≡ end_of window.old) }
+    ensures end { IfOk result (λ _. end_of window.new ≡ end) }
+{
+    window.close();
+    open_to(window, &[0; 7_680], end)
+}
+
+/// Takes samples as far as the next dump, at most 1,000 at a time, and gives its time.
+fn next_dump(held: &mut Followed, window: &mut Window, book: &mut CodeBook) -> Result<u64, Fail>
+    requires begun { at_of held.old ≤ end_of window.old }
+    requires open { first_of window.old ≤ at_of held.old }
+    ensures begun { IfOk result (λ _. at_of held.new ≤ end_of window.new) }
+    ensures open { IfOk result (λ _. first_of window.new ≤ at_of held.new) }
+{
+    for _ in 0..100 {
+        let end = window.end();
+        if 61_440 < end || 8 <= held.dumps() {
+            return Err(Fail::new("the samples can't be taken"));
+        }
+        let time = held.next_dump();
+        if held.take(end, window, book) {
+            return Ok(time);
+        }
+        open_next(window, end + 1_000)?;
+    }
+    Err(Fail::new("no dump comes"))
+}
+
+/// Asserts when the first three dumps of a satellite come, and that it says so before.
+fn assert_dumps(
+    rt: &(impl Abort + Alloc<A = Global>),
+    mut held: Followed,
+    time: u64,
+    dumps: [u64; 3],
+) -> Result<(), Fail>
+    requires at { at_of held ≡ time }
+{
+    let mut window = Window::new(rt.alloc(), Format::Real1, 1_024)?;
+    // The samples before it was held.
+    open_next(&mut window, time.min(1_000))?;
+    open_next(&mut window, time)?;
+    window.close();
+    let mut book = CodeBook::new();
+    for k in 0..3usize {
+        let (nth, said) = (held.dumps(), held.next_dump());
+        let dump = next_dump(&mut held, &mut window, &mut book)?;
+        assert_same_at!(rt; time, (nth, said, dump), (k as u64, dumps[k], dumps[k]));
+    }
+    assert_same!(rt; held.dumps(), 3);
+    Ok(())
+}
+
+/// The satellite of a row.
+fn held(rate: u32, hz: i32, half: u16, time: u64) -> Result<Followed, Fail>
+    ensures { IfOk result (λ held. at_of held ≡ time) }
+{
+    if 2_000 < time {
+        return Err(Fail::new("it is held too late"));
+    }
+    let settings = Settings::new(rate, 0, Format::Real1)?;
+    let prn = Prn::new(5).ok_or("a satellite")?;
+    let doppler = Doppler::new(hz).ok_or("a shift")?;
+    let half = HalfChip::new(half).ok_or("a half chip")?;
+    Ok(Followed::hold(&settings, prn, doppler, half, time))
+}
+
+#[test]
+fn dumps_come_by_the_rate_of_the_code(rt: HostRuntime) -> Result<(), Fail> {
+    for &(rate, hz, half, time, dumps) in &ROWS {
+        assert_dumps(&rt, held(rate, hz, half, time)?, time, dumps)?;
+    }
+    Ok(())
+}
+
+// A satellite that loops steer comes to its first dump as one that is held, since they set steps
+// after it.
+#[test]
+fn first_dump_of_a_tracked_satellite(rt: HostRuntime) -> Result<(), Fail> {
+    for &(rate, hz, half, time, dumps) in &ROWS {
+        let settings = Settings::new(rate, 0, Format::Real1)?;
+        let prn = Prn::new(5).ok_or("a satellite")?;
+        let doppler = Doppler::new(hz).ok_or("a shift")?;
+        let half = HalfChip::new(half).ok_or("a half chip")?;
+        if 2_000 < time {
+            return Err(Fail::new("it is tracked too late"));
+        }
+        let tracked = Followed::track(&settings, prn, doppler, half, time);
+        assert_same_at!(rt; rate, (tracked.dumps(), tracked.next_dump()), (0, dumps[0]));
+    }
+    Ok(())
+}
