@@ -4,7 +4,6 @@ pub mod PlaceLemmas
 pub mod SignLemmas
 pub mod TableLemmas
 pub mod FoldLemmas
-pub mod WipedLemmas
 pub mod PowerLemmas
 pub mod SoFarLemmas
 pub mod TallyLemmas

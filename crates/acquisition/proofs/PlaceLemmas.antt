@@ -1,10 +1,8 @@
 -- The half chips of samples, and phases that go on.
-use Rattle.std.proofs.Common.{◌≡◌, ℕ, ◌+◌, ◌*◌, ◌/◌, ◌%◌, ◌^◌, ◌<◌, ◌≤◌, refl, ap, ◌∙◌, arith}
-use Rattle.std.specs.Prelude.{zero, suc, pos, get_or, unsigned_abs}
+use Rattle.std.proofs.Common.{◌≡◌, ℕ, ◌+◌, ◌*◌, ◌/◌, ◌%◌, ◌^◌, ◌<◌, refl, ap, ◌∙◌, arith}
 use Rattle.std.proofs.Math.Nat.{mod-add-mod}
 use Rattle.definitions.specs.Codes.{chip, chip_sign}
 use Rattle.definitions.specs.Oscillators.{prompt_sign, code_phase_after, carrier_phase_after}
-use Rattle.definitions.specs.Oscillators.{cosine, sine, cosines, sines}
 use Rattle.acquisition.specs.Folds.{half_chip_at}
 use Rattle.acquisition.specs.declared.half_chip_table.TheConstants.{HALF_CHIPS}
 
@@ -62,19 +60,3 @@ carrier-goes_on first phase step own k n same is =
     let e : first + k * step + n * step ≡ first + (k + n) * step = omega arith in
     rw (same, is) (mod-add-mod (first + k * step) (2 ^ 32) (n * step)
     ∙ ap (λ (m : ℕ). m % 2 ^ 32) e)
-
--- one of the cosine and the sine is 1 in size, the other 2
-pub carrier_sizes : (phase : ℕ) → unsigned_abs (cosine phase) + unsigned_abs (sine phase) ≤ 3
-carrier_sizes phase = by_eighth (phase / 2 ^ 29)
-  where
-    by_eighth : (n : ℕ)
-        → unsigned_abs (get_or cosines n (pos 0)) + unsigned_abs (get_or sines n (pos 0)) ≤ 3
-    by_eighth zero = omega arith
-    by_eighth (suc zero) = omega arith
-    by_eighth (suc (suc zero)) = omega arith
-    by_eighth (suc (suc (suc zero))) = omega arith
-    by_eighth (suc (suc (suc (suc zero)))) = omega arith
-    by_eighth (suc (suc (suc (suc (suc zero))))) = omega arith
-    by_eighth (suc (suc (suc (suc (suc (suc zero)))))) = omega arith
-    by_eighth (suc (suc (suc (suc (suc (suc (suc zero))))))) = omega arith
-    by_eighth (suc (suc (suc (suc (suc (suc (suc (suc n)))))))) = omega arith

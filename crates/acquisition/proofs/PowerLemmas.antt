@@ -17,12 +17,6 @@ use Rattle.acquisition.proofs.TallyLemmas.{sum_more}
 abbrev pub AreFrom : {A : Type 0} → ℕ → ℕ → (ℕ → A) → (ℕ → A) → Type 0
 AreFrom k n f g = (j : ℕ) → j < n → f j ≡ g (k + j)
 
--- a list of values by their places
-pub view : (f : ℕ → ℤ) (views : List ℤ) (n : ℕ) → views ≡ map f (range_with_len 0 n)
-    → (j : ℕ) → j < n
-    → get_or views j (pos 0) ≡ f j
-view f views n is j h = rw is (get_or-map-range_with_len f 0 n j j (pos 0) h (omega arith))
-
 -- n samples of those that are held, from number first on
 pub held_run : (held : ℕ → Sample) (first n : ℕ) (ys : List Sample) → ys
     ≡ map held (range_with_len first n) → (j : ℕ) → j < n → sample_at ys j ≡ held (first + j)

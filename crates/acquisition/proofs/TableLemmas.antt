@@ -2,7 +2,7 @@
 use Rattle.std.proofs.Common.{inl, inr, ◌≡◌, ℕ, zero, suc, ◌+◌, ◌*◌, ◌/◌, ◌<◌, ◌≤◌, refl, sym}
 use Rattle.std.proofs.Common.{◌∙◌}
 use Rattle.std.proofs.Common.{arith, to_z, of_z, w32, FitsSigned}
-use Rattle.std.specs.Prelude.{ℤ, pos, negsuc, ◌+ℤ◌, ◌*ℤ◌, ◌==◌, false, cond, ◌⊎◌}
+use Rattle.std.specs.Prelude.{ℤ, pos, negsuc, ◌+ℤ◌, ◌*ℤ◌, ◌==◌, Bool, true, false, cond, ◌⊎◌}
 use Rattle.std.specs.Prelude.{List, get_or, unsigned_abs, length}
 use Rattle.std.proofs.Math.ListN.{replicate, set}
 use Rattle.std.proofs.lemmas.Int.{ints, to_z-of_z, fits_signed_from_abs}
@@ -10,7 +10,8 @@ use Rattle.std.proofs.lemmas.Bool.{eq-eqb, cases_lt}
 use Rattle.std.proofs.lemmas.List.{get_or-replicate, get_or-set_same, get_or-set_other}
 use Rattle.definitions.specs.Sums.{total}
 use Rattle.definitions.specs.Codes.{chip_sign}
-use Rattle.acquisition.specs.Folds.{sum_at_key, half_chip_at, IsTable, total_to, sizes_to}
+use Rattle.acquisition.specs.Folds.{sum_at_key, half_chip_at, IsTable, IsOpenTable, total_to}
+use Rattle.acquisition.specs.Folds.{sizes_to}
 use Rattle.acquisition.specs.Folds.{correlation_to}
 use Rattle.acquisition.specs.declared.half_chip_table.TheConstants.{HALF_CHIPS}
 use Rattle.oscillators.specs.declared.settings.TheConstants.{MOST_PER_MS}
@@ -37,15 +38,38 @@ sum_at_key-more : (y : ℕ → ℤ) (key : ℕ → ℕ) (n k : ℕ) → sum_at_k
 unfolding sum_at_key total
 sum_at_key-more y key n k = let e : n + 1 ≡ suc n = omega arith in rw e refl
 
-pub table-more : (y : ℕ → ℤ) (step from n place : ℕ) (value : ℤ) (old new : List ℤ)
-    → IsTable y step from n old → place ≡ half_chip_at step (from + n)
-    → value ≡ y (from + n)
-    → ((k : ℕ) → k < HALF_CHIPS → get_or new k (pos 0)
-    ≡ get_or old k (pos 0) +ℤ cond (place == k) value (pos 0))
-    → IsTable y step from (n + 1) new
-table-more y step from n place value old new is at same more k h =
-    more k h ∙ rw (is k h, at, same)
+-- a table with a sum that is still to be added: one of nothing, one with a value more, and a table
+-- once the sum is added
+pub open_none : (y : ℕ → ℤ) (step from n place : ℕ) (table : List ℤ) → IsTable y step from n table
+    → IsOpenTable y step from n place (pos 0) table
+open_none y step from n place table is k h = nothing (get_or table k (pos 0)) ∙ is k h
+  where
+    nothing : (z : ℤ) → z +ℤ cond (place == k) (pos 0) (pos 0) ≡ z
+    nothing z = either (place == k) z
+      where
+        either : (same : Bool) (z : ℤ) → z +ℤ cond same (pos 0) (pos 0) ≡ z
+        either true z = omega (arith, ints)
+        either false z = omega (arith, ints)
+
+pub open_more : (y : ℕ → ℤ) (step from n place : ℕ) (sum value : ℤ) (table : List ℤ)
+    → IsOpenTable y step from n place sum table → place ≡ half_chip_at step (from + n)
+    → value ≡ y (from + n) → IsOpenTable y step from (n + 1) place (sum +ℤ value) table
+open_more y step from n place sum value table is at same k h =
+    parted (place == k) (get_or table k (pos 0)) sum value
+    ∙ rw (is k h, at, same)
     (sym (sum_at_key-more (λ i. y (from + i)) (λ i. half_chip_at step (from + i)) n k))
+  where
+    parted : (here : Bool) (z a b : ℤ) → z +ℤ cond here (a +ℤ b) (pos 0)
+        ≡ (z +ℤ cond here a (pos 0)) +ℤ cond here b (pos 0)
+    parted true z a b = omega (arith, ints)
+    parted false z a b = omega (arith, ints)
+
+pub open_added : (y : ℕ → ℤ) (step from n place : ℕ) (sum : ℤ) (old new : List ℤ)
+    → IsOpenTable y step from n place sum old
+    → ((k : ℕ) → k < HALF_CHIPS → get_or new k (pos 0)
+    ≡ get_or old k (pos 0) +ℤ cond (place == k) sum (pos 0))
+    → IsTable y step from n new
+open_added y step from n place sum old new is more k h = more k h ∙ is k h
 
 -- the sizes of a table's entries
 pub sizes-none : (table : List ℤ) (n : ℕ)
@@ -198,13 +222,15 @@ pub entry_fits : (z : ℤ) (size taken : ℕ) → unsigned_abs z ≤ size → si
 entry_fits z size taken within small few =
     fits_signed_from_abs w32 z (omega (arith, within, small, few))
 
-sum_fits : (z value : ℤ) (size taken : ℕ) → unsigned_abs z ≤ size → size ≤ 9 * taken
-    → taken ≤ MOST_PER_MS → unsigned_abs value ≤ 9 → FitsSigned w32 (z +ℤ value)
-sum_fits z value size taken within small few one =
-    fits_signed_from_abs w32 (z +ℤ value) (omega (arith, abs_add z value, within, small, few, one))
+sum_fits : (z sum : ℤ) (size taken more : ℕ) → unsigned_abs z ≤ size → size ≤ 9 * taken
+    → taken + more ≤ MOST_PER_MS → unsigned_abs sum ≤ 9 * more → FitsSigned w32 (z +ℤ sum)
+sum_fits z sum size taken more within small few most =
+    fits_signed_from_abs w32 (z +ℤ sum) (omega (arith, abs_add z sum, within, small, few, most))
 
-pub value-kept : (value : ℤ) → unsigned_abs value ≤ 9 → to_z w32 (of_z w32 value) ≡ value
-value-kept value one = to_z-of_z w32 value (fits_signed_from_abs w32 value (omega (arith, one)))
+pub value-kept : (sum : ℤ) (more : ℕ) → unsigned_abs sum ≤ 9 * more → more ≤ MOST_PER_MS
+    → to_z w32 (of_z w32 sum) ≡ sum
+value-kept sum more most few =
+    to_z-of_z w32 sum (fits_signed_from_abs w32 sum (omega (arith, most, few)))
 
 pub entry-kept : (table : List ℤ) (k taken : ℕ) → k < HALF_CHIPS
     → sizes_to table HALF_CHIPS ≤ 9 * taken → taken ≤ MOST_PER_MS
@@ -219,18 +245,19 @@ pub record AddsUp (entry value : ℤ) : Type 0 where
   pub is : to_z w32 (of_z w32 (to_z w32 (of_z w32 entry) +ℤ to_z w32 (of_z w32 value)))
       ≡ entry +ℤ value
 
-pub adds_up : (table : List ℤ) (place taken : ℕ) (value : ℤ) → place < HALF_CHIPS
-    → sizes_to table HALF_CHIPS ≤ 9 * taken → taken ≤ MOST_PER_MS → unsigned_abs value ≤ 9
-    → AddsUp (get_or table place (pos 0)) value
-adds_up table place taken value inside small few one =
+pub adds_up : (table : List ℤ) (place taken more : ℕ) (sum : ℤ) → place < HALF_CHIPS
+    → sizes_to table HALF_CHIPS ≤ 9 * taken → taken + more ≤ MOST_PER_MS
+    → unsigned_abs sum ≤ 9 * more → AddsUp (get_or table place (pos 0)) sum
+adds_up table place taken more sum inside small few most =
     let entry : ℤ = get_or table place (pos 0) in
-    let sum : FitsSigned w32 (entry +ℤ value) =
-    sum_fits entry value (sizes_to table HALF_CHIPS) taken
-    (size_of_one table place HALF_CHIPS inside) small few one in
-    let kept = entry-kept table place taken inside small few in
+    let fits : FitsSigned w32 (entry +ℤ sum) =
+    sum_fits entry sum (sizes_to table HALF_CHIPS) taken more
+    (size_of_one table place HALF_CHIPS inside) small few most in
+    let kept = entry-kept table place taken inside small (omega (arith, few)) in
+    let same = value-kept sum more most (omega (arith, few)) in
     record {
-      fits = rw (kept, value-kept value one) sum;
-      is = rw (kept, value-kept value one) (to_z-of_z w32 (entry +ℤ value) sum);
+      fits = rw (kept, same) fits;
+      is = rw (kept, same) (to_z-of_z w32 (entry +ℤ sum) fits);
     }
 
 -- a table with a value added to an entry

@@ -1,7 +1,11 @@
 -- What a fold stands for.
-use Rattle.std.specs.Prelude.{◌≡◌, ◌≤◌, ℕ}
+use Rattle.std.specs.Prelude.{◌≡◌, ◌≤◌, ◌<◌, ◌+◌, ℕ, unsigned_abs}
 use Rattle.definitions.specs.Samples.{Sample}
-use Rattle.acquisition.specs.Folds.{IsTable, in_phase_at, quadrature_at, total_to, sizes_to}
+use Rattle.oscillators.specs.declared.carrier.TheConstants.{MOST_PRODUCT}
+use Rattle.lane_correlator.specs.SampleProducts.{in_phase_of, quadrature_of}
+use Rattle.lane_correlator.specs.declared.products.Products.{Products}
+use Rattle.acquisition.specs.Folds.{IsTable, IsOpenTable, in_phase_at, quadrature_at, total_to}
+use Rattle.acquisition.specs.Folds.{sizes_to}
 use Rattle.acquisition.specs.declared.half_chip_table.TheConstants.{HALF_CHIPS}
 use Rattle.acquisition.specs.declared.fold.Fold.{Fold}
 use Rattle.acquisition.specs.declared.fold.TheConstants.{MOST_SMALL}
@@ -11,6 +15,27 @@ use Rattle.acquisition.specs.declared.sums.Sums.{Sums}
 pub record IsFold (x : ℕ → Sample) (step carrier_step from n : ℕ) (fold : Fold) : Type 0 where
   pub in_phase : IsTable (in_phase_at x carrier_step) step from n fold.in_phase.sums
   pub quadrature : IsTable (quadrature_at x carrier_step) step from n fold.quadrature.sums
+
+-- of n samples, once sums are added to it at a half chip
+pub record IsOpenFold (x : ℕ → Sample) (step carrier_step from n place : ℕ) (sums : Sums)
+    (fold : Fold) : Type 0 where
+  pub in_phase : IsOpenTable (in_phase_at x carrier_step) step from n place sums.in_phase
+      fold.in_phase.sums
+  pub quadrature : IsOpenTable (quadrature_at x carrier_step) step from n place sums.quadrature
+      fold.quadrature.sums
+
+-- the first n products are those of the samples from one on
+pub record AreWiped (x : ℕ → Sample) (carrier_step from n : ℕ) (products : Products) : Type 0
+  where
+    pub in_phase : (j : ℕ) → j < n
+        → in_phase_of products j ≡ in_phase_at x carrier_step (from + j)
+    pub quadrature : (j : ℕ) → j < n
+        → quadrature_of products j ≡ quadrature_at x carrier_step (from + j)
+
+-- and none of them is greater in size than such a product can be
+pub record AreSmall (n : ℕ) (products : Products) : Type 0 where
+  pub in_phase : (j : ℕ) → j < n → unsigned_abs (in_phase_of products j) ≤ MOST_PRODUCT
+  pub quadrature : (j : ℕ) → j < n → unsigned_abs (quadrature_of products j) ≤ MOST_PRODUCT
 
 -- the sums of all entries of a fold
 pub record IsWhole (sums : Sums) (fold : Fold) : Type 0 where

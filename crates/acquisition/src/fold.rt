@@ -1,10 +1,10 @@
 //! Samples without their carrier, added up by the half chips at which they lie.
 
-ghost use Rattle.std.specs.Prelude.{◌≡◌, ◌+◌, ◌*◌, ◌<◌, ◌≤◌, ◌%◌, ℕ, length, get_or, pos};
+ghost use Rattle.std.specs.Prelude.{◌≡◌, ◌+◌, ◌*◌, ◌<◌, ◌≤◌, ◌%◌, ℕ, length};
 ghost use Rattle.std.specs.Prelude.{unsigned_abs, true, ◌↔◌};
 ghost use Rattle.definitions.specs.Oscillators.{code_cycle};
 ghost use Rattle.definitions.specs.Samples.{Sample, sample_at};
-ghost use Rattle.definitions.specs.Correlation.{wiped_in_phase, wiped_quadrature};
+ghost use Rattle.bit_planes.specs.declared.plane.TheConstants.{WORD_PLACES};
 ghost use Rattle.acquisition.specs.declared.dwell.TheConstants.{MOST_START};
 ghost use Rattle.acquisition.specs.declared.half_chip_table.TheConstants.{HALF_CHIPS};
 ghost use Rattle.oscillators.specs.declared.carrier.TheConstants.{MOST_PRODUCT};
@@ -12,7 +12,8 @@ ghost use Rattle.oscillators.specs.declared.settings.TheConstants.{MOST_PER_MS};
 
 use crate::half_chip_table::{HALF_CHIPS, HalfChipTable};
 use crate::sums::Sums;
-use oscillators::{CODE_CYCLE, CarrierOsc, CarrierPlanes, CodeOsc};
+use lane_correlator::Products;
+use oscillators::{CODE_CYCLE, CarrierOsc, CodeOsc};
 use sample_planes::{MAX_SAMPLES, Planes, SampleSource};
 
 /// The greatest sum in size that fits in 16 bits.
@@ -29,8 +30,8 @@ pub(crate) struct Fold {
 
 impl Fold {
     ghost use Rattle.definitions.specs.Oscillators.{code_phase_after, carrier_phase_after};
-    ghost use Rattle.acquisition.specs.Folds.{half_chip_at, in_phase_at, quadrature_at};
-    ghost use Rattle.acquisition.specs.FoldStates.{IsFold, IsSmall, IsWhole, taken_of};
+    ghost use Rattle.acquisition.specs.FoldStates.{IsFold, IsOpenFold, IsSmall, IsWhole, taken_of};
+    ghost use Rattle.acquisition.specs.FoldStates.{AreSmall, AreWiped};
 
     /// The sums over no samples.
     #[inline(always)]
@@ -92,32 +93,67 @@ impl Fold {
             → IsFold x step carrier.now.step from (n + length samples.now) self.new }
         ensures taken { taken_of self.new ≡ taken_of self.old + length samples.now }
     {
-        let values = carrier.planes(samples.len());
+        let mut words = carrier.words(0);
         let mut phase = code;
-        for i in 0..samples.len() {
-            let sample = without_carrier(samples, &values, i);
-            self.add((phase >> 31) as usize, sample);
-            phase = phase_behind(phase, step);
+        for w in 0..(samples.len() + 63) / 64 {
+            let products = Products::new(samples, w, &mut words);
+            let count = (samples.len() - 64 * w).min(64);
+            phase = self.take_word(&products, count, phase, step);
         }
     }
 
-    /// Adds a sample without its carrier at a half chip.
+    /// Adds the first `count` products of a word, and answers the phase of the code behind them.
+    /// Those that follow one another at one half chip are added up before they are put there: else
+    /// each would wait until the sum of the one before is written.
     #[inline(always)]
-    fn add(&mut self, place: usize, sample: Sums)
-        requires place { place < HALF_CHIPS }
-        requires in_phase { unsigned_abs sample.in_phase ≤ MOST_PRODUCT }
-        requires quadrature { unsigned_abs sample.quadrature ≤ MOST_PRODUCT }
-        requires few { taken_of self.old < MOST_PER_MS }
-        ensures fold { (x : ℕ → Sample) (step carrier_step from n : ℕ)
+    fn take_word(&mut self, products: &Products, count: usize, code: u64, step: u32) -> u64
+        requires count { count ≤ WORD_PLACES }
+        requires code { code < code_cycle }
+        requires room { taken_of self.old + count ≤ MOST_PER_MS }
+        requires small { AreSmall count products.now }
+        ensures fold { (x : ℕ → Sample) (carrier_step from n : ℕ)
             → IsFold x step carrier_step from n self.old
-            → place ≡ half_chip_at step (from + n)
-            → sample.in_phase ≡ in_phase_at x carrier_step (from + n)
-            → sample.quadrature ≡ quadrature_at x carrier_step (from + n)
-            → IsFold x step carrier_step from (n + 1) self.new }
-        ensures taken { taken_of self.new ≡ taken_of self.old + 1 }
+            → code ≡ code_phase_after 0 step (from + n)
+            → AreWiped x carrier_step (from + n) count products.now
+            → IsFold x step carrier_step from (n + count) self.new }
+        ensures taken { taken_of self.new ≡ taken_of self.old + count }
+        ensures phase { result ≡ code_phase_after code step count }
+        ensures in_cycle { result < code_cycle }
     {
-        self.in_phase.add(place, sample.in_phase);
-        self.quadrature.add(place, sample.quadrature);
+        let mut phase = code;
+        let mut sums = Sums::NONE;
+        let mut many = 0;
+        for j in 0..count {
+            sums = sums.with(products.in_phase(j), products.quadrature(j));
+            many += 1;
+            let next = phase + u64::from(step);
+            if next >> 31 == phase >> 31 {
+                phase = next;
+            } else {
+                self.add((phase >> 31) as usize, sums, many);
+                sums = Sums::NONE;
+                many = 0;
+                phase = phase_behind(phase, step);
+            }
+        }
+        self.add((phase >> 31) as usize, sums, many);
+        phase
+    }
+
+    /// Adds the sums over `count` samples without their carrier at a half chip.
+    #[inline(always)]
+    fn add(&mut self, place: usize, sums: Sums, count: u32)
+        requires place { place < HALF_CHIPS }
+        requires in_phase { unsigned_abs sums.in_phase ≤ MOST_PRODUCT * count }
+        requires quadrature { unsigned_abs sums.quadrature ≤ MOST_PRODUCT * count }
+        requires few { taken_of self.old + count ≤ MOST_PER_MS }
+        ensures fold { (x : ℕ → Sample) (step carrier_step from n : ℕ)
+            → IsOpenFold x step carrier_step from n place sums self.old
+            → IsFold x step carrier_step from n self.new }
+        ensures taken { taken_of self.new ≡ taken_of self.old + count }
+    {
+        self.in_phase.add(place, sums.in_phase, count);
+        self.quadrature.add(place, sums.quadrature, count);
     }
 
     /// Whether the sums that it gives with any code fit in 16 bits.
@@ -141,29 +177,6 @@ impl Fold {
             in_phase,
             quadrature,
         }
-    }
-}
-
-/// Sample `i` times the conjugate of the carrier there.
-#[inline(always)]
-fn without_carrier(samples: &Planes, carrier: &CarrierPlanes, i: usize) -> Sums
-    requires within { i < length samples.now }
-    requires cos { i < length carrier.now.cos }
-    requires sin { i < length carrier.now.sin }
-    requires small { unsigned_abs (get_or carrier.now.cos i (pos 0)) + unsigned_abs
-        (get_or carrier.now.sin i (pos 0)) ≤ 3 }
-    ensures in_phase { result.in_phase ≡ wiped_in_phase (sample_at samples.now i)
-        (get_or carrier.now.cos i (pos 0)) (get_or carrier.now.sin i (pos 0)) }
-    ensures quadrature { result.quadrature ≡ wiped_quadrature (sample_at samples.now i)
-        (get_or carrier.now.cos i (pos 0)) (get_or carrier.now.sin i (pos 0)) }
-    ensures small_in_phase { unsigned_abs result.in_phase ≤ MOST_PRODUCT }
-    ensures small_quadrature { unsigned_abs result.quadrature ≤ MOST_PRODUCT }
-{
-    let (value, value_q) = (i32::from(samples.value(i)), i32::from(samples.value_q(i)));
-    let (cos, sin) = (i32::from(carrier.cos(i)), i32::from(carrier.sin(i)));
-    Sums {
-        in_phase: value * cos + value_q * sin,
-        quadrature: value_q * cos - value * sin,
     }
 }
 

@@ -40,18 +40,18 @@ impl HalfChipTable {
         }
     }
 
-    /// Adds a value at a place.
+    /// Adds the sum of `count` values at a place.
     #[inline(always)]
-    pub(crate) fn add(&mut self, place: usize, value: i32)
+    pub(crate) fn add(&mut self, place: usize, sum: i32, count: u32)
         requires place { place < HALF_CHIPS }
-        requires small { unsigned_abs value ≤ MOST_PRODUCT }
-        requires few { self.old.taken < MOST_PER_MS }
+        requires small { unsigned_abs sum ≤ MOST_PRODUCT * count }
+        requires few { self.old.taken + count ≤ MOST_PER_MS }
         ensures added { (k : ℕ) → k < HALF_CHIPS → get_or self.new.sums k (pos 0)
-            ≡ get_or self.old.sums k (pos 0) +ℤ cond (place == k) value (pos 0) }
-        ensures taken { self.new.taken ≡ self.old.taken + 1 }
+            ≡ get_or self.old.sums k (pos 0) +ℤ cond (place == k) sum (pos 0) }
+        ensures taken { self.new.taken ≡ self.old.taken + count }
     {
-        self.sums[place] += value;
-        self.taken += 1;
+        self.sums[place] += sum;
+        self.taken += count;
     }
 
     /// The sum at a place.

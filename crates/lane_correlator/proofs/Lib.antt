@@ -10,6 +10,7 @@ pub mod SmallLemmas
 pub mod SumLemmas
 pub mod LoopLemmas
 pub mod WordLemmas
+pub mod ProductLemmas
 pub mod ReplicaLemmas
 pub mod StandLemmas
 pub mod TallyLemmas

@@ -7,3 +7,4 @@ pub mod RangeSums
 pub mod Tallies
 pub mod ReplicaWords
 pub mod Adding
+pub mod SampleProducts

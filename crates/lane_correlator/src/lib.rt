@@ -24,6 +24,7 @@
 
 mod counts;
 mod lane_sums;
+mod products;
 mod replica;
 mod tally;
 mod wiped;
@@ -31,4 +32,5 @@ mod with_replica;
 
 pub use counts::Counts;
 pub use oscillators::MOST_PRODUCT;
+pub use products::Products;
 pub use with_replica::replica_sums;

@@ -1,75 +1,108 @@
-use Rattle.std.proofs.Common.{◌≡◌, ◌<◌, ◌+◌, ◌∙◌, ℕ, length, ap, refl, arith, pos, get_or}
-use Rattle.definitions.specs.Samples.{sample_at}
-use Rattle.definitions.specs.Oscillators.{carrier_phase_after, cosine, sine}
-use Rattle.acquisition.specs.Folds.{half_chip_at, in_phase_at, quadrature_at}
-use Rattle.acquisition.proofs.PlaceLemmas.{place_is, phase-next, carrier-goes_on}
-use Rattle.acquisition.proofs.PlaceLemmas.{carrier_sizes}
-use Rattle.acquisition.proofs.PowerLemmas.{view}
+use Rattle.std.proofs.Common.{◌≡◌, ◌<◌, ◌+◌, ◌-◌, ◌*◌, ◌∙◌, ℕ, length, ap, refl, sym, arith}
+use Rattle.std.specs.Prelude.{min}
+use Rattle.definitions.specs.Samples.{Sample, sample_at}
+use Rattle.definitions.specs.Oscillators.{code_phase_after, carrier_phase_after}
+use Rattle.oscillators.specs.Views.{Oscillation}
+use Rattle.acquisition.specs.FoldStates.{AreWiped}
+use Rattle.acquisition.proofs.PlaceLemmas.{code-goes_on, carrier-goes_on}
 use Rattle.acquisition.proofs.fold.Fold.take.Goals as goal
 
-pub without_carrier-sample-requires-clause-small :
-    goal.without_carrier-sample-requires-clause-small
-without_carrier-sample-requires-clause-small c =
-    let i : ℕ = c.loop-i.i in
-    let carrier = c.args.carrier.now in
-    let n : ℕ = c.len.result in
-    let inside : i < n = omega
-    (arith, c.loop-i-test.true, c.len-i-end.ensures.count, c.len.ensures.count) in
-    rw (
-      view (λ j. cosine (carrier_phase_after carrier.phase carrier.step j))
-          c.planes-values.result.cos n c.planes-values.ensures.cos i inside,
-      view (λ j. sine (carrier_phase_after carrier.phase carrier.step j))
-          c.planes-values.result.sin n c.planes-values.ensures.sin i inside,
-    ) (carrier_sizes (carrier_phase_after carrier.phase carrier.step i))
+-- the words before this one are whole, and with it the run goes on
+whole : (c : goal.After-take_word-phase)
+    → min (64 * c.loop-w.w) (length c.args.samples.now) ≡ 64 * c.loop-w.w
+whole c = omega (arith, c.loop-w-test.true, c.len.ensures.count)
 
-pub loop-i-preserved : goal.loop-i-preserved
-loop-i-preserved c =
-    let here = c.loop-i.invariant in
-    let i : ℕ = c.loop-i.i in
+reached : (c : goal.After-take_word-phase)
+    → min (64 * (c.loop-w.w + 1)) (length c.args.samples.now)
+    ≡ 64 * c.loop-w.w + c.min-count.result
+reached c = omega (
+  arith,
+  c.loop-w-test.true,
+  c.len.ensures.count,
+  c.len-in-loop-w.ensures.count,
+  c.min-count.ensures,
+)
+
+-- the products of a word, by the samples that the run stands for
+wiped : (c : goal.After-take_word-phase) (x : ℕ → Sample) (from n : ℕ)
+    → c.args.carrier.now.phase ≡ carrier_phase_after 0 c.args.carrier.now.step (from + n)
+    → ((j : ℕ) → j < length c.args.samples.now
+    → sample_at c.args.samples.now j ≡ x (from + n + j))
+    → AreWiped x c.args.carrier.now.step (from + (n + 64 * c.loop-w.w)) c.min-count.result
+    c.new-products.result
+wiped c x from n carrier_first same = record {
+  in_phase = λ j h.
+      c.new-products.ensures.products.in_phase j (short j h) (inside j h)
+      ∙ rw (phase_is j, sample_is j h) refl;
+  quadrature = λ j h.
+      c.new-products.ensures.products.quadrature j (short j h) (inside j h)
+      ∙ rw (phase_is j, sample_is j h) refl;
+}
+  where
+    w : ℕ
+    w = c.loop-w.w
+
+    step : ℕ
+    step = c.args.carrier.now.step
+
+    short : (j : ℕ) → j < c.min-count.result → j < 64
+    short j h = omega (arith, h, c.min-count.ensures)
+
+    inside : (j : ℕ) → j < c.min-count.result → 64 * w + j < length c.args.samples.now
+    inside j h = omega (arith, h, c.min-count.ensures, c.len-in-loop-w.ensures.count)
+
+    at : (j : ℕ) → from + n + (64 * w + j) ≡ from + (n + 64 * w) + j
+    at j = omega arith
+
+    phase_is : (j : ℕ) → carrier_phase_after c.loop-w.words.phase c.loop-w.words.step j
+        ≡ carrier_phase_after 0 step (from + (n + 64 * w) + j)
+    phase_is j =
+        carrier-goes_on 0 c.loop-w.words.phase step c.loop-w.words.step (from + n + 64 * w) j
+        c.loop-w.invariant.words_step (c.loop-w.invariant.words_phase
+        ∙ carrier-goes_on 0 c.args.carrier.now.phase step step (from + n) (64 * w) refl
+        carrier_first)
+        ∙ ap (carrier_phase_after 0 step) (on j)
+      where
+        on : (j : ℕ) → from + n + 64 * w + j ≡ from + (n + 64 * w) + j
+        on j = omega arith
+
+    sample_is : (j : ℕ) → j < c.min-count.result
+        → sample_at c.args.samples.now (64 * w + j) ≡ x (from + (n + 64 * w) + j)
+    sample_is j h = same (64 * w + j) (inside j h) ∙ ap x (at j)
+
+pub loop-w-preserved : goal.loop-w-preserved
+loop-w-preserved c =
+    let here = c.loop-w.invariant in
     let a = c.args in
-    let carrier = c.args.carrier.now in
-    let count : ℕ = c.len.result in
-    let within : i < length a.samples.now = omega
-    (arith, c.loop-i-test.true, c.len-i-end.ensures.count) in
-    let inside : i < count = omega (arith, within, c.len.ensures.count) in
+    let w : ℕ = c.loop-w.w in
+    let count : ℕ = c.min-count.result in
+    let phase : c.loop-w.phase ≡ code_phase_after a.code a.step (64 * w) =
+    here.phase ∙ ap (code_phase_after a.code a.step) (whole c) in
+    let next : 64 * w + 64 ≡ 64 * (w + 1) = omega arith in
     record {
-      phase = phase-next a.code c.loop-i.phase c.phase_behind-phase.result a.step i here.phase
-          c.phase_behind-phase.ensures.value;
-      in_cycle = c.phase_behind-phase.ensures.in_cycle;
-      taken = omega (arith, here.taken, c.add.ensures.taken);
+      phase = c.take_word-phase.ensures.phase
+          ∙ code-goes_on a.code c.loop-w.phase a.step a.step (64 * w) count refl phase
+          ∙ ap (code_phase_after a.code a.step) (sym (reached c));
+      in_cycle = c.take_word-phase.ensures.in_cycle;
+      words_step = ap (λ (o : Oscillation). o.step) c.new-products.ensures.moved
+          ∙ here.words_step;
+      words_phase = ap (λ (o : Oscillation). o.phase) c.new-products.ensures.moved
+          ∙ carrier-goes_on a.carrier.now.phase c.loop-w.words.phase a.carrier.now.step
+          c.loop-w.words.step (64 * w) 64 here.words_step here.words_phase
+          ∙ ap (carrier_phase_after a.carrier.now.phase a.carrier.now.step) next;
+      taken = omega
+          (arith, c.take_word-phase.ensures.taken, here.taken, whole c, reached c);
       fold = λ x from n is first carrier_first same.
-          let e : n + (i + 1) ≡ n + i + 1 = omega arith in
-          let at : from + n + i ≡ from + (n + i) = omega arith in
-          let before = here.fold x from n is first carrier_first same in
-          let phase : carrier_phase_after carrier.phase carrier.step i
-          ≡ carrier_phase_after 0 carrier.step (from + (n + i)) =
-          carrier-goes_on 0 carrier.phase carrier.step carrier.step (from + n) i refl carrier_first
-          ∙ ap (carrier_phase_after 0 carrier.step) at in
-          let cos : get_or c.planes-values.result.cos i (pos 0)
-          ≡ cosine (carrier_phase_after 0 carrier.step (from + (n + i))) =
-          view (λ j. cosine (carrier_phase_after carrier.phase carrier.step j))
-          c.planes-values.result.cos count c.planes-values.ensures.cos i inside
-          ∙ ap cosine phase in
-          let sin : get_or c.planes-values.result.sin i (pos 0)
-          ≡ sine (carrier_phase_after 0 carrier.step (from + (n + i))) =
-          view (λ j. sine (carrier_phase_after carrier.phase carrier.step j))
-          c.planes-values.result.sin count c.planes-values.ensures.sin i inside
-          ∙ ap sine phase in
-          let sample : sample_at a.samples.now i ≡ x (from + (n + i)) =
-          same i within ∙ ap x at in
-          let in_phase : c.without_carrier-sample.result.in_phase
-          ≡ in_phase_at x carrier.step (from + (n + i)) =
-          c.without_carrier-sample.ensures.in_phase ∙ rw (sample, cos, sin) refl in
-          let quadrature : c.without_carrier-sample.result.quadrature
-          ≡ quadrature_at x carrier.step (from + (n + i)) =
-          c.without_carrier-sample.ensures.quadrature ∙ rw (sample, cos, sin) refl in
-          rw e (c.add.ensures.fold x a.step carrier.step from (n + i) before
-          (place_is a.code c.loop-i.phase a.step (from + n) i first here.phase
-          ∙ ap (half_chip_at a.step) at) in_phase quadrature);
+          let e : n + 64 * w + count ≡ n + (64 * w + count) = omega arith in
+          let at : from + n + 64 * w ≡ from + (n + 64 * w) = omega arith in
+          rw (reached c, ← e) (c.take_word-phase.ensures.fold x a.carrier.now.step from (n + 64 * w)
+          (rw (← whole c) (here.fold x from n is first carrier_first same))
+          (phase ∙ code-goes_on 0 a.code a.step a.step (from + n) (64 * w) refl first
+          ∙ ap (code_phase_after 0 a.step) at) (wiped c x from n carrier_first same));
     }
 
 pub returns-clause-fold : goal.returns-clause-fold
 returns-clause-fold c x from n is first carrier_first same =
-    let end : c.loop-i.i ≡ length c.args.samples.now = omega
-    (arith, c.loop-i-test.false, c.loop-i.auto.i-end, c.len-i-end.ensures.count) in
-    rw end at (c.loop-i.invariant.fold x from n is first carrier_first same)
+    let end : min (64 * c.loop-w.w) (length c.args.samples.now) ≡ length c.args.samples.now = omega
+    (arith, c.loop-w-test.false, c.len.ensures.count) in
+    rw end at (c.loop-w.invariant.fold x from n is first carrier_first same)

@@ -1,18 +1,21 @@
-use Rattle.std.proofs.Common.{◌≡◌, ◌<◌, ◌+◌, ℕ, length}
+use Rattle.std.proofs.Common.{◌≡◌, ◌<◌, ◌+◌, ◌*◌, ℕ, length}
+use Rattle.std.specs.Prelude.{min}
 use Rattle.definitions.specs.Samples.{Sample, sample_at}
 use Rattle.definitions.specs.Oscillators.{code_phase_after, carrier_phase_after, code_cycle}
 use Rattle.acquisition.specs.FoldStates.{IsFold, taken_of}
 use Rattle.acquisition.proofs.fold.Fold.take.Given as goal
 
-abbrev pub invariant-loop-i : goal.invariant-loop-i
-invariant-loop-i l = record {
-  phase : l.phase ≡ code_phase_after l.code l.step l.i;
+abbrev pub invariant-loop-w : goal.invariant-loop-w
+invariant-loop-w l = record {
+  phase : l.phase ≡ code_phase_after l.code l.step (min (64 * l.w) (length l.samples));
   in_cycle : l.phase < code_cycle;
-  taken : taken_of l.self ≡ taken_of l.fn.self + l.i;
+  words_step : l.words.step ≡ l.carrier.step;
+  words_phase : l.words.phase ≡ carrier_phase_after l.carrier.phase l.carrier.step (64 * l.w);
+  taken : taken_of l.self ≡ taken_of l.fn.self + min (64 * l.w) (length l.samples);
   fold : (x : ℕ → Sample) (from n : ℕ)
       → IsFold x l.step l.carrier.step from n l.fn.self
       → l.code ≡ code_phase_after 0 l.step (from + n)
       → l.carrier.phase ≡ carrier_phase_after 0 l.carrier.step (from + n)
       → ((j : ℕ) → j < length l.samples → sample_at l.samples j ≡ x (from + n + j))
-      → IsFold x l.step l.carrier.step from (n + l.i) l.self;
+      → IsFold x l.step l.carrier.step from (n + min (64 * l.w) (length l.samples)) l.self;
 }

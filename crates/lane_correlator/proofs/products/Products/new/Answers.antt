@@ -1,0 +1,15 @@
+use Rattle.std.proofs.Common.{refl}
+use Rattle.lane_correlator.proofs.ReplicaLemmas.{eighths_below}
+use Rattle.lane_correlator.proofs.ProductLemmas.{products_are}
+use Rattle.lane_correlator.proofs.products.Products.new.Goals as goal
+
+pub new-wiped-requires-clause-cycle : goal.new-wiped-requires-clause-cycle
+new-wiped-requires-clause-cycle c = eighths_below _ _ _ c.next_eighths-eighths.ensures.eighths
+
+pub returns-clause-products : goal.returns-clause-products
+returns-clause-products c =
+    products_are c.args.samples.now c.args.w c.args.carrier.now c.next_eighths-eighths.result
+    c.codes.result c.codes_q.result c.new-wiped.result _ c.next_eighths-eighths.ensures.eighths
+    c.codes.ensures.codes c.codes_q.ensures.codes c.codes_q.ensures.real
+    (c.new-wiped.ensures.wiped c.args.samples.now c.args.w c.codes.ensures.codes
+    c.codes_q.ensures.codes c.codes_q.ensures.real) refl refl
