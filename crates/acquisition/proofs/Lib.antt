@@ -15,3 +15,4 @@ pub mod RingLemmas
 pub mod CellLemmas
 pub mod LaneLemmas
 pub mod PairLemmas
+pub mod TwosLemmas

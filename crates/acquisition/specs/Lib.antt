@@ -12,3 +12,4 @@ pub mod Powers
 pub mod Ones
 pub mod Rings
 pub mod Pairs
+pub mod Twos

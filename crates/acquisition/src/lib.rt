@@ -30,6 +30,7 @@
 
 mod bin_powers;
 mod bin_steps;
+mod by_twos;
 mod cell;
 mod chip_ring;
 mod dwell;

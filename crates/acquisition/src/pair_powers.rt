@@ -11,7 +11,7 @@ ghost use Rattle.acquisition.specs.declared.half_chip_table.TheConstants.{HALF_C
 ghost use Rattle.ca_codes.specs.declared.book.TheConstants.{CODE_CHIPS};
 ghost use Rattle.acquisition.specs.declared.sums.TheConstants.{MOST_PERIOD_POWER};
 
-use crate::chip_ring::{CELLS_AT_ONCE, RAISED, place_of};
+use crate::chip_ring::{CELLS_AT_ONCE, RAISED};
 use crate::half_chip_table::HALF_CHIPS;
 use crate::ones::Ones;
 use crate::pair_ring::{PairLanes, pair};
@@ -52,8 +52,8 @@ impl PeriodSums {
         powers
     }
 
-    /// The pairs over the chips of 1, for 64 cells from half chip `half` on.
-    #[inline(never)]
+    /// The pairs over the chips of 1, for 64 cells from half chip `half` on. A third of them follow
+    /// another one, with which they are taken.
     fn pairs_at_ones(&self, ones: &Ones, half: usize) -> PairLanes
         requires half { half < HALF_CHIPS }
         ensures first { ArePairsAtOnes self.now ones.now half 0 result.first }
@@ -61,23 +61,8 @@ impl PeriodSums {
         ensures third { ArePairsAtOnes self.now ones.now half 32 result.third }
         ensures fourth { ArePairsAtOnes self.now ones.now half 48 result.fourth }
     {
-        let mut first = u32x16::splat(0);
-        let mut second = u32x16::splat(0);
-        let mut third = u32x16::splat(0);
-        let mut fourth = u32x16::splat(0);
-        for k in 0..ones.count() {
-            let more = self.pairs.sixty_four(place_of(half, ones.chip(k)));
-            first = first + more.first;
-            second = second + more.second;
-            third = third + more.third;
-            fourth = fourth + more.fourth;
-        }
-        PairLanes {
-            first,
-            second,
-            third,
-            fourth,
-        }
+        let alone = self.pairs.add_at(ones.alone(), half, PairLanes::none());
+        self.twos.add_at(ones.twos(), half, alone)
     }
 
     /// The pair of the sums over all samples, modulo 2^32. Each is raised by 2^15, and the first by

@@ -1,10 +1,11 @@
 //! Two rings of chips in one.
 
-ghost use Rattle.std.specs.Prelude.{◌≡◌, ◌+◌, ◌*◌, ◌%◌, ◌^◌, ◌≤◌, length};
+ghost use Rattle.std.specs.Prelude.{◌≡◌, ◌+◌, ◌*◌, ◌%◌, ◌^◌, ◌≤◌, pos, length};
 ghost use Rattle.acquisition.specs.declared.chip_ring.TheConstants.{RING, CELLS_AT_ONCE};
 ghost use Rattle.bit_planes.specs.declared.lanes.TheConstants.{LANES};
 
-use crate::chip_ring::{CELLS_AT_ONCE, ChipRing, RING};
+use crate::chip_ring::{CELLS_AT_ONCE, ChipRing, RING, place_of};
+use crate::half_chip_table::LAST;
 use bit_planes::LANES;
 use std::simd::prelude::*;
 
@@ -25,8 +26,31 @@ pub(crate) struct PairLanes {
     pub(crate) fourth: u32x16,
 }
 
+impl PairLanes {
+    ghost use Rattle.acquisition.specs.Twos.{AreAllPairs};
+
+    /// The pairs of no sums.
+    #[inline(always)]
+    pub(crate) fn none() -> PairLanes
+        ensures { AreAllPairs (λ _. pos 0) (λ _. pos 0) result }
+    {
+        let zero = u32x16::splat(0);
+        PairLanes {
+            first: zero,
+            second: zero,
+            third: zero,
+            fourth: zero,
+        }
+    }
+}
+
 impl PairRing {
+    ghost use Rattle.std.specs.Prelude.{ℕ, ℤ, ◌<◌, ◌+ℤ◌, slice_index};
     ghost use Rattle.acquisition.specs.Rings.{AreEntries, ArePaired};
+    ghost use Rattle.acquisition.specs.Twos.{IsClosed, AreTwos, HasPairs, AreAllPairs, sum_at};
+    ghost use Rattle.acquisition.specs.Twos.{with_next};
+    ghost use Rattle.acquisition.specs.declared.half_chip_table.TheConstants.{HALF_CHIPS};
+    ghost use Rattle.ca_codes.specs.declared.book.TheConstants.{CODE_CHIPS};
 
     /// A ring of zeros.
     #[inline(always)]
@@ -40,6 +64,58 @@ impl PairRing {
     {
         for i in 0..RING {
             self.chips[i] = pair(first.chip(i), second.chip(i));
+        }
+    }
+
+    /// Becomes the sums of two chips that follow one another, from those of one.
+    pub(crate) fn set_twos(&mut self, one: &PairRing)
+        requires { IsClosed one.now.chips }
+        ensures { AreTwos one.now.chips self.new.chips }
+    {
+        for i in 0..RING {
+            self.chips[i] = one.with_next(i);
+        }
+    }
+
+    /// The sum of a chip's entry and that of the next chip, which lies two places before it.
+    #[inline(always)]
+    fn with_next(&self, i: usize) -> u32
+        requires closed { IsClosed self.now.chips }
+        requires place { i < RING }
+        ensures { result ≡ with_next self.now.chips i % 2 ^ 32 }
+    {
+        let next = if i < 2 { i + LAST - 1 } else { i - 2 };
+        self.chips[i].wrapping_add(self.chips[next])
+    }
+
+    /// Pairs of 64 cells from half chip `half` on, with the entries of some chips added to them.
+    #[inline(never)]
+    pub(crate) fn add_at(&self, chips: &[u16], half: usize, lanes: PairLanes) -> PairLanes
+        requires half { half < HALF_CHIPS }
+        requires below { (k : ℕ) → k < length chips.now → slice_index chips.now k < CODE_CHIPS }
+        ensures { (x y : ℕ → ℤ) (f g : ℕ → ℕ) → HasPairs f g self.now.chips
+            → AreAllPairs x y lanes
+            → AreAllPairs (λ l. x l +ℤ sum_at f half chips.now (length chips.now) l)
+            (λ l. y l +ℤ sum_at g half chips.now (length chips.now) l) result }
+    {
+        let PairLanes {
+            mut first,
+            mut second,
+            mut third,
+            mut fourth,
+        } = lanes;
+        for k in 0..chips.len() {
+            let more = self.sixty_four(place_of(half, usize::from(chips[k])));
+            first = first + more.first;
+            second = second + more.second;
+            third = third + more.third;
+            fourth = fourth + more.fourth;
+        }
+        PairLanes {
+            first,
+            second,
+            third,
+            fourth,
         }
     }
 

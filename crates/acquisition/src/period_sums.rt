@@ -4,6 +4,7 @@ ghost use Rattle.std.specs.Prelude.{◌≡◌, ◌+◌, ◌*◌, ◌<◌, ◌≤
 ghost use Rattle.std.specs.Prelude.{slice_index, unsigned_abs};
 ghost use Rattle.definitions.specs.Samples.{Sample};
 ghost use Rattle.acquisition.specs.Rings.{ArePaired, HasSmallCells};
+ghost use Rattle.acquisition.specs.Twos.{AreTwos, IsClosed};
 ghost use Rattle.acquisition.specs.declared.chip_ring.TheConstants.{CELLS_AT_ONCE};
 ghost use Rattle.acquisition.specs.declared.dwell.TheConstants.{MOST_START};
 ghost use Rattle.acquisition.specs.declared.fold.TheConstants.{MOST_SMALL};
@@ -28,6 +29,8 @@ pub(crate) struct PeriodSums {
     pub(crate) whole: Sums,
     /// Both rings in one.
     pub(crate) pairs: PairRing,
+    /// Those of each chip with the next one.
+    pub(crate) twos: PairRing,
     /// Whether each sum of a cell fits in 16 bits.
     is_small: bool,
     ghost in_phase_most: { unsigned_abs whole.in_phase ≤ MOST_PERIOD_SUM },
@@ -35,6 +38,9 @@ pub(crate) struct PeriodSums {
     ghost in_phase_cells: { HasSmallCells in_phase.chips whole.in_phase },
     ghost quadrature_cells: { HasSmallCells quadrature.chips whole.quadrature },
     ghost paired: { ArePaired in_phase.chips quadrature.chips pairs.chips },
+    ghost in_phase_closed: { IsClosed in_phase.chips },
+    ghost quadrature_closed: { IsClosed quadrature.chips },
+    ghost by_twos: { AreTwos pairs.chips twos.chips },
     ghost in_phase_small: { is_small ≡ true → unsigned_abs whole.in_phase ≤ MOST_SMALL },
     ghost quadrature_small: { is_small ≡ true → unsigned_abs whole.quadrature ≤ MOST_SMALL },
 }
@@ -50,6 +56,8 @@ impl PeriodSums {
         let quadrature = ChipRing::new();
         let mut pairs = PairRing::new();
         pairs.set(&in_phase, &quadrature);
+        let mut twos = PairRing::new();
+        twos.set_twos(&pairs);
         PeriodSums {
             in_phase,
             quadrature,
@@ -58,6 +66,7 @@ impl PeriodSums {
                 quadrature: 0,
             },
             pairs,
+            twos,
             is_small: false,
         }
     }
@@ -88,6 +97,7 @@ impl PeriodSums {
         self.quadrature.set(&fold.quadrature);
         self.whole = fold.whole();
         self.pairs.set(&self.in_phase, &self.quadrature);
+        self.twos.set_twos(&self.pairs);
         self.is_small = fold.is_small();
     }
 
