@@ -11,4 +11,5 @@ pub mod PeriodStates
 pub mod Powers
 pub mod Ones
 pub mod Rings
+pub mod Rooms
 pub mod Pairs
