@@ -11,5 +11,6 @@ pub mod PeriodStates
 pub mod Powers
 pub mod Ones
 pub mod Rings
+pub mod Rooms
 pub mod Pairs
 pub mod Twos

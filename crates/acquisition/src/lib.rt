@@ -8,7 +8,7 @@
 //! is this project's own.) Each power is proved to be that of the plain sums with the cell's
 //! replica, though no replica is made: samples are added up by half chip first.
 //!
-//!     use acquisition::{Plan, Search};
+//!     use acquisition::{Plan, Search, SearchRoom};
 //!     use ca_codes::{CodeBook, Prn};
 //!     use oscillators::Settings;
 //!     use sample_planes::{Format, NumberedSamples, PackedSamples};
@@ -17,7 +17,8 @@
 //!     let settings = Settings::new(2_046_000, 511_500, Format::Real1)?;
 //!     let prn = Prn::new(5).ok_or("no satellite")?;
 //!     let plan = Plan::new(prn, 0, 16, 2, 25)?;
-//!     let mut search = Search::new(plan, &settings, 0);
+//!     let room = SearchRoom::new(rt.alloc())?;
+//!     let mut search = Search::new(plan, &settings, 0, room);
 //!     // 4,092 samples, eight in a byte.
 //!     let bytes = [0x5a; 512];
 //!     let numbered = NumberedSamples::new(PackedSamples::new(settings.format(), &bytes), 0);
@@ -44,6 +45,7 @@ mod period_sums;
 mod plan;
 mod power_runs;
 mod search;
+mod search_room;
 mod sums;
 mod tally;
 
@@ -54,4 +56,5 @@ pub use plan::{
     Plan, PlanFault,
 };
 pub use search::Search;
+pub use search_room::SearchRoom;
 pub use tally::MOST_POWER;

@@ -4,7 +4,7 @@ ghost use Rattle.std.specs.Prelude.{◌≡◌, ◌≤◌, ◌<◌, ℕ};
 ghost use Rattle.acquisition.specs.declared.dwell.TheConstants.{MOST_START};
 
 use crate::followed::Followed;
-use acquisition::{Cell, Plan, Search};
+use acquisition::{Cell, Plan, Search, SearchRoom};
 use ca_codes::{CodeBook, Prn};
 use oscillators::Settings;
 use sample_planes::SampleSource;
@@ -31,8 +31,9 @@ impl Searched {
     ghost use Rattle.channels.specs.Searching.{plan_of, due_of, done_of, next_cell};
     ghost use Rattle.channels.specs.FollowedChannels.{Follows, HasBegun};
 
-    /// A search that begins with sample `start`, the next one; `start` is at most `MOST_START`.
-    pub fn start(settings: &Settings, plan: Plan, start: u64) -> Searched
+    /// A search that begins with sample `start`, the next one; `start` is at most `MOST_START`. It
+    /// works in a room until `into_room` gives that back.
+    pub fn start(settings: &Settings, plan: Plan, start: u64, room: SearchRoom) -> Searched
         requires { start ≤ MOST_START }
         ensures stands { (xs : List Sample) → length xs ≡ start
             → Searches settings.now plan start xs result }
@@ -40,8 +41,13 @@ impl Searched {
     {
         Searched {
             settings: *settings,
-            search: Search::new(plan, settings, start),
+            search: Search::new(plan, settings, start, room),
         }
+    }
+
+    /// Ends the search, and gives back the room that it worked in.
+    pub fn into_room(self) -> SearchRoom {
+        self.search.into_room()
     }
 
     /// The satellite that is searched for.

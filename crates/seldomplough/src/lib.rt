@@ -38,7 +38,7 @@ mod too_many_samples;
 pub mod units;
 mod values;
 
-pub use acquisition::{Cell, Plan, PlanFault, Search};
+pub use acquisition::{Cell, Plan, PlanFault, Search, SearchRoom};
 pub use bit_sync::{BitNews, BitSync};
 pub use ca_codes::{CodeBook, Prn, PrnFault};
 pub use channel_slots::{MOST_CLIENTS, MOST_TIME, OpenFault};

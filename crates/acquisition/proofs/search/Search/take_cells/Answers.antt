@@ -1,9 +1,13 @@
 use Rattle.std.proofs.Common.{◌≡◌, ◌≤◌, ◌<◌, ◌+◌, ◌*◌, ◌/◌, ◌∙◌, ℕ, List, ap, refl, arith}
+use Rattle.std.specs.Prelude.{get_or, slice_set}
+use Rattle.std.proofs.lemmas.List.{get_or-set_same}
 use Rattle.definitions.specs.Acquisition.{Plan, power_of, dwell_end}
 use Rattle.definitions.specs.Oscillators.{Settings, samples_per_ms}
 use Rattle.definitions.specs.Samples.{Sample, sample_at}
 use Rattle.sample_planes.specs.Sources.{AreSamplesOf}
 use Rattle.acquisition.specs.Powers.{AreSoFar}
+use Rattle.acquisition.specs.declared.bin_powers.BinPowers.{BinPowers}
+use Rattle.acquisition.specs.Rooms.{ForPowers}
 use Rattle.acquisition.specs.Searches.{StandsFor, dwell_length}
 use Rattle.acquisition.specs.Steps.{steps_in}
 use Rattle.acquisition.specs.Tallies.{Tallies}
@@ -35,7 +39,7 @@ module _ (g : Over) (c : goal.After-self-2-1 g) (settings : Settings) (plan : Pl
         rw (of_plan, s.per_period, c.bin-steps.ensures) at (c.advance.ensures.powers x
         (λ j h. let within = rw (s.periods, s.per_period) at h in
         rw s.start_is (holds (start + j) (omega arith) (omega (arith, within))) ∙ same j within))
-        (s.powers x same)
+        (rw (← c.index_mut-powers.ensures.value) at (s.powers x same c.index_mut-powers.result.now))
 
     tally : Tallies (power_of settings plan xs start)
         c.if-first-count-eq-HALF_CHIPS.self.1.1.1.1.0
@@ -50,18 +54,24 @@ module _ (g : Over) (c : goal.After-self-2-1 g) (settings : Settings) (plan : Pl
       | else-first-count-eq-HALF_CHIPS w ↦ rw w.self-is s.tally
     ]
 
+    -- what the room has once powers are written there
+    written : (a d : BinPowers)
+        → get_or (slice_set c.args.self.now.room.powers.items 0 a) 0 d ≡ a
+    written a d = get_or-set_same c.args.self.now.room.powers.items 0 a d
+        (omega (arith, c.args.self.now.room.powers.ok.0, c.args.self.now.begun))
+
     powers : (x : ℕ → Sample)
         → ((j : ℕ) → j < dwell_length settings plan → sample_at xs (start + j) ≡ x j)
-        → AreSoFar x plan.prn (samples_per_ms settings) (steps_in c.args.self.now.steps
-        ((c.args.self.now.done + c.min-count.result) / 2046))
-        c.if-first-count-eq-HALF_CHIPS.self.1.1.1.1.1.1.0
-    powers x same = elim c.if-first-count-eq-HALF_CHIPS.branch [
+        → ForPowers c.if-first-count-eq-HALF_CHIPS.self.1.1.1.1.1.1.0
+        (AreSoFar x plan.prn (samples_per_ms settings) (steps_in c.args.self.now.steps
+        ((c.args.self.now.done + c.min-count.result) / 2046)))
+    powers x same d = elim c.if-first-count-eq-HALF_CHIPS.branch [
       | then-first-count-eq-HALF_CHIPS w ↦
-          rw w.self-is (w.clear.ensures.powers x plan.prn (samples_per_ms settings) _)
+          rw (w.self-is, written _ d) (w.clear.ensures.powers x plan.prn (samples_per_ms settings) _)
       | else-first-count-eq-HALF_CHIPS w ↦
           let here : (c.args.self.now.done + c.min-count.result) / 2046 ≡ bin = omega
           (arith, c.min-count.ensures, w.if-first-count-eq-HALF_CHIPS.false) in
-          rw (w.self-is, here) (so_far x same)
+          rw (w.self-is, here, written _ d) (so_far x same)
     ]
 
 pub returns-clause-stands : goal.returns-clause-stands
