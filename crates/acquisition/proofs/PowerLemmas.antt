@@ -1,7 +1,7 @@
 -- Samples that are held, and the powers of periods, which add up.
 use Rattle.std.proofs.Common.{inl, inr, ◌≡◌, ℕ, ◌+◌, ◌-◌, ◌*◌, ◌<◌, ◌≤◌, List, map, length, refl}
 use Rattle.std.proofs.Common.{sym, subst, ◌∙◌, arith}
-use Rattle.std.specs.Prelude.{ℤ, pos, get_or, slice_index, ◌⊎◌}
+use Rattle.std.specs.Prelude.{pos, get_or, slice_index, ◌⊎◌}
 use Rattle.std.specs.List.{range_with_len}
 use Rattle.std.proofs.Math.Nat.{mul-le-mul_right}
 use Rattle.std.proofs.Math.ListN.{replicate, set}

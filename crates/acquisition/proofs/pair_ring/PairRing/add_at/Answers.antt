@@ -1,4 +1,4 @@
-use Rattle.std.proofs.Common.{◌≡◌, ◌≤◌, ◌+◌, ◌∙◌, ℕ, length, arith, ap}
+use Rattle.std.proofs.Common.{◌≡◌, ◌+◌, ◌∙◌, ℕ, length, arith, ap}
 use Rattle.std.specs.Prelude.{slice_index}
 use Rattle.acquisition.specs.Rings.{place_of}
 use Rattle.acquisition.proofs.TwosLemmas.{pairs_first, pairs_more}

@@ -1,6 +1,5 @@
 use Rattle.std.proofs.Common.{ℕ, ℤ, ◌+ℤ◌}
 use Rattle.acquisition.specs.Twos.{HasPairs, AreAllPairs, sum_at}
-use Rattle.acquisition.specs.declared.pair_ring.PairLanes.{PairLanes}
 use Rattle.acquisition.proofs.pair_ring.PairRing.add_at.Given as goal
 
 abbrev pub invariant-loop-k : goal.invariant-loop-k

@@ -1,6 +1,7 @@
 use Rattle.std.proofs.Common.{arith}
 use Rattle.acquisition.proofs.CellLemmas.{small_cells, table_sizes}
 use Rattle.acquisition.proofs.TableLemmas.{total_size}
+use Rattle.acquisition.proofs.TwosLemmas.{closed_of_ring, closed_of_pairs}
 use Rattle.acquisition.proofs.period_sums.PeriodSums.fill.Goals as goal
 
 pub invariant_of-self-clause-in_phase_most : goal.invariant_of-self-clause-in_phase_most
@@ -30,6 +31,17 @@ invariant_of-self-clause-quadrature_small g c is =
       total_size 2046 c.fill.new.self.quadrature.sums,
       (c.is_small-self.ensures.0 is).quadrature,
     ))
+
+pub set_twos-requires : goal.set_twos-requires
+set_twos-requires g c =
+    closed_of_pairs _ _ _ c.set-3.ensures (closed_of_ring _ _ c.set.ensures)
+    (closed_of_ring _ _ c.set-2.ensures)
+
+pub invariant_of-self-clause-in_phase_closed : goal.invariant_of-self-clause-in_phase_closed
+invariant_of-self-clause-in_phase_closed g c = closed_of_ring _ _ c.set.ensures
+
+pub invariant_of-self-clause-quadrature_closed : goal.invariant_of-self-clause-quadrature_closed
+invariant_of-self-clause-quadrature_closed g c = closed_of_ring _ _ c.set-2.ensures
 
 pub invariant_of-self-clause-in_phase_cells : goal.invariant_of-self-clause-in_phase_cells
 invariant_of-self-clause-in_phase_cells g c =
