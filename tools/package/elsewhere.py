@@ -15,10 +15,11 @@ sys.dont_write_bytecode = True
 sys.path.insert(0, os.path.dirname(os.path.dirname(os.path.realpath(__file__))))
 import children
 from builders import Failed
-from elsewhere_toolchain import PROCESSORS, elsewhere, executables, flags_of
+from elsewhere_toolchain import elsewhere, executables, flags_of
 from page_wasm import make_workspace
 
-ARCHITECTURES = {PROCESSORS[it]: it for it in ('aarch64',)}
+# The processors of other architectures for which packages were tried.
+ARCHITECTURES = {'arm64': 'aarch64'}
 # The programs, as cargo and the package call them.
 PROGRAMS = {'receiver_cli': 'receiver', 'packer_cli': 'pack'}
 

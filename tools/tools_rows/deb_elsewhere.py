@@ -14,13 +14,16 @@ sys.path.insert(0, os.path.join(TOP, 'tools'))
 from builders import Failed
 from elsewhere_toolchain import Elsewhere, elsewhere, kept_library
 
+# On a machine of 64-bit ARM its packages are made as on any other.
+MACHINE = os.uname().machine
+
 # The field of an ELF header that says the processor, and what it is for 64-bit ARM.
 PROCESSOR, ARM = slice(18, 20), b'\xb7\x00'
 
 
 def words(rows: Any, folder: str) -> None:
     """Architectures that are refused, and a system without a cross compiler and qemu."""
-    if not all(map(shutil.which, NEEDED)):
+    if not all(map(shutil.which, NEEDED)) or MACHINE == 'aarch64':
         return
     checkout = with_commit(folder)
     for given in ['--arch'], ['--arch='], ['--arch', ''], ['--arch', '-x'], ['--arch=s390x', '.']:
@@ -49,7 +52,7 @@ def ready() -> Optional[Elsewhere]:
 def arm64(rows: Any, folder: str) -> None:
     """The packages of two checkouts of a commit are the same. Each has programs of 64-bit ARM."""
     it = ready() if all(map(shutil.which, NEEDED)) else None
-    if it is None or os.uname().machine == 'aarch64':
+    if it is None or MACHINE == 'aarch64':
         return
     made = []
     checkout = with_commit(folder)
