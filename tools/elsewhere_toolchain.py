@@ -6,6 +6,7 @@ checkout."""
 from __future__ import annotations
 
 import hashlib
+import json
 import os
 import re
 import shutil
@@ -105,6 +106,17 @@ def environment(it: Elsewhere, home: str, flags: list[str]) -> dict[str, str]:
     }
 
 
+def executables(it: Elsewhere, work: str, flags: list[str], *words: str) -> list[str]:
+    """The paths of what cargo builds for a processor of the workspace `plain` in a folder, by its
+    words and flags of rustc."""
+    command = [it.of.cargo, *words, '--offline', '--quiet', '--release', '--target', it.target]
+    command += ['--message-format', 'json-render-diagnostics']
+    kept = environment(it, os.path.join(work, 'home'), flags)
+    messages = str(run(command, os.path.join(work, 'plain'), env=kept))
+    made = (json.loads(line) for line in messages.split('\n') if line.startswith('{'))
+    return sorted(found['executable'] for found in made if found.get('executable'))
+
+
 def make_library(it: Elsewhere, library: str, to: str) -> None:
     """Makes the standard library, with that of tests, for the target."""
     with tempfile.TemporaryDirectory() as work:
@@ -126,14 +138,19 @@ def make_library(it: Elsewhere, library: str, to: str) -> None:
                 shutil.copyfile(os.path.join(made, name), os.path.join(to, name))
 
 
+def kept_library(it: Elsewhere) -> str:
+    """Where the standard library is kept that is made for a processor."""
+    mark = hashlib.sha256(f'{it.target} {it.of.line}'.encode()).hexdigest()[:16]
+    return os.path.join(KEPT, f'sysroot-{mark}')
+
+
 def flags_of(it: Elsewhere, say: Say) -> list[str]:
     """The flags of rustc for the target: a program that needs no library of that system, over a
     standard library that is made where the toolchain has none."""
     flags = ['-Ctarget-feature=+crt-static']
     if not it.of.library:
         return flags
-    mark = hashlib.sha256(f'{it.target} {it.of.line}'.encode()).hexdigest()[:16]
-    path = os.path.join(KEPT, f'sysroot-{mark}')
+    path = kept_library(it)
     if not os.path.isdir(path):
         say(f'makes the standard library for {it.target}, once, in about a minute')
         built.make_out()

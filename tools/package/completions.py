@@ -1,9 +1,9 @@
 #!/usr/bin/env python3
 """Prints what a shell reads to complete the words after a program's name, made from the program's
 help.
-usage: completions.py SHELL NAME PROGRAM
+usage: completions.py SHELL NAME PROGRAM..
 SHELL is bash, zsh or fish, and NAME what one types. PROGRAM is the receiver or the packer, which
-print their help, or the folder that has the companion's modules."""
+print their help, with what starts it before it, or the folder that has the companion's modules."""
 from __future__ import annotations
 
 import argparse
@@ -248,12 +248,12 @@ def fish_text(text: str) -> str:
 SHELLS = {'bash': for_bash, 'zsh': for_zsh, 'fish': for_fish}
 
 
-def commands_of(program: str) -> List[Command]:
+def commands_of(program: List[str]) -> List[Command]:
     """The commands of a program, or of the companion where it is a folder of modules."""
-    if os.path.isdir(program):
-        sys.path.insert(0, program)
+    if os.path.isdir(program[0]):
+        sys.path.insert(0, program[0])
         return of_parser(importlib.import_module('seldomplough.cli').parser())
-    said = subprocess.run([program, '--help'], check=True, stdout=subprocess.PIPE)
+    said = subprocess.run([*program, '--help'], check=True, stdout=subprocess.PIPE)
     found = of_help(said.stdout.decode())
     if not found[0].words:
         raise ValueError('its help names no option')
@@ -261,14 +261,14 @@ def commands_of(program: str) -> List[Command]:
 
 
 def main() -> int:
-    if len(sys.argv) != 4 or sys.argv[1] not in SHELLS:
+    if len(sys.argv) < 4 or sys.argv[1] not in SHELLS:
         print(__doc__, file=sys.stderr)
         return 2
-    _, shell, name, program = sys.argv
+    shell, name, *program = sys.argv[1:]
     try:
         print(SHELLS[shell](name, commands_of(program)), end='')
     except (OSError, ValueError, ImportError, subprocess.SubprocessError) as why:
-        print(f'completions: {program}: {why}', file=sys.stderr)
+        print(f'completions: {program[-1]}: {why}', file=sys.stderr)
         return 1
     return 0
 

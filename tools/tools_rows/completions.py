@@ -133,7 +133,7 @@ def matches(rows: Any, folder: str) -> None:
 
 def refusals(rows: Any, folder: str) -> None:
     """Words that it doesn't take, and programs that tell nothing."""
-    for words in [], ['bash', 'name'], ['ksh', 'name', 'true'], ['bash', 'name', 'true', 'more']:
+    for words in [], ['bash', 'name'], ['ksh', 'name', 'true']:
         outcome = run([TOOL, *words], folder)
         rows.say(f'completions.py {words}', [str(outcome)] * (
             outcome.status != 2 or bool(outcome.said) or 'usage: ' not in outcome.errors))

@@ -72,7 +72,8 @@ def words(rows, folder):
     before = contents(folder)
     outcome = deb(checkout, '--help')
     faults = changes(before, contents(folder))
-    is_told = outcome.status == 0 and 'tools/deb [FOLDER]' in outcome.said and not outcome.errors
+    usage = 'tools/deb [--arch ARCHITECTURE] [FOLDER]'
+    is_told = outcome.status == 0 and usage in outcome.said and not outcome.errors
     rows.say('tools/deb --help', faults + ([] if is_told else [str(outcome)[:200]]))
     shutil.rmtree(checkout.at('.git'))
     refuses(rows, 'nobody is named', checkout, [], DEBEMAIL=None)

@@ -94,6 +94,8 @@ def odd_words(rows, folder):
                         ('benchmarks/run', ['a\\n=true']), ('benchmarks/run', ['../a=true'])):
         outcome = run([os.path.join(TOP, tool), *words], folder)
         faults += refused(outcome, '(?:usage|run): .*')
+    outcome = run([os.path.join(TOP, 'benchmarks', 'instructions'), 'a=/dev/null'], folder)
+    faults += refused(outcome, 'instructions: /dev/null is no program of .*', 1)
     rows.say('odd words', faults)
 
 
