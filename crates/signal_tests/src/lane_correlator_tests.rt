@@ -5,6 +5,8 @@ ghost use Rattle.definitions.specs.Samples.{sample_count};
 ghost use Rattle.sample_planes.specs.Packings.{packing_of};
 ghost use Rattle.sample_planes.specs.declared.planes.TheConstants.{MAX_SAMPLES};
 
+mod products;
+
 use crate::noise::noise_bytes;
 use assertions::assert_same;
 use ca_codes::{CodeBook, Prn};
