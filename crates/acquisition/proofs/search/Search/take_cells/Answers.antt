@@ -29,7 +29,8 @@ module _ (g : Over) (c : goal.After-self-2-1 g) (settings : Settings) (plan : Pl
     few = omega (arith, rw s.plan_is at c.requires.end, c.requires.some)
 
     of_plan : c.in-Some.ones.prn ≡ plan.prn
-    of_plan = c.args.self.now.of_plan c.in-Some.ones c.in-Some.is ∙ ap (λ (p : Plan). p.prn) s.plan_is
+    of_plan = c.args.self.now.of_plan c.in-Some.ones c.in-Some.is
+        ∙ ap (λ (p : Plan). p.prn) s.plan_is
 
     so_far : (x : ℕ → Sample)
         → ((j : ℕ) → j < dwell_length settings plan → sample_at xs (start + j) ≡ x j)
@@ -67,7 +68,8 @@ module _ (g : Over) (c : goal.After-self-2-1 g) (settings : Settings) (plan : Pl
         ((c.args.self.now.done + c.min-count.result) / 2046)))
     powers x same d = elim c.if-first-count-eq-HALF_CHIPS.branch [
       | then-first-count-eq-HALF_CHIPS w ↦
-          rw (w.self-is, written _ d) (w.clear.ensures.powers x plan.prn (samples_per_ms settings) _)
+          rw (w.self-is, written _ d)
+          (w.clear.ensures.powers x plan.prn (samples_per_ms settings) _)
       | else-first-count-eq-HALF_CHIPS w ↦
           let here : (c.args.self.now.done + c.min-count.result) / 2046 ≡ bin = omega
           (arith, c.min-count.ensures, w.if-first-count-eq-HALF_CHIPS.false) in
