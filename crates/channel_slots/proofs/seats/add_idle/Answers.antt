@@ -23,7 +23,7 @@ loop-number-preserved c =
     let p : Seat = record {
       client = c.args.client;
       number = c.loop-number.number;
-      slot = c.new.result;
+      slot = c.new-in-loop-number.result;
     } in
     record {
       adds = record {
@@ -32,6 +32,6 @@ loop-number-preserved c =
             c.in_ok-push.ensures.items ∙ ap (λ (l : List Seat). l ++ p ∷ []) a.behind
             ∙ append_assoc c.args.seats.now.items a.added (p ∷ []);
         keys = keys-push a.added p c.args.client c.loop-number.number a.keys refl refl;
-        idle = all_push (λ (q : Seat). is_idle q.slot ≡ true) a.added p a.idle c.new.ensures.idle;
+        idle = all_push (λ (q : Seat). is_idle q.slot ≡ true) a.added p a.idle c.new-in-loop-number.ensures.idle;
       };
     }
