@@ -40,7 +40,7 @@ pub struct Slot {
 
 impl Slot {
     ghost use Rattle.std.specs.Prelude.{ℕ, [], ◌∷◌, ◌++◌, length, IfSome, IsNone, nat_lt, true};
-    ghost use Rattle.std.specs.Prelude.{unsigned_abs};
+    ghost use Rattle.std.specs.Prelude.{unsigned_abs, false};
     ghost use Rattle.definitions.specs.Commands.{TimedRequest, Start, begin, acquire};
     ghost use Rattle.definitions.specs.Answers.{answer_at_end};
     ghost use Rattle.acquisition.specs.declared.dwell.TheConstants.{MOST_START};
@@ -208,8 +208,9 @@ impl Slot {
         }
     }
 
-    /// Makes the slot follow a satellite, and print no dump, if it is idle.
-    fn start(&mut self, followed: Followed) -> Answer
+    /// Makes the slot follow a stage that is no search, and print no dump, if it is idle.
+    fn start(&mut self, stage: Stage) -> Answer
+        requires { is_searching stage ≡ false }
         ensures answer { (settings : DefinedSettings) (xs : List Sample)
             (commands : List TimedRequest) (start : Start)
             → StandsFor settings xs commands self.old
@@ -217,22 +218,21 @@ impl Slot {
         ensures stands { (settings : DefinedSettings) (xs : List Sample)
             (commands : List TimedRequest) (start : Start)
             → StandsFor settings xs commands self.old
-            → IsFollowed settings xs (first_life (length xs) start) followed
+            → stages.Follows settings xs (first_life (length xs) start) stage
             → StandsFor settings xs (commands
             ++ record { time = length xs; request = begin start } ∷ []) self.new }
         ensures refused { IsRefusal result → self.new ≡ self.old }
         ensures sound { (first time reach : ℕ) → is_sound first time reach self.old ≡ true
-            → stages.is_sound first time reach (variants.Following followed) ≡ true
+            → stages.is_sound first time reach stage ≡ true
             → is_sound first time reach self.new ≡ true }
-        ensures waits { (time : ℕ) → time < next_event self.old
-            → time < stages.next_event (variants.Following followed)
+        ensures waits { (time : ℕ) → time < next_event self.old → time < stages.next_event stage
             → time < next_event self.new }
     {
         if !self.is_idle() {
             return Answer::Refused(Refusal::Busy);
         }
         self.unprinted = 0;
-        self.stage = Stage::Following(followed);
+        self.stage = stage;
         Answer::Accepted
     }
 
@@ -286,13 +286,13 @@ impl Slot {
                 prn,
                 doppler,
                 half,
-            } => self.start(Followed::hold(settings, prn, doppler, half, time)),
+            } => self.start(Stage::Following(Followed::hold(settings, prn, doppler, half, time))),
             Command::Track {
                 slot: _,
                 prn,
                 doppler,
                 half,
-            } => self.start(Followed::track(settings, prn, doppler, half, time)),
+            } => self.start(Stage::Following(Followed::track(settings, prn, doppler, half, time))),
             Command::State { .. } => Answer::State(self.state()),
             Command::Counts { slot: _, n } => {
                 if self.is_idle() {

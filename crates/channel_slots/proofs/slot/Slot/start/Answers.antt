@@ -1,7 +1,6 @@
 use Rattle.std.proofs.Common.{refl, ◌∙◌, sym, arith}
 use Rattle.std.specs.Prelude.{Some, None}
 use Rattle.definitions.specs.Commands.{begin}
-use Rattle.channel_slots.specs.declared.stage.Stage.TheVariants.{Following}
 use Rattle.channel_slots.proofs.SlotLemmas.{idle-now, life-now, answers, becomes-on}
 use Rattle.channel_slots.proofs.SlotLemmas.{keeps-on, all-to-print}
 use Rattle.channel_slots.proofs.slot.Slot.start.Goals as goal
@@ -25,5 +24,5 @@ pub returns-clause-stands : goal.returns-clause-stands
 returns-clause-stands c settings xs commands start s follows =
     becomes-on settings xs commands _ s (begin start) _ None _ _ refl
     (idle-now settings xs commands _ s (sym c.is_idle.ensures ∙ c.if-not-is_idle.false)) refl
-    follows (λ on. all-to-print settings xs _ (Following c.args.followed) _ follows on refl refl)
+    follows (λ on. all-to-print settings xs _ c.args.stage _ follows on refl refl)
     (omega arith)
