@@ -1,11 +1,12 @@
 //! Plans at the ends of their ranges, searches whose cells were worked out by hand, and a made
 //! signal against a plain double loop.
 
-ghost use Rattle.std.specs.Prelude.{◌+◌, ◌<◌, ◌≤◌, ◌^◌, length};
-ghost use Rattle.definitions.specs.Acquisition.{dwell_end};
+ghost use Rattle.std.specs.Prelude.{◌+◌, ◌<◌, ◌≤◌, length};
+ghost use Rattle.acquisition.specs.Searches.{start_of, end_of};
 
 mod made_signal;
 mod plans;
+mod rooms;
 
 use acquisition::*;
 use assertions::{assert_same, assert_same_at};
@@ -17,20 +18,12 @@ use std::process::Abort;
 use std::test::Fail;
 
 /// What a search names that does so many cells at a call.
-fn search_in_steps(
-    settings: &Settings,
-    plan: Plan,
-    start: u64,
-    source: &NumberedSamples,
-    cells: u64,
-) -> Option<Cell>
-    requires early { start ≤ 2 ^ 40 }
-    requires from { source.now.first ≤ start }
-    requires to { dwell_end settings.now plan start ≤ source.now.first + length source.now.samples }
+fn search_in_steps(mut search: Search, source: &NumberedSamples, cells: u64) -> Option<Cell>
+    requires from { source.now.first ≤ start_of search }
+    requires to { end_of search ≤ source.now.first + length source.now.samples }
 {
-    let mut search = Search::new(plan, settings, start);
     let mut book = CodeBook::new();
-    for _ in 0..plan.cells() {
+    for _ in 0..search.plan().cells() {
         if search.result().is_none() {
             search.advance(cells, source, &mut book);
         }
@@ -54,12 +47,8 @@ fn acquire_code_file(rt: HostRuntime) -> Result<(), Fail> {
         found: true,
     };
     for cells in [1, 7, u64::MAX] {
-        assert_same_at!(
-            rt;
-            cells,
-            search_in_steps(&settings, plan, 2, &source, cells),
-            Some(named)
-        );
+        let search = Search::new(plan, &settings, 2, SearchRoom::new(rt.alloc())?);
+        assert_same_at!(rt; cells, search_in_steps(search, &source, cells), Some(named));
     }
     Ok(())
 }
@@ -80,12 +69,8 @@ fn equal_cells(rt: HostRuntime) -> Result<(), Fail> {
             power: 20,
             found,
         };
-        assert_same_at!(
-            rt;
-            threshold,
-            search_in_steps(&settings, plan, 0, &source, 500),
-            Some(named)
-        );
+        let search = Search::new(plan, &settings, 0, SearchRoom::new(rt.alloc())?);
+        assert_same_at!(rt; threshold, search_in_steps(search, &source, 500), Some(named));
     }
     Ok(())
 }
@@ -122,13 +107,15 @@ fn sums_beside_16_bits(rt: HostRuntime) -> Result<(), Fail> {
     let settings = Settings::new(4_092_000, 0, Format::Real2)?;
     let bytes = code_in_threes(1);
     let source = NumberedSamples::new(PackedSamples::new(Format::Real2, &bytes), 0);
-    let cell = search_in_steps(&settings, plan, 0, &source, 300);
+    let search = Search::new(plan, &settings, 0, SearchRoom::new(rt.alloc())?);
+    let cell = search_in_steps(search, &source, 300);
     assert_same!(rt; cell, named(753_500_880));
 
     let settings = Settings::new(16_368_000, 0, Format::Real2)?;
     let bytes = code_in_threes(4);
     let source = NumberedSamples::new(PackedSamples::new(Format::Real2, &bytes), 0);
-    let cell = search_in_steps(&settings, plan, 0, &source, 300);
+    let search = Search::new(plan, &settings, 0, SearchRoom::new(rt.alloc())?);
+    let cell = search_in_steps(search, &source, 300);
     assert_same!(rt; cell, named(12_056_014_080));
     Ok(())
 }
@@ -140,7 +127,7 @@ fn search_is_left_off_and_taken_up(rt: HostRuntime) -> Result<(), Fail> {
     let plan = Plan::new(Prn::new(1).ok_or("a satellite")?, 0, 0, 1, 10)?;
     let source = NumberedSamples::new(PackedSamples::new(Format::Real1, &bytes), 5);
     let mut book = CodeBook::new();
-    let mut search = Search::new(plan, &settings, 7);
+    let mut search = Search::new(plan, &settings, 7, SearchRoom::new(rt.alloc())?);
     assert_stands(&rt, &search, 0);
     search.advance(0, &source, &mut book);
     assert_stands(&rt, &search, 0);

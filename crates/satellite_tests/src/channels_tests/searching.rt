@@ -1,14 +1,13 @@
 //! A satellite that is searched for, sample by sample, and tracked from the due time on.
 
 ghost use Rattle.std.specs.Prelude.{◌≡◌, ◌<◌, ◌≤◌, ◌+◌, IfOk, length};
-ghost use Rattle.definitions.specs.Acquisition.{due_time};
 ghost use Rattle.channels.specs.FollowedChannels.{at_of};
-ghost use Rattle.channels.specs.Searching.{due_of};
+ghost use Rattle.channels.specs.Searching.{due_of, start_of};
 ghost use Rattle.channels.specs.Windows.{first_of, end_of};
 ghost use Rattle.sample_planes.specs.declared.planes.TheConstants.{MAX_SAMPLES};
 
 use super::open_to;
-use acquisition::{Cell, Plan};
+use acquisition::{Cell, Plan, SearchRoom};
 use assertions::{assert_same, assert_same_at};
 use ca_codes::{CodeBook, Prn};
 use channels::{Followed, Searched, Window};
@@ -40,20 +39,19 @@ fn next_cell_at(time: u64) -> u64
 /// samples after the dwell, and the answer comes just where they go as far as sample 10,231.
 fn search_in_pieces(
     rt: &impl Abort,
-    settings: &Settings,
-    plan: Plan,
+    mut search: Searched,
     piece: usize,
     source: &NumberedSamples,
     book: &mut CodeBook,
 ) -> (Searched, u64, Option<Cell>)
     requires some { 0 < piece }
     requires short { piece ≤ MAX_SAMPLES }
-    requires due { due_time settings.now plan 2 ≡ 10232 }
+    requires start { start_of search ≡ 2 }
+    requires due { due_of search ≡ 10232 }
     requires from { source.now.first ≡ 0 }
     requires to { 11264 ≤ length source.now.samples }
     ensures due { due_of result.0 ≡ 10232 }
 {
-    let mut search = Searched::start(settings, plan, 2);
     assert_same!(rt; (search.due(), search.next_cell()), (10_232, 2_052));
     let mut to = 2;
     for _ in 0..10_230 {
@@ -134,8 +132,6 @@ fn one_cell_with_four_samples(rt: HostRuntime) -> Result<(), Fail> {
     let bytes = padded();
     let settings = Settings::new(2_046_000, 0, Format::Real1)?;
     let plan = Plan::new(Prn::new(1).ok_or("a satellite")?, 0, 0, 1, 10)?;
-    let search = Searched::start(&settings, plan, 2);
-    assert_same!(rt; (search.prn().get(), search.cells()), (1, 2_046));
     let source = NumberedSamples::new(PackedSamples::new(Format::Real1, &bytes), 0);
     let named = Cell {
         bin: 0,
@@ -143,12 +139,16 @@ fn one_cell_with_four_samples(rt: HostRuntime) -> Result<(), Fail> {
         power: 20_930_580,
         found: true,
     };
+    let mut room = SearchRoom::new(rt.alloc())?;
     for piece in [1, 3, 7, 64, 1_024] {
         let mut book = CodeBook::new();
-        let (search, to, cell) = search_in_pieces(&rt, &settings, plan, piece, &source, &mut book);
+        let begun = Searched::start(&settings, plan, 2, room);
+        assert_same!(rt; (begun.prn().get(), begun.cells()), (1, 2_046));
+        let (search, to, cell) = search_in_pieces(&rt, begun, piece, &source, &mut book);
         assert!(rt; to < 10_232 + piece as u64);
         assert_same!(rt; cell, Some(named));
         let tracked = search.follow(&named).ok_or("a signal that was found")?;
+        room = search.into_room();
         let shift = tracked.tracking().ok_or("loops")?.v();
         let told = (tracked.prn().get(), tracked.dumps(), shift);
         assert_same!(rt; told, (1, 0, 0));
@@ -165,7 +165,7 @@ fn nothing_found_is_not_followed(rt: HostRuntime) -> Result<(), Fail> {
     let settings = Settings::new(2_046_000, 0, Format::Real1)?;
     let plan = Plan::new(Prn::new(1).ok_or("a satellite")?, 0, 0, 1, 11)?;
     let source = NumberedSamples::new(PackedSamples::new(Format::Real1, &bytes), 0);
-    let mut search = Searched::start(&settings, plan, 0);
+    let mut search = Searched::start(&settings, plan, 0, SearchRoom::new(rt.alloc())?);
     assert!(rt; search.take(10_229, &source, &mut CodeBook::new()).is_none());
     let cell = search.take(10_240, &source, &mut CodeBook::new());
     let cell = cell.ok_or("an answer")?;

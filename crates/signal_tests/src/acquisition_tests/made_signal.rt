@@ -5,7 +5,7 @@ ghost use Rattle.std.specs.Prelude.{◌<◌};
 
 use super::search_in_steps;
 use crate::noise::next_bit;
-use acquisition::{Cell, Plan};
+use acquisition::{Cell, Plan, Search, SearchRoom};
 use assertions::assert_same;
 use ca_codes::Prn;
 use oscillators::{HalfChip, Settings};
@@ -166,6 +166,7 @@ fn made_signal_is_found(rt: HostRuntime) -> Result<(), Fail> {
         power: best,
         found: true,
     };
-    assert_same!(rt; search_in_steps(&settings, plan, 100, &source, 1_000), Some(named));
+    let search = Search::new(plan, &settings, 100, SearchRoom::new(rt.alloc())?);
+    assert_same!(rt; search_in_steps(search, &source, 1_000), Some(named));
     Ok(())
 }

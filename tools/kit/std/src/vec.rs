@@ -41,6 +41,12 @@ impl<T> Vec<T> {
         Ok(())
     }
 
+    /// Adds an item where there is room for it, so that no memory is asked for.
+    pub fn push_reserved(&mut self, item: T) {
+        debug_assert!(self.0.len() < self.0.capacity(), "no room is reserved");
+        self.0.push(item);
+    }
+
     #[must_use]
     pub fn into_boxed_slice(self) -> BoxedSlice<T> {
         BoxedSlice(self.0)
