@@ -253,13 +253,14 @@ impl Slot {
             → is_sound first time (most_wait settings.now) self.new ≡ true }
         ensures waits { time < next_event self.old → time < next_event self.new }
     {
-        if !self.is_idle() {
-            return Answer::Refused(Refusal::Busy);
+        if self.is_idle() {
+            let room = self.room.take().unwrap();
+            self.unprinted = 0;
+            self.stage = Stage::Searching(Searched::start(settings, plan, time, room));
+            Answer::Accepted
+        } else {
+            Answer::Refused(Refusal::Busy)
         }
-        let room = self.room.take().unwrap();
-        self.unprinted = 0;
-        self.stage = Stage::Searching(Searched::start(settings, plan, time, room));
-        Answer::Accepted
     }
 
     /// Does what a client asks of this slot, and answers it: a refused command changes nothing.
