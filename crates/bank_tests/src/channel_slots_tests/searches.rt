@@ -267,7 +267,8 @@ fn a_slot_searches_again(rt: HostRuntime) -> Result<(), Fail> {
         assert_same!(rt; bank.command(1, stop), Answer::Accepted);
         assert_same!(rt; bank.command(1, acquire(1, 10)?), Answer::Accepted);
         let told = feed_ten_runs(&mut bank, &again)?;
-        assert_same!(rt; told.as_slice(), &[told_at(due, found_at_two()?)]);
+        let named = [told_at(due, found_at_two()?)];
+        assert_same!(rt; told.as_slice(), named.as_slice());
     }
     Ok(())
 }
