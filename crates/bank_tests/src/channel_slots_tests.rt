@@ -9,6 +9,7 @@ ghost use Rattle.channels.specs.Windows.{first_of, end_of};
 ghost use Rattle.slot_protocol.specs.Commands.{slot_of};
 
 use crate::commands;
+use acquisition::SearchRoom;
 use assertions::assert_same;
 use ca_codes::{CodeBook, Prn};
 use channel_slots::*;
@@ -50,6 +51,14 @@ fn hold(prn: u8, doppler: i32) -> Result<Command, Fail>
     ensures { IfOk result (λ command. slot_of command ≡ 0) }
 {
     Ok(commands::hold(0, prn, doppler, 2_045).ok_or("a hold")?)
+}
+
+/// A slot that was never asked for anything.
+fn new_slot(alloc: Global) -> Result<Slot, Fail>
+    ensures { IfOk result (λ slot. (first time reach : ℕ)
+        → is_sound first time reach slot ≡ true) }
+{
+    Ok(Slot::new(SearchRoom::new(alloc)?))
 }
 
 /// A search for a satellite at 0 Hz, over one period of its code.
@@ -137,7 +146,7 @@ fn acquires_four() -> Result<SlotState, Fail> {
 #[test]
 fn idle_and_busy_slots_answer(rt: HostRuntime) -> Result<(), Fail> {
     let settings = plain_settings()?;
-    let mut slot = Slot::new();
+    let mut slot = new_slot(rt.alloc())?;
     is_idle(&rt, &mut slot, &settings)?;
     let prn = Prn::new(1).ok_or("a satellite")?;
     let state = SlotState::Hold { prn, dumps: 0 };
@@ -180,10 +189,10 @@ fn one_count() -> Result<Command, Fail>
 }
 
 /// A slot that began to hold before the first sample, with counts asked for.
-fn held(settings: &Settings, prn: u8, doppler: i32) -> Result<Slot, Fail>
+fn held(alloc: Global, settings: &Settings, prn: u8, doppler: i32) -> Result<Slot, Fail>
     ensures { IfOk result (λ slot. (reach : ℕ) × (is_sound 0 0 reach slot ≡ true)) }
 {
-    let mut slot = Slot::new();
+    let mut slot = new_slot(alloc)?;
     slot.command(settings, 0, hold(prn, doppler)?);
     slot.command(settings, 0, one_count()?);
     Ok(slot)
@@ -263,7 +272,7 @@ fn tells(
 #[test]
 fn early_wraps(rt: HostRuntime) -> Result<(), Fail> {
     let settings = plain_settings()?;
-    let mut slot = held(&settings, 1, 0)?;
+    let mut slot = held(rt.alloc(), &settings, 1, 0)?;
     let mut window = eight_ones(rt.alloc())?;
     assert_same!(rt; slot.next_event(), 1);
     let counts = sums([-2, 1, 2, -1, 2, -1]);
@@ -284,7 +293,7 @@ fn early_wraps(rt: HostRuntime) -> Result<(), Fail> {
 fn sums_do_not_depend_on_the_cut(rt: HostRuntime) -> Result<(), Fail> {
     let settings = plain_settings()?;
     let counts = sums([-4, 0, 4, 0, 4, 0]);
-    let mut whole = held(&settings, 7, -1_000)?;
+    let mut whole = held(rt.alloc(), &settings, 7, -1_000)?;
     let mut window = eight_ones(rt.alloc())?;
     tells(
         &rt,
@@ -294,7 +303,7 @@ fn sums_do_not_depend_on_the_cut(rt: HostRuntime) -> Result<(), Fail> {
         Some((2, true, counts)),
         2_048,
     )?;
-    let mut cut = held(&settings, 7, -1_000)?;
+    let mut cut = held(rt.alloc(), &settings, 7, -1_000)?;
     assert_same!(rt; cut.next_event(), 2);
     tells(&rt, &mut cut, &mut window, 1, None, 2)?;
     tells(

@@ -24,7 +24,8 @@ quiet-before-next settings xs ys commands slot s more = by_stage slot.stage refl
   where
     by_stage : (stage : Stage) → slot.stage ≡ stage
         → length (xs ++ ys) < stages.next_event stage → Emits settings xs ys commands slot []
-    by_stage Idle is early = idle-tells settings xs commands slot s ys more (ap is_idle is)
+    by_stage Idle is early = idle-tells settings xs commands slot s ys more (ap is_idle is) slot
+        (ap is_idle is)
     by_stage (Searching a) is early =
         tells settings xs commands slot s ys more (ap is_idle is) slot None
         (λ life follows.

@@ -184,6 +184,12 @@ one-share-more shares share = more 1 shares
         (row (length ss + (first + 1)) share))
         ∙ ap (λ n. (row first s ++ rows (first + 1) ss) ++ row n share) e
 
+-- one more seat comes after others that were added
+pub push-behind : (before added after pushed : List Seat) (p : Seat) → after ≡ before ++ added
+    → pushed ≡ after ++ p ∷ [] → pushed ≡ before ++ (added ++ p ∷ [])
+push-behind before added after pushed p behind push =
+    push ∙ ap (λ (l : List Seat). l ++ p ∷ []) behind ∙ append_assoc before added (p ∷ [])
+
 -- one slot of a client more
 pub keys-push : (ps : List Seat) (p : Seat) (client n : ℕ) → keys_of ps ≡ row client n
     → p.client ≡ client → p.number ≡ n → keys_of (ps ++ p ∷ []) ≡ row client (n + 1)

@@ -25,6 +25,8 @@ use Rattle.slot_protocol.specs.Events.{event_in}
 use Rattle.channel_slots.specs.NewsEvents.{dump_events}
 use Rattle.slot_protocol.specs.declared.event.Event.{Event}
 use Rattle.slot_protocol.specs.declared.event.Event.TheVariants as events
+use Rattle.channel_slots.specs.declared.stage.Stage.{Stage}
+use Rattle.channel_slots.specs.Stages as stages
 use Rattle.channel_slots.specs.Stages.{Follows}
 use Rattle.channel_slots.specs.Slots.{StandsFor, Emits, IsOn, HasLife, is_idle}
 use Rattle.channel_slots.proofs.NewsLemmas.{all-are}
@@ -89,14 +91,14 @@ module _ (settings : Settings) (xs : List Sample) (commands : List TimedRequest)
       }
 
 -- as many dumps as are wanted from now on are still to be printed
-pub all-to-print : (settings : Settings) (xs : List Sample) (life : Life) (slot : Slot)
-    → Follows settings xs life slot.stage → is_idle slot ≡ false
-    → life.wanted_from ≡ length xs → slot.unprinted ≡ life.wanted
-    → slot.unprinted ≡ unprinted_count life (dumps_of_life settings xs life)
-all-to-print settings xs life slot follows on from left =
+pub all-to-print : (settings : Settings) (xs : List Sample) (life : Life) (stage : Stage)
+    (unprinted : ℕ) → Follows settings xs life stage → stages.is_idle stage ≡ false
+    → life.wanted_from ≡ length xs → unprinted ≡ life.wanted
+    → unprinted ≡ unprinted_count life (dumps_of_life settings xs life)
+all-to-print settings xs life stage unprinted follows on from left =
     left ∙ sym (unprinted-all life (dumps_of_life settings xs life)
     (subst (λ n. AllByRecursion (λ (d : DefinedDump). d.time ≤ n) (dumps_of_life settings xs life))
-    (sym from) (dumps-by-now settings xs life slot.stage follows on)))
+    (sym from) (dumps-by-now settings xs life stage follows on)))
 
 -- the events of what is told
 abbrev pub events_told : Option Told → List Event
@@ -213,7 +215,8 @@ module _ (settings : Settings) (xs : List Sample) (commands : List TimedRequest)
       let follows : Follows settings xs life new.stage =
       rw same (follows-wanting settings xs i.life slot.stage (length xs) n i.follows e) in
       becomes-on (counts n) (Some i.life) (Some i.life) life new i.of (life-now e) refl
-      follows (λ on. all-to-print settings xs life new follows on refl left) (omega arith)
+      follows (λ on. all-to-print settings xs life new.stage new.unprinted follows on refl left)
+      (omega arith)
 
   -- one that is shown, whatever it is
   pub shown-stays : StandsFor settings xs (commands
@@ -252,14 +255,15 @@ module _ (settings : Settings) (xs : List Sample) (commands : List TimedRequest)
         events-behind settings xs zs commands more
         ∙ ap (life_events settings (xs ++ zs)) (idle-on e (front_of zs))
 
-    pub idle-tells : is_idle slot ≡ true → Emits settings xs ys commands slot []
+    pub idle-tells : is_idle slot ≡ true → (new : Slot) → is_idle new ≡ true
+        → Emits settings xs ys commands new []
     unfolding HaveCome
-    idle-tells e = record {
+    idle-tells e new still = record {
       inside = λ j first b. tells-none (take j ys) (omega (arith, length-take j ys)) e;
       told = sym (tells-none ys some e);
       stands = record {
         early = come;
-        on = rw e (λ zs. rw (append_assoc xs ys zs) (idle-on e (ys ++ zs)));
+        on = rw still (λ zs. rw (append_assoc xs ys zs) (idle-on e (ys ++ zs)));
       };
     }
 

@@ -33,6 +33,12 @@ is_idle Idle = true
 is_idle (Searching s) = false
 is_idle (Following f) = false
 
+-- whether it searches
+abbrev pub is_searching : Stage → Bool
+is_searching Idle = false
+is_searching (Searching s) = true
+is_searching (Following f) = false
+
 -- how many cells its search has done: none where it doesn't search
 abbrev pub cells_done_of : Stage → Option ℕ
 cells_done_of Idle = None

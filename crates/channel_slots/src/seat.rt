@@ -15,7 +15,7 @@ use channels::Window;
 
 /// A seat of a bank: a slot, with the number of its client and its own. Clients are numbered from
 /// 1, and the slots of each from 0.
-#[derive(Debug, Default, Drop)]
+#[derive(Debug, Drop)]
 pub struct Seat {
     pub client: u8,
     pub number: u8,

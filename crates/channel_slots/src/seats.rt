@@ -18,6 +18,7 @@ ghost use Rattle.channel_slots.specs.declared.timeline.TheConstants.{RUN_EVENTS}
 use crate::seat::Seat;
 use crate::slot::{NEVER, SLOT_EVENTS, Slot};
 use crate::timeline::Timeline;
+use acquisition::SearchRoom;
 use ca_codes::CodeBook;
 use channels::Window;
 use oscillators::Settings;
@@ -37,7 +38,7 @@ pub fn idle_seats(alloc: Global, shares: &[u8]) -> Result<BoxedSlice<Seat>, Allo
 {
     let mut seats = Vec::with_capacity(alloc, slots_in(shares))?;
     for index in 0..shares.len() {
-        add_idle(&mut seats, index as u8 + 1, shares[index])?;
+        add_idle(alloc, &mut seats, index as u8 + 1, shares[index])?;
     }
     Ok(seats.into_boxed_slice())
 }
@@ -55,15 +56,16 @@ pub fn slots_in(shares: &[u8]) -> usize
     slots
 }
 
-/// Adds the idle slots of a client.
-fn add_idle(seats: &mut Vec<Seat>, client: u8, share: u8) -> Result<(), AllocError>
+/// Adds the idle slots of a client, each with its room for a search.
+fn add_idle(alloc: Global, seats: &mut Vec<Seat>, client: u8, share: u8) -> Result<(), AllocError>
     ensures { OnOk result (AddsIdle client share seats.old.items seats.new.items) }
 {
     for number in 0..share {
+        let room = SearchRoom::new(alloc)?;
         seats.push(Seat {
             client,
             number,
-            slot: Slot::new(),
+            slot: Slot::new(room),
         })?;
     }
     Ok(())

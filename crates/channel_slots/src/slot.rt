@@ -1,21 +1,23 @@
 //! One slot: what it emits with the samples, and what it answers to its client.
 
-ghost use Rattle.std.specs.Prelude.{◌≡◌, ◌≤◌, ◌<◌, ◌+◌, ◌-◌, List, Some};
+ghost use Rattle.std.specs.Prelude.{◌≡◌, ◌≤◌, ◌<◌, ◌+◌, ◌-◌, List, Some, is_none};
 ghost use Rattle.definitions.specs.Samples.{Sample};
 ghost use Rattle.definitions.specs.Oscillators.{Settings as DefinedSettings};
 ghost use Rattle.definitions.specs.Commands.{state};
 ghost use Rattle.definitions.specs.Lives.{Life};
 ghost use Rattle.definitions.specs.Answers.{shown, answer_with};
 ghost use Rattle.slot_protocol.specs.Answers.{view_in};
-ghost use Rattle.channel_slots.specs.Stages.{IsFollowed};
+ghost use Rattle.channel_slots.specs.Stages.{IsFollowed, is_searching};
 ghost use Rattle.channel_slots.specs.declared.bank.TheConstants.{MOST_TIME};
 
 use crate::slot_news::SlotNews;
 use crate::stage::Stage;
+use acquisition::{Cell, Plan, SearchRoom};
 use ca_codes::CodeBook;
 use channels::{Followed, Searched, Window};
 use oscillators::Settings;
 use slot_protocol::{Answer, Command, Phase, Refusal, SlotState};
+use std::mem;
 use tracking_loops::News;
 
 /// The most events that a slot emits over a run of samples: the answer of an acquisition, and those
@@ -26,29 +28,35 @@ pub const SLOT_EVENTS: usize = 7;
 pub const NEVER: u64 = u64::MAX;
 
 /// A slot: how many dumps are still to be printed, which only commands and dumps change, and what
-/// it follows.
-#[derive(Debug, Default, Drop)]
+/// it follows. Its room for a search is lent to each of its searches, and comes back where that
+/// ends.
+#[derive(Debug, Drop)]
 pub struct Slot {
     unprinted: u32,
     stage: Stage,
+    room: Option<SearchRoom>,
+    ghost lent: { is_none room ≡ is_searching stage },
 }
 
 impl Slot {
     ghost use Rattle.std.specs.Prelude.{ℕ, [], ◌∷◌, ◌++◌, length, IfSome, IsNone, nat_lt, true};
-    ghost use Rattle.definitions.specs.Commands.{TimedRequest, Start, begin};
+    ghost use Rattle.std.specs.Prelude.{unsigned_abs, false};
+    ghost use Rattle.definitions.specs.Commands.{TimedRequest, Start, begin, acquire};
     ghost use Rattle.definitions.specs.Answers.{answer_at_end};
     ghost use Rattle.acquisition.specs.declared.dwell.TheConstants.{MOST_START};
     ghost use Rattle.channels.specs.Windows.{IsOver, IsSame, end_of, dump_of};
+    ghost use Rattle.channels.specs.Searching.{plan_of};
     ghost use Rattle.slot_protocol.specs.Commands.{request_in};
     ghost use Rattle.slot_protocol.specs.Answers.{answer_in, IsRefusal};
     ghost use Rattle.channel_slots.specs.NewsEvents.{events_of, events_with, time_of, time_after};
     ghost use Rattle.channel_slots.specs.Stages as stages;
-    ghost use Rattle.channel_slots.specs.Stages.{most_wait, after_dump};
+    ghost use Rattle.channel_slots.specs.Stages.{most_wait, after_dump, IsSettled};
+    ghost use Rattle.channel_slots.specs.declared.stage.Stage.TheVariants as variants;
     ghost use Rattle.channel_slots.specs.Slots.{StandsFor, Emits, IsSound, is_sound, chances};
     ghost use Rattle.channel_slots.specs.Slots.{is_idle, next_event, cells_done_of, first_life};
 
-    /// A slot that was never asked for anything.
-    pub fn new() -> Slot
+    /// A slot that was never asked for anything, with the room for its searches.
+    pub fn new(room: SearchRoom) -> Slot
         ensures stands { (settings : DefinedSettings) → StandsFor settings [] [] result }
         ensures sound { (first time reach : ℕ) → is_sound first time reach result ≡ true }
         ensures idle { is_idle result ≡ true }
@@ -56,6 +64,7 @@ impl Slot {
         Slot {
             unprinted: 0,
             stage: Stage::Idle,
+            room: Some(room),
         }
     }
 
@@ -106,7 +115,7 @@ impl Slot {
             Stage::Searching(searched) => {
                 let cell = searched.take(to, window.history(), book)?;
                 let (time, prn) = (searched.due(), searched.prn());
-                self.stage.settle(&cell);
+                self.settle(&cell);
                 Some(SlotNews::Acquired { time, prn, cell })
             }
             Stage::Following(followed) => {
@@ -120,6 +129,36 @@ impl Slot {
         }
     }
 
+    /// Where the slot's search has named a cell, the slot follows the signal from here on that was
+    /// found, and nothing where none was.
+    fn settle(&mut self, cell: &Cell)
+        requires bin { (searched : Searched) → self.old.stage ≡ variants.Searching searched
+            → unsigned_abs cell.now.bin ≤ (plan_of searched).bins }
+        ensures stage { (searched : Searched) → self.old.stage ≡ variants.Searching searched
+            → IsSettled cell.now searched self.new.stage }
+        ensures left { self.new.unprinted ≡ self.old.unprinted }
+    {
+        let Stage::Searching(searched) = &self.stage else {
+            return;
+        };
+        let found = searched.follow(cell);
+        self.rest();
+        if let Some(followed) = found {
+            self.stage = Stage::Following(followed);
+        }
+    }
+
+    /// Follows nothing from here on. Where the slot searched, it has its room again.
+    fn rest(&mut self)
+        ensures stage { self.new.stage ≡ variants.Idle }
+        ensures left { self.new.unprinted ≡ self.old.unprinted }
+    {
+        let was = mem::replace(&mut self.stage, Stage::Idle);
+        if let Stage::Searching(searched) = was {
+            self.room = Some(searched.into_room());
+        }
+    }
+
     /// Whether a dump of the slot's satellite is to be printed: while dumps are, it is one of them.
     /// Where the signal is lost with it the slot is idle from here on.
     fn note_dump(&mut self, lock: News) -> bool
@@ -130,7 +169,7 @@ impl Slot {
         let is_shown = self.unprinted > 0;
         self.unprinted = self.unprinted.saturating_sub(1);
         if matches!(lock, News::Lost) {
-            self.stage = Stage::Idle;
+            self.rest();
         }
         is_shown
     }
@@ -169,10 +208,9 @@ impl Slot {
         }
     }
 
-    /// Makes the slot follow a stage, and print no dump, if it is idle. It is inlined, so that a
-    /// stage is made where it stays: it is large.
-    #[inline(always)]
+    /// Makes the slot follow a stage that is no search, and print no dump, if it is idle.
     fn start(&mut self, stage: Stage) -> Answer
+        requires { is_searching stage ≡ false }
         ensures answer { (settings : DefinedSettings) (xs : List Sample)
             (commands : List TimedRequest) (start : Start)
             → StandsFor settings xs commands self.old
@@ -198,6 +236,33 @@ impl Slot {
         Answer::Accepted
     }
 
+    /// Makes the slot search for a satellite from sample `time` on, and print no dump, if it is
+    /// idle. Its room goes to the search.
+    fn acquire(&mut self, settings: &Settings, plan: Plan, time: u64) -> Answer
+        requires { time ≤ MOST_START }
+        ensures answer { (xs : List Sample) (commands : List TimedRequest) → length xs ≡ time
+            → StandsFor settings.now xs commands self.old
+            → answer_in result ≡ answer_at_end settings.now xs commands (begin (acquire plan)) }
+        ensures stands { (xs : List Sample) (commands : List TimedRequest) → length xs ≡ time
+            → StandsFor settings.now xs commands self.old
+            → StandsFor settings.now xs (commands
+            ++ record { time = length xs; request = begin (acquire plan) } ∷ []) self.new }
+        ensures refused { IsRefusal result → self.new ≡ self.old }
+        ensures sound { (first : ℕ) → first ≤ time
+            → is_sound first time (most_wait settings.now) self.old ≡ true
+            → is_sound first time (most_wait settings.now) self.new ≡ true }
+        ensures waits { time < next_event self.old → time < next_event self.new }
+    {
+        if self.is_idle() {
+            let room = self.room.take().unwrap();
+            self.unprinted = 0;
+            self.stage = Stage::Searching(Searched::start(settings, plan, time, room));
+            Answer::Accepted
+        } else {
+            Answer::Refused(Refusal::Busy)
+        }
+    }
+
     /// Does what a client asks of this slot, and answers it: a refused command changes nothing.
     /// The next sample is number `time`, at most `MOST_START`.
     pub fn command(&mut self, settings: &Settings, time: u64, command: Command) -> Answer
@@ -216,9 +281,7 @@ impl Slot {
         ensures waits { time < next_event self.old → time < next_event self.new }
     {
         match command {
-            Command::Acquire { slot: _, plan } => {
-                self.start(Stage::Searching(Searched::start(settings, plan, time)))
-            }
+            Command::Acquire { slot: _, plan } => self.acquire(settings, plan, time),
             Command::Hold {
                 slot: _,
                 prn,
@@ -243,7 +306,8 @@ impl Slot {
                 if self.is_idle() {
                     return Answer::Refused(Refusal::Idle);
                 }
-                *self = Slot::new();
+                self.unprinted = 0;
+                self.rest();
                 Answer::Accepted
             }
         }

@@ -5,7 +5,9 @@ ghost use Rattle.channel_slots.specs.Slots.{is_sound};
 ghost use Rattle.channel_slots.specs.Stages.{most_wait};
 ghost use Rattle.channels.specs.Windows.{first_of, end_of};
 
-use super::{acquire, eight_ones, hold, next, next_dump, plain_settings, slot_zero, tells, track};
+use super::{
+    acquire, eight_ones, hold, new_slot, next, next_dump, plain_settings, slot_zero, tells, track,
+};
 use crate::commands;
 use acquisition::Cell;
 use assertions::{assert_same, assert_same_at};
@@ -16,6 +18,7 @@ use lane_correlator::Counts;
 use made_signals::long_code_file;
 use oscillators::{HalfChip, Settings};
 use sample_planes::{Format, PackedSamples};
+use std::alloc::{Alloc, Global};
 use std::process::Abort;
 use std::test::Fail;
 
@@ -59,11 +62,15 @@ fn begins_each(rt: &impl Abort, slot: &mut Slot, settings: &Settings, time: u64)
 }
 
 /// A slot that began so at a time, and stopped.
-fn stopped(rt: &impl Abort, settings: &Settings, time: u64) -> Result<Slot, Fail>
+fn stopped(
+    rt: &(impl Abort + Alloc<A = Global>),
+    settings: &Settings,
+    time: u64,
+) -> Result<Slot, Fail>
     requires { time ≤ 8 }
     ensures { IfOk result (λ slot. is_sound 0 time (most_wait settings.now) slot ≡ true) }
 {
-    let mut slot = Slot::new();
+    let mut slot = new_slot(rt.alloc())?;
     begins_each(rt, &mut slot, settings, time)?;
     Ok(slot)
 }
@@ -72,7 +79,7 @@ fn stopped(rt: &impl Abort, settings: &Settings, time: u64) -> Result<Slot, Fail
 #[test]
 fn an_idle_slot_has_nothing_to_do(rt: HostRuntime) -> Result<(), Fail> {
     let settings = plain_settings()?;
-    let mut slot = Slot::new();
+    let mut slot = new_slot(rt.alloc())?;
     for time in [0, 5] {
         begins_each(&rt, &mut slot, &settings, time)?;
     }
@@ -87,10 +94,10 @@ fn an_idle_slot_has_nothing_to_do(rt: HostRuntime) -> Result<(), Fail> {
 }
 
 /// A slot that holds satellite 1 from two chips before the end of its code on.
-fn two_chips_before() -> Result<Slot, Fail>
+fn two_chips_before(alloc: Global) -> Result<Slot, Fail>
     ensures { IfOk result (λ slot. (reach : ℕ) × (is_sound 0 0 reach slot ≡ true)) }
 {
-    let mut slot = Slot::new();
+    let mut slot = new_slot(alloc)?;
     let hold = commands::hold(0, 1, 0, 2_042).ok_or("a hold")?;
     slot.command(&plain_settings()?, 0, hold);
     Ok(slot)
@@ -99,7 +106,7 @@ fn two_chips_before() -> Result<Slot, Fail>
 /// Sees that a slot emits nothing with samples 0 to 2, of which it takes none before number
 /// `first`, and this dump with sample 3.
 fn tells_at_four(
-    rt: &impl Abort,
+    rt: &(impl Abort + Alloc<A = Global>),
     window: &mut Window,
     first: u64,
     dump: (u64, bool, Counts),
@@ -107,7 +114,7 @@ fn tells_at_four(
     requires { first_of window.old ≡ 0 }
     ensures { first_of window.new ≡ 0 }
 {
-    let mut slot = two_chips_before()?;
+    let mut slot = two_chips_before(rt.alloc())?;
     assert_same!(rt; slot.next_event(), 4);
     for to in first..4 {
         tells(rt, &mut slot, window, to, None, 4)?;
@@ -120,7 +127,7 @@ fn tells_at_four(
 #[test]
 fn nothing_comes_before_the_event(rt: HostRuntime) -> Result<(), Fail> {
     let mut window = eight_ones(rt.alloc())?;
-    let mut whole = two_chips_before()?;
+    let mut whole = two_chips_before(rt.alloc())?;
     let dump = next_dump(&mut whole, &mut window, 8)?.ok_or("a dump")?;
     assert_same!(rt; (dump.0, dump.1, whole.next_event()), (4, false, 2_050));
     for first in 0..5 {
@@ -178,10 +185,10 @@ fn go_on(
 
 /// A slot that searches for satellite 1 from sample 0 on, and finds it where its threshold is
 /// reached.
-fn searching(threshold: u32) -> Result<Slot, Fail>
+fn searching(alloc: Global, threshold: u32) -> Result<Slot, Fail>
     ensures { IfOk result (λ slot. (reach : ℕ) × (is_sound 0 0 reach slot ≡ true)) }
 {
-    let mut slot = Slot::new();
+    let mut slot = new_slot(alloc)?;
     slot.command(&plain_settings()?, 0, acquire(1, threshold)?);
     Ok(slot)
 }
@@ -268,7 +275,7 @@ fn brings(
 #[test]
 fn a_search_comes_to_its_cells_and_its_signal(rt: HostRuntime) -> Result<(), Fail> {
     let bytes = long_code_file();
-    let mut slot = searching(10)?;
+    let mut slot = searching(rt.alloc(), 10)?;
     let mut window = Window::new(rt.alloc(), Format::Real1, 16_384)?;
     searches(&rt, &mut slot, &mut window, &bytes)?;
     go_on(&rt, &mut slot, &mut window, &bytes, 10_240)?;
@@ -293,7 +300,7 @@ fn a_search_comes_to_its_cells_and_its_signal(rt: HostRuntime) -> Result<(), Fai
 // the slot is idle.
 #[test]
 fn a_search_that_finds_nothing_leaves_nothing_to_do(rt: HostRuntime) -> Result<(), Fail> {
-    let mut slot = searching(11)?;
+    let mut slot = searching(rt.alloc(), 11)?;
     let mut window = Window::new(rt.alloc(), Format::Real1, 16_384)?;
     go_on(&rt, &mut slot, &mut window, &[0; 1_536], 10_240)?;
     let Some(SlotNews::Acquired { time, cell, .. }) = next(&mut slot, &mut window, 10_240)? else {

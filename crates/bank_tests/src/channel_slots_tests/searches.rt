@@ -3,11 +3,12 @@
 ghost use Rattle.std.specs.Prelude.{◌<◌};
 
 use super::{acquire, plain_settings};
+use crate::commands;
 use acquisition::{Cell, Plan};
 use arrayvec::ArrayVec;
 use assertions::{assert_same, assert_same_at};
 use ca_codes::Prn;
-use channel_slots::{Bank, Command, Event, SlotEvent, SlotNo, Timeline};
+use channel_slots::{Answer, Bank, Command, Event, SlotEvent, SlotNo, Timeline};
 use made_signals::long_code_file;
 use oscillators::HalfChip;
 use sample_planes::{Format, PackedSamples};
@@ -229,4 +230,45 @@ fn samples_by_threes(rt: HostRuntime) -> Result<(), Fail> {
 #[test]
 fn samples_by_whole_runs(rt: HostRuntime) -> Result<(), Fail> {
     hear_from_each_place(&rt, 1_024)
+}
+
+/// Feeds a bank the first ten runs of a recording, and gives its events.
+fn feed_ten_runs(
+    bank: &mut Bank,
+    recording: &PackedSamples,
+) -> Result<ArrayVec<SlotEvent, MOST_TOLD>, Fail> {
+    if recording.len() < 10_240 {
+        return Err(Fail::new("samples are missing"));
+    }
+    let mut told = ArrayVec::new();
+    let mut timeline = Timeline::new();
+    for run in 0..10 {
+        bank.try_feed(&recording.part(run * 1_024, 1_024), &mut timeline)?;
+        told.try_extend_from_slice(timeline.events())?;
+    }
+    Ok(told)
+}
+
+// A search works where those of its slot before it did, and nothing of them is left: of one that
+// was stopped half way through its cells, and of one that came to its end. Each begins at the same
+// sample of the code.
+#[test]
+fn a_slot_searches_again(rt: HostRuntime) -> Result<(), Fail> {
+    let bytes = long_code_file();
+    let recording = PackedSamples::new(Format::Real1, &bytes);
+    let mut bank = bank_of_one(rt.alloc())?;
+    hear(&rt, &mut bank, &recording, 1_024, 2, &[])?;
+    bank.command(1, acquire(2, 10)?);
+    hear(&rt, &mut bank, &recording, 1_024, 6_140, &[])?;
+    have_done(&rt, &bank, &[(1, 0, Some(1_023))])?;
+    let stop = commands::stop(0).ok_or("a stop")?;
+    let again = PackedSamples::new(Format::Real1, &bytes).part(2, 10_240);
+    for due in [16_370, 26_610] {
+        assert_same!(rt; bank.command(1, stop), Answer::Accepted);
+        assert_same!(rt; bank.command(1, acquire(1, 10)?), Answer::Accepted);
+        let told = feed_ten_runs(&mut bank, &again)?;
+        let named = [told_at(due, found_at_two()?)];
+        assert_same!(rt; told.as_slice(), named.as_slice());
+    }
+    Ok(())
 }

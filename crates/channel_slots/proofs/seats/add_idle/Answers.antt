@@ -1,10 +1,10 @@
 use Rattle.std.specs.Prelude.{true}
 use Rattle.channel_slots.specs.Slots.{is_idle}
-use Rattle.std.proofs.Common.{◌≡◌, ◌++◌, ◌∷◌, [], refl, ap, ◌∙◌, sym, List}
-use Rattle.std.proofs.lemmas.List.{append_assoc, append-nil}
+use Rattle.std.proofs.Common.{◌≡◌, ◌++◌, ◌∷◌, [], refl, sym}
+use Rattle.std.proofs.lemmas.List.{append-nil}
 use Rattle.channel_slots.specs.declared.seat.Seat.{Seat}
 use Rattle.channel_slots.proofs.SeatLemmas.{all_push}
-use Rattle.channel_slots.proofs.ShareLemmas.{keys-push}
+use Rattle.channel_slots.proofs.ShareLemmas.{keys-push, push-behind}
 use Rattle.channel_slots.proofs.seats.add_idle.Goals as goal
 
 pub loop-number-init : goal.loop-number-init
@@ -23,15 +23,13 @@ loop-number-preserved c =
     let p : Seat = record {
       client = c.args.client;
       number = c.loop-number.number;
-      slot = c.new.result;
+      slot = c.new-in-loop-number.result;
     } in
     record {
       adds = record {
         added = a.added ++ p ∷ [];
-        behind =
-            c.in_ok-push.ensures.items ∙ ap (λ (l : List Seat). l ++ p ∷ []) a.behind
-            ∙ append_assoc c.args.seats.now.items a.added (p ∷ []);
+        behind = push-behind c.args.seats.now.items a.added _ _ p a.behind c.in_ok-push.ensures.items;
         keys = keys-push a.added p c.args.client c.loop-number.number a.keys refl refl;
-        idle = all_push (λ (q : Seat). is_idle q.slot ≡ true) a.added p a.idle c.new.ensures.idle;
+        idle = all_push (λ (q : Seat). is_idle q.slot ≡ true) a.added p a.idle c.new-in-loop-number.ensures.idle;
       };
     }

@@ -1,12 +1,10 @@
-use Rattle.std.proofs.Common.{ℕ, ap, arith, refl, subst, sym, ◌∙◌, true, false}
+use Rattle.std.proofs.Common.{ap, arith, refl, sym, ◌∙◌, true, false}
 use Rattle.std.specs.Prelude.{Some, None}
-use Rattle.channels.specs.Searching.{Searches}
 use Rattle.slot_protocol.specs.Commands.{request_in}
-use Rattle.channel_slots.specs.Stages.{most_wait}
-use Rattle.channel_slots.proofs.ReadyLemmas.{search-begins-sound, channel-begins-sound}
-use Rattle.channel_slots.proofs.ReadyLemmas.{search-begins-quiet, channel-begins-quiet}
+use Rattle.channel_slots.specs.Stages.{most_wait, is_idle}
+use Rattle.channel_slots.proofs.ReadyLemmas.{channel-begins-sound}
+use Rattle.channel_slots.proofs.ReadyLemmas.{channel-begins-quiet}
 use Rattle.channel_slots.proofs.ReadyLemmas.{idle-is-quiet}
-use Rattle.channel_slots.proofs.SearchLemmas.{starts-searched}
 use Rattle.channel_slots.proofs.SlotLemmas.{idle-now, life-now, has-life, answers, stays-idle}
 use Rattle.channel_slots.proofs.SlotLemmas.{becomes-idle, prints, shown-stays}
 use Rattle.channel_slots.proofs.StageLemmas.{starts-held, starts-tracked}
@@ -14,14 +12,11 @@ use Rattle.channel_slots.proofs.slot.Slot.command.Goals as goal
 
 pub returns-in-Acquire-clause-stands : goal.returns-in-Acquire-clause-stands
 returns-in-Acquire-clause-stands c xs commands now s =
-    rw (ap request_in c.in-Acquire.is) (c.start-in-Acquire.ensures.stands _ xs commands _ s
-    (starts-searched _ xs _ c.start.result c.in-Acquire.plan refl refl
-    (subst (λ (n : ℕ). Searches c.args.settings.now c.in-Acquire.plan n xs c.start.result)
-    (sym now) (c.start.ensures.stands xs now)) (omega (arith, now, c.start.ensures.begins.waits))))
+    rw (ap request_in c.in-Acquire.is) (c.acquire.ensures.stands xs commands now s)
 
 pub returns-in-Hold-clause-stands : goal.returns-in-Hold-clause-stands
 returns-in-Hold-clause-stands c xs commands now s =
-    rw (ap request_in c.in-Hold.is) (c.start-in-Hold.ensures.stands _ xs commands _ s
+    rw (ap request_in c.in-Hold.is) (c.start.ensures.stands _ xs commands _ s
     (starts-held _ xs _ c.hold.result _ _ _ refl refl
     c.hold.ensures.begins.steered_is (c.hold.ensures.stands xs now)))
 
@@ -75,16 +70,11 @@ returns-else-is_idle-2-clause-stands c xs commands now s =
     let on = sym c.is_idle-in-Stop.ensures ∙ c.if-is_idle-2.false in
     let i = has-life _ xs commands _ s on in
     rw (ap request_in c.in-Stop.is) (becomes-idle _ xs commands _ s _ _ (Some i.life) _ i.of
-    (life-now _ xs commands _ s on) refl c.new.ensures.idle)
-
-pub returns-in-Acquire-clause-sound : goal.returns-in-Acquire-clause-sound
-returns-in-Acquire-clause-sound c first later sound =
-    c.start-in-Acquire.ensures.sound first _ _ sound
-    (search-begins-sound _ c.in-Acquire.plan first _ c.start.result later c.start.ensures.begins)
+    (life-now _ xs commands _ s on) refl (ap is_idle c.rest.ensures.stage))
 
 pub returns-in-Hold-clause-sound : goal.returns-in-Hold-clause-sound
 returns-in-Hold-clause-sound c first later sound =
-    c.start-in-Hold.ensures.sound first _ _ sound
+    c.start.ensures.sound first _ _ sound
     (channel-begins-sound false first c.args.time (most_wait c.args.settings.now) c.hold.result
     later c.hold.ensures.begins)
 
@@ -94,14 +84,9 @@ returns-in-Track-clause-sound c first later sound =
     (channel-begins-sound true first c.args.time (most_wait c.args.settings.now) c.track.result
     later c.track.ensures.begins)
 
-pub returns-in-Acquire-clause-waits : goal.returns-in-Acquire-clause-waits
-returns-in-Acquire-clause-waits c before =
-    c.start-in-Acquire.ensures.waits _ before
-    (search-begins-quiet _ c.in-Acquire.plan _ c.start.result c.start.ensures.begins)
-
 pub returns-in-Hold-clause-waits : goal.returns-in-Hold-clause-waits
 returns-in-Hold-clause-waits c before =
-    c.start-in-Hold.ensures.waits _ before
+    c.start.ensures.waits _ before
     (channel-begins-quiet false _ c.hold.result c.hold.ensures.begins)
 
 pub returns-in-Track-clause-waits : goal.returns-in-Track-clause-waits
@@ -111,4 +96,5 @@ returns-in-Track-clause-waits c before =
 
 pub returns-else-is_idle-2-clause-waits : goal.returns-else-is_idle-2-clause-waits
 returns-else-is_idle-2-clause-waits c before =
-    idle-is-quiet _ c.new.result.stage c.new.ensures.idle (omega (arith, c.requires))
+    idle-is-quiet _ c.rest.new.self.stage (ap is_idle c.rest.ensures.stage)
+    (omega (arith, c.requires))

@@ -24,4 +24,5 @@ pub returns-clause-stands : goal.returns-clause-stands
 returns-clause-stands c settings xs commands start s follows =
     becomes-on settings xs commands _ s (begin start) _ None _ _ refl
     (idle-now settings xs commands _ s (sym c.is_idle.ensures ∙ c.if-not-is_idle.false)) refl
-    follows (λ on. all-to-print settings xs _ _ follows on refl refl) (omega arith)
+    follows (λ on. all-to-print settings xs _ c.args.stage _ follows on refl refl)
+    (omega arith)

@@ -19,7 +19,8 @@ use Rattle.channel_slots.proofs.slot.Slot.take.Goals as goal
 
 pub returns-in-Idle-clause-emits : goal.returns-in-Idle-clause-emits
 returns-in-Idle-clause-emits c settings xs ys commands more all over s =
-    idle-tells settings xs commands c.args.self.now s ys more (ap is_idle c.in-Idle.is)
+    idle-tells settings xs commands c.args.self.now s ys more (ap is_idle c.in-Idle.is) _
+    (ap is_idle c.in-Idle.is)
 
 pub returns-in_err-cell-in-Searching-clause-emits :
     goal.returns-in_err-cell-in-Searching-clause-emits
@@ -61,8 +62,8 @@ returns-in_ok-cell-in-Searching-clause-emits c settings xs ys commands more all 
     let answer = rw some at takes.answers in
     let same = c.prn-prn.ensures ∙ ap (λ (p : Plan). p.prn) stands.search.plan_is in
     settled settings xs life c.in-Searching.searched a ys _ _ same answer took.new.self
-    stands _ (c.settle.ensures took.new.self refl))
-    refl
+    stands _ (c.settle.ensures.stage took.new.self refl))
+    c.settle.ensures.left
 
 pub returns-then-not-take-clause-emits : goal.returns-then-not-take-clause-emits
 returns-then-not-take-clause-emits c settings xs ys commands more all over s =
