@@ -13,9 +13,10 @@ sum c ring l =
     (length c.alone.result.now) l)
     +ℤ sum_at (with_next ring) c.args.half c.twos.result.now (length c.twos.result.now) l
 
-all : (c : goal.After-add_at) → AreAllPairs (sum c c.args.self.now.in_phase.chips)
+-- what is returned
+result_pairs : (c : goal.After-add_at) → AreAllPairs (sum c c.args.self.now.in_phase.chips)
     (sum c c.args.self.now.quadrature.chips) c.add_at.result
-all c =
+result_pairs c =
     let sums = c.args.self.now in
     c.add_at.ensures _ _ (with_next sums.in_phase.chips) (with_next sums.quadrature.chips)
     (pairs_of_twos sums.in_phase.chips sums.quadrature.chips sums.pairs.chips sums.twos.chips
@@ -52,13 +53,13 @@ lanes c from vector few are =
     }
 
 pub returns-clause-first : goal.returns-clause-first
-returns-clause-first c = lanes c 0 _ (omega arith) (all c).first_are
+returns-clause-first c = lanes c 0 _ (omega arith) (result_pairs c).first_are
 
 pub returns-clause-second : goal.returns-clause-second
-returns-clause-second c = lanes c 16 _ (omega arith) (all c).second_are
+returns-clause-second c = lanes c 16 _ (omega arith) (result_pairs c).second_are
 
 pub returns-clause-third : goal.returns-clause-third
-returns-clause-third c = lanes c 32 _ (omega arith) (all c).third_are
+returns-clause-third c = lanes c 32 _ (omega arith) (result_pairs c).third_are
 
 pub returns-clause-fourth : goal.returns-clause-fourth
-returns-clause-fourth c = lanes c 48 _ (omega arith) (all c).fourth_are
+returns-clause-fourth c = lanes c 48 _ (omega arith) (result_pairs c).fourth_are
