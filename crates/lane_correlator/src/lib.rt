@@ -4,8 +4,8 @@
 //! `replica_sums` gives the sums with the early, prompt and late chips, in phase and in quadrature.
 //! It makes the carrier and the code on the way, 64 samples at a time, and adds up products in
 //! lanes of bytes. It is proved to give the plain sums over every range of the run, for real and
-//! for complex samples. (IS-GPS-200 has the signal alone; how a receiver correlates with it is this
-//! project's own.)
+//! for complex samples. `Products` are samples without their carrier, one by one. (IS-GPS-200 has
+//! the signal alone; how a receiver correlates with it is this project's own.)
 //!
 //!     use ca_codes::{CodeBook, Prn};
 //!     use lane_correlator::replica_sums;
