@@ -47,7 +47,7 @@ pub fn pick_from_four(table: &[u8], at: [usize; 4], numbers: u8x64) -> u8x64
 }
 
 /// Sixteen bytes of a table from each of four places on.
-pub fn four_windows(table: &[u8], at: [usize; 4]) -> u8x64
+fn four_windows(table: &[u8], at: [usize; 4]) -> u8x64
     requires { (b : ℕ) → b < 4 → slice_index at b + LANES ≤ length table.now }
     ensures long { length result ≡ WORD_PLACES }
     ensures windows { (k : ℕ) → k < WORD_PLACES → slice_index result k ≡ slice_index table.now

@@ -1,12 +1,13 @@
 -- The places of samples in bytes, 64 samples at a time.
-use Rattle.std.proofs.Common.{◌≡◌, ℕ, ◌+◌, ◌-◌, ◌*◌, ◌/◌, ◌%◌, ◌^◌, ◌<◌, ◌∙◌, List, length, get_or}
+use Rattle.std.proofs.Common.{◌≡◌, ℕ, ◌+◌, ◌-◌, ◌*◌, ◌/◌, ◌%◌, ◌^◌, ◌<◌}
+use Rattle.std.proofs.Common.{◌∙◌, List, length, get_or}
 use Rattle.std.proofs.Common.{refl, ap, arith, inl, inr}
+use Rattle.std.specs.Prelude.{replicate}
 use Rattle.std.specs.Int.{bit_at}
 use Rattle.std.specs.Simd.Lanes.{zip2}
 use Rattle.std.proofs.lemmas.Nat.{pow-add, shl-shr}
 use Rattle.std.proofs.lemmas.Simd.{get_or-zip2, length-zip2, length-replicate}
 use Rattle.std.proofs.lemmas.List.{get_or-replicate}
-use Rattle.std.specs.Prelude.{replicate}
 use Rattle.definitions.specs.Samples.{bit_in}
 use Rattle.sample_planes.specs.Packings.{IsWidth}
 
