@@ -1,10 +1,10 @@
 //! Planes of bits, one bit for each of up to 1,024 samples, and lanes of bytes, one byte for each
-//! of sixteen or 64 samples.
+//! of 64 samples.
 //!
-//! A `Plane` stands for a bit at each place. `pick_bytes` looks up sixteen bytes of a table, and
-//! `marked_bytes` puts a number into the lanes whose bit is 1. `pick_from_four` looks up 64 bytes,
-//! and `bit_of_each` gives bits of them as a word of a plane. Lane 0 stands for the last of these
-//! places, so that a bitmask of lanes has the first place in its top bit.
+//! A `Plane` stands for a bit at each place. `pick_from_four` looks up 64 bytes of a table, and
+//! `marked_bytes` puts a number into the lanes whose bit is 1. `bit_of_each` gives bits of the
+//! lanes as a word of a plane. Lane 0 stands for the last of these places, so that a bitmask of
+//! lanes has the first place in its top bit.
 //!
 //!     use bit_planes::{Plane, TOP_BIT, bit_of_each};
 //!     use std::simd::prelude::u8x64;
@@ -20,7 +20,7 @@ mod plane;
 mod spread;
 mod word_lanes;
 
-pub use lanes::{LANES, TOP_BIT, pick_bytes};
+pub use lanes::{LANES, TOP_BIT};
 pub use plane::{PLACES, Plane, WORD_PLACES, WORDS};
 pub use spread::marked_bytes;
 pub use word_lanes::{bit_of_each, pick_from_four};

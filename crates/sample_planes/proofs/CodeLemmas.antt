@@ -1,27 +1,28 @@
 -- Codes of the parts of samples.
-use Rattle.std.proofs.Common.{◌≡◌, ◌≢◌, ℕ, ◌+◌, ◌-◌, ◌*◌, ◌/◌, ◌%◌, ◌<◌, ◌≤◌, List, length, get_or}
+use Rattle.std.proofs.Common.{◌≡◌, ℕ, ◌+◌, ◌-◌, ◌*◌, ◌/◌, ◌%◌, ◌<◌, ◌≤◌, List, length, get_or}
 use Rattle.std.proofs.Common.{refl, sym, ap, ◌∙◌, arith, take, drop, Bool, true, false}
-use Rattle.std.proofs.Common.{inl, inr}
+use Rattle.std.proofs.Common.{inl, inr, zero, suc, [], ◌∷◌, ◌++◌}
 use Rattle.std.specs.Prelude.{ℤ, slice_index}
 use Rattle.std.specs.Simd.Lanes.{zip2, put_chunk, chunk}
 use Rattle.std.proofs.lemmas.Simd.{get_or-zip2, get_or-chunk, length-chunk, get_or-put_chunk_below}
-use Rattle.std.proofs.lemmas.Simd.{get_or-put_chunk_at, get_or-put_chunk_above, length-put_chunk}
+use Rattle.std.proofs.lemmas.Simd.{get_or-put_chunk_at, get_or-put_chunk_above}
 use Rattle.std.proofs.lemmas.Nat.Bits.{bit_at-lt}
 use Rattle.std.proofs.lemmas.Bool.{cases_lt}
+use Rattle.std.proofs.lemmas.List.{drop_all, take_all, length-drop, append-nil}
 use Rattle.definitions.specs.Samples.{bit_in}
 use Rattle.sample_planes.specs.Signs.{part_of, part_in}
 use Rattle.sample_planes.specs.Codes.{IsCode}
 use Rattle.sample_planes.proofs.PlaneLemmas.{sign_written}
-use Rattle.sample_planes.specs.CodedParts.{lane_of, code_in, IsCoded}
+use Rattle.sample_planes.specs.CodedParts.{lane_of, code_in}
 
 -- the code of an equal part
 pub code_of : (part other : ℤ) (code : ℕ) → part ≡ other → IsCode other code → IsCode part code
 code_of part other code is c =
     record { fourth = c.fourth; few = c.few; value = is ∙ c.value }
 
--- ---- sixteen codes
+-- ---- a lane's code
 
-pub sum_lane : (xs ys : List ℕ) (s z k : ℕ) → length xs ≡ 16 → length ys ≡ 16 → k < 16
+pub sum_lane : (xs ys : List ℕ) (s z k : ℕ) → length xs ≡ 64 → length ys ≡ 64 → k < 64
     → get_or xs k 0 ≡ s * 4 → get_or ys k 0 ≡ z * 8 → s < 2 → z < 2
     → get_or (zip2 (λ (a b : ℕ). (a + b) % 256) xs ys) k 0 ≡ s * 4 + z * 8
 sum_lane xs ys s z k hx hy h four eight hs hz =
@@ -96,103 +97,58 @@ is_code_in false bytes place =
 
 -- ---- codes in an array
 
--- sixteen more
-pub put_coded : (codes xs : List ℕ) (g : ℕ) (f : ℕ → ℕ) → g < 64 → length xs ≡ 16
-    → IsCoded f (16 * g) codes → ((r : ℕ) → r < 16 → get_or xs (15 - r) 0 ≡ f (16 * g + r))
-    → IsCoded f (16 * g + 16) (put_chunk (64 * (g / 4) + 48 - 16 * (g % 4)) codes xs)
-put_coded codes xs g f few long old lanes =
-    record {
-      long = length-put_chunk s codes xs ∙ old.long;
-      coded = coded;
-      few = rest_few;
-      fourth = rest_fourth;
-    }
-  where
-    s : ℕ
-    s = 64 * (g / 4) + 48 - 16 * (g % 4)
+-- a store into an array from a place on, and one into the rest of the array from there on
+moved : (a : ℕ) (xs ys : List ℕ)
+    → take a xs ++ put_chunk 0 (drop a xs) ys ≡ put_chunk a xs ys
+moved zero xs ys = refl
+moved (suc a) [] ys = refl
+moved (suc a) (x ∷ xs) ys = ap (λ (r : List ℕ). x ∷ r) (moved a xs ys)
 
-    before : (i : ℕ) → i < 1024 → lane_of i < 64 * (g / 4) + 48 - 16 * (g % 4)
-        → get_or (put_chunk s codes xs) (lane_of i) 0 ≡ get_or codes (lane_of i) 0
-    before i room h = get_or-put_chunk_below s codes xs (lane_of i) 0 h
+pub put_word : (codes xs : List ℕ) (w : ℕ) → length codes ≡ 1024 → w < 16
+    → take (64 * w) codes ++ (put_chunk 0 (take (1024 - 64 * w) (drop (64 * w) codes)) xs
+    ++ drop (1024 - 64 * w) (drop (64 * w) codes))
+    ≡ put_chunk (64 * w) codes xs
+put_word codes xs w all few =
+    let rest : length (drop (64 * w) codes) ≤ 1024 - 64 * w =
+    omega (arith, all, length-drop (64 * w) codes) in
+    rw (
+      take_all (1024 - 64 * w) (drop (64 * w) codes) rest,
+      drop_all (1024 - 64 * w) (drop (64 * w) codes) rest,
+      append-nil (put_chunk 0 (drop (64 * w) codes) xs),
+    )
+    (moved (64 * w) codes xs)
 
-    behind : (i : ℕ) → i < 1024 → 64 * (g / 4) + 48 - 16 * (g % 4) + 16 ≤ lane_of i
-        → get_or (put_chunk s codes xs) (lane_of i) 0 ≡ get_or codes (lane_of i) 0
-    behind i room h = get_or-put_chunk_above s codes xs (lane_of i) 0 (omega (arith, long, h))
+-- 64 more
+pub put_at : (codes xs : List ℕ) (w j : ℕ) → length codes ≡ 1024 → length xs ≡ 64 → w < 16 → j < 64
+    → get_or (put_chunk (64 * w) codes xs) (lane_of (64 * w + j)) 0 ≡ get_or xs (63 - j) 0
+put_at codes xs w j all long few h =
+    let place : lane_of (64 * w + j) ≡ 64 * w + (63 - j) = omega arith in
+    rw place (get_or-put_chunk_at (64 * w) codes xs (63 - j) 0 (omega (arith, long))
+    (omega (arith, all)))
 
-    -- a sample that is not among the sixteen
-    other : (i : ℕ) → i < 1024 → i / 16 ≢ g
-        → get_or (put_chunk s codes xs) (lane_of i) 0 ≡ get_or codes (lane_of i) 0
-    other i room apart = elim (cases_lt (lane_of i) (64 * (g / 4) + 48 - 16 * (g % 4))) [
-      | inl below ↦ before i room below
-      | inr from ↦ behind i room (omega (arith, apart))
-    ]
+-- what was before them
+pub put_before : (codes xs : List ℕ) (w i : ℕ) → i < 64 * w
+    → get_or (put_chunk (64 * w) codes xs) (lane_of i) 0 ≡ get_or codes (lane_of i) 0
+put_before codes xs w i h = get_or-put_chunk_below (64 * w) codes xs (lane_of i) 0 (omega arith)
 
-    -- one that is
-    inside : (r : ℕ) → r < 16
-        → get_or (put_chunk s codes xs) (lane_of (16 * g + r)) 0 ≡ f (16 * g + r)
-    inside r h =
-        let place : lane_of (16 * g + r) ≡ 64 * (g / 4) + 48 - 16 * (g % 4) + (15 - r) =
-        omega arith in
-        rw place (get_or-put_chunk_at s codes xs (15 - r) 0 (omega (arith, long))
-        (omega (arith, long, old.long)) ∙ lanes r h)
-
-    coded : (i : ℕ) → i < 16 * g + 16 → i < 1024
-        → get_or (put_chunk s codes xs) (lane_of i) 0 ≡ f i
-    coded i h room = elim (cases_lt i (16 * g)) [
-      | inl early ↦ other i room (λ e. absurd (omega (arith, e))) ∙ old.coded i early room
-      | inr from ↦
-          let place : 16 * g + (i - 16 * g) ≡ i = omega arith in
-          rw place at (inside (i - 16 * g) (omega arith))
-    ]
-
-    rest_few : (i : ℕ) → 16 * g + 16 ≤ i → i < 1024
-        → get_or (put_chunk s codes xs) (lane_of i) 0 < 16
-    rest_few i h room = rw (other i room (λ e. absurd (omega (arith, e))))
-        (old.few i (omega arith) room)
-
-    rest_fourth : (i : ℕ) → 16 * g + 16 ≤ i → i < 1024
-        → get_or (put_chunk s codes xs) (lane_of i) 0 % 4 ≡ 0
-    rest_fourth i h room = rw (other i room (λ e. absurd (omega (arith, e))))
-        (old.fourth i (omega arith) room)
-
--- what holds of the code of each sample holds of each place
-pub each_place : (P : ℕ → Type 0) (codes : List ℕ)
-    → ((i : ℕ) → i < 1024 → P (get_or codes (lane_of i) 0))
-    → (k : ℕ) → k < 1024 → P (get_or codes k 0)
-each_place P codes h k room =
-    let back : lane_of (lane_of k) ≡ k = omega arith in
-    rw back at (h (lane_of k) (omega arith))
-
--- the codes of n samples, all others having some code, are codes
-pub record AreSmall (codes : List ℕ) : Type 0 where
-  pub few : (k : ℕ) → k < 1024 → get_or codes k 0 < 16
-  pub fourth : (k : ℕ) → k < 1024 → get_or codes k 0 % 4 ≡ 0
-
-pub are_small : (sizes : Bool) (bytes : List ℕ) (start width at n : ℕ) (codes : List ℕ)
-    → IsCoded (λ i. code_in sizes bytes (width * (start + i) + at)) n codes → AreSmall codes
-are_small sizes bytes start width at n codes is = record {
-  few = each_place (λ (code : ℕ). code < 16) codes (λ i room. elim (cases_lt i n) [
-    | inl before ↦ rw (is.coded i before room)
-        (is_code_in sizes bytes (width * (start + i) + at)).few
-    | inr from ↦ is.few i from room
-  ]);
-  fourth = each_place (λ (code : ℕ). code % 4 ≡ 0) codes (λ i room. elim (cases_lt i n) [
-    | inl before ↦ rw (is.coded i before room)
-        (is_code_in sizes bytes (width * (start + i) + at)).fourth
-    | inr from ↦ is.fourth i from room
-  ]);
-}
-
--- none of a run yet
-pub none_coded : (f : ℕ → ℕ) (codes : List ℕ) → length codes ≡ 1024
-    → ((k : ℕ) → k < 1024 → get_or codes k 0 < 16)
-    → ((k : ℕ) → k < 1024 → get_or codes k 0 % 4 ≡ 0) → IsCoded f 0 codes
-none_coded f codes long few fourth = record {
-  long = long;
-  coded = λ i h room. absurd (omega arith);
-  few = λ i h room. few (lane_of i) (omega arith);
-  fourth = λ i h room. fourth (lane_of i) (omega arith);
-}
+-- what holds of each code of both holds of each place
+pub put_each : (P : ℕ → Type 0) (codes xs : List ℕ) (w : ℕ) → length codes ≡ 1024 → length xs ≡ 64
+    → w < 16 → ((k : ℕ) → k < 1024 → P (get_or codes k 0))
+    → ((k : ℕ) → k < 64 → P (get_or xs k 0))
+    → (k : ℕ) → k < 1024 → P (get_or (put_chunk (64 * w) codes xs) k 0)
+put_each P codes xs w all long few old new k room = elim (cases_lt k (64 * w)) [
+  | inl before ↦ rw (get_or-put_chunk_below (64 * w) codes xs k 0 before) (old k room)
+  | inr from ↦ elim (cases_lt k (64 * w + 64)) [
+    | inl inside ↦
+        let place : 64 * w + (k - 64 * w) ≡ k = omega arith in
+        let there : get_or (put_chunk (64 * w) codes xs) k 0 ≡ get_or xs (k - 64 * w) 0 =
+        rw place at (get_or-put_chunk_at (64 * w) codes xs (k - 64 * w) 0 (omega (arith, long))
+        (omega (arith, all))) in
+        rw there (new (k - 64 * w) (omega arith))
+    | inr behind ↦ rw (get_or-put_chunk_above (64 * w) codes xs k 0 (omega (arith, long, behind)))
+        (old k room)
+  ]
+]
 
 -- 64 codes of a part
 pub loaded : (codes : List ℕ) (w k : ℕ) → w < 16 → k < 64

@@ -5,6 +5,11 @@ use Rattle.definitions.specs.Samples.{Sample, sample_at}
 use Rattle.bit_planes.specs.ByteLanes.{place_in}
 use Rattle.sample_planes.specs.Signs.{part_of}
 
+-- a number is the code of some part
+pub record IsCodeNumber (code : ℕ) : Type 0 where
+  pub fourth : code % 4 ≡ 0
+  pub few : code < 16
+
 -- the code of a part: 4 where it is below 0, and 8 more where it is 3 in size
 pub record IsCode (part : ℤ) (code : ℕ) : Type 0 where
   pub fourth : code % 4 ≡ 0

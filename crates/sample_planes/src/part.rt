@@ -1,20 +1,12 @@
 //! One part of a run of samples, in phase or in quadrature, as codes of its signs and sizes.
 
-ghost use Rattle.std.specs.Prelude.{◌≡◌, ◌+◌, ◌-◌, ◌*◌, ◌%◌, ◌<◌, ◌≤◌, ℕ, length, slice_index};
-ghost use Rattle.std.specs.Prelude.{unsigned_abs, true};
-ghost use Rattle.bit_planes.specs.declared.lanes.TheConstants.{LANES};
+ghost use Rattle.std.specs.Prelude.{◌≡◌, ◌+◌, ◌*◌, ◌%◌, ◌<◌, ◌≤◌, ℕ, length, slice_index};
+ghost use Rattle.std.specs.Prelude.{unsigned_abs};
 ghost use Rattle.bit_planes.specs.ByteLanes.{place_in};
-ghost use Rattle.definitions.specs.Samples.{samples_per_byte};
-ghost use Rattle.sample_planes.specs.Packings.{packing_of, width_of, has_sizes};
-ghost use Rattle.sample_planes.specs.Layouts.{IsLayout};
-ghost use Rattle.sample_planes.specs.CodedParts.{code_in, IsCoded};
 ghost use Rattle.bit_planes.specs.declared.plane.TheConstants.{WORDS, WORD_PLACES};
-ghost use Rattle.sample_planes.specs.declared.layout.TheConstants.{NEAR_BYTES, GROUPS};
 ghost use Rattle.sample_planes.specs.declared.part.TheConstants.{MOST_SIZE};
 ghost use Rattle.sample_planes.specs.declared.planes.TheConstants.{MAX_SAMPLES};
 
-use crate::format::Format;
-use crate::layout::Layout;
 use crate::planes::MAX_SAMPLES;
 use std::simd::prelude::*;
 
@@ -32,8 +24,8 @@ pub(crate) struct Part {
 }
 
 impl Part {
-    ghost use Rattle.sample_planes.specs.Signs.{part_at, part_in};
-    ghost use Rattle.sample_planes.specs.Codes.{IsCode};
+    ghost use Rattle.sample_planes.specs.Signs.{code_at, part_at};
+    ghost use Rattle.sample_planes.specs.Codes.{IsCode, IsCodeNumber};
 
     /// The parts of samples that are not known yet.
     pub(crate) fn new() -> Part {
@@ -42,27 +34,17 @@ impl Part {
         }
     }
 
-    /// Makes it that which begins at bit `at` of each of `len` samples, from sample `start` of a
-    /// byte on. Codes past the last group of these are kept, so that nothing has to be cleared.
-    pub(crate) fn fill(&mut self, format: Format, near: &[u8], at: usize, start: usize, len: usize)
-        requires at { at < width_of (packing_of format) }
-        requires size { has_sizes (packing_of format) ≡ true
-            → at + 1 < width_of (packing_of format) }
-        requires start { start < samples_per_byte (packing_of format) }
-        requires short { len ≤ MAX_SAMPLES }
-        requires long { NEAR_BYTES ≤ length near.now }
-        ensures parts { (i : ℕ) → i < len
-            → part_at self.new i ≡ part_in (has_sizes (packing_of format)) near.now (width_of
-            (packing_of format) * (start + i) + at) }
+    /// Sets the parts of the 64 samples from `64 * w` on by their codes, that of the first in the
+    /// last lane.
+    pub(crate) fn put(&mut self, w: usize, codes: u8x64)
+        requires word { w < WORDS }
+        requires long { length codes ≡ WORD_PLACES }
+        requires codes { (k : ℕ) → k < WORD_PLACES → IsCodeNumber (slice_index codes k) }
+        ensures there { (j : ℕ) → j < WORD_PLACES
+            → code_at self.new (WORD_PLACES * w + j) ≡ place_in codes j }
+        ensures kept { (i : ℕ) → i < WORD_PLACES * w → code_at self.new i ≡ code_at self.old i }
     {
-        let width = format.width();
-        let has_sizes = format.has_sizes();
-        let sign = Layout::new(width, at, start);
-        let size = size_layout(format, at, start, sign);
-        for group in 0..(len + 15) / 16 {
-            let sixteen = sixteen_codes(&sign, &size, has_sizes, near, group);
-            put_codes(&mut self.codes, group, sixteen);
-        }
+        codes.copy_to_slice(&mut self.codes[64 * w..]);
     }
 
     /// The part of sample `i`: 1 or -1, and of two bits also 3 or -3.
@@ -89,50 +71,4 @@ impl Part {
     {
         u8x64::from_slice(&self.codes[64 * w..])
     }
-}
-
-/// The layout of the sizes, where parts have one: the bit after that of the sign says it. Else it
-/// is that of the signs, and nothing is read by it.
-fn size_layout(format: Format, at: usize, start: usize, sign: Layout) -> Layout
-    requires size { has_sizes (packing_of format) ≡ true → at + 1 < width_of (packing_of format) }
-    requires start { start < samples_per_byte (packing_of format) }
-    requires sign { sign.width ≡ width_of (packing_of format) }
-    ensures width { result.width ≡ width_of (packing_of format) }
-    ensures layout { has_sizes (packing_of format) ≡ true → IsLayout (at + 1) start result }
-{
-    if format.has_sizes() {
-        Layout::new(format.width(), at + 1, start)
-    } else {
-        sign
-    }
-}
-
-/// Codes of sixteen samples, that of the first in the last lane.
-fn sixteen_codes(sign: &Layout, size: &Layout, has_sizes: bool, near: &[u8], group: usize) -> u8x16
-    requires group { group < GROUPS }
-    requires long { NEAR_BYTES ≤ length near.now }
-    ensures long { length result ≡ LANES }
-    ensures codes { (at start width : ℕ) → IsLayout at start sign.now → sign.now.width ≡ width
-        → (has_sizes ≡ true → IsLayout (at + 1) start size.now) → size.now.width ≡ width
-        → (r : ℕ) → r < LANES → slice_index result (LANES - 1 - r)
-        ≡ code_in has_sizes near.now (width * (start + (LANES * group + r)) + at) }
-{
-    let signs = sign.sixteen(near, group, 4);
-    if has_sizes {
-        signs + size.sixteen(near, group, 8)
-    } else {
-        signs
-    }
-}
-
-/// Sets the codes of the samples from `16 * group` on, that of the first being in the last lane.
-fn put_codes(codes: &mut [u8], group: usize, sixteen: u8x16)
-    requires codes { length codes.old ≡ MAX_SAMPLES }
-    requires group { group < GROUPS }
-    requires long { length sixteen ≡ LANES }
-    ensures { (f : ℕ → ℕ) → IsCoded f (LANES * group) codes.old
-        → ((r : ℕ) → r < LANES → slice_index sixteen (LANES - 1 - r) ≡ f (LANES * group + r))
-        → IsCoded f (LANES * group + LANES) codes.new }
-{
-    sixteen.copy_to_slice(&mut codes[64 * (group / 4) + 48 - 16 * (group % 4)..]);
 }

@@ -2,7 +2,7 @@
 
 use assertions::assert_same;
 use bit_planes::{Plane, bit_of_each, marked_bytes};
-use std::simd::prelude::{u8x16, u8x64};
+use std::simd::prelude::u8x64;
 
 #[test]
 fn words_of_a_plane(rt: HostRuntime) {
@@ -36,13 +36,13 @@ fn lane_0_is_the_last_place_of_a_word(rt: HostRuntime) {
 
 #[test]
 fn bytes_marked_by_their_bits(rt: HostRuntime) {
-    // The mask of lane 2 names the top bit, that of lane 9 the lowest; no other lane has its bit.
-    let mut masks = [0x40; 16];
+    // The mask of lane 2 names the top bit, that of lane 41 the lowest; no other lane has its bit.
+    let mut masks = [0x40; 64];
     masks[2] = 0x80;
-    masks[9] = 0x01;
-    let mut expected = [0; 16];
+    masks[41] = 0x01;
+    let mut expected = [0; 64];
     expected[2] = 4;
-    expected[9] = 4;
-    let marked = marked_bytes(u8x16::splat(0x81), u8x16::from_array(masks), 4);
+    expected[41] = 4;
+    let marked = marked_bytes(u8x64::splat(0x81), u8x64::from_array(masks), 4);
     assert_same!(rt; marked.to_array(), expected);
 }

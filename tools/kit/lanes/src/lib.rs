@@ -262,15 +262,6 @@ impl<const P: usize> Lanes<u8, P> {
     }
 }
 
-impl u8x16 {
-    /// Lane k of the result is the lane of `self` that lane k of `numbers` names.
-    #[inline(always)]
-    #[must_use]
-    pub fn swizzle_dyn(self, numbers: u8x16) -> u8x16 {
-        self.swizzle_dyn_within::<16>(numbers)
-    }
-}
-
 impl<const P: usize> Lanes<u16, P> {
     /// The sum of all lanes, which wraps.
     #[inline(always)]

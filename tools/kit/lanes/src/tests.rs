@@ -24,9 +24,8 @@ fn look_ups() {
         let want: [u8; 64] = from_fn(|k| a[k / 16 * 16 + numbers[k] as usize]);
         let wide = u8x64::from_array(a).swizzle_dyn_within::<16>(u8x64::from_array(numbers));
         assert_eq!(wide.to_array(), want);
-        let sixteen: [u8; 16] = from_fn(|k| numbers[k]);
-        let got = u8x16::from_slice(&a).swizzle_dyn(u8x16::from_array(sixteen));
-        assert_eq!(got.to_array(), want[..16]);
+        let sixteen = u8x16::from_slice(&a).swizzle_dyn_within::<16>(u8x16::from_slice(&numbers));
+        assert_eq!(sixteen.to_array(), want[..16]);
     });
 }
 
