@@ -5,5 +5,5 @@ pub returns : goal.returns
 returns c = (
   _,
   c.command-2.ensures.sound 0 (omega arith)
-      (c.command.ensures.sound 0 (omega arith) (c.new-slot.ensures.sound 0 0 _)),
+      (c.command.ensures.sound 0 (omega arith) (c.in_ok-slot.ensures 0 0 _)),
 )
