@@ -27,10 +27,10 @@ PARTS = {
                'tools/builders.py', 'tools/crate_order.py', 'tools/rooms.py', 'tools/rt_once'),
     'plain': ('crates.txt', 'crates', 'tools/build', 'tools/built.py', 'tools/builders.py',
               'tools/kit', 'tools/plain', 'tools/plain_additions.py', 'tools/plain_checks.py',
-              'tools/plain_docs.py', 'tools/plain_folder.py', 'tools/plain_packages.py',
-              'tools/plain_premises.py', 'tools/plain_registry.py', 'tools/plain_terms.py',
-              'tools/plain_text.py', 'tools/plain_traits.py', 'tools/plain_words.py',
-              'tools/plain_workspace.py'),
+              'tools/plain_docs.py', 'tools/plain_folder.py', 'tools/plain_memory.py',
+              'tools/plain_packages.py', 'tools/plain_premises.py', 'tools/plain_registry.py',
+              'tools/plain_terms.py', 'tools/plain_text.py', 'tools/plain_traits.py',
+              'tools/plain_words.py', 'tools/plain_workspace.py'),
     'apart': (*APART.values(), 'tools/build', 'tools/built.py', 'tools/builders.py'),
 }
 

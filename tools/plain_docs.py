@@ -37,7 +37,7 @@ def allocator_of(example):
     """The path of the kit's allocator for an example."""
     if 'use seldomplough::' in example:
         return 'seldomplough::Global'
-    return f'{"std" if is_of_kit(example) else "seldomplough_kit_std"}::alloc::Global'
+    return f'{"std" if is_of_kit(example) else "seldomplough_kit_alloc"}::alloc::Global'
 
 
 def named_docs(text, packages):

@@ -58,8 +58,10 @@ Then it is this line of `Cargo.toml`:
     {package} = {{ path = "plain/kit/{name}" }}
 '''
 
-# How the root of a library begins, after its docs, that needs no std but in tests.
-NO_STD = '#![cfg_attr(not(test), no_std)]\n'
+# What the README of a library says last that needs no std: of one that takes no memory, and of one
+# that does, or stands on one that does.
+ALONE = '\nIt builds as `no_std`, and takes no memory.\n'
+WITH_MEMORY = '\nIt builds as `no_std`, for programs that have an allocator.\n'
 
 # Keywords that people search by, where the head of a library has words of this kind.
 KEYWORDS = (('correlator', r'[Cc]orrelat|replica'), ('acquisition', r'[Aa]cquisition|[Ss]earch'),
@@ -94,9 +96,16 @@ def folder_of(name):
 def is_core_alone(name, crates):
     """Whether a crate and all that it stands on need no std. A crate of tests does."""
     if name not in crates:
-        return name in ('arrayvec', 'lanes', 'thiserror')
+        return name in ('alloc', 'arrayvec', 'circular_buffer', 'lanes', 'thiserror')
     return not name.endswith('_tests') and all(
         is_core_alone(crate, crates) for crate in crates[name][1])
+
+
+def asks_memory(name, crates):
+    """Whether a crate that needs no std, or one that it stands on, asks an allocator for memory."""
+    if name not in crates:
+        return name in ('alloc', 'circular_buffer')
+    return any(asks_memory(crate, crates) for crate in crates[name][1])
 
 
 def version():
@@ -172,7 +181,8 @@ def readme(crate, crates):
     depending = DEPENDING.format(first=FIRST * (crate != PROJECT), lines=lines)
     if not program:
         depending = depending.replace('The example needs', 'It needs')
-    alone = '\nIt builds as `no_std`, and takes no memory.\n' * is_core_alone(crate, crates)
+    alone = WITH_MEMORY if asks_memory(crate, crates) else ALONE
+    alone *= is_core_alone(crate, crates)
     return f'# {package_of(crate, crates)}\n\n{shown}{depending}{PROVED}{alone}'
 
 

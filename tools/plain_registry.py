@@ -5,7 +5,7 @@ from __future__ import annotations
 import re
 
 from plain_folder import Refused
-from plain_packages import NO_STD
+from plain_memory import ALLOC_AS_STD, NO_STD
 
 # These crates, and the versions that serve, of which cargo takes the latest.
 VERSIONS = {'arrayvec': '0.7.2', 'thiserror': '>=1.0.38, <3'}
@@ -16,6 +16,7 @@ DEPENDENCY = re.compile(rf'^({NAMES}) = \{{ path = .* \}}$', re.M)
 MEMBER = re.compile(rf'^ *"kit/(?:{NAMES})",\n', re.M)
 
 # What the first version of thiserror derives has names of std for what core has by the same names.
+# A crate that asks for memory has another crate under that name, which has all of core too.
 CORE_AS_STD = '#[cfg(not(test))]\nextern crate core as std;\n'
 
 # The command by which a README has the workspace written.
@@ -42,7 +43,8 @@ def from_registry(files: dict[str, str]) -> dict[str, str]:
         root = f'{folder}/src/lib.rs'
         has_std = NO_STD not in left.get(root, '')
         left[path] = dependent(MEMBER.sub('', text), has_std)
-        if not has_std and re.search(r'^thiserror = ', text, re.M):
+        has_name = has_std or ALLOC_AS_STD in left[root]
+        if not has_name and re.search(r'^thiserror = ', text, re.M):
             left[root] = left[root].replace(NO_STD, NO_STD + CORE_AS_STD)
     for path, text in left.items():
         if named := OF_KIT.search(text):

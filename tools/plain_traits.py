@@ -121,15 +121,23 @@ def patterns_of(block, indent):
     return [row.partition('=>')[0] for row in rows if '=>' in row or '::' in row]
 
 
+def left_open(patterns, named):
+    """The enumerations that some patterns name, but for those that stand in what one takes whole:
+    beside `Failure::Run(RunFault::Read)` there is `Failure::Run(_)`."""
+    found = [it for pattern in patterns for it in named.finditer(pattern)]
+    return sorted({it[2] for it in found if f'{it[1]}(_)' not in ''.join(patterns)})
+
+
 def armed_text(text, opened, file):
     """A source in which each match that has an arm for each case of another crate's enumeration
     has a last arm for what can't be yet. These enumerations are given, and where the source is."""
-    named, at = re.compile(rf'\b({"|".join(sorted(opened))})::\w'), 0
+    named = re.compile(rf'(?:\b([\w:]+)\()?\b({"|".join(sorted(opened))})::\w')
+    at = 0
     while opened and (found := MATCH.search(text, at)):
         at, end = found.end(), block_end(text, found.end())
         close = re.search(r'\n( *)\}\Z', text[:end])
         patterns = patterns_of(text[at:end], close[1]) if close else []
-        names = sorted({it[1] for pattern in patterns for it in named.finditer(pattern)})
+        names = left_open(patterns, named)
         if not close or names and text[close.start() - 1] not in ',}':
             raise Refused(f'{file} has a match with no place for a last arm: {found[0].strip()}')
         if names and not TAKES_ALL.match(patterns[-1]):

@@ -24,7 +24,7 @@ SEARCH = '''//! A search for the C/A code.
 '''
 CRATES = {
     'codes': ({'lib': '//! GPS codes.\n'}, [], []),
-    'search': ({'lib': SEARCH}, ['arrayvec', 'std'], ['codes']),
+    'search': ({'lib': SEARCH}, ['arrayvec', 'alloc'], ['codes', 'std']),
     'runs': ({'lib': '//! Runs.\n//!\n//!     fn run(rt: HostRuntime) {}\n'}, ['std'], []),
     'seldomplough': ({'lib': '//! All of GPS.\n'}, ['search'], []),
     'cli': ({'main': '//! A program.\n'}, ['seldomplough'], []),
@@ -35,7 +35,7 @@ PROGRAM = '''fn main() -> Result<(), Box<dyn std::error::Error>> {
     use seldomplough_codes::Code;
     use seldomplough_search::Search;
 
-    let search = Search::new(seldomplough_kit_std::alloc::Global, Code::new(5))?;
+    let search = Search::new(seldomplough_kit_alloc::alloc::Global, Code::new(5))?;
     Ok(())
 }
 '''
@@ -43,20 +43,26 @@ NEEDED = {
     'codes': ['seldomplough_codes = { path = "plain/crates/codes" }'],
     'search': ['seldomplough_codes = { path = "plain/crates/codes" }',
                'seldomplough_search = { path = "plain/crates/search" }',
-               'seldomplough_kit_std = { path = "plain/kit/std" }'],
+               'seldomplough_kit_alloc = { path = "plain/kit/alloc" }'],
     'runs': ['seldomplough_runs = { path = "plain/crates/runs" }',
              'std = { path = "plain/kit/std", package = "seldomplough_kit_std" }'],
     'seldomplough': ['seldomplough = { path = "plain/crates/seldomplough" }'],
 }
 
-# A workspace of two crates, one of them without std, and what it is over crates of crates.io.
+# A workspace of three crates, two of them without std, of which one asks for memory; and what it is
+# over crates of crates.io.
 ALONE = '//! Codes.\n#![cfg_attr(not(test), no_std)]\n\nmod prn;\n'
+ROOM = ('//! Room.\n#![cfg_attr(not(test), no_std)]\n\n#[cfg(not(test))]\n'
+        'extern crate alloc as std;\n\nmod room;\n')
 OF_KIT = {
     'Cargo.toml': 'members = [\n    "kit/arrayvec",\n    "kit/std",\n    "kit/thiserror",\n]\n',
     'crates/codes/Cargo.toml': 'thiserror = { path = "../../kit/thiserror", version = "0.1.0", '
                                'package = "seldomplough_kit_thiserror" }\n',
     'crates/codes/src/lib.rs': ALONE,
     'crates/codes/README.md': 'Write it:\n\n    /path/to/seldomplough/tools/plain plain\n',
+    'crates/room/Cargo.toml': 'thiserror = { path = "../../kit/thiserror" }\n'
+                              'alloc = { path = "../../kit/alloc" }\n',
+    'crates/room/src/lib.rs': ROOM,
     'crates/runs/Cargo.toml': 'arrayvec = { path = "../../kit/arrayvec", package = '
                               '"seldomplough_kit_arrayvec" }\nstd = { path = "../../kit/std" }\n',
     'crates/runs/src/lib.rs': 'use arrayvec::ArrayVec;\n',
@@ -70,6 +76,10 @@ OF_REGISTRY = {
         '\n\n', '\n#[cfg(not(test))]\nextern crate core as std;\n\n'),
     'crates/codes/README.md':
         'Write it:\n\n    /path/to/seldomplough/tools/plain --crates-io plain\n',
+    'crates/room/Cargo.toml':
+        'thiserror = { version = ">=1.0.38, <3", default-features = false }\n'
+        'alloc = { path = "../../kit/alloc" }\n',
+    'crates/room/src/lib.rs': ROOM,
     'crates/runs/Cargo.toml': 'arrayvec = { version = "0.7.2" }\n'
                               'std = { path = "../../kit/std" }\n',
     'crates/runs/src/lib.rs': 'use arrayvec::ArrayVec;\n',
@@ -89,8 +99,8 @@ def packages(rows, _):
     text = manifest('search', CRATES)
     lines = [line for line in text.split('\n') if 'path' in line]
     rows.say('dependencies', differs([line.split('package')[-1] for line in lines], [
-        ' = "seldomplough_kit_arrayvec" }', ' = "seldomplough_kit_std" }',
-        ' = "seldomplough_codes" }']))
+        ' = "seldomplough_kit_arrayvec" }', ' = "seldomplough_kit_alloc" }',
+        ' = "seldomplough_codes" }', ' = "seldomplough_kit_std" }']))
     for crate, wanted in ('cli', True), ('search', False):
         over_lanes = {**CRATES, crate: (CRATES[crate][0], ['lanes'], [])}
         text_over = manifest(crate, over_lanes)
@@ -108,12 +118,12 @@ def readmes(rows, _):
     rows.say('the program of a README', differs(program_of(named), PROGRAM))
     for crate, lines in NEEDED.items():
         rows.say(f'what the README of {crate} needs', differs(needed(crate, CRATES), lines))
-    names = {'seldomplough_codes': 'codes', 'seldomplough_kit_std': 'std'}
+    names = {'seldomplough_codes': 'codes', 'seldomplough_kit_alloc': 'alloc'}
     tested = tested_text(named, 'seldomplough_search', names)
     known = [line for line in tested.split('\n') if 'extern' in line]
     rows.say('the names of a test of docs', differs(known, [
         '//!     # extern crate codes as seldomplough_codes;',
-        '//!     # extern crate std as seldomplough_kit_std;']))
+        '//!     # extern crate alloc as seldomplough_kit_alloc;']))
 
 
 def registry(rows, _):

@@ -120,7 +120,6 @@ UNSAID = {
     'IsSound': 'that a slot stands for samples is a relation to all of these',
     'AllRest': 'the seats of a bank keep to themselves how long they rest',
     'IfOk': 'that a command is to one of a client\'s slots the bank refuses by a value',
-    'stages.Searching': 'it is about one kind of stage alone',
     'IsReady': 'what a search looks at ends at a number or at its due time, whichever comes first',
     'next_dump self.old ≤ to →': 'it is asked where a dump comes alone',
     'slice_index numbers': 'the lanes of the stable Rust give none of theirs alone',

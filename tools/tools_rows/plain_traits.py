@@ -154,7 +154,8 @@ pub fn four() -> [u8; 4]
 }
 '''
 
-# A match on two open enumerations of other crates, one that takes all, and one on neither.
+# A match on two open enumerations of other crates, one that takes all, and one on neither; and one
+# that takes what holds such an enumeration whole, which needs no arm.
 MATCHES = '''fn text(event: &Event, format: Format) -> &str {
     match event {
         Event::Lock | Event::Lost => match event.fault() {
@@ -166,6 +167,14 @@ MATCHES = '''fn text(event: &Event, format: Format) -> &str {
                 Format::Real1 => "real",
             }
         }
+    }
+}
+
+fn status(ended: Result<u64, Failure>) -> u8 {
+    match ended {
+        Ok(_) => 0,
+        Err(Failure::Pack(PackFault::NoMemory)) => 1,
+        Err(Failure::Pack(_)) => 2,
     }
 }
 '''

@@ -26,7 +26,7 @@ fn public_types_are_of_threads() {
         data_sets: AlmanacSet, DataSets, Report, Reports;
         devices: DeviceFault, Plain<u8>;
         frame_sync: Found, FrameSync, Subframe;
-        lane_correlator: Counts;
+        lane_correlator: Counts, Products;
         made_signals: MadeSignal, PlainDump, PlainNews, PlainTracker, SampleStream;
         nav_message: Message, MessageNews;
         oscillators: CarrierOsc, CarrierPlanes, CarrierWords, ChipLanes;

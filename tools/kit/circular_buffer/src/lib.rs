@@ -1,7 +1,9 @@
 //! The last items of a stream, as far as the sources use it.
+#![no_std]
 
 use core::fmt;
-use std::alloc::{AllocError, Global};
+use kit_alloc::alloc::{AllocError, Global};
+use kit_alloc::vec::Vec;
 
 /// The last items that were added, as many as it has room for.
 pub struct HeapCircularBuffer<T> {
@@ -25,7 +27,7 @@ impl<T: Copy + Default> HeapCircularBuffer<T> {
     /// Takes its memory at once.
     pub fn with_capacity(alloc: Global, capacity: usize) -> Result<Self, AllocError> {
         Ok(HeapCircularBuffer {
-            items: vec![in alloc; T::default(); capacity]?,
+            items: Vec::filled(alloc, T::default(), capacity)?,
             start: 0,
             len: 0,
         })

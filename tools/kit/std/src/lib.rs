@@ -4,8 +4,6 @@
 pub use ::std as real;
 pub use ::std::*;
 
-pub mod alloc;
-pub mod boxes;
 pub mod env;
 pub mod fs;
 pub mod io;
@@ -15,9 +13,14 @@ pub mod process;
 mod runtime;
 pub mod string;
 pub mod test;
-pub mod vec;
 
+pub use kit_alloc::{AnyDrop, boxes, vec};
 pub use runtime::HostRuntime;
+
+pub mod alloc {
+    pub use ::std::alloc::*;
+    pub use kit_alloc::alloc::{Alloc, AllocError, AllocFailed, AllocGlobal, Global};
+}
 
 pub mod boxed {
     pub use crate::boxes::BoxedSlice;
@@ -37,7 +40,3 @@ pub mod prelude {
         pub use ::std::prelude::rust_2024::*;
     }
 }
-
-/// In the kit a type that may be dropped says so; here each may.
-pub trait AnyDrop {}
-impl<T: ?Sized> AnyDrop for T {}

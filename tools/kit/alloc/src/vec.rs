@@ -2,22 +2,21 @@
 
 use crate::alloc::{AllocError, AllocFailed, Global};
 use crate::boxes::BoxedSlice;
-use ::std::io::{self, Write};
-use ::std::ops::{Deref, DerefMut};
-pub use ::std::vec::{Drain, IntoIter};
+use ::core::ops::{Deref, DerefMut};
+pub use ::real::vec::{Drain, IntoIter};
 
 /// A list, whose memory may be refused.
 #[derive(Debug, PartialEq, Eq)]
-pub struct Vec<T>(::std::vec::Vec<T>);
+pub struct Vec<T>(::real::vec::Vec<T>);
 
 impl<T> Vec<T> {
     #[must_use]
     pub fn new(_: Global) -> Vec<T> {
-        Vec(::std::vec::Vec::new())
+        Vec(::real::vec::Vec::new())
     }
 
     pub fn with_capacity(_: Global, count: usize) -> Result<Vec<T>, AllocError> {
-        let mut items = ::std::vec::Vec::new();
+        let mut items = ::real::vec::Vec::new();
         items.try_reserve_exact(count).map_err(|_| AllocError)?;
         Ok(Vec(items))
     }
@@ -79,7 +78,7 @@ impl<T: Clone> Vec<T> {
 }
 
 impl<T> Deref for Vec<T> {
-    type Target = ::std::vec::Vec<T>;
+    type Target = ::real::vec::Vec<T>;
 
     fn deref(&self) -> &Self::Target {
         &self.0
@@ -101,19 +100,9 @@ impl<T> IntoIterator for Vec<T> {
     }
 }
 
-impl Write for Vec<u8> {
-    fn write(&mut self, bytes: &[u8]) -> io::Result<usize> {
-        self.0.write(bytes)
-    }
-
-    fn flush(&mut self) -> io::Result<()> {
-        Ok(())
-    }
-}
-
 impl<'a, T> IntoIterator for &'a Vec<T> {
     type Item = &'a T;
-    type IntoIter = ::std::slice::Iter<'a, T>;
+    type IntoIter = ::core::slice::Iter<'a, T>;
 
     fn into_iter(self) -> Self::IntoIter {
         self.0.iter()
