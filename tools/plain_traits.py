@@ -124,8 +124,10 @@ def patterns_of(block, indent):
 def left_open(patterns, named):
     """The enumerations that some patterns name, but for those that stand in what one takes whole:
     beside `Failure::Run(RunFault::Read)` there is `Failure::Run(_)`."""
-    found = [it for pattern in patterns for it in named.finditer(pattern)]
-    return sorted({it[2] for it in found if f'{it[1]}(_)' not in ''.join(patterns)})
+    all_of_match = ' | '.join(patterns)
+    found = named.findall(all_of_match)
+    return sorted({name for holder, name in found
+                   if not holder or f'{holder}(_)' not in all_of_match})
 
 
 def armed_text(text, opened, file):
