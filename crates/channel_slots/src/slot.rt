@@ -130,7 +130,10 @@ impl Slot {
     }
 
     /// Where the slot's search has named a cell, the slot follows the signal from here on that was
-    /// found, and nothing where none was.
+    /// found, and nothing where none was. It comes rarely. It isn't inlined, so that `take` has
+    /// fewer instructions where a slot holds.
+    #[cold]
+    #[inline(never)]
     fn settle(&mut self, cell: &Cell)
         requires bin { (searched : Searched) → self.old.stage ≡ variants.Searching searched
             → unsigned_abs cell.now.bin ≤ (plan_of searched).bins }
@@ -148,7 +151,10 @@ impl Slot {
         }
     }
 
-    /// Follows nothing from here on. Where the slot searched, it has its room again.
+    /// Follows nothing from here on. Where the slot searched, it has its room again. It isn't
+    /// inlined, for the reason of `settle`.
+    #[cold]
+    #[inline(never)]
     fn rest(&mut self)
         ensures stage { self.new.stage ≡ variants.Idle }
         ensures left { self.new.unprinted ≡ self.old.unprinted }
