@@ -61,7 +61,8 @@ sum_at-more entry half chips n l z =
 
 pub pairs_first : (chips : List ℕ) (f g : ℕ → ℕ) (x y : ℕ → ℤ) (half from : ℕ) (lanes : List ℕ)
     → ArePairs x y from lanes
-    → ArePairs (λ l. x l +ℤ sum_at f half chips 0 l) (λ l. y l +ℤ sum_at g half chips 0 l) from lanes
+    → ArePairs (λ l. x l +ℤ sum_at f half chips 0 l) (λ l. y l +ℤ sum_at g half chips 0 l) from
+    lanes
 pairs_first chips f g x y half from lanes are = record {
   long = are.long;
   are = λ l h. rw (
@@ -73,7 +74,8 @@ pairs_first chips f g x y half from lanes are = record {
 pub pairs_more : (ring chips : List ℕ) (f g : ℕ → ℕ) (x y : ℕ → ℤ) (half from n at : ℕ)
     (lanes more : List ℕ) → HasPairs f g ring → from ≤ 48
     → at ≡ place_of half (slice_index chips n) + from → AreEntries ring at more
-    → ArePairs (λ l. x l +ℤ sum_at f half chips n l) (λ l. y l +ℤ sum_at g half chips n l) from lanes
+    → ArePairs (λ l. x l +ℤ sum_at f half chips n l) (λ l. y l +ℤ sum_at g half chips n l) from
+    lanes
     → ArePairs (λ l. x l +ℤ sum_at f half chips (n + 1) l)
     (λ l. y l +ℤ sum_at g half chips (n + 1) l) from (both_lanes lanes more)
 pairs_more ring chips f g x y half from n at lanes more has few here entries are = record {

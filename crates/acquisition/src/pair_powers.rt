@@ -19,7 +19,6 @@ use crate::period_sums::PeriodSums;
 use crate::power_runs::put_sixteen;
 use crate::sums::Sums;
 use bit_planes::LANES;
-use std::simd::prelude::*;
 
 impl PeriodSums {
     /// The powers of 64 cells from half chip `half` on, where each sum of a cell fits in 16 bits.

@@ -28,8 +28,10 @@ loop-number-preserved c =
     record {
       adds = record {
         added = a.added ++ p ∷ [];
-        behind = push-behind c.args.seats.now.items a.added _ _ p a.behind c.in_ok-push.ensures.items;
+        behind = push-behind c.args.seats.now.items a.added _ _ p a.behind
+            c.in_ok-push.ensures.items;
         keys = keys-push a.added p c.args.client c.loop-number.number a.keys refl refl;
-        idle = all_push (λ (q : Seat). is_idle q.slot ≡ true) a.added p a.idle c.new-in-loop-number.ensures.idle;
+        idle = all_push (λ (q : Seat). is_idle q.slot ≡ true) a.added p a.idle
+            c.new-in-loop-number.ensures.idle;
       };
     }

@@ -1,4 +1,5 @@
-use Rattle.std.proofs.Common.{inl, inr, ◌≡◌, ◌<◌, ◌≤◌, ◌+◌, ◌*◌, ◌∙◌, ℕ, List, get_or, length, ap, arith}
+use Rattle.std.proofs.Common.{inl, inr, ◌≡◌, ◌<◌, ◌≤◌, ◌+◌, ◌*◌, ◌∙◌, ℕ, List, get_or, length}
+use Rattle.std.proofs.Common.{ap, arith}
 use Rattle.std.specs.Prelude.{◌⊎◌}
 use Rattle.std.proofs.lemmas.List.{get_or-set_same, get_or-set_other, length-set}
 use Rattle.acquisition.specs.Periods.{periods_of}
@@ -24,7 +25,8 @@ invariant_of-self-in-loop-l-clause-most c i h =
     let inside : at < length here.powers = omega
     (arith, here.long, c.loop-l-test.true, c.requires.within) in
     let so_far : get_or here.powers at 0 ≤ MOST_PERIOD_POWER * periods_of at old.added = omega
-    (arith, c.loop-l.invariant.after at (omega arith), old.most at (omega (arith, inside, here.long))) in
+    (arith, c.loop-l.invariant.after at (omega arith),
+    old.most at (omega (arith, inside, here.long))) in
     let one : periods_of at here.added ≡ periods_of at old.added + 1 = omega
     (arith, c.loop-l.invariant.added, c.requires.cell, c.loop-l-test.true, c.requires.within) in
     elim (same_or_not i at) [
@@ -52,7 +54,8 @@ loop-l-preserved c =
       sums = here.sums;
       powers = λ k h. elim (same_or_not k l) [
         | inl same ↦ rw same (get_or-set_same powers (cell + l) _ 0 inside
-            ∙ ap (λ (n : ℕ). n + get_or c.args.powers.now l 0) (here.after (cell + l) (omega arith)))
+            ∙ ap (λ (n : ℕ). n + get_or c.args.powers.now l 0)
+            (here.after (cell + l) (omega arith)))
         | inr other ↦ get_or-set_other powers (cell + l) (cell + k) _ 0
             (λ e. other (omega (arith, e))) ∙ here.powers k (omega (arith, h, other))
       ];
