@@ -24,9 +24,11 @@ invariant_of-self-in-loop-l-clause-most c i h =
     let at : ℕ = c.args.cell + c.loop-l.l in
     let inside : at < length here.powers = omega
     (arith, here.long, c.loop-l-test.true, c.requires.within) in
-    let so_far : get_or here.powers at 0 ≤ MOST_PERIOD_POWER * periods_of at old.added = omega
-    (arith, c.loop-l.invariant.after at (omega arith),
-    old.most at (omega (arith, inside, here.long))) in
+    let so_far : get_or here.powers at 0 ≤ MOST_PERIOD_POWER * periods_of at old.added = omega (
+      arith,
+      c.loop-l.invariant.after at (omega arith),
+      old.most at (omega (arith, inside, here.long)),
+    ) in
     let one : periods_of at here.added ≡ periods_of at old.added + 1 = omega
     (arith, c.loop-l.invariant.added, c.requires.cell, c.loop-l-test.true, c.requires.within) in
     elim (same_or_not i at) [
