@@ -5,8 +5,8 @@ import shutil
 from .runs import finished, started
 
 # The commands that begin to follow a satellite, each with what it and a `stop` may take more than
-# two stops that are refused. By themselves they take 3,186 and 2,536 in the build for any x86-64,
-# 2,319 and 1,669 in that for v3: they set some hundred words in place. A slot has 8,900 bytes and
+# two stops that are refused. By themselves they take 2,418 and 2,163 in the build for any x86-64,
+# 1,553 and 1,293 in that for v3: they set some hundred words in place. A slot has 8,900 bytes and
 # more, since a message is read in it. valgrind counts each of them where the C library copies so
 # many: with one copy of a slot, a hold and its `stop` took 8,200 more in both builds.
 BEGIN = {b'track 0 3 100 200': 4000, b'hold 0 3 100 200': 3000}
