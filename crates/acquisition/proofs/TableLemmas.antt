@@ -232,6 +232,19 @@ pub value-kept : (sum : ℤ) (more : ℕ) → unsigned_abs sum ≤ 9 * more → 
 value-kept sum more most few =
     to_z-of_z w32 sum (fits_signed_from_abs w32 sum (omega (arith, most, few)))
 
+-- a sum with one more value, from how it was passed on
+pub record IsWith (sum old value : ℤ) (more : ℕ) : Type 0 where
+  pub is : sum ≡ old +ℤ value
+  pub most : unsigned_abs sum ≤ 9 * (more + 1)
+
+pub is_with : (sum old given value : ℤ) (more : ℕ) → sum ≡ old +ℤ to_z w32 (of_z w32 given)
+    → given ≡ value → unsigned_abs old ≤ 9 * more → unsigned_abs value ≤ 9
+    → IsWith sum old value more
+is_with sum old given value more made same before small =
+    let is : sum ≡ old +ℤ value =
+    made ∙ rw (same, value-kept value 1 (omega (arith, small)) (omega arith)) refl in
+    record { is = is; most = rw is (omega (arith, abs_add old value, before, small)) }
+
 pub entry-kept : (table : List ℤ) (k taken : ℕ) → k < HALF_CHIPS
     → sizes_to table HALF_CHIPS ≤ 9 * taken → taken ≤ MOST_PER_MS
     → to_z w32 (of_z w32 (get_or table k (pos 0))) ≡ get_or table k (pos 0)

@@ -102,7 +102,7 @@ impl Fold {
         }
     }
 
-    /// Adds the first `count` products of a word, and answers the phase of the code behind them.
+    /// Adds the first `count` products of a word, and answers the phase of the code after them.
     /// Those that follow one another at one half chip are added up before they are put there: else
     /// each would wait until the sum of the one before is written.
     #[inline(always)]

@@ -31,8 +31,18 @@ fn search_in_steps(mut search: Search, source: &NumberedSamples, cells: u64) -> 
     search.result()
 }
 
-// At half chip 2 the replica is the code of the file from its third sample on, so the products are
-// all 2 in phase and -1 in quadrature: 4,092 and -2,046, whose squares add up to 20,930,580.
+/// The cell that a search over the file of a code names, from its third sample on. At half chip 2
+/// the replica is the code from there on, so the products are all 2 in phase and -1 in quadrature:
+/// 4,092 and -2,046, whose squares add up to 20,930,580.
+fn cell_of_code_file() -> Result<Cell, Fail> {
+    Ok(Cell {
+        bin: 0,
+        half: HalfChip::new(2).ok_or("a half chip")?,
+        power: 20_930_580,
+        found: true,
+    })
+}
+
 #[test]
 fn acquire_code_file(rt: HostRuntime) -> Result<(), Fail> {
     let bytes = code_file();
@@ -40,12 +50,7 @@ fn acquire_code_file(rt: HostRuntime) -> Result<(), Fail> {
     let settings = Settings::new(2_046_000, 0, Format::Real1)?;
     let plan = Plan::new(Prn::new(1).ok_or("a satellite")?, 0, 0, 1, 10)?;
     let source = NumberedSamples::new(PackedSamples::new(Format::Real1, &bytes), 0);
-    let named = Cell {
-        bin: 0,
-        half: HalfChip::new(2).ok_or("a half chip")?,
-        power: 20_930_580,
-        found: true,
-    };
+    let named = cell_of_code_file()?;
     for cells in [1, 7, u64::MAX] {
         let search = Search::new(plan, &settings, 2, SearchRoom::new(rt.alloc())?);
         assert_same_at!(rt; cells, search_in_steps(search, &source, cells), Some(named));

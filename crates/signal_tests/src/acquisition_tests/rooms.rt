@@ -1,11 +1,11 @@
 //! The room of a search that was left off, and of one that was done, for another search.
 
-use super::search_in_steps;
-use acquisition::{Cell, Plan, Search, SearchRoom};
+use super::{cell_of_code_file, search_in_steps};
+use acquisition::{Plan, Search, SearchRoom};
 use assertions::{assert_same, assert_same_at};
 use ca_codes::{CodeBook, Prn};
 use made_signals::code_file;
-use oscillators::{HalfChip, Settings};
+use oscillators::Settings;
 use sample_planes::{Format, NumberedSamples, PackedSamples};
 use std::test::Fail;
 
@@ -19,12 +19,7 @@ fn room_for_another_search(rt: HostRuntime) -> Result<(), Fail> {
     let plan = Plan::new(Prn::new(1).ok_or("a satellite")?, 0, 0, 1, 10)?;
     let other = Plan::new(Prn::new(2).ok_or("another")?, 500, 1, 1, 10)?;
     let source = NumberedSamples::new(PackedSamples::new(Format::Real1, &bytes), 0);
-    let named = Cell {
-        bin: 0,
-        half: HalfChip::new(2).ok_or("a half chip")?,
-        power: 20_930_580,
-        found: true,
-    };
+    let named = cell_of_code_file()?;
     for cells in [0, 1, 64, 2_045, 6_138] {
         let mut left_off = Search::new(other, &settings, 2, SearchRoom::new(rt.alloc())?);
         left_off.advance(cells, &source, &mut CodeBook::new());

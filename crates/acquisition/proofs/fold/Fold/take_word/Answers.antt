@@ -1,35 +1,26 @@
-use Rattle.std.proofs.Common.{◌≡◌, ◌<◌, ◌≤◌, ◌+◌, ◌*◌, ◌/◌, ◌^◌, ◌∙◌, ℕ, arith, refl, ap}
-use Rattle.std.specs.Prelude.{ℤ, ◌+ℤ◌, unsigned_abs}
+use Rattle.std.proofs.Common.{◌≡◌, ◌<◌, ◌+◌, ◌/◌, ◌^◌, ◌∙◌, ℕ, arith, refl, ap}
 use Rattle.definitions.specs.Samples.{Sample}
 use Rattle.definitions.specs.Oscillators.{code_phase_after, code_cycle}
-use Rattle.oscillators.specs.declared.carrier.TheConstants.{MOST_PRODUCT}
 use Rattle.lane_correlator.specs.SampleProducts.{in_phase_of, quadrature_of}
 use Rattle.acquisition.specs.Folds.{half_chip_at, in_phase_at, quadrature_at}
 use Rattle.acquisition.specs.FoldStates.{IsFold, IsOpenFold, AreWiped}
 use Rattle.acquisition.proofs.PlaceLemmas.{place_is, phase-next}
-use Rattle.acquisition.proofs.SizeLemmas.{abs_add}
-use Rattle.acquisition.proofs.TableLemmas.{open_none, open_more, value-kept}
+use Rattle.acquisition.proofs.TableLemmas.{open_none, open_more, IsWith, is_with}
 use Rattle.acquisition.proofs.fold.Fold.take_word.Goals as goal
 use Rattle.acquisition.proofs.fold.Fold.take_word.Goals.{then-next-phase, else-next-phase}
 
 -- the sums with the product of a turn
-in_phase_is : (c : goal.Joined-next-phase) → c.with-sums.result.in_phase
-    ≡ c.loop-j.sums.in_phase +ℤ in_phase_of c.args.products.now c.loop-j.j
-in_phase_is c =
-    c.with-sums.ensures.in_phase ∙ rw (
-      c.in_phase.ensures,
-      value-kept (in_phase_of c.args.products.now c.loop-j.j) 1
-          (c.requires.small.in_phase c.loop-j.j c.loop-j-test.true) (omega arith),
-    ) refl
+in_phase : (c : goal.Joined-next-phase) → IsWith c.with-sums.result.in_phase
+    c.loop-j.sums.in_phase (in_phase_of c.args.products.now c.loop-j.j) c.loop-j.many
+in_phase c =
+    is_with _ _ _ _ _ c.with-sums.ensures.in_phase c.in_phase.ensures c.loop-j.invariant.in_phase
+    (c.requires.small.in_phase c.loop-j.j c.loop-j-test.true)
 
-quadrature_is : (c : goal.Joined-next-phase) → c.with-sums.result.quadrature
-    ≡ c.loop-j.sums.quadrature +ℤ quadrature_of c.args.products.now c.loop-j.j
-quadrature_is c =
-    c.with-sums.ensures.quadrature ∙ rw (
-      c.quadrature.ensures,
-      value-kept (quadrature_of c.args.products.now c.loop-j.j) 1
-          (c.requires.small.quadrature c.loop-j.j c.loop-j-test.true) (omega arith),
-    ) refl
+quadrature : (c : goal.Joined-next-phase) → IsWith c.with-sums.result.quadrature
+    c.loop-j.sums.quadrature (quadrature_of c.args.products.now c.loop-j.j) c.loop-j.many
+quadrature c =
+    is_with _ _ _ _ _ c.with-sums.ensures.quadrature c.quadrature.ensures
+    c.loop-j.invariant.quadrature (c.requires.small.quadrature c.loop-j.j c.loop-j-test.true)
 
 -- with the product of a turn, which is still to be added
 opened : (c : goal.Joined-next-phase) (x : ℕ → Sample) (carrier_step from n : ℕ)
@@ -50,37 +41,16 @@ opened c x carrier_step from n is first wiped =
     place_is c.args.code c.loop-j.phase step (from + n) j first here.phase
     ∙ ap (half_chip_at step) at in
     record {
-      in_phase = rw (e, in_phase_is c) (open_more
+      in_phase = rw (e, (in_phase c).is) (open_more
           (in_phase_at x carrier_step) step from (n + j) (c.loop-j.phase / 2 ^ 31) sums.in_phase
           (in_phase_of c.args.products.now j) c.loop-j.self.in_phase.sums before.in_phase place
           (wiped.in_phase j c.loop-j-test.true ∙ ap (in_phase_at x carrier_step) at));
-      quadrature = rw (e, quadrature_is c) (open_more
+      quadrature = rw (e, (quadrature c).is) (open_more
           (quadrature_at x carrier_step) step from (n + j) (c.loop-j.phase / 2 ^ 31)
           sums.quadrature (quadrature_of c.args.products.now j) c.loop-j.self.quadrature.sums
           before.quadrature place
           (wiped.quadrature j c.loop-j-test.true ∙ ap (quadrature_at x carrier_step) at));
     }
-
--- and the sizes of the sums with it
-in_phase_most : (c : goal.Joined-next-phase)
-    → unsigned_abs c.with-sums.result.in_phase ≤ MOST_PRODUCT * (c.loop-j.many + 1)
-in_phase_most c =
-    rw (in_phase_is c) (omega (
-      arith,
-      abs_add c.loop-j.sums.in_phase (in_phase_of c.args.products.now c.loop-j.j),
-      c.loop-j.invariant.in_phase,
-      c.requires.small.in_phase c.loop-j.j c.loop-j-test.true,
-    ))
-
-quadrature_most : (c : goal.Joined-next-phase)
-    → unsigned_abs c.with-sums.result.quadrature ≤ MOST_PRODUCT * (c.loop-j.many + 1)
-quadrature_most c =
-    rw (quadrature_is c) (omega (
-      arith,
-      abs_add c.loop-j.sums.quadrature (quadrature_of c.args.products.now c.loop-j.j),
-      c.loop-j.invariant.quadrature,
-      c.requires.small.quadrature c.loop-j.j c.loop-j-test.true,
-    ))
 
 pub loop-j-preserved : goal.loop-j-preserved
 loop-j-preserved c = elim c.if-next-phase.branch [
@@ -97,8 +67,8 @@ loop-j-preserved c = elim c.if-next-phase.branch [
         in_cycle = omega (arith, next, within);
         few = omega (arith, w.many-is, here.few);
         taken = rw (w.self-is, w.many-is) (omega (arith, here.taken));
-        in_phase = rw (w.sums-is, w.many-is) (in_phase_most c);
-        quadrature = rw (w.sums-is, w.many-is) (quadrature_most c);
+        in_phase = rw (w.sums-is, w.many-is) (in_phase c).most;
+        quadrature = rw (w.sums-is, w.many-is) (quadrature c).most;
         fold = λ x carrier_step from n is first wiped.
             rw (w.self-is, w.sums-is, next, same)
             (opened c x carrier_step from n is first wiped);
