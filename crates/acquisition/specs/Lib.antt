@@ -6,6 +6,7 @@ pub mod Cells
 pub mod Searches
 pub mod Folds
 pub mod FoldStates
+pub mod FoldRings
 pub mod Periods
 pub mod PeriodStates
 pub mod Powers

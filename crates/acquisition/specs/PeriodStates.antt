@@ -5,7 +5,7 @@ use Rattle.definitions.specs.Correlation.{replica_of}
 use Rattle.definitions.specs.Acquisition.{power_over}
 use Rattle.acquisition.specs.FoldStates.{IsFold, IsSmall, IsWhole}
 use Rattle.acquisition.specs.Replicas.{phases}
-use Rattle.acquisition.specs.Rings.{IsRing}
+use Rattle.acquisition.specs.FoldRings.{AreRingsOf}
 use Rattle.acquisition.specs.declared.fold.Fold.{Fold}
 use Rattle.acquisition.specs.declared.ones.Ones.{Ones}
 use Rattle.acquisition.specs.declared.period_sums.PeriodSums.{PeriodSums}
@@ -16,10 +16,9 @@ pub record AreSumsOf (x : ℕ → Sample) (step carrier_step from n : ℕ) (sums
   where
     pub fold : Fold
     pub is_fold : IsFold x step carrier_step from n fold
-    pub in_phase : IsRing fold.in_phase.sums sums.in_phase.chips
-    pub quadrature : IsRing fold.quadrature.sums sums.quadrature.chips
     pub whole : IsWhole sums.whole fold
     pub small : sums.is_small ≡ true → IsSmall fold
+    pub rings : AreRingsOf fold sums.is_small sums.first.one.chips sums.second.one.chips
 
 -- the powers of so many cells over the period, whose codes begin at a half chip and at those after
 -- it: for any samples of which these are the sums

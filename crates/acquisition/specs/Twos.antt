@@ -1,34 +1,24 @@
 -- Rings that are read for two chips at once, and the pairs of sums from them.
 use Rattle.std.specs.Prelude.{◌≡◌, ◌<◌, ◌+◌, ◌*◌, ◌%◌, ◌^◌, ℕ, ℤ, pos}
 use Rattle.std.specs.Prelude.{List, length, slice_index}
-use Rattle.definitions.specs.Sums.{total}
-use Rattle.acquisition.specs.Rings.{place_of}
+use Rattle.acquisition.specs.Rings.{with_next}
 use Rattle.acquisition.specs.declared.chip_ring.TheConstants.{RING}
-use Rattle.acquisition.specs.declared.pair_ring.PairLanes.{PairLanes}
+use Rattle.acquisition.specs.declared.pair_lanes.PairLanes.{PairLanes}
 use Rattle.bit_planes.specs.declared.lanes.TheConstants.{LANES}
 
 -- after the last half chip a ring begins anew
 abbrev pub IsClosed : List ℕ → Type 0
 IsClosed ring = (i : ℕ) → i < RING → slice_index ring i ≡ slice_index ring (i % 2046)
 
--- the entry of a chip at a place, with that of the next chip, which lies two places before it
-abbrev pub with_next : List ℕ → ℕ → ℕ
-with_next ring i = slice_index ring i + slice_index ring ((i + 2044) % 2046)
-
 -- a ring has the entries of two chips each, modulo 2^32
 abbrev pub AreTwos : List ℕ → List ℕ → Type 0
-AreTwos ring twos = (i : ℕ) → i < RING → slice_index twos i ≡ with_next ring i % 2 ^ 32
+AreTwos ring twos = (i : ℕ) → i < RING → slice_index twos i
+    ≡ with_next (slice_index ring) i % 2 ^ 32
 
 -- a ring has pairs of such numbers, modulo 2^32
 abbrev pub HasPairs : (ℕ → ℕ) → (ℕ → ℕ) → List ℕ → Type 0
 HasPairs first second ring = (i : ℕ) → i < RING
     → slice_index ring i ≡ (first i + 2 ^ 16 * second i) % 2 ^ 32
-
--- the sum of numbers by place at the first n of some chips, for the code that begins l half chips
--- after another
-abbrev pub sum_at : (ℕ → ℕ) → ℕ → List ℕ → ℕ → ℕ → ℤ
-sum_at entry half chips n l =
-    total (λ k. pos (entry (place_of half (slice_index chips k) + l))) n
 
 -- a lane is the pair of two sums, modulo 2^32
 pub record IsPair (lane : ℕ) (first second : ℤ) : Type 0 where

@@ -1,16 +1,13 @@
 //! The sums over a chip, wherever it begins.
 
 ghost use Rattle.std.specs.Prelude.{◌≡◌, ◌+◌, ◌-◌, ◌*◌, ◌<◌, ◌≤◌, ℕ, length, slice_index};
-ghost use Rattle.std.specs.Prelude.{ℤ, pos, ◌+ℤ◌, List, get_or, unsigned_abs};
+ghost use Rattle.std.specs.Prelude.{pos, ◌+ℤ◌, unsigned_abs};
 ghost use Rattle.acquisition.specs.declared.chip_ring.TheConstants.{RING, RAISED};
-ghost use Rattle.bit_planes.specs.declared.lanes.TheConstants.{LANES};
 ghost use Rattle.acquisition.specs.declared.half_chip_table.TheConstants.{HALF_CHIPS, LAST};
 ghost use Rattle.ca_codes.specs.declared.book.TheConstants.{CODE_CHIPS};
 ghost use Rattle.acquisition.specs.Rings.{place_of};
 
 use crate::half_chip_table::{HALF_CHIPS, HalfChipTable, LAST};
-use bit_planes::LANES;
-use std::simd::prelude::*;
 
 /// How many cells are summed up at once: those of four vectors.
 pub(crate) const CELLS_AT_ONCE: usize = 64;
@@ -24,26 +21,24 @@ pub(crate) const RING: usize = HALF_CHIPS + CELLS_AT_ONCE - 1;
 pub(crate) const RAISED: u32 = 1 << 19;
 
 /// For each half chip the sum over the chip that begins there, raised by `RAISED`: the last half
-/// chip first, since a code that begins a half chip later has its chips a half chip earlier.
+/// chip first, since a code that begins a half chip later has its chips a half chip earlier. Or
+/// more such sums in one, modulo 2^32: those of two parts, of which the second is times 2^16, and
+/// those of two chips that follow one another.
 #[derive(Debug, Drop)]
 pub(crate) struct ChipRing {
-    chips: [u32; RING],
+    pub(crate) chips: [u32; RING],
     ghost long: { length chips ≡ RING },
-    ghost small: { (i : ℕ) → i < RING → slice_index chips i ≤ 2 * RAISED },
 }
 
 impl ChipRing {
     ghost use Rattle.acquisition.specs.Rings.{IsRing};
 
-    /// The ring of a table of zeros.
+    /// A ring of zeros.
     #[inline(always)]
     pub(crate) fn new() -> ChipRing
-        ensures { (table : List ℤ) → ((k : ℕ) → k < HALF_CHIPS → get_or table k (pos 0) ≡ pos 0)
-            → IsRing table result.chips }
+        ensures { (i : ℕ) → i < RING → slice_index result.chips i ≡ 0 }
     {
-        ChipRing {
-            chips: [RAISED; RING],
-        }
+        ChipRing { chips: [0; RING] }
     }
 
     /// Becomes the ring of a table.
@@ -79,27 +74,6 @@ impl ChipRing {
         for i in HALF_CHIPS..RING {
             self.chips[i] = self.chips[i - HALF_CHIPS];
         }
-    }
-
-    /// The raised sum at place `i`.
-    #[inline(always)]
-    pub(crate) fn chip(&self, i: usize) -> u32
-        requires { i < RING }
-        ensures { result ≡ slice_index self.now.chips i }
-    {
-        self.chips[i]
-    }
-
-    /// The raised sums at sixteen places, from place `at` on.
-    #[inline(always)]
-    pub(crate) fn sixteen(&self, at: usize) -> u32x16
-        requires { at + LANES ≤ RING }
-        ensures long { length result ≡ LANES }
-        ensures lanes { (l : ℕ) → l < LANES
-            → slice_index result l ≡ slice_index self.now.chips (at + l) }
-        ensures small { (l : ℕ) → l < LANES → slice_index result l ≤ 2 * RAISED }
-    {
-        u32x16::from_slice(&self.chips[at..])
     }
 }
 

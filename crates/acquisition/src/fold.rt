@@ -16,8 +16,8 @@ use lane_correlator::Products;
 use oscillators::{CODE_CYCLE, CarrierOsc, CodeOsc};
 use sample_planes::{MAX_SAMPLES, Planes, SampleSource};
 
-/// The greatest sum in size that fits in 16 bits.
-pub(crate) const MOST_SMALL: u32 = (1 << 15) - 1;
+/// The greatest sum in size whose half, rounded down, fits in 16 bits.
+pub(crate) const MOST_SMALL: u32 = (1 << 16) - 1;
 
 /// A period's samples, each times the conjugate of the carrier, added up by the half chips at which
 /// they lie for a code that begins at phase 0.
@@ -156,7 +156,7 @@ impl Fold {
         self.quadrature.add(place, sums.quadrature, count);
     }
 
-    /// Whether the sums that it gives with any code fit in 16 bits.
+    /// Whether half the sums that it gives with any code fit in 16 bits.
     pub(crate) fn is_small(&self) -> bool
         ensures { (result ≡ true) ↔ IsSmall self.now }
     {

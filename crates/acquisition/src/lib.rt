@@ -31,19 +31,20 @@
 
 mod bin_powers;
 mod bin_steps;
-mod by_twos;
 mod cell;
 mod chip_ring;
 mod dwell;
 mod fold;
 mod half_chip_table;
 mod ones;
+mod pair_lanes;
 mod pair_powers;
-mod pair_ring;
 mod part_powers;
 mod period_sums;
 mod plan;
-mod power_runs;
+mod ring_by_twos;
+mod ring_lanes;
+mod ring_pairs;
 mod search;
 mod search_room;
 mod sums;

@@ -1,23 +1,23 @@
 //! The chips of a satellite's code that are 1.
 
-ghost use Rattle.std.specs.Prelude.{◌≡◌, ◌<◌, ◌≤◌, length, slice_index};
-ghost use Rattle.acquisition.specs.Ones.{AreOnes, AreByTwos};
+ghost use Rattle.std.specs.Prelude.{◌≡◌, ◌≤◌};
+ghost use Rattle.acquisition.specs.Ones.{AreOnes, count_of};
 ghost use Rattle.ca_codes.specs.declared.book.TheConstants.{CODE_CHIPS};
 
-use crate::by_twos::ByTwos;
+use arrayvec::ArrayVec;
 use ca_codes::{CODE_CHIPS, CodeBook, Prn};
 
-/// The chips of a satellite's code that are 1, in order.
+/// Room for all chips of a code.
+const MOST_ONES: usize = CODE_CHIPS as usize;
+
+/// The chips of a satellite's code that are 1, by twos: where two follow one another, the first one
+/// stands for both.
 #[derive(Debug, Drop)]
 pub(crate) struct Ones {
     prn: Prn,
-    chips: [u16; CODE_CHIPS as usize],
-    count: usize,
-    /// The same chips by twos.
-    by_twos: ByTwos,
-    ghost long: { length chips ≡ CODE_CHIPS },
-    ghost are: { AreOnes prn CODE_CHIPS chips count },
-    ghost twos: { AreByTwos chips count by_twos.alone.items by_twos.twos.items },
+    alone: ArrayVec<u16, MOST_ONES>,
+    twos: ArrayVec<u16, MOST_ONES>,
+    ghost are: { AreOnes prn CODE_CHIPS alone.items twos.items },
 }
 
 impl Ones {
@@ -26,55 +26,45 @@ impl Ones {
         ensures { result.prn ≡ prn }
     {
         let table = book.table(prn);
-        let mut chips = [0; CODE_CHIPS as usize];
-        let mut count = 0;
-        for chip in 0..CODE_CHIPS as usize {
-            chips[count] = chip as u16;
-            if table[chip + 1] == 255 {
-                count += 1;
+        let mut alone = ArrayVec::new();
+        let mut twos = ArrayVec::new();
+        let mut chip = 0;
+        while chip < MOST_ONES {
+            if table[chip + 1] != 255 {
+                chip += 1;
+            } else if chip + 1 < MOST_ONES && table[chip + 2] == 255 {
+                twos.push(chip as u16);
+                chip += 2;
+            } else {
+                alone.push(chip as u16);
+                chip += 1;
             }
         }
-        let by_twos = ByTwos::new(&chips, count);
-        Ones {
-            prn,
-            chips,
-            count,
-            by_twos,
-        }
+        Ones { prn, alone, twos }
     }
 
     /// How many chips are 1.
     #[inline(always)]
     pub(crate) fn count(&self) -> usize
-        ensures value { result ≡ self.now.count }
+        ensures value { result ≡ count_of self.now.alone.items self.now.twos.items }
         ensures most { result ≤ CODE_CHIPS }
     {
-        self.count
+        self.alone.len() + 2 * self.twos.len()
     }
 
-    /// Number `k` of the chips that are 1, counted from 0.
-    #[inline(always)]
-    pub(crate) fn chip(&self, k: usize) -> usize
-        requires { k < self.now.count }
-        ensures value { result ≡ slice_index self.now.chips k }
-        ensures below { result < CODE_CHIPS }
-    {
-        usize::from(self.chips[k])
-    }
-
-    /// Those that are taken alone, where all are taken by twos.
+    /// Those that are taken alone.
     #[inline(always)]
     pub(crate) fn alone(&self) -> &[u16]
-        ensures { result.now ≡ self.now.by_twos.alone.items }
+        ensures { result.now ≡ self.now.alone.items }
     {
-        self.by_twos.alone.as_slice()
+        self.alone.as_slice()
     }
 
     /// The first one of each two.
     #[inline(always)]
     pub(crate) fn twos(&self) -> &[u16]
-        ensures { result.now ≡ self.now.by_twos.twos.items }
+        ensures { result.now ≡ self.now.twos.items }
     {
-        self.by_twos.twos.as_slice()
+        self.twos.as_slice()
     }
 }

@@ -1,10 +1,10 @@
 //! The sums over a period, and the powers of cells from them.
 
-ghost use Rattle.std.specs.Prelude.{◌≡◌, ◌+◌, ◌*◌, ◌<◌, ◌≤◌, ℕ, true, length};
+ghost use Rattle.std.specs.Prelude.{◌≡◌, ◌+◌, ◌*◌, ◌<◌, ◌≤◌, ℕ, true, false, length};
 ghost use Rattle.std.specs.Prelude.{slice_index, unsigned_abs};
 ghost use Rattle.definitions.specs.Samples.{Sample};
-ghost use Rattle.acquisition.specs.Rings.{ArePaired, HasSmallCells};
-ghost use Rattle.acquisition.specs.Twos.{AreTwos, IsClosed};
+ghost use Rattle.acquisition.specs.Rings.{IsPart};
+ghost use Rattle.acquisition.specs.FoldRings.{AreRingsOf};
 ghost use Rattle.acquisition.specs.declared.chip_ring.TheConstants.{CELLS_AT_ONCE};
 ghost use Rattle.acquisition.specs.declared.dwell.TheConstants.{MOST_START};
 ghost use Rattle.acquisition.specs.declared.fold.TheConstants.{MOST_SMALL};
@@ -12,37 +12,31 @@ ghost use Rattle.acquisition.specs.declared.half_chip_table.TheConstants.{HALF_C
 ghost use Rattle.acquisition.specs.declared.sums.TheConstants.{MOST_PERIOD_SUM, MOST_PERIOD_POWER};
 ghost use Rattle.oscillators.specs.declared.settings.TheConstants.{MOST_PER_MS};
 
-use crate::chip_ring::{CELLS_AT_ONCE, ChipRing};
+use crate::chip_ring::CELLS_AT_ONCE;
 use crate::fold::Fold;
 use crate::ones::Ones;
-use crate::pair_ring::PairRing;
+use crate::ring_by_twos::RingByTwos;
 use crate::sums::Sums;
 use oscillators::{CarrierOsc, CodeOsc};
 use sample_planes::SampleSource;
 
-/// The sums over a period's samples without their carrier: by half chip, over a chip wherever it
-/// begins, and over all.
+/// The sums over a period's samples without their carrier: over a chip wherever it begins, and over
+/// all.
 #[derive(Debug, Drop)]
 pub(crate) struct PeriodSums {
-    pub(crate) in_phase: ChipRing,
-    pub(crate) quadrature: ChipRing,
+    /// The sums of both parts in one where they are small, else those in phase.
+    pub(crate) first: RingByTwos,
+    /// The sums in quadrature, where they aren't small.
+    pub(crate) second: RingByTwos,
     pub(crate) whole: Sums,
-    /// Both rings in one.
-    pub(crate) pairs: PairRing,
-    /// Those of each chip with the next one.
-    pub(crate) twos: PairRing,
-    /// Whether each sum of a cell fits in 16 bits.
+    /// Whether half of each sum of a cell fits in 16 bits.
     is_small: bool,
     ghost in_phase_most: { unsigned_abs whole.in_phase ≤ MOST_PERIOD_SUM },
     ghost quadrature_most: { unsigned_abs whole.quadrature ≤ MOST_PERIOD_SUM },
-    ghost in_phase_cells: { HasSmallCells in_phase.chips whole.in_phase },
-    ghost quadrature_cells: { HasSmallCells quadrature.chips whole.quadrature },
-    ghost paired: { ArePaired in_phase.chips quadrature.chips pairs.chips },
-    ghost in_phase_closed: { IsClosed in_phase.chips },
-    ghost quadrature_closed: { IsClosed quadrature.chips },
-    ghost by_twos: { AreTwos pairs.chips twos.chips },
     ghost in_phase_small: { is_small ≡ true → unsigned_abs whole.in_phase ≤ MOST_SMALL },
     ghost quadrature_small: { is_small ≡ true → unsigned_abs whole.quadrature ≤ MOST_SMALL },
+    ghost in_phase_part: { is_small ≡ false → IsPart first.one.chips whole.in_phase },
+    ghost quadrature_part: { is_small ≡ false → IsPart second.one.chips whole.quadrature },
 }
 
 impl PeriodSums {
@@ -52,22 +46,11 @@ impl PeriodSums {
     /// The sums over no samples.
     #[inline(always)]
     pub(crate) fn new() -> PeriodSums {
-        let in_phase = ChipRing::new();
-        let quadrature = ChipRing::new();
-        let mut pairs = PairRing::new();
-        pairs.set(&in_phase, &quadrature);
-        let mut twos = PairRing::new();
-        twos.set_twos(&pairs);
         PeriodSums {
-            in_phase,
-            quadrature,
-            whole: Sums {
-                in_phase: 0,
-                quadrature: 0,
-            },
-            pairs,
-            twos,
-            is_small: false,
+            first: RingByTwos::new(),
+            second: RingByTwos::new(),
+            whole: Sums::NONE,
+            is_small: true,
         }
     }
 
@@ -93,12 +76,9 @@ impl PeriodSums {
     {
         let mut fold = Fold::new();
         fold.fill(source, first, len, code, code_step, carrier);
-        self.in_phase.set(&fold.in_phase);
-        self.quadrature.set(&fold.quadrature);
         self.whole = fold.whole();
-        self.pairs.set(&self.in_phase, &self.quadrature);
-        self.twos.set_twos(&self.pairs);
         self.is_small = fold.is_small();
+        set_rings(&mut self.first, &mut self.second, &fold, self.is_small);
     }
 
     /// The powers over the period of 64 cells that follow one another, whose codes begin at half
@@ -115,5 +95,18 @@ impl PeriodSums {
         } else {
             self.powers_by_parts(ones, half)
         }
+    }
+}
+
+/// Sets two rings to the sums of a fold: the first to the pairs of both parts where these are
+/// small, else one to each part.
+fn set_rings(first: &mut RingByTwos, second: &mut RingByTwos, fold: &Fold, is_small: bool)
+    ensures { AreRingsOf fold.now is_small first.new.one.chips second.new.one.chips }
+{
+    if is_small {
+        first.set_pairs(&fold.in_phase, &fold.quadrature);
+    } else {
+        first.set(&fold.in_phase);
+        second.set(&fold.quadrature);
     }
 }

@@ -1,5 +1,5 @@
 use Rattle.std.proofs.Common.{◌≡◌, ◌<◌, ◌+◌, ◌*◌, ◌%◌, ◌^◌, ℕ, slice_index}
-use Rattle.acquisition.proofs.pair_ring.PairRing.set.Given as goal
+use Rattle.acquisition.proofs.chip_ring.ChipRing.pair_with.Given as goal
 
 abbrev pub invariant-loop-i : goal.invariant-loop-i
 invariant-loop-i l = (j : ℕ) → j < l.i → slice_index l.self.chips j

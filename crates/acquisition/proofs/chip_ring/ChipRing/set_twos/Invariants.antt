@@ -1,6 +1,6 @@
 use Rattle.std.proofs.Common.{◌≡◌, ◌<◌, ◌%◌, ◌^◌, ℕ, slice_index}
 use Rattle.acquisition.specs.Twos.{with_next}
-use Rattle.acquisition.proofs.pair_ring.PairRing.set_twos.Given as goal
+use Rattle.acquisition.proofs.chip_ring.ChipRing.set_twos.Given as goal
 
 abbrev pub invariant-loop-i : goal.invariant-loop-i
 invariant-loop-i l = (j : ℕ) → j < l.i

@@ -2,7 +2,7 @@ use Rattle.std.proofs.Common.{◌≡◌, ◌+◌, ◌∙◌, ℕ, length, arith,
 use Rattle.std.specs.Prelude.{slice_index}
 use Rattle.acquisition.specs.Rings.{place_of}
 use Rattle.acquisition.proofs.TwosLemmas.{pairs_first, pairs_more}
-use Rattle.acquisition.proofs.pair_ring.PairRing.add_at.Goals as goal
+use Rattle.acquisition.proofs.chip_ring.ChipRing.add_at.Goals as goal
 
 pub loop-k-init : goal.loop-k-init
 loop-k-init c x y f g has are =

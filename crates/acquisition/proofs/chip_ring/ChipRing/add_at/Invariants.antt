@@ -1,6 +1,6 @@
 use Rattle.std.proofs.Common.{ℕ, ℤ, ◌+ℤ◌}
 use Rattle.acquisition.specs.Twos.{HasPairs, AreAllPairs, sum_at}
-use Rattle.acquisition.proofs.pair_ring.PairRing.add_at.Given as goal
+use Rattle.acquisition.proofs.chip_ring.ChipRing.add_at.Given as goal
 
 abbrev pub invariant-loop-k : goal.invariant-loop-k
 invariant-loop-k l = (x y : ℕ → ℤ) (f g : ℕ → ℕ) → HasPairs f g l.self.chips

@@ -1,6 +1,6 @@
 use Rattle.std.proofs.Common.{◌≡◌, ◌+◌, ◌-◌, ℕ, arith}
 use Rattle.acquisition.proofs.RingLemmas.{entries_of}
-use Rattle.acquisition.proofs.pair_ring.PairRing.sixty_four.Goals as goal
+use Rattle.acquisition.proofs.chip_ring.ChipRing.sixty_four.Goals as goal
 
 whole : (at : ℕ) → at + 64 - at ≡ 64
 whole at = omega arith

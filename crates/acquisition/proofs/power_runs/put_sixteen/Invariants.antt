@@ -1,9 +1,0 @@
-use Rattle.std.proofs.Common.{◌≡◌, ◌<◌, ◌+◌, ℕ, slice_index, length}
-use Rattle.acquisition.proofs.power_runs.put_sixteen.Given as goal
-
-abbrev pub invariant-loop-l : goal.invariant-loop-l
-invariant-loop-l l = record {
-  long : length l.powers ≡ 64;
-  there : (i : ℕ) → i < l.l → slice_index l.powers (l.at + i) ≡ slice_index l.sixteen i;
-  before : (i : ℕ) → i < l.at → slice_index l.powers i ≡ slice_index l.fn.powers i;
-}
