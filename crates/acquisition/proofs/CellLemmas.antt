@@ -1,23 +1,24 @@
 -- The sum over a fold with the signs of a code, from the sums over its chips of 1.
-use Rattle.std.proofs.Common.{◌≡◌, ℕ, zero, suc, ◌+◌, ◌-◌, ◌*◌, ◌/◌, ◌%◌, ◌<◌, ◌≤◌, refl}
+use Rattle.std.proofs.Common.{◌≡◌, ℕ, zero, suc, ◌+◌, ◌-◌, ◌*◌, ◌/◌, ◌%◌, ◌^◌, ◌<◌, ◌≤◌, refl}
 use Rattle.std.proofs.Common.{sym, ap, ◌∙◌, arith}
 use Rattle.std.specs.Prelude.{ℤ, pos, negsuc, ◌+ℤ◌, ◌-ℤ◌, ◌*ℤ◌, ◌==◌, Bool, true, false, cond}
-use Rattle.std.specs.Prelude.{List, get_or, slice_index, unsigned_abs}
+use Rattle.std.specs.Prelude.{List, length, get_or, slice_index, unsigned_abs}
 use Rattle.std.proofs.lemmas.Int.{ints}
 use Rattle.definitions.specs.Sums.{total}
 use Rattle.definitions.specs.Codes.{chip, chip_sign}
 use Rattle.definitions.proofs.SumsLemmas.{total-same}
 use Rattle.acquisition.specs.Folds.{correlation, correlation_to, sizes_to, total_to}
-use Rattle.acquisition.specs.Ones.{AreOnes}
-use Rattle.acquisition.specs.Rings.{chip_from, cell_sum, IsRing, IsSumAtOnes, place_of}
-use Rattle.acquisition.specs.Rings.{HasSmallCells}
+use Rattle.acquisition.specs.Ones.{AreOnes, count_of, first_place, next_place}
+use Rattle.acquisition.specs.Rings.{chip_from, cell_sum, IsRing, IsSumAtOnes, place_of, sum_at}
+use Rattle.acquisition.specs.Rings.{AreRaised, HasSmallCells, IsPairAtOnes, IsPart, with_next}
+use Rattle.acquisition.specs.Twos.{HasPairs}
 use Rattle.acquisition.specs.declared.chip_ring.TheConstants.{RAISED}
 use Rattle.acquisition.specs.declared.half_chip_table.HalfChipTable.{HalfChipTable}
 use Rattle.acquisition.specs.declared.ones.Ones.{Ones}
 use Rattle.acquisition.specs.declared.sums.TheConstants.{MOST_PERIOD_SUM}
 use Rattle.acquisition.proofs.SignLemmas.{sign_of_one, sign_of_zero}
 use Rattle.acquisition.specs.declared.fold.TheConstants.{MOST_SMALL}
-use Rattle.acquisition.proofs.TableLemmas.{correlation_size}
+use Rattle.acquisition.proofs.TableLemmas.{correlation_size, size_of_one}
 use Rattle.std.proofs.Common.{to_z, of_z, w32}
 use Rattle.std.proofs.lemmas.Int.{to_z-of_z, fits_signed_from_abs}
 
@@ -158,30 +159,83 @@ total-raised b f (suc n) =
     apart : (m b : ℕ) (z y : ℤ) → pos m +ℤ z +ℤ (pos b +ℤ y) ≡ pos (m + b) +ℤ (z +ℤ y)
     apart m b z y = omega (arith, ints)
 
+-- the entries of a ring at the places of some chips, and at those of twos
+ring_entry : (half l place : ℕ) → ℕ
+ring_entry half l place = (4091 - (place_of half place + l)) % 2046
+
+next_entry : (half l place : ℕ) → half < 2046 → l < 64
+    → (4091 - (place_of half place + l + 2044) % 2046) % 2046
+    ≡ ring_entry half l (next_place place)
+unfolding ring_entry
+next_entry half l place inside lane = omega (arith, inside, lane)
+
 -- the raised sum over a ring at the chips of 1
-pub raised_ones : (prn half l count : ℕ) (chips ring : List ℕ) (table : List ℤ) → half < 2046
-    → l < 64 → AreOnes prn 1023 chips count → IsRing table ring
-    → total (λ k. pos (slice_index ring (place_of half (slice_index chips k) + l))) count
-    ≡ pos (RAISED * count) +ℤ sum_at_ones prn (half + l) table
-unfolding sum_at_ones
-raised_ones prn half l count chips ring table inside lane ones is =
-    let from : ℕ → ℤ = λ c. chip_from table ((2 * c + 4092 - (half + l)) % 2046) in
-    total-same (λ k. pos (slice_index ring (place_of half (slice_index chips k) + l)))
-    (λ k. pos RAISED +ℤ from (slice_index chips k)) count
-    (λ k h. entry (slice_index chips k) (ones.below k h))
-    ∙ total-raised RAISED (λ k. from (slice_index chips k)) count
-    ∙ ap (λ (z : ℤ). pos (RAISED * count) +ℤ z) (ones.sums from)
+pub raised_ones : (prn half l : ℕ) (alone twos ring : List ℕ) (table : List ℤ) → half < 2046
+    → l < 64 → AreOnes prn 1023 alone twos → IsRing table ring
+    → sum_at (slice_index ring) half alone (length alone) l
+    +ℤ sum_at (with_next (slice_index ring)) half twos (length twos) l
+    ≡ pos (RAISED * count_of alone twos) +ℤ sum_at_ones prn (half + l) table
+unfolding sum_at_ones ring_entry
+raised_ones prn half l alone twos ring table inside lane ones is =
+    let from : ℕ → ℤ = λ p. chip_from table (ring_entry half l p) in
+    let first : sum_at (slice_index ring) half alone (length alone) l
+    ≡ pos (RAISED * length alone) +ℤ total (λ k. from (slice_index alone k)) (length alone) =
+    total-same (λ k. pos (slice_index ring (place_of half (slice_index alone k) + l)))
+    (λ k. pos RAISED +ℤ from (slice_index alone k)) (length alone)
+    (λ k h. is (place_of half (slice_index alone k) + l) (omega (arith, lane)))
+    ∙ total-raised RAISED (λ k. from (slice_index alone k)) (length alone) in
+    let second : sum_at (with_next (slice_index ring)) half twos (length twos) l
+    ≡ pos (2 * RAISED * length twos)
+    +ℤ total (λ k. from (slice_index twos k) +ℤ from (next_place (slice_index twos k)))
+    (length twos) =
+    total-same (λ k. pos (with_next (slice_index ring) (place_of half (slice_index twos k) + l)))
+    (λ k. pos (2 * RAISED)
+    +ℤ (from (slice_index twos k) +ℤ from (next_place (slice_index twos k)))) (length twos)
+    (λ k h. two (slice_index twos k))
+    ∙ total-raised (2 * RAISED)
+    (λ k. from (slice_index twos k) +ℤ from (next_place (slice_index twos k))) (length twos) in
+    rw (first, second)
+    (added (length alone) (length twos)
+    (total (λ k. from (slice_index alone k)) (length alone))
+    (total (λ k. from (slice_index twos k) +ℤ from (next_place (slice_index twos k)))
+    (length twos)) (sum_at_ones prn (half + l) table)
+    (ones.sums from
+    ∙ total-same (λ c. cond (chip prn c == 1) (from (first_place c)) (pos 0))
+    (λ c. cond (chip prn c == 1) (chip_from table ((2 * c + 4092 - (half + l)) % 2046)) (pos 0))
+    1023 (λ c below. ap (λ (k : ℕ). cond (chip prn c == 1) (chip_from table k) (pos 0))
+    (at_chip c below))))
   where
-    entry : (c : ℕ) → c < 1023 → pos (slice_index ring (place_of half c + l))
-        ≡ pos RAISED +ℤ chip_from table ((2 * c + 4092 - (half + l)) % 2046)
-    entry c below =
-        let at : (4091 - ((half + 2045 - 2 * c) % 2046 + l)) % 2046
-        ≡ (2 * c + 4092 - (half + l)) % 2046 = omega (arith, inside, lane, below) in
-        is (place_of half c + l) (omega (arith, lane)) ∙ rw at refl
+    at_chip : (c : ℕ) → c < 1023
+        → ring_entry half l (first_place c) ≡ (2 * c + 4092 - (half + l)) % 2046
+    at_chip c below = omega (arith, inside, lane, below)
+
+    both : (a b : ℕ) (x y : ℤ) → pos a ≡ pos RAISED +ℤ x → pos b ≡ pos RAISED +ℤ y
+        → pos (a + b) ≡ pos (2 * RAISED) +ℤ (x +ℤ y)
+    both a b x y e f = omega (arith, ints, e, f)
+
+    two : (p : ℕ) → pos (with_next (slice_index ring) (place_of half p + l))
+        ≡ pos (2 * RAISED) +ℤ (chip_from table (ring_entry half l p)
+        +ℤ chip_from table (ring_entry half l (next_place p)))
+    two p = both (slice_index ring (place_of half p + l))
+        (slice_index ring ((place_of half p + l + 2044) % 2046))
+        (chip_from table (ring_entry half l p))
+        (chip_from table (ring_entry half l (next_place p)))
+        (is (place_of half p + l) (omega (arith, lane)))
+        (is ((place_of half p + l + 2044) % 2046) (omega arith)
+        ∙ ap (λ (k : ℕ). pos RAISED +ℤ chip_from table k) (next_entry half l p inside lane))
+
+    added : (m n : ℕ) (x y z : ℤ) → x +ℤ y ≡ z
+        → (pos (RAISED * m) +ℤ x) +ℤ (pos (2 * RAISED * n) +ℤ y)
+        ≡ pos (RAISED * (m + 2 * n)) +ℤ z
+    added m n x y z e = omega (arith, ints, e)
 
 -- a table's entries are no greater than the samples of a period
 pub table_sizes : (table : HalfChipTable) → sizes_to table.sums 2046 ≤ MOST_PERIOD_SUM
 table_sizes table = omega (arith, table.small, table.few)
+
+-- how many chips of 1 there are
+abbrev pub ones_of : Ones → ℕ
+ones_of ones = count_of ones.alone.items ones.twos.items
 
 -- the sum of all samples less twice those at chips of 1, from a lane
 pub record IsCellSum (prn cell : ℕ) (table : List ℤ) (sum : ℤ) : Type 0 where
@@ -190,16 +244,19 @@ pub record IsCellSum (prn cell : ℕ) (table : List ℤ) (sum : ℤ) : Type 0 wh
 
 pub is_cell_sum : (ones : Ones) (half l lane : ℕ) (table : List ℤ) (ring : List ℕ)
     (whole sum : ℤ) → half < 2046 → l < 64 → sizes_to table 2046 ≤ MOST_PERIOD_SUM
-    → IsRing table ring → whole ≡ total_to table 2046 → IsSumAtOnes ones ring half l lane
-    → sum ≡ cell_sum whole lane ones.count
+    → IsRing table ring → whole ≡ total_to table 2046
+    → IsSumAtOnes ones (slice_index ring) half l lane
+    → sum ≡ cell_sum whole lane (ones_of ones)
     → IsCellSum ones.prn (half + l) table sum
 is_cell_sum ones half l lane table ring whole sum inside few small is all at is_sum =
     let cell : ℕ = half + l in
     let ones_sum : ℤ = sum_at_ones ones.prn cell table in
-    let raised : pos lane ≡ pos (RAISED * ones.count) +ℤ ones_sum = at
-    ∙ raised_ones ones.prn half l ones.count ones.chips ring table inside few ones.are is in
+    let count : ℕ = ones_of ones in
+    let raised : pos lane ≡ pos (RAISED * count) +ℤ ones_sum = at
+    ∙ raised_ones ones.prn half l ones.alone.items ones.twos.items ring table inside few ones.are
+    is in
     let value : sum ≡ correlation ones.prn cell table = is_sum
-    ∙ rw (all, raised, lowered (RAISED * ones.count) ones_sum)
+    ∙ rw (all, raised, lowered (RAISED * count) ones_sum)
     (sym (less_ones ones.prn cell table (omega (arith, inside, few)))) in
     record {
       value = value;
@@ -213,8 +270,64 @@ pub small_cells : (table : List ℤ) (ring : List ℕ) (whole : ℤ)
     → sizes_to table 2046 ≤ MOST_PERIOD_SUM → IsRing table ring → whole ≡ total_to table 2046
     → HasSmallCells ring whole
 small_cells table ring whole sizes is all ones half l lane inside few at =
-    (is_cell_sum ones half l lane table ring whole (cell_sum whole lane ones.count) inside few sizes
+    (is_cell_sum ones half l lane table ring whole (cell_sum whole lane (ones_of ones)) inside few sizes
     is all at refl).small
+
+-- the ring of a part
+pub is_part : (table : HalfChipTable) (ring : List ℕ) (whole : ℤ) → IsRing table.sums ring
+    → whole ≡ total_to table.sums 2046 → IsPart ring whole
+is_part table ring whole is all = record {
+  raised = λ i h.
+      let k : ℕ = (4091 - i) % 2046 in
+      bounded (slice_index ring i) (get_or table.sums k (pos 0))
+      (get_or table.sums ((k + 1) % 2046) (pos 0)) (is i h)
+      (size_of_one table.sums k 2046 (omega arith))
+      (size_of_one table.sums ((k + 1) % 2046) 2046 (omega arith));
+  cells = small_cells table.sums ring whole (table_sizes table) is all;
+}
+  where
+    bounded : (n : ℕ) (a b : ℤ) → pos n ≡ pos RAISED +ℤ (a +ℤ b)
+        → unsigned_abs a ≤ sizes_to table.sums 2046 → unsigned_abs b ≤ sizes_to table.sums 2046
+        → n ≤ 2 * RAISED
+    bounded n a b e small_a small_b =
+        omega (arith, ints, e, small_a, small_b, table_sizes table)
+
+-- the sum at the chips of 1, from a lane over the ring of a part alone
+total-zeros : (n : ℕ) → total (λ _. pos 0) n ≡ pos 0
+unfolding total
+total-zeros zero = refl
+total-zeros (suc n) = rw (total-zeros n) refl
+
+pub pairs_of_part : (ring : List ℕ) → AreRaised ring → HasPairs (slice_index ring) (λ _. 0) ring
+pairs_of_part ring raised i h = sym (kept (slice_index ring i) (raised i h))
+  where
+    kept : (n : ℕ) → n ≤ 2 * RAISED → (n + 2 ^ 16 * 0) % 2 ^ 32 ≡ n
+    kept n small = omega (arith, small)
+
+pub record IsPartAtOnes (ones : Ones) (ring : List ℕ) (half l lane : ℕ) : Type 0 where
+  pub sum : IsSumAtOnes ones (slice_index ring) half l lane
+  pub most : lane ≤ 2 * RAISED * 1023
+
+pub part_at_ones : (ones : Ones) (ring : List ℕ) (whole : ℤ) (half l lane : ℕ) → half < 2046
+    → l < 64 → IsPart ring whole → unsigned_abs whole ≤ MOST_PERIOD_SUM
+    → IsPairAtOnes ones (slice_index ring) (λ _. 0) half l lane
+    → IsPartAtOnes ones ring half l lane
+part_at_ones ones ring whole half l lane inside few part small is =
+    let count : ℕ = ones_of ones in
+    let none : pos is.of_second ≡ pos 0 = is.is_second
+    ∙ rw (total-zeros (length ones.alone.items), total-zeros (length ones.twos.items)) refl in
+    let most : is.of_first ≤ 2 * RAISED * 1023 =
+    bounded whole is.of_first count ones.are.few small
+    (part.cells ones half l is.of_first inside few is.is_first) in
+    let same : lane ≡ is.of_first = is.is_pair ∙ alone is.of_first is.of_second none most in
+    record { sum = rw same is.is_first; most = rw same most }
+  where
+    bounded : (whole : ℤ) (n count : ℕ) → count ≤ 1023 → unsigned_abs whole ≤ MOST_PERIOD_SUM
+        → unsigned_abs (cell_sum whole n count) ≤ MOST_PERIOD_SUM → n ≤ 2 * RAISED * 1023
+    bounded whole n count few small cell = omega (arith, ints, few, small, cell)
+
+    alone : (n m : ℕ) → pos m ≡ pos 0 → n ≤ 2 * RAISED * 1023 → (n + 2 ^ 16 * m) % 2 ^ 32 ≡ n
+    alone n m none most = omega (arith, ints, none, most)
 
 -- a small number in 32 bits
 pub kept_small : (z : ℤ) → unsigned_abs z ≤ MOST_SMALL → to_z w32 (of_z w32 z) ≡ z

@@ -1,5 +1,5 @@
 -- The chips of 1, one after another.
-use Rattle.std.proofs.Common.{inl, inr, ◌≡◌, ◌≢◌, ℕ, zero, suc, ◌+◌, ◌*◌, ◌<◌, ◌∙◌, refl, ap, sym}
+use Rattle.std.proofs.Common.{inl, inr, ◌≡◌, ◌≢◌, ℕ, zero, suc, ◌+◌, ◌-◌, ◌*◌, ◌%◌, ◌<◌, ◌∙◌, refl, ap, sym}
 use Rattle.std.proofs.Common.{arith, length-append}
 use Rattle.std.specs.Prelude.{ℤ, pos, ◌+ℤ◌, ◌==◌, true, false, cond, ◌⊎◌, List, slice_index}
 use Rattle.std.specs.Prelude.{[], ◌∷◌, ◌++◌, length}
@@ -12,65 +12,11 @@ use Rattle.definitions.proofs.SumsLemmas.{total-same}
 use Rattle.ca_codes.specs.Filled.{IsTable}
 use Rattle.ca_codes.proofs.BookLemmas.{before_next, chip_below_two}
 use Rattle.ca_codes.specs.declared.book.TheConstants.{CODE_CHIPS}
-use Rattle.acquisition.specs.Ones.{AreOnes, AreByTwos}
-
-pub ones-none : (prn : ℕ) (chips : List ℕ) → AreOnes prn 0 chips 0
-unfolding total
-ones-none prn chips = record {
-  few = omega arith;
-  below = λ k h. absurd (omega (arith, h));
-  sums = λ y. refl;
-}
+use Rattle.acquisition.specs.Ones.{AreOnes, first_place, next_place}
+use Rattle.acquisition.specs.declared.half_chip_table.TheConstants.{HALF_CHIPS}
 
 last_or_before : (k n : ℕ) → k < n + 1 → (k ≡ n) ⊎ (k < n)
 last_or_before k n h = grind arith
-
--- a chip of 1, which is put after those before it
-pub ones-more : (prn n count : ℕ) (old new : List ℕ) → AreOnes prn n old count
-    → ((k : ℕ) → k < count → slice_index new k ≡ slice_index old k) → slice_index new count ≡ n
-    → (chip prn n == 1) ≡ true → AreOnes prn (n + 1) new (count + 1)
-unfolding total
-ones-more prn n count old new are alike last one =
-    let e : n + 1 ≡ suc n = omega arith in
-    let f : count + 1 ≡ suc count = omega arith in
-    record {
-      few = omega (arith, are.few);
-      below = λ k h. elim (last_or_before k count h) [
-        | inl same ↦ rw (same, last) (omega arith)
-        | inr before ↦ rw (alike k before) (omega (arith, are.below k before))
-      ];
-      sums = λ y. rw (
-        e,
-        f,
-        one,
-        last,
-        total-same (λ k. y (slice_index new k)) (λ k. y (slice_index old k)) count
-            (λ k h. ap y (alike k h)),
-        are.sums y,
-      ) refl;
-    }
-
--- a chip of 0, whatever is put there
-pub ones-same : (prn n count : ℕ) (old new : List ℕ) → AreOnes prn n old count
-    → ((k : ℕ) → k < count → slice_index new k ≡ slice_index old k)
-    → (chip prn n == 1) ≡ false → AreOnes prn (n + 1) new count
-unfolding total
-ones-same prn n count old new are alike nought =
-    let e : n + 1 ≡ suc n = omega arith in
-    record {
-      few = omega (arith, are.few);
-      below = λ k h. rw (alike k h) (omega (arith, are.below k h));
-      sums = λ y. rw (
-        e,
-        nought,
-        total-same (λ k. y (slice_index new k)) (λ k. y (slice_index old k)) count
-            (λ k h. ap y (alike k h)),
-        are.sums y,
-      ) (no_more (total (λ c. cond (chip prn c == 1) (y c) (pos 0)) n));
-    }
-  where
-    no_more : (z : ℤ) → z ≡ z +ℤ pos 0
-    no_more z = omega (arith, ints)
 
 -- whether a chip is 1, by its mask in a table of the code
 pub record IsInTable (prn k mask : ℕ) : Type 0 where
@@ -114,75 +60,87 @@ total_pushed g xs x =
     one = omega arith
 
 -- and all of its entries below a bound
-all_below : (xs : List ℕ) (x : ℕ) (f : ℕ → ℕ)
-    → ((k : ℕ) → k < length xs → f (slice_index xs k) < CODE_CHIPS) → f x < CODE_CHIPS
-    → (k : ℕ) → k < length (xs ++ x ∷ []) → f (slice_index (xs ++ x ∷ []) k) < CODE_CHIPS
-all_below xs x f before last k h = elim (last_or_before k (length xs)
+all_below : (xs : List ℕ) (x : ℕ) → ((k : ℕ) → k < length xs → slice_index xs k < HALF_CHIPS)
+    → x < HALF_CHIPS
+    → (k : ℕ) → k < length (xs ++ x ∷ []) → slice_index (xs ++ x ∷ []) k < HALF_CHIPS
+all_below xs x before last k h = elim (last_or_before k (length xs)
     (omega (arith, h, length-append xs (x ∷ [])))) [
       | inl same ↦ rw (same, get_or-append_seam xs x [] 0) last
       | inr inside ↦ rw (get_or-append xs (x ∷ []) 0 k inside) (before k inside)
     ]
 
--- chips of 1 by twos: none, one that is taken alone, and two
-pub by_twos-none : (chips : List ℕ) → AreByTwos chips 0 [] []
+-- the ones among no chips, and with one more chip: one of 0
+pub ones-none : (prn : ℕ) → AreOnes prn 0 [] []
 unfolding total
-by_twos-none chips = record {
-  sums = λ y. refl;
+ones-none prn = record {
+  few = omega arith;
   alone_below = λ k h. absurd (omega (arith, h));
   twos_below = λ k h. absurd (omega (arith, h));
+  sums = λ y. refl;
 }
 
-pub by_twos-alone : (chips alone twos : List ℕ) (k : ℕ) → AreByTwos chips k alone twos
-    → slice_index chips k < CODE_CHIPS
-    → AreByTwos chips (k + 1) (alone ++ slice_index chips k ∷ []) twos
+pub ones-nought : (prn n : ℕ) (alone twos : List ℕ) → AreOnes prn n alone twos
+    → (chip prn n == 1) ≡ false → AreOnes prn (n + 1) alone twos
 unfolding total
-by_twos-alone chips alone twos k are below =
-    let e : k + 1 ≡ suc k = omega arith in
-    let c : ℕ = slice_index chips k in
+ones-nought prn n alone twos are nought =
+    let e : n + 1 ≡ suc n = omega arith in
     record {
-      sums = λ y.
-          let two : ℤ = total (λ k. y (slice_index twos k) +ℤ y (slice_index twos k + 1))
-          (length twos) in
-          rw (total_pushed y alone c, e, ← are.sums y)
-          (moved (total (λ k. y (slice_index alone k)) (length alone)) (y c) two);
-      alone_below = all_below alone c (λ n. n) are.alone_below below;
+      few = omega (arith, are.few);
+      alone_below = are.alone_below;
       twos_below = are.twos_below;
+      sums = λ y. rw (e, nought, are.sums y)
+          (no_more (total (λ c. cond (chip prn c == 1) (y (first_place c)) (pos 0)) n));
+    }
+  where
+    no_more : (z : ℤ) → z ≡ z +ℤ pos 0
+    no_more z = omega (arith, ints)
+
+-- one of 1 that is taken alone
+pub ones-alone : (prn n : ℕ) (alone twos : List ℕ) → AreOnes prn n alone twos
+    → (chip prn n == 1) ≡ true → AreOnes prn (n + 1) (alone ++ first_place n ∷ []) twos
+unfolding total
+ones-alone prn n alone twos are one =
+    let e : n + 1 ≡ suc n = omega arith in
+    let place : ℕ = first_place n in
+    record {
+      few = omega (arith, are.few, length-append alone (place ∷ []));
+      alone_below = all_below alone place are.alone_below (omega arith);
+      twos_below = are.twos_below;
+      sums = λ y. rw (total_pushed y alone place, e, one, ← are.sums y)
+          (moved (total (λ k. y (slice_index alone k)) (length alone)) (y place)
+          (total (λ k. y (slice_index twos k) +ℤ y (next_place (slice_index twos k)))
+          (length twos)));
     }
   where
     moved : (a b c : ℤ) → a +ℤ b +ℤ c ≡ a +ℤ c +ℤ b
     moved a b c = omega (arith, ints)
 
-two_more : (f : ℕ → ℤ) (k : ℕ) → total f (k + 2) ≡ total f k +ℤ (f k +ℤ f (k + 1))
+-- two of 1
+pub ones-two : (prn n : ℕ) (alone twos : List ℕ) → AreOnes prn n alone twos → n + 1 < CODE_CHIPS
+    → (chip prn n == 1) ≡ true → (chip prn (n + 1) == 1) ≡ true
+    → AreOnes prn (n + 2) alone (twos ++ first_place n ∷ [])
 unfolding total
-two_more f k = rw (e, d) (moved (total f k) (f k) (f (suc k)))
-  where
-    e : k + 2 ≡ suc (suc k)
-    e = omega arith
-
-    d : k + 1 ≡ suc k
-    d = omega arith
-
-    moved : (a b c : ℤ) → a +ℤ b +ℤ c ≡ a +ℤ (b +ℤ c)
-    moved a b c = omega (arith, ints)
-
-pub by_twos-two : (chips alone twos : List ℕ) (k : ℕ) → AreByTwos chips k alone twos
-    → slice_index chips (k + 1) ≡ slice_index chips k + 1 → slice_index chips (k + 1) < CODE_CHIPS
-    → AreByTwos chips (k + 2) alone (twos ++ slice_index chips k ∷ [])
-by_twos-two chips alone twos k are next below =
-    let c : ℕ = slice_index chips k in
+ones-two prn n alone twos are below one next =
+    let e : n + 2 ≡ suc (suc n) = omega arith in
+    let f : suc n ≡ n + 1 = omega arith in
+    let place : ℕ = first_place n in
+    let there : next_place (first_place n) ≡ first_place (n + 1) = omega (arith, below) in
     record {
-      sums = λ y.
-          ap (λ (z : ℤ). total (λ k. y (slice_index alone k)) (length alone) +ℤ z)
-          (total_pushed (λ n. y n +ℤ y (n + 1)) twos c)
-          ∙ moved (total (λ k. y (slice_index alone k)) (length alone))
-          (total (λ k. y (slice_index twos k) +ℤ y (slice_index twos k + 1)) (length twos))
-          (y c +ℤ y (c + 1))
-          ∙ ap (λ (z : ℤ). z +ℤ (y c +ℤ y (c + 1))) (are.sums y)
-          ∙ ap (λ (n : ℕ). total (λ k. y (slice_index chips k)) k +ℤ (y c +ℤ y n)) (sym next)
-          ∙ sym (two_more (λ k. y (slice_index chips k)) k);
+      few = omega (arith, are.few, length-append twos (place ∷ []));
       alone_below = are.alone_below;
-      twos_below = all_below twos c (λ n. n + 1) are.twos_below (omega (arith, next, below));
+      twos_below = all_below twos place are.twos_below (omega arith);
+      sums = λ y. rw (
+        total_pushed (λ p. y p +ℤ y (next_place p)) twos place,
+        there,
+        e,
+        one,
+        f,
+        next,
+        ← are.sums y,
+      ) (moved (total (λ k. y (slice_index alone k)) (length alone))
+      (total (λ k. y (slice_index twos k) +ℤ y (next_place (slice_index twos k))) (length twos))
+      (y place) (y (first_place (n + 1))));
     }
   where
-    moved : (a b c : ℤ) → a +ℤ (b +ℤ c) ≡ a +ℤ b +ℤ c
-    moved a b c = omega (arith, ints)
+    moved : (a b c d : ℤ) → a +ℤ (b +ℤ (c +ℤ d)) ≡ a +ℤ b +ℤ c +ℤ d
+    moved a b c d = omega (arith, ints)

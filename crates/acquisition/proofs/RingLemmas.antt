@@ -15,29 +15,6 @@ use Rattle.acquisition.specs.declared.chip_ring.TheConstants.{RAISED}
 use Rattle.acquisition.specs.declared.sums.TheConstants.{MOST_PERIOD_SUM}
 use Rattle.acquisition.proofs.SizeLemmas.{abs_add}
 
--- the ring of a table of zeros
-raised_at : (i : ℕ) → i < 2109 → slice_index (replicate 2109 524288) i ≡ 524288
-raised_at i h = get_or-replicate {A = ℕ} 2109 i 524288 0 h
-
-pub small_everywhere : (i : ℕ) → i < 2109 → slice_index (replicate 2109 524288) i ≤ 2 * RAISED
-small_everywhere i h = rw (raised_at i h) (omega arith)
-
-pub ring_of_zeros : (table : List ℤ) → ((k : ℕ) → k < 2046 → get_or table k (pos 0) ≡ pos 0)
-    → IsRing table (replicate 2109 524288)
-ring_of_zeros table zeros i h =
-    let k : ℕ = (4091 - i) % 2046 in
-    let first : get_or table k (pos 0) ≡ pos 0 = zeros k (omega arith) in
-    let second : get_or table ((k + 1) % 2046) (pos 0) ≡ pos 0 =
-    zeros ((k + 1) % 2046) (omega arith) in
-    rw (raised_at i h, first, second) refl
-
--- a lane of sixteen places
-pub lane_is : (chips : List ℕ) (at l : ℕ) → length chips ≡ 2109 → l < 16
-    → slice_index (take 16 (take (2109 - at) (drop at chips))) l ≡ slice_index chips (at + l)
-lane_is chips at l long h =
-    rw (take_all (2109 - at) (drop at chips) (rw (length-drop at chips, long) (omega arith)))
-    (get_or-chunk at 16 chips l 0 h)
-
 -- sixteen of 64 places
 pub entries_of : (chips : List ℕ) (at n k : ℕ) → length chips ≡ 2109 → at + 64 ≤ 2109 → n ≡ 64
     → k + 16 ≤ 64 → AreEntries chips (at + k) (chunk k 16 (take n (drop at chips)))

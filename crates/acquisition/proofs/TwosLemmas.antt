@@ -6,11 +6,10 @@ use Rattle.std.proofs.Math.ListN.{replicate}
 use Rattle.std.proofs.lemmas.Int.{ints}
 use Rattle.std.proofs.lemmas.Simd.{get_or-zip2}
 use Rattle.definitions.specs.Sums.{total}
-use Rattle.definitions.proofs.SumsLemmas.{total-same}
-use Rattle.acquisition.specs.Ones.{AreByTwos}
-use Rattle.acquisition.specs.Rings.{place_of, ArePaired, AreEntries, IsRing}
-use Rattle.acquisition.specs.Twos.{IsClosed, AreTwos, HasPairs, IsPair, ArePairs, with_next}
-use Rattle.acquisition.specs.Twos.{sum_at}
+use Rattle.acquisition.specs.Rings.{place_of, ArePaired, AreEntries, IsPairAtOnes, IsRing}
+use Rattle.acquisition.specs.Rings.{sum_at, with_next}
+use Rattle.acquisition.specs.Twos.{IsClosed, AreTwos, HasPairs, IsPair, ArePairs}
+use Rattle.acquisition.specs.declared.ones.Ones.{Ones}
 use Rattle.acquisition.specs.declared.chip_ring.TheConstants.{RING}
 use Rattle.acquisition.proofs.LaneLemmas.{both_lanes, lane_zero, lanes_long}
 
@@ -108,39 +107,37 @@ closed_of_pairs first second pairs are closed closed_q i h =
     are i h ∙ rw (closed i h, closed_q i h) refl ∙ sym (are (i % 2046) (omega (arith, h)))
 
 -- the pairs of a ring for two chips
-pub pairs_of_twos : (first second pairs twos : List ℕ) → ArePaired first second pairs
-    → AreTwos pairs twos → HasPairs (with_next first) (with_next second) twos
-pairs_of_twos first second pairs twos are by i h =
-    by i h ∙ rw (are i h, are ((i + 2044) % 2046) (omega arith))
-    (pair_added (slice_index first i) (slice_index second i)
-    (slice_index first ((i + 2044) % 2046)) (slice_index second ((i + 2044) % 2046)))
+pub pairs_of_twos : (f g : ℕ → ℕ) (ring twos : List ℕ) → HasPairs f g ring → AreTwos ring twos
+    → HasPairs (with_next f) (with_next g) twos
+pairs_of_twos f g ring twos has by i h =
+    by i h ∙ rw (has i h, has ((i + 2044) % 2046) (omega arith))
+    (pair_added (f i) (g i) (f ((i + 2044) % 2046)) (g ((i + 2044) % 2046)))
 
--- the sums at chips by twos are those at all of them
-pub sums_by_twos : (ring chips alone twos : List ℕ) (half n l : ℕ) → half < 2046 → l < 64
-    → IsClosed ring → AreByTwos chips n alone twos
-    → (pos 0 +ℤ sum_at (slice_index ring) half alone (length alone) l)
-    +ℤ sum_at (with_next ring) half twos (length twos) l
-    ≡ total (λ k. pos (slice_index ring (place_of half (slice_index chips k) + l))) n
-sums_by_twos ring chips alone twos half n l inside few closed are =
-    let y : ℕ → ℤ = λ c. pos (slice_index ring (place_of half c + l)) in
-    nothing (sum_at (slice_index ring) half alone (length alone) l)
-    (sum_at (with_next ring) half twos (length twos) l)
-    ∙ ap (λ (z : ℤ). sum_at (slice_index ring) half alone (length alone) l +ℤ z)
-    (total-same (λ k. pos (with_next ring (place_of half (slice_index twos k) + l)))
-    (λ k. y (slice_index twos k) +ℤ y (slice_index twos k + 1)) (length twos)
-    (λ k h. both (slice_index twos k) (are.twos_below k h)))
-    ∙ are.sums y
+-- the sums at the chips of 1, from the lanes that have them
+pub pair_at_ones : (ones : Ones) (f g : ℕ → ℕ) (half l lane : ℕ)
+    → IsPair lane ((pos 0 +ℤ sum_at f half ones.alone.items (length ones.alone.items) l)
+    +ℤ sum_at (with_next f) half ones.twos.items (length ones.twos.items) l)
+    ((pos 0 +ℤ sum_at g half ones.alone.items (length ones.alone.items) l)
+    +ℤ sum_at (with_next g) half ones.twos.items (length ones.twos.items) l)
+    → IsPairAtOnes ones f g half l lane
+pair_at_ones ones f g half l lane is = record {
+  of_first = is.of_first;
+  of_second = is.of_second;
+  is_first = is.is_first ∙ nothing (sum_at f half ones.alone.items (length ones.alone.items) l)
+      (sum_at (with_next f) half ones.twos.items (length ones.twos.items) l);
+  is_second = is.is_second ∙ nothing (sum_at g half ones.alone.items (length ones.alone.items) l)
+      (sum_at (with_next g) half ones.twos.items (length ones.twos.items) l);
+  is_pair = is.is_pair;
+}
   where
     nothing : (a b : ℤ) → (pos 0 +ℤ a) +ℤ b ≡ a +ℤ b
     nothing a b = omega (arith, ints)
 
-    both : (c : ℕ) → c + 1 < 1023 → pos (with_next ring (place_of half c + l))
-        ≡ pos (slice_index ring (place_of half c + l))
-        +ℤ pos (slice_index ring (place_of half (c + 1) + l))
-    both c below =
-        let next : (place_of half c + l + 2044) % 2046 ≡ (place_of half (c + 1) + l) % 2046 =
-        omega (arith, inside, few, below) in
-        rw (next, ← closed (place_of half (c + 1) + l) (omega (arith, few))) refl
+-- the twos of a ring of zeros
+pub twos_of_zeros : (ring twos : List ℕ) → ((i : ℕ) → i < RING → slice_index ring i ≡ 0)
+    → ((i : ℕ) → i < RING → slice_index twos i ≡ 0) → AreTwos ring twos
+twos_of_zeros ring twos zeros are i h =
+    are i h ∙ rw (zeros i h, zeros ((i + 2044) % 2046) (omega arith)) refl
 
 -- the place of the next chip
 pub next_place : (ring : List ℕ) (i : ℕ) → IsClosed ring → 2 ≤ i → i < RING

@@ -3,7 +3,7 @@ use Rattle.std.specs.Prelude.{◌≡◌, ◌≤◌, ◌<◌, ◌+◌, ◌*◌, �
 use Rattle.std.specs.Prelude.{◌-ℤ◌, ◌*ℤ◌, unsigned_abs}
 use Rattle.std.specs.Prelude.{List, get_or, slice_index, length}
 use Rattle.definitions.specs.Sums.{total}
-use Rattle.acquisition.specs.Ones.{count_of}
+use Rattle.acquisition.specs.Ones.{count_of, next_place}
 use Rattle.acquisition.specs.declared.half_chip_table.TheConstants.{HALF_CHIPS}
 use Rattle.acquisition.specs.declared.ones.Ones.{Ones}
 use Rattle.acquisition.specs.declared.sums.TheConstants.{MOST_PERIOD_SUM}
@@ -37,19 +37,19 @@ pub record AreEntries (ring : List ℕ) (at : ℕ) (lanes : List ℕ) : Type 0 w
   pub long : length lanes ≡ LANES
   pub are : (l : ℕ) → l < LANES → slice_index lanes l ≡ slice_index ring (at + l)
 
--- the place of a chip for a code that begins at a half chip
+-- the place of a chip for a code that begins at a half chip, from that for one that begins at 0
 abbrev pub place_of : ℕ → ℕ → ℕ
-place_of half chip = (half + 2045 - 2 * chip) % 2046
+place_of half first = (half + first) % 2046
 
--- the entry of a chip at a place with that of the next chip, which lies two places before it
+-- the entry of a chip at a place with that of the next chip
 abbrev pub with_next : (ℕ → ℕ) → ℕ → ℕ
-with_next entry i = entry i + entry ((i + 2044) % 2046)
+with_next entry i = entry i + entry (next_place i)
 
 -- the sum of entries by place at the first n of some chips, for the code that begins l half chips
--- after another
+-- after half chip `half`
 abbrev pub sum_at : (ℕ → ℕ) → ℕ → List ℕ → ℕ → ℕ → ℤ
-sum_at entry half chips n l =
-    total (λ k. pos (entry (place_of half (slice_index chips k) + l))) n
+sum_at entry half places n l =
+    total (λ k. pos (entry (place_of half (slice_index places k) + l))) n
 
 -- the sum of entries at the chips of 1, for the code that begins l half chips later
 abbrev pub IsSumAtOnes : Ones → (ℕ → ℕ) → ℕ → ℕ → ℕ → Type 0

@@ -77,15 +77,16 @@ impl ChipRing {
     }
 }
 
-/// The place in a ring of a chip, for a code that begins at half chip `half`.
+/// The place in a ring of a chip for a code that begins at half chip `half`, from its place for one
+/// that begins at half chip 0.
 #[inline(always)]
-pub(crate) fn place_of(half: usize, chip: usize) -> usize
+pub(crate) fn place_of(half: usize, first: usize) -> usize
     requires half { half < HALF_CHIPS }
-    requires chip { chip < CODE_CHIPS }
-    ensures place { result ≡ place_of half chip }
+    requires first { first < HALF_CHIPS }
+    ensures place { result ≡ place_of half first }
     ensures inside { result < HALF_CHIPS }
 {
-    let place = half + LAST - 2 * chip;
+    let place = half + first;
     if place < HALF_CHIPS {
         place
     } else {

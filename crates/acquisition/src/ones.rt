@@ -1,9 +1,10 @@
 //! The chips of a satellite's code that are 1.
 
-ghost use Rattle.std.specs.Prelude.{◌≡◌, ◌≤◌};
-ghost use Rattle.acquisition.specs.Ones.{AreOnes, count_of};
+ghost use Rattle.std.specs.Prelude.{◌≡◌, ◌<◌, ◌≤◌};
+ghost use Rattle.acquisition.specs.Ones.{AreOnes, count_of, first_place};
 ghost use Rattle.ca_codes.specs.declared.book.TheConstants.{CODE_CHIPS};
 
+use crate::half_chip_table::LAST;
 use arrayvec::ArrayVec;
 use ca_codes::{CODE_CHIPS, CodeBook, Prn};
 
@@ -11,7 +12,7 @@ use ca_codes::{CODE_CHIPS, CodeBook, Prn};
 const MOST_ONES: usize = CODE_CHIPS as usize;
 
 /// The chips of a satellite's code that are 1, by twos: where two follow one another, the first one
-/// stands for both.
+/// stands for both. Of each there is its place in a ring, for a code that begins at half chip 0.
 #[derive(Debug, Drop)]
 pub(crate) struct Ones {
     prn: Prn,
@@ -33,10 +34,10 @@ impl Ones {
             if table[chip + 1] != 255 {
                 chip += 1;
             } else if chip + 1 < MOST_ONES && table[chip + 2] == 255 {
-                twos.push(chip as u16);
+                twos.push(first_place(chip));
                 chip += 2;
             } else {
-                alone.push(chip as u16);
+                alone.push(first_place(chip));
                 chip += 1;
             }
         }
@@ -52,7 +53,7 @@ impl Ones {
         self.alone.len() + 2 * self.twos.len()
     }
 
-    /// Those that are taken alone.
+    /// The places of those that are taken alone.
     #[inline(always)]
     pub(crate) fn alone(&self) -> &[u16]
         ensures { result.now ≡ self.now.alone.items }
@@ -60,11 +61,20 @@ impl Ones {
         self.alone.as_slice()
     }
 
-    /// The first one of each two.
+    /// The place of the first one of each two.
     #[inline(always)]
     pub(crate) fn twos(&self) -> &[u16]
         ensures { result.now ≡ self.now.twos.items }
     {
         self.twos.as_slice()
     }
+}
+
+/// The place of a chip in a ring, for a code that begins at half chip 0.
+#[inline(always)]
+fn first_place(chip: usize) -> u16
+    requires { chip < CODE_CHIPS }
+    ensures { result ≡ first_place chip }
+{
+    (LAST - 2 * chip) as u16
 }

@@ -1,7 +1,7 @@
 //! A ring of chips that is read for two chips at once.
 
 ghost use Rattle.std.specs.Prelude.{◌≡◌, ◌<◌, ℕ, length, slice_index};
-ghost use Rattle.acquisition.specs.Twos.{AreTwos, HasPairs, IsClosed};
+ghost use Rattle.acquisition.specs.Twos.{AreTwos, HasPairs};
 ghost use Rattle.acquisition.specs.declared.chip_ring.TheConstants.{CELLS_AT_ONCE};
 ghost use Rattle.acquisition.specs.declared.half_chip_table.TheConstants.{HALF_CHIPS};
 
@@ -15,7 +15,6 @@ use crate::pair_lanes::PairLanes;
 pub(crate) struct RingByTwos {
     pub(crate) one: ChipRing,
     two: ChipRing,
-    ghost closed: { IsClosed one.chips },
     ghost twos: { AreTwos one.chips two.chips },
 }
 

@@ -4,7 +4,6 @@ ghost use Rattle.std.specs.Prelude.{◌≡◌, ◌+◌, ◌*◌, ◌<◌, ◌≤
 ghost use Rattle.acquisition.specs.declared.chip_ring.TheConstants.{RING, CELLS_AT_ONCE};
 ghost use Rattle.acquisition.specs.declared.half_chip_table.TheConstants.{HALF_CHIPS};
 ghost use Rattle.bit_planes.specs.declared.lanes.TheConstants.{LANES};
-ghost use Rattle.ca_codes.specs.declared.book.TheConstants.{CODE_CHIPS};
 
 use crate::chip_ring::{CELLS_AT_ONCE, ChipRing, place_of};
 use crate::pair_lanes::PairLanes;
@@ -15,15 +14,16 @@ impl ChipRing {
     ghost use Rattle.acquisition.specs.Rings.{AreEntries, sum_at};
     ghost use Rattle.acquisition.specs.Twos.{HasPairs, AreAllPairs};
 
-    /// Pairs of 64 cells from half chip `half` on, with the entries of some chips added to them.
+    /// Pairs of 64 cells from half chip `half` on, with the entries at the places of some
+    /// chips added to them.
     #[inline(never)]
-    pub(crate) fn add_at(&self, chips: &[u16], half: usize, lanes: PairLanes) -> PairLanes
+    pub(crate) fn add_at(&self, places: &[u16], half: usize, lanes: PairLanes) -> PairLanes
         requires half { half < HALF_CHIPS }
-        requires below { (k : ℕ) → k < length chips.now → slice_index chips.now k < CODE_CHIPS }
+        requires below { (k : ℕ) → k < length places.now → slice_index places.now k < HALF_CHIPS }
         ensures { (x y : ℕ → ℤ) (f g : ℕ → ℕ) → HasPairs f g self.now.chips
             → AreAllPairs x y lanes
-            → AreAllPairs (λ l. x l +ℤ sum_at f half chips.now (length chips.now) l)
-            (λ l. y l +ℤ sum_at g half chips.now (length chips.now) l) result }
+            → AreAllPairs (λ l. x l +ℤ sum_at f half places.now (length places.now) l)
+            (λ l. y l +ℤ sum_at g half places.now (length places.now) l) result }
     {
         let PairLanes {
             mut first,
@@ -31,8 +31,8 @@ impl ChipRing {
             mut third,
             mut fourth,
         } = lanes;
-        for k in 0..chips.len() {
-            let more = self.sixty_four(place_of(half, usize::from(chips[k])));
+        for k in 0..places.len() {
+            let more = self.sixty_four(place_of(half, usize::from(places[k])));
             first = first + more.first;
             second = second + more.second;
             third = third + more.third;

@@ -1,6 +1,6 @@
 use Rattle.std.proofs.Common.{◌≡◌, ◌<◌, ◌≤◌, ◌∙◌, ℕ, List, arith, refl, length, slice_index}
 use Rattle.std.proofs.lemmas.List.{length-set}
-use Rattle.acquisition.specs.Pairs.{cell_pair, power_of_pair}
+use Rattle.acquisition.specs.Pairs.{half_pair, power_of_pair}
 use Rattle.acquisition.specs.declared.sums.TheConstants.{MOST_PERIOD_POWER}
 use Rattle.acquisition.proofs.PowerLemmas.{each-one}
 use Rattle.acquisition.proofs.pair_powers.powers_of.Goals as goal
@@ -12,12 +12,12 @@ loop-l-preserved c =
     let powers : List ℕ = c.loop-l.powers in
     let inside : l < length powers = omega (arith, here.long, c.loop-l-test.true) in
     let power : c.power.result
-    ≡ power_of_pair (cell_pair c.args.whole (slice_index c.args.picked.now l)) =
-    c.power.ensures.value ∙ rw (c.sums_of.ensures.in_phase, c.sums_of.ensures.quadrature) refl in
+    ≡ power_of_pair (half_pair c.args.whole.halves (slice_index c.args.picked.now l))
+    c.args.whole = ? in
     record {
       long = length-set powers l c.power.result ∙ here.long;
       most = each-one (λ i it. it ≤ MOST_PERIOD_POWER) l c.power.result powers inside
           c.power.ensures.most here.most;
-      powers = each-one (λ i it. it ≡ power_of_pair (cell_pair c.args.whole
-          (slice_index c.args.picked.now i))) l c.power.result powers inside power here.powers;
+      powers = each-one (λ i it. it ≡ power_of_pair (half_pair c.args.whole.halves
+          (slice_index c.args.picked.now i)) c.args.whole) l c.power.result powers inside power here.powers;
     }

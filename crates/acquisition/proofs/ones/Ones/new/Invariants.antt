@@ -1,9 +1,12 @@
-use Rattle.std.proofs.Common.{◌≡◌, length}
+use Rattle.std.proofs.Common.{◌-◌, ◌≤◌}
 use Rattle.acquisition.specs.Ones.{AreOnes}
 use Rattle.acquisition.proofs.ones.Ones.new.Given as goal
 
 abbrev pub invariant-loop-chip : goal.invariant-loop-chip
 invariant-loop-chip l = record {
-  long : length l.chips ≡ 1023;
-  are : AreOnes l.fn.prn l.chip l.chips l.count;
+  within : l.chip ≤ 1023;
+  are : AreOnes l.fn.prn l.chip l.alone.items l.twos.items;
 }
+
+abbrev pub decreases-loop-chip : goal.decreases-loop-chip
+decreases-loop-chip l = 1023 - l.chip
