@@ -18,6 +18,7 @@ use Rattle.acquisition.specs.declared.ones.Ones.{Ones}
 use Rattle.acquisition.specs.declared.sums.TheConstants.{MOST_PERIOD_SUM}
 use Rattle.acquisition.proofs.SignLemmas.{sign_of_one, sign_of_zero}
 use Rattle.acquisition.specs.declared.fold.TheConstants.{MOST_SMALL}
+use Rattle.acquisition.proofs.FoldLemmas.{entry_in_32}
 use Rattle.acquisition.proofs.TableLemmas.{correlation_size, size_of_one}
 use Rattle.std.proofs.Common.{to_z, of_z, w32}
 use Rattle.std.proofs.lemmas.Int.{to_z-of_z, fits_signed_from_abs}
@@ -328,6 +329,29 @@ part_at_ones ones ring whole half l lane inside few part small is =
 
     alone : (n m : ℕ) → pos m ≡ pos 0 → n ≤ 2 * RAISED * 1023 → (n + 2 ^ 16 * m) % 2 ^ 32 ≡ n
     alone n m none most = omega (arith, ints, none, most)
+
+-- and so for cells that follow one another
+abbrev pub AreAtOnes : Ones → List ℕ → ℕ → List ℕ → Type 0
+AreAtOnes ones ring half lanes = (first second : ℕ → ℕ) → HasPairs first second ring
+    → (l : ℕ) → l < 64 → IsPairAtOnes ones first second half l (slice_index lanes l)
+
+pub part_cell : (ones : Ones) (ring lanes : List ℕ) (whole : ℤ) (half l : ℕ) → half < 2046
+    → l < 64 → IsPart ring whole → unsigned_abs whole ≤ MOST_PERIOD_SUM
+    → AreAtOnes ones ring half lanes → IsPartAtOnes ones ring half l (slice_index lanes l)
+part_cell ones ring lanes whole half l inside few part small are =
+    part_at_ones ones ring whole half l (slice_index lanes l) inside few part small
+    (are (slice_index ring) (λ _. 0) (pairs_of_part ring part.raised) l few)
+
+pub part_small : (ones : Ones) (ring lanes : List ℕ) (whole sum : ℤ) (half l : ℕ) → half < 2046
+    → l < 64 → IsPart ring whole → unsigned_abs whole ≤ MOST_PERIOD_SUM
+    → AreAtOnes ones ring half lanes
+    → sum ≡ cell_sum whole (slice_index lanes l) (ones_of ones)
+    → unsigned_abs (to_z w32 (of_z w32 sum)) ≤ MOST_PERIOD_SUM
+part_small ones ring lanes whole sum half l inside few part small are is =
+    let at = part_cell ones ring lanes whole half l inside few part small are in
+    let cell : unsigned_abs sum ≤ MOST_PERIOD_SUM =
+    rw is (part.cells ones half l (slice_index lanes l) inside few at.sum) in
+    rw (entry_in_32 sum cell) cell
 
 -- a small number in 32 bits
 pub kept_small : (z : ℤ) → unsigned_abs z ≤ MOST_SMALL → to_z w32 (of_z w32 z) ≡ z

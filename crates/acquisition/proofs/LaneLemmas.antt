@@ -1,15 +1,10 @@
 -- Lanes in which entries of a ring are added up.
-use Rattle.std.proofs.Common.{◌≡◌, ℕ, suc, ◌+◌, ◌*◌, ◌%◌, ◌^◌, ◌<◌, ◌≤◌, refl, ap, ◌∙◌, sym}
-use Rattle.std.proofs.Common.{arith}
-use Rattle.std.specs.Prelude.{ℤ, pos, List, length, slice_index}
+use Rattle.std.proofs.Common.{◌≡◌, ℕ, ◌+◌, ◌%◌, ◌^◌, ◌<◌, ◌∙◌, sym}
+use Rattle.std.specs.Prelude.{List, length, slice_index}
 use Rattle.std.proofs.Math.ListN.{replicate}
-use Rattle.std.proofs.Math.Nat.{mod-eq_of_lt}
 use Rattle.std.proofs.lemmas.List.{get_or-replicate}
 use Rattle.std.specs.Simd.Lanes.{zip2}
-use Rattle.std.proofs.lemmas.Simd.{get_or-zip2, length-zip2}
-use Rattle.definitions.specs.Sums.{total}
-use Rattle.acquisition.specs.Rings.{place_of}
-use Rattle.acquisition.specs.declared.chip_ring.TheConstants.{RAISED}
+use Rattle.std.proofs.lemmas.Simd.{length-zip2}
 
 -- the lanes of two vectors added up
 abbrev pub both_lanes : List ℕ → List ℕ → List ℕ

@@ -1,5 +1,5 @@
 -- The chips of 1, one after another.
-use Rattle.std.proofs.Common.{inl, inr, ◌≡◌, ◌≢◌, ℕ, zero, suc, ◌+◌, ◌-◌, ◌*◌, ◌%◌, ◌<◌, ◌∙◌, refl, ap, sym}
+use Rattle.std.proofs.Common.{inl, inr, ◌≡◌, ◌≢◌, ℕ, zero, suc, ◌+◌, ◌*◌, ◌<◌, ◌∙◌, refl, ap}
 use Rattle.std.proofs.Common.{arith, length-append}
 use Rattle.std.specs.Prelude.{ℤ, pos, ◌+ℤ◌, ◌==◌, true, false, cond, ◌⊎◌, List, slice_index}
 use Rattle.std.specs.Prelude.{[], ◌∷◌, ◌++◌, length}
@@ -138,8 +138,8 @@ ones-two prn n alone twos are below one next =
         next,
         ← are.sums y,
       ) (moved (total (λ k. y (slice_index alone k)) (length alone))
-      (total (λ k. y (slice_index twos k) +ℤ y (next_place (slice_index twos k))) (length twos))
-      (y place) (y (first_place (n + 1))));
+          (total (λ k. y (slice_index twos k) +ℤ y (next_place (slice_index twos k))) (length twos))
+          (y place) (y (first_place (n + 1))));
     }
   where
     moved : (a b c d : ℤ) → a +ℤ (b +ℤ (c +ℤ d)) ≡ a +ℤ b +ℤ c +ℤ d

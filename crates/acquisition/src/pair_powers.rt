@@ -2,6 +2,7 @@
 
 ghost use Rattle.std.specs.Prelude.{◌≡◌, ◌+◌, ◌*◌, ◌/◌, ◌%◌, ◌^◌, ◌<◌, ◌≤◌, ◌+ℤ◌, ◌-ℤ◌, ℕ, pos};
 ghost use Rattle.std.specs.Prelude.{true, length, slice_index, unsigned_abs};
+ghost use Rattle.acquisition.specs.Pairs.{half_pair, power_of_pair};
 ghost use Rattle.acquisition.specs.declared.chip_ring.TheConstants.{CELLS_AT_ONCE};
 ghost use Rattle.acquisition.specs.declared.fold.TheConstants.{MOST_SMALL};
 ghost use Rattle.acquisition.specs.declared.half_chip_table.TheConstants.{HALF_CHIPS};
@@ -26,7 +27,7 @@ struct RaisedWhole {
 
 impl PeriodSums {
     ghost use Rattle.acquisition.specs.PeriodStates.{ArePowersOf};
-    ghost use Rattle.acquisition.specs.Pairs.{IsRaisedWhole, half_pair, power_of_pair};
+    ghost use Rattle.acquisition.specs.Pairs.{IsRaisedWhole};
 
     /// The powers of 64 cells from half chip `half` on, where half of each sum of a cell fits in 16
     /// bits.

@@ -2,6 +2,7 @@ use Rattle.std.proofs.Common.{◌≡◌, ◌<◌, ◌≤◌, ◌∙◌, ℕ, Lis
 use Rattle.std.proofs.lemmas.List.{length-set}
 use Rattle.acquisition.specs.Pairs.{half_pair, power_of_pair}
 use Rattle.acquisition.specs.declared.sums.TheConstants.{MOST_PERIOD_POWER}
+use Rattle.acquisition.proofs.FoldLemmas.{entry_in_32}
 use Rattle.acquisition.proofs.PowerLemmas.{each-one}
 use Rattle.acquisition.proofs.pair_powers.powers_of.Goals as goal
 
@@ -13,7 +14,14 @@ loop-l-preserved c =
     let inside : l < length powers = omega (arith, here.long, c.loop-l-test.true) in
     let power : c.power.result
     ≡ power_of_pair (half_pair c.args.whole.halves (slice_index c.args.picked.now l))
-    c.args.whole = ? in
+    c.args.whole = c.power.ensures.value
+    ∙ rw (
+      entry_in_32 c.lowered.result (omega (arith, c.lowered.ensures.small)),
+      entry_in_32 c.lowered-in-loop-l.result (omega
+          (arith, c.lowered-in-loop-l.ensures.small)),
+      c.lowered.ensures.value,
+      c.lowered-in-loop-l.ensures.value,
+    ) refl in
     record {
       long = length-set powers l c.power.result ∙ here.long;
       most = each-one (λ i it. it ≤ MOST_PERIOD_POWER) l c.power.result powers inside

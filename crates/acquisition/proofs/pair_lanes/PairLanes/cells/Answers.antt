@@ -1,5 +1,4 @@
-use Rattle.std.proofs.Common.{◌≡◌, ◌<◌, ◌+◌, ℕ, arith, sym, subst}
-use Rattle.std.specs.Prelude.{slice_index}
+use Rattle.std.proofs.Common.{ℕ}
 use Rattle.std.proofs.Math.ListN.{replicate}
 use Rattle.acquisition.specs.Twos.{IsPair}
 use Rattle.acquisition.proofs.PowerLemmas.{AreEach, each-none, each-sixteen}

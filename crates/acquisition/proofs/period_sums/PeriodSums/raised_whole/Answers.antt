@@ -1,4 +1,4 @@
-use Rattle.std.proofs.Common.{◌≡◌, ◌+◌, ◌^◌, pos, refl}
+use Rattle.std.proofs.Common.{◌≡◌, ◌^◌, pos, refl}
 use Rattle.std.specs.Prelude.{◌+ℤ◌}
 use Rattle.acquisition.proofs.CellLemmas.{kept_small}
 use Rattle.acquisition.proofs.period_sums.PeriodSums.raised_whole.Goals as goal
