@@ -271,8 +271,8 @@ pub small_cells : (table : List ℤ) (ring : List ℕ) (whole : ℤ)
     → sizes_to table 2046 ≤ MOST_PERIOD_SUM → IsRing table ring → whole ≡ total_to table 2046
     → HasSmallCells ring whole
 small_cells table ring whole sizes is all ones half l lane inside few at =
-    (is_cell_sum ones half l lane table ring whole (cell_sum whole lane (ones_of ones)) inside few sizes
-    is all at refl).small
+    (is_cell_sum ones half l lane table ring whole (cell_sum whole lane (ones_of ones)) inside few
+    sizes is all at refl).small
 
 -- the ring of a part
 pub is_part : (table : HalfChipTable) (ring : List ℕ) (whole : ℤ) → IsRing table.sums ring

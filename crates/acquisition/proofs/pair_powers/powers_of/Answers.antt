@@ -27,5 +27,6 @@ loop-l-preserved c =
       most = each-one (λ i it. it ≤ MOST_PERIOD_POWER) l c.power.result powers inside
           c.power.ensures.most here.most;
       powers = each-one (λ i it. it ≡ power_of_pair (half_pair c.args.whole.halves
-          (slice_index c.args.picked.now i)) c.args.whole) l c.power.result powers inside power here.powers;
+          (slice_index c.args.picked.now i)) c.args.whole) l c.power.result powers inside power
+          here.powers;
     }
