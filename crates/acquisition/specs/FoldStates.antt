@@ -42,7 +42,7 @@ pub record IsWhole (sums : Sums) (fold : Fold) : Type 0 where
   pub in_phase : sums.in_phase ≡ total_to fold.in_phase.sums HALF_CHIPS
   pub quadrature : sums.quadrature ≡ total_to fold.quadrature.sums HALF_CHIPS
 
--- half the sums of its entries with any signs fit in 16 bits
+-- half of each sum of its entries, whatever their signs, fits in 16 bits
 pub record IsSmall (fold : Fold) : Type 0 where
   pub in_phase : sizes_to fold.in_phase.sums HALF_CHIPS ≤ MOST_SMALL
   pub quadrature : sizes_to fold.quadrature.sums HALF_CHIPS ≤ MOST_SMALL

@@ -156,7 +156,7 @@ impl Fold {
         self.quadrature.add(place, sums.quadrature, count);
     }
 
-    /// Whether half the sums that it gives with any code fit in 16 bits.
+    /// Whether half of each sum that it gives with a code fits in 16 bits.
     pub(crate) fn is_small(&self) -> bool
         ensures { (result ≡ true) ↔ IsSmall self.now }
     {

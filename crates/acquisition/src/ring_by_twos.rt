@@ -13,7 +13,7 @@ use crate::pair_lanes::PairLanes;
 /// A ring, and that of the sums of two chips that follow one another.
 #[derive(Debug, Drop)]
 pub(crate) struct RingByTwos {
-    pub(crate) one: ChipRing,
+    one: ChipRing,
     two: ChipRing,
     ghost twos: { AreTwos one.chips two.chips },
 }
@@ -43,6 +43,7 @@ impl RingByTwos {
         ensures { ArePairsOf first.now.sums second.now.sums self.new.one.chips }
     {
         self.one.set(first);
+        // The ring for two chips has the second ring until both are paired.
         self.two.set(second);
         self.one.pair_with(&self.two);
         self.two.set_twos(&self.one);

@@ -95,33 +95,24 @@ fn code_in_threes(bytes_a_chip: usize) -> [u8; 4092]
 }
 
 // With the replica of half chip 0 each product is 6 in phase and -3 in quadrature. At 4.092 MHz
-// their sums fit in 16 bits: 24,552 and -12,276. At 16.368 MHz they don't: 98,208 and -49,104.
+// their sums fit in 16 bits: 24,552 and -12,276. At 8.184 MHz their halves do: the sums are 49,104
+// and -24,552. At 16.368 MHz these don't either: 98,208 and -49,104.
 #[test]
 fn sums_beside_16_bits(rt: HostRuntime) -> Result<(), Fail> {
     let plan = Plan::new(Prn::new(1).ok_or("a satellite")?, 0, 0, 1, 1_000)?;
-    let half = HalfChip::new(0).ok_or("a half chip")?;
-    let named = |power| {
-        Some(Cell {
+    for (bytes_a_chip, power) in [(1, 753_500_880), (2, 3_014_003_520), (4, 12_056_014_080)] {
+        let named = Cell {
             bin: 0,
-            half,
+            half: HalfChip::new(0).ok_or("a half chip")?,
             power,
             found: true,
-        })
-    };
-
-    let settings = Settings::new(4_092_000, 0, Format::Real2)?;
-    let bytes = code_in_threes(1);
-    let source = NumberedSamples::new(PackedSamples::new(Format::Real2, &bytes), 0);
-    let search = Search::new(plan, &settings, 0, SearchRoom::new(rt.alloc())?);
-    let cell = search_in_steps(search, &source, 300);
-    assert_same!(rt; cell, named(753_500_880));
-
-    let settings = Settings::new(16_368_000, 0, Format::Real2)?;
-    let bytes = code_in_threes(4);
-    let source = NumberedSamples::new(PackedSamples::new(Format::Real2, &bytes), 0);
-    let search = Search::new(plan, &settings, 0, SearchRoom::new(rt.alloc())?);
-    let cell = search_in_steps(search, &source, 300);
-    assert_same!(rt; cell, named(12_056_014_080));
+        };
+        let settings = Settings::new(4_092_000 * bytes_a_chip as u32, 0, Format::Real2)?;
+        let bytes = code_in_threes(bytes_a_chip);
+        let source = NumberedSamples::new(PackedSamples::new(Format::Real2, &bytes), 0);
+        let search = Search::new(plan, &settings, 0, SearchRoom::new(rt.alloc())?);
+        assert_same_at!(rt; bytes_a_chip, search_in_steps(search, &source, 300), Some(named));
+    }
     Ok(())
 }
 
