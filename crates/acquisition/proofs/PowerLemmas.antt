@@ -65,14 +65,6 @@ last_or_before j k h = grind arith
 pub apart_before : (j k : ℕ) → j < k → j ≡ k → ⊥
 apart_before j k h e = absurd (omega (arith, h, e))
 
-pub apart_behind : (j k : ℕ) → k + 1 ≤ j → j ≡ k → ⊥
-apart_behind j k h e = absurd (omega (arith, h, e))
-
--- what stands where a power was set
-pub set_there : (powers : List ℕ) (i j power : ℕ) → j ≡ i → i < length powers
-    → get_or (set powers i power) j 0 ≡ power
-set_there powers i j power same inside = rw same (get_or-set_same powers i power 0 inside)
-
 -- the first n of a list of powers each have a property
 abbrev pub AreEach : (ℕ → ℕ → Type 0) → ℕ → List ℕ → Type 0
 AreEach property n powers = (i : ℕ) → i < n → property i (slice_index powers i)

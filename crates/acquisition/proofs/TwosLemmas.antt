@@ -2,7 +2,6 @@
 use Rattle.std.proofs.Common.{◌≡◌, ℕ, suc, ◌+◌, ◌-◌, ◌*◌, ◌%◌, ◌^◌, ◌<◌, ◌≤◌, refl, ap, ◌∙◌, sym}
 use Rattle.std.proofs.Common.{arith}
 use Rattle.std.specs.Prelude.{ℤ, pos, ◌+ℤ◌, List, length, slice_index}
-use Rattle.std.proofs.Math.ListN.{replicate}
 use Rattle.std.proofs.lemmas.Int.{ints}
 use Rattle.std.proofs.lemmas.Simd.{get_or-zip2}
 use Rattle.definitions.specs.Sums.{total}
@@ -11,7 +10,7 @@ use Rattle.acquisition.specs.Rings.{sum_at, with_next}
 use Rattle.acquisition.specs.Twos.{IsClosed, AreTwos, HasPairs, IsPair, ArePairs}
 use Rattle.acquisition.specs.declared.ones.Ones.{Ones}
 use Rattle.acquisition.specs.declared.chip_ring.TheConstants.{RING}
-use Rattle.acquisition.proofs.LaneLemmas.{both_lanes, lane_zero, lanes_long}
+use Rattle.acquisition.proofs.LaneLemmas.{both_lanes, lanes_long}
 
 pair_added : (a b c d : ℕ) → ((a + 2 ^ 16 * b) % 2 ^ 32 + (c + 2 ^ 16 * d) % 2 ^ 32) % 2 ^ 32
     ≡ (a + c + 2 ^ 16 * (b + d)) % 2 ^ 32
@@ -26,18 +25,6 @@ pair_more lane more a b x y is pair = record {
   is_first = rw (← is.is_first) refl;
   is_second = rw (← is.is_second) refl;
   is_pair = rw (is.is_pair, pair) (pair_added is.of_first is.of_second a b);
-}
-
-pub pairs_none : (from : ℕ) → ArePairs (λ _. pos 0) (λ _. pos 0) from (replicate 16 0)
-pairs_none from = record {
-  long = refl;
-  are = λ l h. record {
-    of_first = 0;
-    of_second = 0;
-    is_first = refl;
-    is_second = refl;
-    is_pair = lane_zero l h;
-  };
 }
 
 -- sums at one more chip

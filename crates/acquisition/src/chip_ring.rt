@@ -1,10 +1,9 @@
 //! The sums over a chip, wherever it begins.
 
-ghost use Rattle.std.specs.Prelude.{◌≡◌, ◌+◌, ◌-◌, ◌*◌, ◌<◌, ◌≤◌, ℕ, length, slice_index};
+ghost use Rattle.std.specs.Prelude.{◌≡◌, ◌+◌, ◌-◌, ◌<◌, ◌≤◌, ℕ, length, slice_index};
 ghost use Rattle.std.specs.Prelude.{pos, ◌+ℤ◌, unsigned_abs};
 ghost use Rattle.acquisition.specs.declared.chip_ring.TheConstants.{RING, RAISED};
 ghost use Rattle.acquisition.specs.declared.half_chip_table.TheConstants.{HALF_CHIPS, LAST};
-ghost use Rattle.ca_codes.specs.declared.book.TheConstants.{CODE_CHIPS};
 ghost use Rattle.acquisition.specs.Rings.{place_of};
 
 use crate::half_chip_table::{HALF_CHIPS, HalfChipTable, LAST};

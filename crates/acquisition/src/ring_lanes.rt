@@ -1,6 +1,6 @@
 //! The entries of a ring at chips, added up for cells that follow one another.
 
-ghost use Rattle.std.specs.Prelude.{◌≡◌, ◌+◌, ◌*◌, ◌<◌, ◌≤◌, ◌+ℤ◌, ℕ, ℤ, length, slice_index};
+ghost use Rattle.std.specs.Prelude.{◌+◌, ◌*◌, ◌<◌, ◌≤◌, ◌+ℤ◌, ℕ, ℤ, length, slice_index};
 ghost use Rattle.acquisition.specs.declared.chip_ring.TheConstants.{RING, CELLS_AT_ONCE};
 ghost use Rattle.acquisition.specs.declared.half_chip_table.TheConstants.{HALF_CHIPS};
 ghost use Rattle.bit_planes.specs.declared.lanes.TheConstants.{LANES};
