@@ -181,7 +181,7 @@ raised_ones prn half l count chips ring table inside lane ones is =
 
 -- a table's entries are no greater than the samples of a period
 pub table_sizes : (table : HalfChipTable) → sizes_to table.sums 2046 ≤ MOST_PERIOD_SUM
-table_sizes table = omega (arith, table.small, table.few)
+table_sizes table = table.small
 
 -- the sum of all samples less twice those at chips of 1, from a lane
 pub record IsCellSum (prn cell : ℕ) (table : List ℤ) (sum : ℤ) : Type 0 where

@@ -30,12 +30,6 @@ abbrev pub IsTable : (ℕ → ℤ) → ℕ → ℕ → ℕ → List ℤ → Type
 IsTable y step from n table = (k : ℕ) → k < HALF_CHIPS → get_or table k (pos 0)
     ≡ sum_at_key (λ i. y (from + i)) (λ i. half_chip_at step (from + i)) n k
 
--- it will be, once a sum is added at a half chip
-abbrev pub IsOpenTable : (ℕ → ℤ) → ℕ → ℕ → ℕ → ℕ → ℤ → List ℤ → Type 0
-IsOpenTable y step from n place sum table = (k : ℕ) → k < HALF_CHIPS
-    → get_or table k (pos 0) +ℤ cond (place == k) sum (pos 0)
-    ≡ sum_at_key (λ i. y (from + i)) (λ i. half_chip_at step (from + i)) n k
-
 -- the sum of a table's first n entries, and that of their sizes
 unfoldable pub total_to : List ℤ → ℕ → ℤ
 total_to table n = total (λ k. get_or table k (pos 0)) n

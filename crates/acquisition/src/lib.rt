@@ -37,6 +37,7 @@ mod chip_ring;
 mod dwell;
 mod fold;
 mod half_chip_table;
+mod half_chip_walk;
 mod ones;
 mod pair_powers;
 mod pair_ring;
