@@ -1,6 +1,6 @@
 -- Sums grouped by keys, and the half chips of the code at which samples lie.
 use Rattle.std.specs.Prelude.{◌≡◌, ◌<◌, ℕ, zero, suc, ◌+◌, ◌*◌, ◌/◌, ◌%◌, ◌^◌, ◌==◌, ℤ, pos}
-use Rattle.std.specs.Prelude.{◌+ℤ◌, ◌*ℤ◌, cond, List, get_or, unsigned_abs}
+use Rattle.std.specs.Prelude.{◌*ℤ◌, cond, List, get_or, unsigned_abs}
 use Rattle.definitions.specs.Sums.{total}
 use Rattle.definitions.specs.Samples.{Sample}
 use Rattle.definitions.specs.Codes.{chip_sign}

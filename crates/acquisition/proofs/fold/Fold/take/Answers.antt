@@ -1,4 +1,4 @@
-use Rattle.std.proofs.Common.{◌≡◌, ◌<◌, ◌+◌, ◌-◌, ◌*◌, ◌∙◌, ℕ, length, ap, refl, sym, arith}
+use Rattle.std.proofs.Common.{◌≡◌, ◌<◌, ◌+◌, ◌*◌, ◌∙◌, ℕ, length, ap, refl, arith}
 use Rattle.std.specs.Prelude.{min}
 use Rattle.definitions.specs.Samples.{Sample, sample_at}
 use Rattle.definitions.specs.Oscillators.{code_phase_after, carrier_phase_after}

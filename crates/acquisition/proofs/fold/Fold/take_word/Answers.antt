@@ -1,9 +1,7 @@
-use Rattle.std.proofs.Common.{◌≡◌, ◌<◌, ◌≤◌, ◌+◌, ◌-◌, ◌∙◌, ℕ, arith, refl, ap, sym}
-use Rattle.definitions.specs.Samples.{Sample}
+use Rattle.std.proofs.Common.{◌≡◌, ◌≤◌, ◌+◌, ℕ, arith, refl}
 use Rattle.definitions.specs.Oscillators.{code_phase_after}
 use Rattle.lane_correlator.specs.SampleProducts.{in_phase_of, quadrature_of}
 use Rattle.acquisition.specs.Folds.{in_phase_at, quadrature_at}
-use Rattle.acquisition.specs.Walks.{IsAt}
 use Rattle.acquisition.proofs.PlaceLemmas.{code-goes_on}
 use Rattle.acquisition.proofs.RunLemmas.{word_sum, room_left, table_run}
 use Rattle.acquisition.proofs.fold.Fold.take_word.Goals as goal

@@ -1,4 +1,4 @@
-use Rattle.std.proofs.Common.{◌≡◌, ◌<◌, ◌+◌, ◌-◌, ◌/◌, ◌^◌, ◌∙◌, ℕ, refl, sym, ap, arith}
+use Rattle.std.proofs.Common.{◌≡◌, ◌+◌, ◌-◌, ◌/◌, ◌^◌, ◌∙◌, ℕ, refl, sym, ap, arith}
 use Rattle.definitions.specs.Oscillators.{code_phase_after}
 use Rattle.acquisition.proofs.PlaceLemmas.{code-goes_on}
 use Rattle.acquisition.proofs.half_chip_walk.HalfChipWalk.pass.Goals as goal
