@@ -45,6 +45,7 @@ fn right_in_word(
     requires values { (length values.now.cos ≡ length samples.now)
         × (length values.now.sin ≡ length samples.now) }
     requires inside { from + count ≤ length samples.now }
+    requires run { length samples.now ≤ MAX_SAMPLES }
     requires word { count ≤ WORD_PLACES }
     requires in_phase { (j : ℕ) → j < count
         → unsigned_abs (in_phase_of products.now j) ≤ MOST_PRODUCT }
@@ -73,6 +74,7 @@ fn right_from(
     requires values { (length values.now.cos ≡ length samples.now)
         × (length values.now.sin ≡ length samples.now) }
     requires inside { from + end ≤ length samples.now }
+    requires run { length samples.now ≤ MAX_SAMPLES }
     requires word { end ≤ WORD_PLACES }
     requires few { end - first ≤ MOST_AT_ONCE }
     requires in_phase { (j : ℕ) → j < end
