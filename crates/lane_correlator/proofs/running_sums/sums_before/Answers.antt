@@ -13,7 +13,9 @@ pub returns-clause-sums : goal.returns-clause-sums
 returns-clause-sums c bytes are =
     let one = c.sixteen_before-one in
     let two = c.sixteen_before-two in
-    one_before_more 2 bytes c.args.whole two.result c.sixteen_before.result c.requires two.ensures.long are
+    one_before_more 2 bytes c.args.whole two.result c.sixteen_before.result c.requires
+    two.ensures.long are
     (one_before_more 1 bytes c.args.whole one.result two.result c.requires one.ensures.long are
     (first_before bytes c.args.whole one.result are one.ensures.first one.ensures.others)
-    two.ensures.first two.ensures.others) c.sixteen_before.ensures.first c.sixteen_before.ensures.others
+    two.ensures.first two.ensures.others) c.sixteen_before.ensures.first
+    c.sixteen_before.ensures.others
