@@ -232,7 +232,7 @@ raised_ones prn half l alone twos ring table inside lane ones is =
 
 -- a table's entries are no greater than the samples of a period
 pub table_sizes : (table : HalfChipTable) → sizes_to table.sums 2046 ≤ MOST_PERIOD_SUM
-table_sizes table = omega (arith, table.small, table.few)
+table_sizes table = table.small
 
 -- how many chips of 1 there are
 abbrev pub ones_of : Ones → ℕ

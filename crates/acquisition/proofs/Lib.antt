@@ -3,6 +3,7 @@ pub mod RegroupedLemmas
 pub mod PlaceLemmas
 pub mod SignLemmas
 pub mod TableLemmas
+pub mod RunLemmas
 pub mod FoldLemmas
 pub mod PowerLemmas
 pub mod SoFarLemmas

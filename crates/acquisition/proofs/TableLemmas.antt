@@ -1,21 +1,23 @@
 -- Tables of values that are added up by place.
-use Rattle.std.proofs.Common.{inl, inr, ◌≡◌, ℕ, zero, suc, ◌+◌, ◌*◌, ◌/◌, ◌<◌, ◌≤◌, refl, sym}
-use Rattle.std.proofs.Common.{◌∙◌}
+use Rattle.std.proofs.Common.{inl, inr, ◌≡◌, ℕ, zero, suc, ◌+◌, ◌/◌, ◌<◌, ◌≤◌, refl, sym}
+use Rattle.std.proofs.Common.{◌∙◌, ap}
 use Rattle.std.proofs.Common.{arith, to_z, of_z, w32, FitsSigned}
 use Rattle.std.specs.Prelude.{ℤ, pos, negsuc, ◌+ℤ◌, ◌*ℤ◌, ◌==◌, Bool, true, false, cond, ◌⊎◌}
 use Rattle.std.specs.Prelude.{List, get_or, unsigned_abs, length}
 use Rattle.std.proofs.Math.ListN.{replicate, set}
-use Rattle.std.proofs.lemmas.Int.{ints, to_z-of_z, fits_signed_from_abs}
+use Rattle.std.proofs.lemmas.Int.{ints, fits_signed_from_abs}
 use Rattle.std.proofs.lemmas.Bool.{eq-eqb, cases_lt}
 use Rattle.std.proofs.lemmas.List.{get_or-replicate, get_or-set_same, get_or-set_other}
 use Rattle.definitions.specs.Sums.{total}
+use Rattle.definitions.proofs.SumsLemmas.{total-same, total-split}
 use Rattle.definitions.specs.Codes.{chip_sign}
-use Rattle.acquisition.specs.Folds.{sum_at_key, half_chip_at, IsTable, IsOpenTable, total_to}
+use Rattle.acquisition.specs.Folds.{sum_at_key, half_chip_at, IsTable, total_to}
 use Rattle.acquisition.specs.Folds.{sizes_to}
 use Rattle.acquisition.specs.Folds.{correlation_to}
 use Rattle.acquisition.specs.declared.half_chip_table.TheConstants.{HALF_CHIPS}
-use Rattle.oscillators.specs.declared.settings.TheConstants.{MOST_PER_MS}
+use Rattle.acquisition.specs.declared.sums.TheConstants.{MOST_PERIOD_SUM}
 use Rattle.acquisition.proofs.SizeLemmas.{abs_add}
+use Rattle.acquisition.proofs.FoldLemmas.{entry_in_32}
 use Rattle.acquisition.proofs.SignLemmas.{sign_cases}
 
 -- a table whose entries are all the same
@@ -33,43 +35,29 @@ pub none_is : (y : ℕ → ℤ) (step from : ℕ) (table : List ℤ) → IsTable
 unfolding sum_at_key total
 none_is y step from table is k h = is k h
 
-sum_at_key-more : (y : ℕ → ℤ) (key : ℕ → ℕ) (n k : ℕ) → sum_at_key y key (n + 1) k
-    ≡ sum_at_key y key n k +ℤ cond (key n == k) (y n) (pos 0)
-unfolding sum_at_key total
-sum_at_key-more y key n k = let e : n + 1 ≡ suc n = omega arith in rw e refl
+-- a table with values more, which lie at one place
+cond_total : (here : Bool) (f : ℕ → ℤ) (n : ℕ)
+    → total (λ i. cond here (f i) (pos 0)) n ≡ cond here (total f n) (pos 0)
+unfolding total
+cond_total true f n = refl
+cond_total false f zero = refl
+cond_total false f (suc n) = rw (cond_total false f n) (omega (arith, ints))
 
--- a table with a sum that is still to be added: one of nothing, one with a value more, and a table
--- once the sum is added
-pub open_none : (y : ℕ → ℤ) (step from n place : ℕ) (table : List ℤ) → IsTable y step from n table
-    → IsOpenTable y step from n place (pos 0) table
-open_none y step from n place table is k h = nothing (get_or table k (pos 0)) ∙ is k h
-  where
-    nothing : (z : ℤ) → z +ℤ cond (place == k) (pos 0) (pos 0) ≡ z
-    nothing z = either (place == k) z
-      where
-        either : (same : Bool) (z : ℤ) → z +ℤ cond same (pos 0) (pos 0) ≡ z
-        either true z = omega (arith, ints)
-        either false z = omega (arith, ints)
-
-pub open_more : (y : ℕ → ℤ) (step from n place : ℕ) (sum value : ℤ) (table : List ℤ)
-    → IsOpenTable y step from n place sum table → place ≡ half_chip_at step (from + n)
-    → value ≡ y (from + n) → IsOpenTable y step from (n + 1) place (sum +ℤ value) table
-open_more y step from n place sum value table is at same k h =
-    parted (place == k) (get_or table k (pos 0)) sum value
-    ∙ rw (is k h, at, same)
-    (sym (sum_at_key-more (λ i. y (from + i)) (λ i. half_chip_at step (from + i)) n k))
-  where
-    parted : (here : Bool) (z a b : ℤ) → z +ℤ cond here (a +ℤ b) (pos 0)
-        ≡ (z +ℤ cond here a (pos 0)) +ℤ cond here b (pos 0)
-    parted true z a b = omega (arith, ints)
-    parted false z a b = omega (arith, ints)
-
-pub open_added : (y : ℕ → ℤ) (step from n place : ℕ) (sum : ℤ) (old new : List ℤ)
-    → IsOpenTable y step from n place sum old
+pub table_more : (y : ℕ → ℤ) (step from n len place : ℕ) (sum : ℤ) (old new : List ℤ)
+    → IsTable y step from n old
+    → ((i : ℕ) → i < len → half_chip_at step (from + (n + i)) ≡ place)
+    → sum ≡ total (λ i. y (from + (n + i))) len
     → ((k : ℕ) → k < HALF_CHIPS → get_or new k (pos 0)
     ≡ get_or old k (pos 0) +ℤ cond (place == k) sum (pos 0))
-    → IsTable y step from n new
-open_added y step from n place sum old new is more k h = more k h ∙ is k h
+    → IsTable y step from (n + len) new
+unfolding sum_at_key
+table_more y step from n len place sum old new is at same more k h =
+    let value : ℕ → ℤ = λ i. cond (half_chip_at step (from + i) == k) (y (from + i)) (pos 0) in
+    more k h ∙ rw (is k h, same) (sym (total-split value n len
+    ∙ ap (λ (z : ℤ). total value n +ℤ z) (total-same (λ i. value (n + i))
+    (λ i. cond (place == k) (y (from + (n + i))) (pos 0)) len
+    (λ i below. ap (λ (p : ℕ). cond (p == k) (y (from + (n + i))) (pos 0)) (at i below))
+    ∙ cond_total (place == k) (λ i. y (from + (n + i))) len)))
 
 -- the sizes of a table's entries
 pub sizes-none : (table : List ℤ) (n : ℕ)
@@ -216,41 +204,12 @@ total_size (suc n) table = omega (
   total_size n table,
 )
 
--- an entry in 32 bits, and its sum with a value
-pub entry_fits : (z : ℤ) (size taken : ℕ) → unsigned_abs z ≤ size → size ≤ 9 * taken
-    → taken ≤ MOST_PER_MS → FitsSigned w32 z
-entry_fits z size taken within small few =
-    fits_signed_from_abs w32 z (omega (arith, within, small, few))
-
-sum_fits : (z sum : ℤ) (size taken more : ℕ) → unsigned_abs z ≤ size → size ≤ 9 * taken
-    → taken + more ≤ MOST_PER_MS → unsigned_abs sum ≤ 9 * more → FitsSigned w32 (z +ℤ sum)
-sum_fits z sum size taken more within small few most =
-    fits_signed_from_abs w32 (z +ℤ sum) (omega (arith, abs_add z sum, within, small, few, most))
-
-pub value-kept : (sum : ℤ) (more : ℕ) → unsigned_abs sum ≤ 9 * more → more ≤ MOST_PER_MS
-    → to_z w32 (of_z w32 sum) ≡ sum
-value-kept sum more most few =
-    to_z-of_z w32 sum (fits_signed_from_abs w32 sum (omega (arith, most, few)))
-
--- a sum with one more value, from how it was passed on
-pub record IsWith (sum old value : ℤ) (more : ℕ) : Type 0 where
-  pub is : sum ≡ old +ℤ value
-  pub most : unsigned_abs sum ≤ 9 * (more + 1)
-
-pub is_with : (sum old given value : ℤ) (more : ℕ) → sum ≡ old +ℤ to_z w32 (of_z w32 given)
-    → given ≡ value → unsigned_abs old ≤ 9 * more → unsigned_abs value ≤ 9
-    → IsWith sum old value more
-is_with sum old given value more made same before small =
-    let is : sum ≡ old +ℤ value =
-    made ∙ rw (same, value-kept value 1 (omega (arith, small)) (omega arith)) refl in
-    record { is = is; most = rw is (omega (arith, abs_add old value, before, small)) }
-
-pub entry-kept : (table : List ℤ) (k taken : ℕ) → k < HALF_CHIPS
-    → sizes_to table HALF_CHIPS ≤ 9 * taken → taken ≤ MOST_PER_MS
+-- an entry in 32 bits
+pub entry-kept : (table : List ℤ) (k : ℕ) → k < HALF_CHIPS
+    → sizes_to table HALF_CHIPS ≤ MOST_PERIOD_SUM
     → to_z w32 (of_z w32 (get_or table k (pos 0))) ≡ get_or table k (pos 0)
-entry-kept table k taken h small few = to_z-of_z w32 (get_or table k (pos 0))
-    (entry_fits (get_or table k (pos 0)) (sizes_to table HALF_CHIPS) taken
-    (size_of_one table k HALF_CHIPS h) small few)
+entry-kept table k h small = entry_in_32 (get_or table k (pos 0))
+    (omega (arith, size_of_one table k HALF_CHIPS h, small))
 
 -- an entry and a value added to it, in 32 bits
 pub record AddsUp (entry value : ℤ) : Type 0 where
@@ -258,19 +217,18 @@ pub record AddsUp (entry value : ℤ) : Type 0 where
   pub is : to_z w32 (of_z w32 (to_z w32 (of_z w32 entry) +ℤ to_z w32 (of_z w32 value)))
       ≡ entry +ℤ value
 
-pub adds_up : (table : List ℤ) (place taken more : ℕ) (sum : ℤ) → place < HALF_CHIPS
-    → sizes_to table HALF_CHIPS ≤ 9 * taken → taken + more ≤ MOST_PER_MS
-    → unsigned_abs sum ≤ 9 * more → AddsUp (get_or table place (pos 0)) sum
-adds_up table place taken more sum inside small few most =
+pub adds_up : (table : List ℤ) (place : ℕ) (sum : ℤ) → place < HALF_CHIPS
+    → sizes_to table HALF_CHIPS + unsigned_abs sum ≤ MOST_PERIOD_SUM
+    → AddsUp (get_or table place (pos 0)) sum
+adds_up table place sum inside room =
     let entry : ℤ = get_or table place (pos 0) in
-    let fits : FitsSigned w32 (entry +ℤ sum) =
-    sum_fits entry sum (sizes_to table HALF_CHIPS) taken more
-    (size_of_one table place HALF_CHIPS inside) small few most in
-    let kept = entry-kept table place taken inside small (omega (arith, few)) in
-    let same = value-kept sum more most (omega (arith, few)) in
+    let most : unsigned_abs (entry +ℤ sum) ≤ MOST_PERIOD_SUM =
+    omega (arith, abs_add entry sum, size_of_one table place HALF_CHIPS inside, room) in
+    let kept = entry-kept table place inside (omega (arith, room)) in
+    let same = entry_in_32 sum (omega (arith, room)) in
     record {
-      fits = rw (kept, same) fits;
-      is = rw (kept, same) (to_z-of_z w32 (entry +ℤ sum) fits);
+      fits = rw (kept, same) (fits_signed_from_abs w32 (entry +ℤ sum) (omega (arith, most)));
+      is = rw (kept, same) (entry_in_32 (entry +ℤ sum) most);
     }
 
 -- a table with a value added to an entry

@@ -1,28 +1,21 @@
 -- What a fold stands for.
-use Rattle.std.specs.Prelude.{◌≡◌, ◌≤◌, ◌<◌, ◌+◌, ℕ, unsigned_abs}
+use Rattle.std.specs.Prelude.{◌≡◌, ◌≤◌, ◌<◌, ◌+◌, ◌*◌, ℕ, unsigned_abs}
 use Rattle.definitions.specs.Samples.{Sample}
 use Rattle.oscillators.specs.declared.carrier.TheConstants.{MOST_PRODUCT}
 use Rattle.lane_correlator.specs.SampleProducts.{in_phase_of, quadrature_of}
 use Rattle.lane_correlator.specs.declared.products.Products.{Products}
-use Rattle.acquisition.specs.Folds.{IsTable, IsOpenTable, in_phase_at, quadrature_at, total_to}
+use Rattle.acquisition.specs.Folds.{IsTable, in_phase_at, quadrature_at, total_to}
 use Rattle.acquisition.specs.Folds.{sizes_to}
 use Rattle.acquisition.specs.declared.half_chip_table.TheConstants.{HALF_CHIPS}
 use Rattle.acquisition.specs.declared.fold.Fold.{Fold}
 use Rattle.acquisition.specs.declared.fold.TheConstants.{MOST_SMALL}
 use Rattle.acquisition.specs.declared.sums.Sums.{Sums}
+use Rattle.acquisition.specs.declared.sums.TheConstants.{MOST_PERIOD_SUM}
 
 -- of n samples from offset `from` on
 pub record IsFold (x : ℕ → Sample) (step carrier_step from n : ℕ) (fold : Fold) : Type 0 where
   pub in_phase : IsTable (in_phase_at x carrier_step) step from n fold.in_phase.sums
   pub quadrature : IsTable (quadrature_at x carrier_step) step from n fold.quadrature.sums
-
--- of n samples, once sums are added to it at a half chip
-pub record IsOpenFold (x : ℕ → Sample) (step carrier_step from n place : ℕ) (sums : Sums)
-    (fold : Fold) : Type 0 where
-  pub in_phase : IsOpenTable (in_phase_at x carrier_step) step from n place sums.in_phase
-      fold.in_phase.sums
-  pub quadrature : IsOpenTable (quadrature_at x carrier_step) step from n place sums.quadrature
-      fold.quadrature.sums
 
 -- the first n products are those of the samples from one on
 pub record AreWiped (x : ℕ → Sample) (carrier_step from n : ℕ) (products : Products) : Type 0
@@ -47,6 +40,7 @@ pub record IsSmall (fold : Fold) : Type 0 where
   pub in_phase : sizes_to fold.in_phase.sums HALF_CHIPS ≤ MOST_SMALL
   pub quadrature : sizes_to fold.quadrature.sums HALF_CHIPS ≤ MOST_SMALL
 
--- how many samples it has taken
-abbrev pub taken_of : Fold → ℕ
-taken_of fold = fold.in_phase.taken
+-- n samples more leave the sizes of its entries within those over a period
+pub record HasRoom (n : ℕ) (fold : Fold) : Type 0 where
+  pub in_phase : sizes_to fold.in_phase.sums HALF_CHIPS + MOST_PRODUCT * n ≤ MOST_PERIOD_SUM
+  pub quadrature : sizes_to fold.quadrature.sums HALF_CHIPS + MOST_PRODUCT * n ≤ MOST_PERIOD_SUM

@@ -1,6 +1,6 @@
 -- Sums grouped by keys, and the half chips of the code at which samples lie.
 use Rattle.std.specs.Prelude.{◌≡◌, ◌<◌, ℕ, zero, suc, ◌+◌, ◌*◌, ◌/◌, ◌%◌, ◌^◌, ◌==◌, ℤ, pos}
-use Rattle.std.specs.Prelude.{◌+ℤ◌, ◌*ℤ◌, cond, List, get_or, unsigned_abs}
+use Rattle.std.specs.Prelude.{◌*ℤ◌, cond, List, get_or, unsigned_abs}
 use Rattle.definitions.specs.Sums.{total}
 use Rattle.definitions.specs.Samples.{Sample}
 use Rattle.definitions.specs.Codes.{chip_sign}
@@ -28,12 +28,6 @@ quadrature_at x carrier_step j = wiped_quadrature (x j)
 -- a table is the fold of these values by half chip, n of them from offset `from` on
 abbrev pub IsTable : (ℕ → ℤ) → ℕ → ℕ → ℕ → List ℤ → Type 0
 IsTable y step from n table = (k : ℕ) → k < HALF_CHIPS → get_or table k (pos 0)
-    ≡ sum_at_key (λ i. y (from + i)) (λ i. half_chip_at step (from + i)) n k
-
--- it will be, once a sum is added at a half chip
-abbrev pub IsOpenTable : (ℕ → ℤ) → ℕ → ℕ → ℕ → ℕ → ℤ → List ℤ → Type 0
-IsOpenTable y step from n place sum table = (k : ℕ) → k < HALF_CHIPS
-    → get_or table k (pos 0) +ℤ cond (place == k) sum (pos 0)
     ≡ sum_at_key (λ i. y (from + i)) (λ i. half_chip_at step (from + i)) n k
 
 -- the sum of a table's first n entries, and that of their sizes

@@ -5,6 +5,7 @@ pub mod Tallies
 pub mod Cells
 pub mod Searches
 pub mod Folds
+pub mod Walks
 pub mod FoldStates
 pub mod FoldRings
 pub mod Periods

@@ -67,6 +67,7 @@ impl BinPowers {
     )
         requires more { self.old.added ≤ to }
         requires to { to ≤ BIN_CELLS * dwell.now.periods }
+        requires moving { 0 < steps.code }
         requires from { S.from source.now ≤ dwell.now.start }
         requires held { dwell.now.start + dwell.now.periods * dwell.now.per_period
             ≤ S.to source.now }

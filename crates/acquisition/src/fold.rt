@@ -7,13 +7,13 @@ ghost use Rattle.definitions.specs.Samples.{Sample, sample_at};
 ghost use Rattle.bit_planes.specs.declared.plane.TheConstants.{WORD_PLACES};
 ghost use Rattle.acquisition.specs.declared.dwell.TheConstants.{MOST_START};
 ghost use Rattle.acquisition.specs.declared.half_chip_table.TheConstants.{HALF_CHIPS};
-ghost use Rattle.oscillators.specs.declared.carrier.TheConstants.{MOST_PRODUCT};
 ghost use Rattle.oscillators.specs.declared.settings.TheConstants.{MOST_PER_MS};
 
 use crate::half_chip_table::{HALF_CHIPS, HalfChipTable};
+use crate::half_chip_walk::HalfChipWalk;
 use crate::sums::Sums;
-use lane_correlator::Products;
-use oscillators::{CODE_CYCLE, CarrierOsc, CodeOsc};
+use lane_correlator::{MOST_AT_ONCE, Products};
+use oscillators::{CarrierOsc, CodeOsc};
 use sample_planes::{MAX_SAMPLES, Planes, SampleSource};
 
 /// The greatest sum in size whose half, rounded down, fits in 16 bits.
@@ -25,20 +25,20 @@ pub(crate) const MOST_SMALL: u32 = (1 << 16) - 1;
 pub(crate) struct Fold {
     pub(crate) in_phase: HalfChipTable,
     pub(crate) quadrature: HalfChipTable,
-    ghost same: { quadrature.taken ≡ in_phase.taken },
 }
 
 impl Fold {
     ghost use Rattle.definitions.specs.Oscillators.{code_phase_after, carrier_phase_after};
-    ghost use Rattle.acquisition.specs.FoldStates.{IsFold, IsOpenFold, IsSmall, IsWhole, taken_of};
+    ghost use Rattle.acquisition.specs.FoldStates.{IsFold, IsSmall, IsWhole, HasRoom};
     ghost use Rattle.acquisition.specs.FoldStates.{AreSmall, AreWiped};
+    ghost use Rattle.acquisition.specs.Walks.{IsAt};
 
     /// The sums over no samples.
     #[inline(always)]
     pub(crate) fn new() -> Fold
         ensures fold { (x : ℕ → Sample) (step carrier_step from : ℕ)
             → IsFold x step carrier_step from 0 result }
-        ensures taken { taken_of result ≡ 0 }
+        ensures room { HasRoom MOST_PER_MS result }
     {
         Fold {
             in_phase: HalfChipTable::new(),
@@ -63,6 +63,7 @@ impl Fold {
         requires early { first ≤ 2 * MOST_START }
         requires short { len ≤ MOST_PER_MS }
         requires step { code.step ≡ code_step }
+        requires moving { 0 < code_step }
         ensures { (x : ℕ → Sample) (from : ℕ) → code.phase ≡ code_phase_after 0 code_step from
             → carrier.phase ≡ carrier_phase_after 0 carrier.step from
             → ((j : ℕ) → j < len → S.held source.now (first + j) ≡ x (from + j))
@@ -84,76 +85,51 @@ impl Fold {
     /// `step` on.
     fn take(&mut self, samples: &Planes, code: u64, step: u32, carrier: &CarrierOsc)
         requires code { code < code_cycle }
-        requires room { taken_of self.old + length samples.now ≤ MOST_PER_MS }
+        requires moving { 0 < step }
+        requires room { HasRoom (length samples.now) self.old }
         ensures fold { (x : ℕ → Sample) (from n : ℕ)
             → IsFold x step carrier.now.step from n self.old
             → code ≡ code_phase_after 0 step (from + n)
             → carrier.now.phase ≡ carrier_phase_after 0 carrier.now.step (from + n)
             → ((j : ℕ) → j < length samples.now → sample_at samples.now j ≡ x (from + n + j))
             → IsFold x step carrier.now.step from (n + length samples.now) self.new }
-        ensures taken { taken_of self.new ≡ taken_of self.old + length samples.now }
+        ensures room { (n : ℕ) → HasRoom (length samples.now + n) self.old → HasRoom n self.new }
     {
         let mut words = carrier.words(0);
-        let mut phase = code;
+        let mut walk = HalfChipWalk::new(code, step);
         for w in 0..(samples.len() + 63) / 64 {
             let products = Products::new(samples, w, &mut words);
             let count = (samples.len() - 64 * w).min(64);
-            phase = self.take_word(&products, count, phase, step);
+            self.take_word(&products, count, &mut walk);
         }
     }
 
-    /// Adds the first `count` products of a word, and answers the phase of the code after them.
-    /// Those that follow one another at one half chip are added up before they are put there: else
-    /// each would wait until the sum of the one before is written.
+    /// Adds the first `count` products of a word, and walks on past their samples. Those that
+    /// follow one another at one half chip are added at once.
     #[inline(always)]
-    fn take_word(&mut self, products: &Products, count: usize, code: u64, step: u32) -> u64
+    fn take_word(&mut self, products: &Products, count: usize, walk: &mut HalfChipWalk)
         requires count { count ≤ WORD_PLACES }
-        requires code { code < code_cycle }
-        requires room { taken_of self.old + count ≤ MOST_PER_MS }
+        requires room { HasRoom count self.old }
         requires small { AreSmall count products.now }
-        ensures fold { (x : ℕ → Sample) (carrier_step from n : ℕ)
+        ensures fold { (x : ℕ → Sample) (step carrier_step from n : ℕ)
             → IsFold x step carrier_step from n self.old
-            → code ≡ code_phase_after 0 step (from + n)
+            → IsAt (code_phase_after 0 step (from + n)) step walk.old
             → AreWiped x carrier_step (from + n) count products.now
             → IsFold x step carrier_step from (n + count) self.new }
-        ensures taken { taken_of self.new ≡ taken_of self.old + count }
-        ensures phase { result ≡ code_phase_after code step count }
-        ensures in_cycle { result < code_cycle }
+        ensures walk { (phase step : ℕ) → IsAt phase step walk.old
+            → IsAt (code_phase_after phase step count) step walk.new }
+        ensures room { (n : ℕ) → HasRoom (count + n) self.old → HasRoom n self.new }
     {
-        let mut phase = code;
-        let mut sums = Sums::NONE;
-        let mut many = 0;
-        for j in 0..count {
-            sums = sums.with(products.in_phase(j), products.quadrature(j));
-            many += 1;
-            let next = phase + u64::from(step);
-            if next >> 31 == phase >> 31 {
-                phase = next;
-            } else {
-                self.add((phase >> 31) as usize, sums, many);
-                sums = Sums::NONE;
-                many = 0;
-                phase = phase_behind(phase, step);
-            }
+        let mut done = 0;
+        while done < count {
+            let len = walk.left.min(count - done).min(MOST_AT_ONCE);
+            let end = done + len;
+            self.in_phase.add(walk.place, products.in_phase(done, end));
+            self.quadrature
+                .add(walk.place, products.quadrature(done, end));
+            walk.pass(len);
+            done = end;
         }
-        self.add((phase >> 31) as usize, sums, many);
-        phase
-    }
-
-    /// Adds the sums over `count` samples without their carrier at a half chip.
-    #[inline(always)]
-    fn add(&mut self, place: usize, sums: Sums, count: u32)
-        requires place { place < HALF_CHIPS }
-        requires in_phase { unsigned_abs sums.in_phase ≤ MOST_PRODUCT * count }
-        requires quadrature { unsigned_abs sums.quadrature ≤ MOST_PRODUCT * count }
-        requires few { taken_of self.old + count ≤ MOST_PER_MS }
-        ensures fold { (x : ℕ → Sample) (step carrier_step from n : ℕ)
-            → IsOpenFold x step carrier_step from n place sums self.old
-            → IsFold x step carrier_step from n self.new }
-        ensures taken { taken_of self.new ≡ taken_of self.old + count }
-    {
-        self.in_phase.add(place, sums.in_phase, count);
-        self.quadrature.add(place, sums.quadrature, count);
     }
 
     /// Whether half of each sum that it gives with a code fits in 16 bits.
@@ -177,20 +153,5 @@ impl Fold {
             in_phase,
             quadrature,
         }
-    }
-}
-
-/// The code's phase one `step` on, within its cycle. Phases are in 2^-32 chip.
-#[inline(always)]
-fn phase_behind(phase: u64, step: u32) -> u64
-    requires { phase < code_cycle }
-    ensures value { result ≡ (phase + step) % code_cycle }
-    ensures in_cycle { result < code_cycle }
-{
-    let next = phase + u64::from(step);
-    if next < CODE_CYCLE {
-        next
-    } else {
-        next - CODE_CYCLE
     }
 }

@@ -4,9 +4,7 @@ ghost use Rattle.std.specs.Prelude.{◌≡◌, ◌+◌, ◌*◌, ◌<◌, ◌≤
 ghost use Rattle.std.specs.Prelude.{get_or, unsigned_abs};
 ghost use Rattle.acquisition.specs.Folds.{sizes_to};
 ghost use Rattle.acquisition.specs.declared.half_chip_table.TheConstants.{HALF_CHIPS};
-ghost use Rattle.oscillators.specs.declared.carrier.TheConstants.{MOST_PRODUCT};
 ghost use Rattle.acquisition.specs.declared.sums.TheConstants.{MOST_PERIOD_SUM};
-ghost use Rattle.oscillators.specs.declared.settings.TheConstants.{MOST_PER_MS};
 
 use ca_codes::CODE_CHIPS;
 
@@ -16,15 +14,13 @@ pub(crate) const HALF_CHIPS: usize = 2 * CODE_CHIPS as usize;
 /// The last place.
 pub(crate) const LAST: usize = HALF_CHIPS - 1;
 
-/// Values of at most `MOST_PRODUCT` in size, added up by the half chips at which they lie.
+/// Values added up by the half chips at which they lie. Their sizes come to at most those over a
+/// period of the code.
 #[derive(Debug, Drop)]
 pub(crate) struct HalfChipTable {
     sums: [i32; HALF_CHIPS],
-    /// How many values were added.
-    taken: u32,
-    ghost few: { taken ≤ MOST_PER_MS },
     ghost long: { length sums ≡ HALF_CHIPS },
-    ghost small: { sizes_to sums HALF_CHIPS ≤ MOST_PRODUCT * taken },
+    ghost small: { sizes_to sums HALF_CHIPS ≤ MOST_PERIOD_SUM },
 }
 
 impl HalfChipTable {
@@ -32,26 +28,24 @@ impl HalfChipTable {
     #[inline(always)]
     pub(crate) fn new() -> HalfChipTable
         ensures none { (k : ℕ) → k < HALF_CHIPS → get_or result.sums k (pos 0) ≡ pos 0 }
-        ensures taken { result.taken ≡ 0 }
+        ensures sizes { sizes_to result.sums HALF_CHIPS ≡ 0 }
     {
         HalfChipTable {
             sums: [0; HALF_CHIPS],
-            taken: 0,
         }
     }
 
-    /// Adds the sum of `count` values at a place.
+    /// Adds a sum of values at a place.
     #[inline(always)]
-    pub(crate) fn add(&mut self, place: usize, sum: i32, count: u32)
+    pub(crate) fn add(&mut self, place: usize, sum: i32)
         requires place { place < HALF_CHIPS }
-        requires small { unsigned_abs sum ≤ MOST_PRODUCT * count }
-        requires few { self.old.taken + count ≤ MOST_PER_MS }
+        requires room { sizes_to self.old.sums HALF_CHIPS + unsigned_abs sum ≤ MOST_PERIOD_SUM }
         ensures added { (k : ℕ) → k < HALF_CHIPS → get_or self.new.sums k (pos 0)
             ≡ get_or self.old.sums k (pos 0) +ℤ cond (place == k) sum (pos 0) }
-        ensures taken { self.new.taken ≡ self.old.taken + count }
+        ensures sizes { sizes_to self.new.sums HALF_CHIPS
+            ≤ sizes_to self.old.sums HALF_CHIPS + unsigned_abs sum }
     {
         self.sums[place] += sum;
-        self.taken += count;
     }
 
     /// The sum at a place.

@@ -36,6 +36,7 @@ mod chip_ring;
 mod dwell;
 mod fold;
 mod half_chip_table;
+mod half_chip_walk;
 mod ones;
 mod pair_lanes;
 mod pair_powers;

@@ -69,6 +69,7 @@ impl PeriodSums {
         requires early { first ≤ 2 * MOST_START }
         requires short { len ≤ MOST_PER_MS }
         requires step { code.step ≡ code_step }
+        requires moving { 0 < code_step }
         ensures { (x : ℕ → Sample) (from : ℕ) → code.phase ≡ code_phase_after 0 code_step from
             → carrier.phase ≡ carrier_phase_after 0 carrier.step from
             → ((j : ℕ) → j < len → S.held source.now (first + j) ≡ x (from + j))

@@ -3,6 +3,8 @@ pub mod HalfLemmas
 pub mod LaneSumLemmas
 pub mod PlaceTableLemmas
 pub mod MaskLemmas
+pub mod RunningLemmas
+pub mod DifferenceLemmas
 pub mod TableLemmas
 pub mod WipedLemmas
 pub mod PlaceLemmas

@@ -11,7 +11,7 @@ use Rattle.oscillators.specs.Lanes.{AreEighthLanes}
 use Rattle.oscillators.specs.Views.{Oscillation}
 use Rattle.lane_correlator.specs.Bytes.{signed_byte, cosine_in, sine_in}
 use Rattle.lane_correlator.specs.ByteSums.{IsWiped}
-use Rattle.lane_correlator.specs.SampleProducts.{AreProducts}
+use Rattle.lane_correlator.specs.SampleProducts.{AreProducts, in_phase_of, quadrature_of}
 use Rattle.lane_correlator.specs.declared.products.Products.{Products}
 use Rattle.lane_correlator.specs.declared.wiped.Wiped.{Wiped}
 use Rattle.lane_correlator.proofs.SmallLemmas.{wiped_small, wiped_quadrature_small}
@@ -22,8 +22,10 @@ module _ (xs : List Sample) (w : ℕ) (carrier : Oscillation) (eighths codes : L
     (codes_q : Option (List ℕ)) (wiped : Wiped) (products : Products)
     (at : AreEighthLanes carrier.phase carrier.step eighths) (of_codes : AreCodes xs w codes)
     (of_codes_q : IfSome codes_q (AreQuadratureCodes xs w)) (or_real : IfNone codes_q (AreReal xs))
-    (is : IsWiped xs w eighths wiped) (in_phase : products.in_phase ≡ wiped.i)
-    (quadrature : products.quadrature ≡ wiped.q) where
+    (is : IsWiped xs w eighths wiped)
+    (in_phase : (j : ℕ) → j < 64 → in_phase_of products j ≡ signed_byte (place_in wiped.i j))
+    (quadrature : (j : ℕ) → j < 64
+    → quadrature_of products j ≡ signed_byte (place_in wiped.q j)) where
   of_cycle : (j : ℕ) → j < 64
       → place_in eighths j % 8 ≡ carrier_phase_after carrier.phase carrier.step j / 2 ^ 29
   of_cycle j h = omega (arith, at.eighths j h)
@@ -47,21 +49,17 @@ module _ (xs : List Sample) (w : ℕ) (carrier : Oscillation) (eighths codes : L
   pub products_are : AreProducts xs w carrier products
   products_are = record {
     in_phase = λ j h long.
-        ap (λ (lanes : List ℕ). signed_byte (place_in lanes j)) in_phase ∙ is.in_phase j h long
+        in_phase j h ∙ is.in_phase j h long
         ∙ rw (cosine_is j h, sine_is j h) refl;
     quadrature = λ j h long.
-        ap (λ (lanes : List ℕ). signed_byte (place_in lanes j)) quadrature
-        ∙ is.quadrature j h long ∙ rw (cosine_is j h, sine_is j h) refl;
+        quadrature j h ∙ is.quadrature j h long ∙ rw (cosine_is j h, sine_is j h) refl;
     small_in_phase = λ j h long.
-        rw (ap (λ (lanes : List ℕ). signed_byte (place_in lanes j)) in_phase, is.in_phase j h long)
+        rw (in_phase j h, is.in_phase j h long)
         (wiped_small (sample_at xs (64 * w + j)).in_phase (sample_at xs (64 * w + j)).quadrature
         (cosine_in (place_in eighths j)) (sine_in (place_in eighths j)) (part j h long)
         (part_q j h long) (small_wave (place_in eighths j)));
     small_quadrature = λ j h long.
-        rw (
-          ap (λ (lanes : List ℕ). signed_byte (place_in lanes j)) quadrature,
-          is.quadrature j h long,
-        ) (wiped_quadrature_small (sample_at xs (64 * w + j)).in_phase
+        rw (quadrature j h, is.quadrature j h long) (wiped_quadrature_small (sample_at xs (64 * w + j)).in_phase
         (sample_at xs (64 * w + j)).quadrature (cosine_in (place_in eighths j))
         (sine_in (place_in eighths j)) (part j h long) (part_q j h long)
         (small_wave (place_in eighths j)));

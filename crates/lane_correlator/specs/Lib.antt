@@ -1,6 +1,7 @@
 pub mod Counting
 pub mod Bytes
 pub mod ByteSums
+pub mod RunningSums
 pub mod LaneTotals
 pub mod Chips
 pub mod RangeSums

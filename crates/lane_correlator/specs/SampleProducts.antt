@@ -1,20 +1,28 @@
--- Samples times the conjugate of a carrier, one by one.
-use Rattle.std.specs.Prelude.{◌≡◌, ℕ, ℤ, ◌+◌, ◌*◌, ◌<◌, ◌≤◌, List, length, unsigned_abs}
+-- Samples times the conjugate of a carrier.
+use Rattle.std.specs.Prelude.{◌≡◌, ℕ, ℤ, ◌+◌, ◌-◌, ◌*◌, ◌<◌, ◌≤◌, List, length}
+use Rattle.std.specs.Prelude.{slice_index, unsigned_abs}
 use Rattle.definitions.specs.Samples.{Sample, sample_at}
 use Rattle.definitions.specs.Oscillators.{carrier_phase_after, cosine, sine}
 use Rattle.definitions.specs.Correlation.{wiped_in_phase, wiped_quadrature}
-use Rattle.bit_planes.specs.ByteLanes.{place_in}
 use Rattle.oscillators.specs.Views.{Oscillation}
 use Rattle.oscillators.specs.declared.carrier.TheConstants.{MOST_PRODUCT}
 use Rattle.lane_correlator.specs.Bytes.{signed_byte}
 use Rattle.lane_correlator.specs.declared.products.Products.{Products}
 
--- the parts of a product, in phase and in quadrature
+-- the sum modulo 256 over the first n products
+abbrev pub sum_to : List ℕ → ℕ → ℕ
+sum_to sums n = slice_index sums (64 - n)
+
+-- the parts of a product, in phase and in quadrature: what the sum over the products up to it is
+-- more than that over those before it
+abbrev pub part_in : List ℕ → ℕ → ℤ
+part_in sums j = signed_byte (sum_to sums (j + 1) + (256 - sum_to sums j))
+
 abbrev pub in_phase_of : Products → ℕ → ℤ
-in_phase_of products j = signed_byte (place_in products.in_phase j)
+in_phase_of products j = part_in products.in_phase j
 
 abbrev pub quadrature_of : Products → ℕ → ℤ
-quadrature_of products j = signed_byte (place_in products.quadrature j)
+quadrature_of products j = part_in products.quadrature j
 
 -- the products of the samples of a list from 64 w on, as far as there are any, with a carrier that
 -- stands at the first of them

@@ -26,11 +26,12 @@ mod counts;
 mod lane_sums;
 mod products;
 mod replica;
+mod running_sums;
 mod tally;
 mod wiped;
 mod with_replica;
 
 pub use counts::Counts;
 pub use oscillators::MOST_PRODUCT;
-pub use products::Products;
+pub use products::{MOST_AT_ONCE, Products};
 pub use with_replica::replica_sums;

@@ -131,7 +131,7 @@ fn products(table: u8x64, at: u8x64) -> u8x64
 
 /// 255 in the lanes of places `first` to `end` - 1, and 0 in the others.
 #[inline(always)]
-fn mask_of_places(first: usize, end: usize) -> u8x64
+pub(crate) fn mask_of_places(first: usize, end: usize) -> u8x64
     requires ordered { first ≤ end }
     requires end { end ≤ WORD_PLACES }
     ensures long { length result ≡ WORD_PLACES }

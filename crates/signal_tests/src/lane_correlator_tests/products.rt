@@ -1,18 +1,22 @@
-//! Products of samples with a carrier against those that are worked out one by one.
+//! Sums of products of samples with a carrier against those that are worked out one by one.
 
-ghost use Rattle.std.specs.Prelude.{◌≤◌};
+ghost use Rattle.std.specs.Prelude.{◌≡◌, ◌≤◌, ◌<◌, ◌+◌, ◌-◌, ℕ, length, unsigned_abs};
+ghost use Rattle.bit_planes.specs.declared.plane.TheConstants.{WORD_PLACES};
+ghost use Rattle.lane_correlator.specs.SampleProducts.{in_phase_of, quadrature_of};
+ghost use Rattle.lane_correlator.specs.declared.products.TheConstants.{MOST_AT_ONCE};
+ghost use Rattle.oscillators.specs.declared.carrier.TheConstants.{MOST_PRODUCT};
 ghost use Rattle.sample_planes.specs.declared.planes.TheConstants.{MAX_SAMPLES};
 
 use crate::noise::noise_bytes;
 use assertions::assert_same;
-use lane_correlator::Products;
-use oscillators::CarrierOsc;
-use sample_planes::{Format, unpack};
+use lane_correlator::{MOST_AT_ONCE, Products};
+use oscillators::{CarrierOsc, CarrierPlanes};
+use sample_planes::{Format, Planes, unpack};
 use std::test::Fail;
 
-/// How many samples of a run of `len` have a product with a carrier as it is worked out by their
-/// parts and by those of the carrier.
-fn right_products(format: Format, len: usize) -> u32
+/// How many sums of a run of `len` samples with a carrier are as they are worked out by the parts
+/// of each sample and by those of the carrier: all sums over 1 to `MOST_AT_ONCE` samples of a word.
+fn right_sums(format: Format, len: usize) -> u32
     requires { len ≤ MAX_SAMPLES }
 {
     let bytes = noise_bytes();
@@ -21,32 +25,90 @@ fn right_products(format: Format, len: usize) -> u32
     carrier.advance(3);
     let values = carrier.planes(samples.len());
     let mut words = carrier.words(0);
-    let mut products = Products::new(&samples, 0, &mut words);
     let mut right = 0u32;
-    for i in 0..samples.len() {
-        if i % 64 == 0 && i > 0 {
-            products = Products::new(&samples, i / 64, &mut words);
-        }
+    for w in 0..(samples.len() + 63) / 64 {
+        let products = Products::new(&samples, w, &mut words);
+        let count = (samples.len() - 64 * w).min(64);
+        right = right.wrapping_add(right_in_word(&samples, &values, &products, 64 * w, count));
+    }
+    right
+}
+
+/// How many sums are right of the word that begins with sample `from`, which has `count` samples.
+fn right_in_word(
+    samples: &Planes,
+    values: &CarrierPlanes,
+    products: &Products,
+    from: usize,
+    count: usize,
+) -> u32
+    requires values { (length values.now.cos ≡ length samples.now)
+        × (length values.now.sin ≡ length samples.now) }
+    requires inside { from + count ≤ length samples.now }
+    requires run { length samples.now ≤ MAX_SAMPLES }
+    requires word { count ≤ WORD_PLACES }
+    requires in_phase { (j : ℕ) → j < count
+        → unsigned_abs (in_phase_of products.now j) ≤ MOST_PRODUCT }
+    requires quadrature { (j : ℕ) → j < count
+        → unsigned_abs (quadrature_of products.now j) ≤ MOST_PRODUCT }
+{
+    let mut right = 0u32;
+    for first in 0..count {
+        let most = (count - first).min(MOST_AT_ONCE);
+        let sums = right_from(samples, values, products, from, first, first + most);
+        right = right.wrapping_add(sums);
+    }
+    right
+}
+
+/// How many sums are right of those that begin with product `first` of a word and end before
+/// product `end` at the latest.
+fn right_from(
+    samples: &Planes,
+    values: &CarrierPlanes,
+    products: &Products,
+    from: usize,
+    first: usize,
+    end: usize,
+) -> u32
+    requires values { (length values.now.cos ≡ length samples.now)
+        × (length values.now.sin ≡ length samples.now) }
+    requires inside { from + end ≤ length samples.now }
+    requires run { length samples.now ≤ MAX_SAMPLES }
+    requires word { end ≤ WORD_PLACES }
+    requires few { end - first ≤ MOST_AT_ONCE }
+    requires in_phase { (j : ℕ) → j < end
+        → unsigned_abs (in_phase_of products.now j) ≤ MOST_PRODUCT }
+    requires quadrature { (j : ℕ) → j < end
+        → unsigned_abs (quadrature_of products.now j) ≤ MOST_PRODUCT }
+{
+    let (mut in_phase, mut quadrature) = (0i32, 0i32);
+    let mut right = 0u32;
+    for j in first..end {
+        let i = from + j;
         let (part, part_q) = (i32::from(samples.value(i)), i32::from(samples.value_q(i)));
         let (cos, sin) = (i32::from(values.cos(i)), i32::from(values.sin(i)));
-        let in_phase = part
-            .wrapping_mul(cos)
+        in_phase = in_phase
+            .wrapping_add(part.wrapping_mul(cos))
             .wrapping_add(part_q.wrapping_mul(sin));
-        let quadrature = part_q
-            .wrapping_mul(cos)
+        quadrature = quadrature
+            .wrapping_add(part_q.wrapping_mul(cos))
             .wrapping_sub(part.wrapping_mul(sin));
-        if products.in_phase(i % 64) == in_phase && products.quadrature(i % 64) == quadrature {
+        let sum = products.in_phase(first, j + 1);
+        if sum == in_phase && products.quadrature(first, j + 1) == quadrature {
             right = right.wrapping_add(1);
         }
     }
     right
 }
 
+/// The sums of a word of 64 samples: fourteen from each of its first 51 samples on, and then
+/// thirteen, and so on down to one.
 #[test]
-fn products_of_every_packing(rt: HostRuntime) -> Result<(), Fail> {
-    assert_same!(rt; right_products(Format::Real1, 1000), 1000);
-    assert_same!(rt; right_products(Format::Real2, 1024), 1024);
-    assert_same!(rt; right_products(Format::Iq1, 63), 63);
-    assert_same!(rt; right_products(Format::Iq2, 1000), 1000);
+fn sums_of_every_packing(rt: HostRuntime) -> Result<(), Fail> {
+    assert_same!(rt; right_sums(Format::Real1, 1000), 15 * 805 + 469);
+    assert_same!(rt; right_sums(Format::Real2, 1024), 16 * 805);
+    assert_same!(rt; right_sums(Format::Iq1, 63), 791);
+    assert_same!(rt; right_sums(Format::Iq2, 1000), 15 * 805 + 469);
     Ok(())
 }

@@ -1,15 +1,18 @@
-use Rattle.std.proofs.Common.{◌≡◌, ◌≤◌, ◌<◌, ◌+◌, ◌∙◌, ℕ, length, arith, refl, ap}
+use Rattle.std.proofs.Common.{◌≡◌, ◌≤◌, ◌<◌, ◌+◌, ◌-◌, ◌∙◌, ℕ, length, arith, refl, ap}
 use Rattle.definitions.specs.Samples.{Sample, sample_at}
 use Rattle.definitions.specs.Oscillators.{code_phase_after, carrier_phase_after}
 use Rattle.oscillators.specs.Views.{Oscillation}
 use Rattle.acquisition.proofs.PlaceLemmas.{code-goes_on, carrier-goes_on}
 use Rattle.acquisition.proofs.PowerLemmas.{held_run, run_length}
+use Rattle.acquisition.proofs.RunLemmas.{room_less}
+use Rattle.oscillators.specs.declared.settings.TheConstants.{MOST_PER_MS}
 use Rattle.acquisition.proofs.fold.Fold.fill.Goals as goal
 
 pub loop-done-init : goal.loop-done-init
 loop-done-init g c = record {
   done = omega arith;
-  taken = c.new.ensures.taken;
+  room = room_less (c.args.len - 0) MOST_PER_MS c.new.result (omega (arith, c.requires.short))
+      c.new.ensures.room;
   code_step = c.requires.step;
   carrier_step = refl;
   code = λ from is. let e : from + 0 ≡ from = omega arith in rw e is;
@@ -23,14 +26,8 @@ take-requires-clause-room g c =
     let long : length c.planes-samples.result ≡ c.min-count.result = run_length
     (g.S.SampleSource.held c.args.source.now) (c.args.first + c.loop-done.done)
     c.min-count.result c.planes-samples.result c.planes-samples.ensures in
-    omega (
-      arith,
-      long,
-      c.loop-done.invariant.taken,
-      c.min-count.ensures,
-      c.loop-done-test.true,
-      c.requires.short,
-    )
+    room_less (length c.planes-samples.result) (c.args.len - c.loop-done.done) c.loop-done.self
+    (omega (arith, long, c.min-count.ensures, c.loop-done-test.true)) c.loop-done.invariant.room
 
 pub loop-done-preserved : goal.loop-done-preserved
 loop-done-preserved g c =
@@ -44,7 +41,10 @@ loop-done-preserved g c =
     c.planes-samples.result c.planes-samples.ensures in
     record {
       done = within;
-      taken = omega (arith, long, here.taken, c.take.ensures.taken);
+      room =
+          let left : length c.planes-samples.result + (a.len - (done + n)) ≡ a.len - done = omega
+          (arith, long, within) in
+          c.take.ensures.room (a.len - (done + n)) (rw left here.room);
       code_step = ap (λ (o : Oscillation). o.step) c.jump.ensures ∙ here.code_step;
       carrier_step = ap (λ (o : Oscillation). o.step) c.advance.ensures ∙ here.carrier_step;
       code = λ from is.

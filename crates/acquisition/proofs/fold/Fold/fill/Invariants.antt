@@ -1,13 +1,13 @@
 use Rattle.std.proofs.Common.{◌-◌, ◌≡◌, ◌≤◌, ◌<◌, ◌+◌, ℕ}
 use Rattle.definitions.specs.Samples.{Sample}
 use Rattle.definitions.specs.Oscillators.{carrier_phase_after, code_phase_after}
-use Rattle.acquisition.specs.FoldStates.{IsFold, taken_of}
+use Rattle.acquisition.specs.FoldStates.{IsFold, HasRoom}
 use Rattle.acquisition.proofs.fold.Fold.fill.Given as goal
 
 abbrev pub invariant-loop-done : goal.invariant-loop-done
 invariant-loop-done g l = record {
   done : l.done ≤ l.len;
-  taken : taken_of l.self ≡ l.done;
+  room : HasRoom (l.len - l.done) l.self;
   code_step : l.code.step ≡ l.code_step;
   carrier_step : l.carrier.step ≡ l.fn.carrier.step;
   code : (from : ℕ) → l.fn.code.phase ≡ code_phase_after 0 l.code_step from

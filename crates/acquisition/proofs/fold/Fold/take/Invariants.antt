@@ -1,17 +1,17 @@
 use Rattle.std.proofs.Common.{◌≡◌, ◌<◌, ◌+◌, ◌*◌, ℕ, length}
 use Rattle.std.specs.Prelude.{min}
 use Rattle.definitions.specs.Samples.{Sample, sample_at}
-use Rattle.definitions.specs.Oscillators.{code_phase_after, carrier_phase_after, code_cycle}
-use Rattle.acquisition.specs.FoldStates.{IsFold, taken_of}
+use Rattle.definitions.specs.Oscillators.{code_phase_after, carrier_phase_after}
+use Rattle.acquisition.specs.FoldStates.{IsFold, HasRoom}
+use Rattle.acquisition.specs.Walks.{IsAt}
 use Rattle.acquisition.proofs.fold.Fold.take.Given as goal
 
 abbrev pub invariant-loop-w : goal.invariant-loop-w
 invariant-loop-w l = record {
-  phase : l.phase ≡ code_phase_after l.code l.step (min (64 * l.w) (length l.samples));
-  in_cycle : l.phase < code_cycle;
+  walk : IsAt (code_phase_after l.code l.step (min (64 * l.w) (length l.samples))) l.step l.walk;
   words_step : l.words.step ≡ l.carrier.step;
   words_phase : l.words.phase ≡ carrier_phase_after l.carrier.phase l.carrier.step (64 * l.w);
-  taken : taken_of l.self ≡ taken_of l.fn.self + min (64 * l.w) (length l.samples);
+  room : (n : ℕ) → HasRoom (min (64 * l.w) (length l.samples) + n) l.fn.self → HasRoom n l.self;
   fold : (x : ℕ → Sample) (from n : ℕ)
       → IsFold x l.step l.carrier.step from n l.fn.self
       → l.code ≡ code_phase_after 0 l.step (from + n)

@@ -1,21 +1,22 @@
-use Rattle.std.proofs.Common.{◌≡◌, ◌<◌, ◌≤◌, ◌+◌, ◌*◌, ◌/◌, ◌^◌, ℕ, unsigned_abs}
+use Rattle.std.proofs.Common.{◌≤◌, ◌+◌, ◌-◌, ℕ}
 use Rattle.definitions.specs.Samples.{Sample}
-use Rattle.definitions.specs.Oscillators.{code_phase_after, code_cycle}
-use Rattle.oscillators.specs.declared.carrier.TheConstants.{MOST_PRODUCT}
-use Rattle.acquisition.specs.FoldStates.{IsFold, IsOpenFold, AreWiped, taken_of}
+use Rattle.definitions.specs.Oscillators.{code_phase_after}
+use Rattle.acquisition.specs.FoldStates.{IsFold, AreWiped, HasRoom}
+use Rattle.acquisition.specs.Walks.{IsAt}
 use Rattle.acquisition.proofs.fold.Fold.take_word.Given as goal
 
-abbrev pub invariant-loop-j : goal.invariant-loop-j
-invariant-loop-j l = record {
-  phase : l.phase ≡ code_phase_after l.code l.step l.j;
-  in_cycle : l.phase < code_cycle;
-  few : l.many ≤ l.j;
-  taken : taken_of l.self + l.many ≡ taken_of l.fn.self + l.j;
-  in_phase : unsigned_abs l.sums.in_phase ≤ MOST_PRODUCT * l.many;
-  quadrature : unsigned_abs l.sums.quadrature ≤ MOST_PRODUCT * l.many;
-  fold : (x : ℕ → Sample) (carrier_step from n : ℕ)
-      → IsFold x l.step carrier_step from n l.fn.self
-      → l.code ≡ code_phase_after 0 l.step (from + n)
+abbrev pub invariant-loop-done : goal.invariant-loop-done
+invariant-loop-done l = record {
+  done : l.done ≤ l.count;
+  room : (n : ℕ) → HasRoom (l.done + n) l.fn.self → HasRoom n l.self;
+  walk : (phase step : ℕ) → IsAt phase step l.fn.walk
+      → IsAt (code_phase_after phase step l.done) step l.walk;
+  fold : (x : ℕ → Sample) (step carrier_step from n : ℕ)
+      → IsFold x step carrier_step from n l.fn.self
+      → IsAt (code_phase_after 0 step (from + n)) step l.fn.walk
       → AreWiped x carrier_step (from + n) l.count l.products
-      → IsOpenFold x l.step carrier_step from (n + l.j) (l.phase / 2 ^ 31) l.sums l.self;
+      → IsFold x step carrier_step from (n + l.done) l.self;
 }
+
+abbrev pub decreases-loop-done : goal.decreases-loop-done
+decreases-loop-done l = l.count - l.done

@@ -8,3 +8,6 @@ invariant_of-result-clause-small c =
 
 pub returns-clause-none : goal.returns-clause-none
 returns-clause-none c k h = all_same 2046 k (pos 0) h
+
+pub returns-clause-sizes : goal.returns-clause-sizes
+returns-clause-sizes c = sizes-none _ 2046 (λ k h. all_same 2046 k (pos 0) h)

@@ -9,7 +9,7 @@ next : (table : HalfChipTable) (k sizes size : ℕ) → k < 2046 → sizes ≡ s
     → size ≡ unsigned_abs (to_z w32 (of_z w32 (get_or table.sums k (pos 0))))
     → sizes + size ≡ sizes_to table.sums (k + 1)
 next table k sizes size inside before is =
-    let kept = entry-kept table.sums k table.taken inside table.small table.few in
+    let kept = entry-kept table.sums k inside table.small in
     rw (before, is, kept) (sym (sizes-next table.sums k))
 
 pub overflow_add-sizes : goal.overflow_add-sizes
@@ -22,7 +22,6 @@ overflow_add-sizes c =
       sizes-within table.sums
           (k + 1) 2046 (omega (arith, c.loop-k-test.true)),
       table.small,
-      table.few,
     ))
 
 pub loop-k-init : goal.loop-k-init

@@ -5,5 +5,5 @@ use Rattle.acquisition.proofs.half_chip_table.HalfChipTable.sum.Goals as goal
 pub returns-clause-small : goal.returns-clause-small
 returns-clause-small c =
     let table = c.args.self.now in
-    rw (entry-kept table.sums c.args.place table.taken c.requires table.small table.few)
-    (omega (arith, size_of_one table.sums c.args.place 2046 c.requires, table.small, table.few))
+    rw (entry-kept table.sums c.args.place c.requires table.small)
+    (omega (arith, size_of_one table.sums c.args.place 2046 c.requires, table.small))

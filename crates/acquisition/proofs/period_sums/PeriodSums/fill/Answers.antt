@@ -7,13 +7,13 @@ pub invariant_of-self-clause-in_phase_most : goal.invariant_of-self-clause-in_ph
 invariant_of-self-clause-in_phase_most g c =
     let table = c.fill.new.self.in_phase in
     rw c.whole-self.ensures.in_phase
-    (omega (arith, total_size 2046 table.sums, table.small, table.few))
+    (omega (arith, total_size 2046 table.sums, table.small))
 
 pub invariant_of-self-clause-quadrature_most : goal.invariant_of-self-clause-quadrature_most
 invariant_of-self-clause-quadrature_most g c =
     let table = c.fill.new.self.quadrature in
     rw c.whole-self.ensures.quadrature
-    (omega (arith, total_size 2046 table.sums, table.small, table.few))
+    (omega (arith, total_size 2046 table.sums, table.small))
 
 pub invariant_of-self-clause-in_phase_small : goal.invariant_of-self-clause-in_phase_small
 invariant_of-self-clause-in_phase_small g c is =

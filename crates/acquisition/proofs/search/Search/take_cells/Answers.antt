@@ -37,7 +37,7 @@ module _ (g : Over) (c : goal.After-self-2-1 g) (settings : Settings) (plan : Pl
         → AreSoFar x plan.prn (samples_per_ms settings) (steps_in c.args.self.now.steps bin)
         c.advance.new.self
     so_far x same =
-        rw (of_plan, s.per_period, c.bin-steps.ensures) at (c.advance.ensures.powers x
+        rw (of_plan, s.per_period, c.bin-steps.ensures.steps) at (c.advance.ensures.powers x
         (λ j h. let within = rw (s.periods, s.per_period) at h in
         rw s.start_is (holds (start + j) (omega arith) (omega (arith, within))) ∙ same j within))
         (rw (← c.index_mut-powers.ensures.value) at (s.powers x same c.index_mut-powers.result.now))

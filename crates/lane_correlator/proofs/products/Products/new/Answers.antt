@@ -1,6 +1,6 @@
-use Rattle.std.proofs.Common.{refl}
 use Rattle.lane_correlator.proofs.ReplicaLemmas.{eighths_below}
 use Rattle.lane_correlator.proofs.ProductLemmas.{products_are}
+use Rattle.lane_correlator.proofs.DifferenceLemmas.{part_is}
 use Rattle.lane_correlator.proofs.products.Products.new.Goals as goal
 
 pub new-wiped-requires-clause-cycle : goal.new-wiped-requires-clause-cycle
@@ -12,4 +12,10 @@ returns-clause-products c =
     c.codes.result c.codes_q.result c.new-wiped.result _ c.next_eighths-eighths.ensures.eighths
     c.codes.ensures.codes c.codes_q.ensures.codes c.codes_q.ensures.real
     (c.new-wiped.ensures.wiped c.args.samples.now c.args.w c.codes.ensures.codes
-    c.codes_q.ensures.codes c.codes_q.ensures.real) refl refl
+    c.codes_q.ensures.codes c.codes_q.ensures.real)
+    (part_is c.new-wiped.result.i c.running_sums.result c.from_none.result
+    c.running_sums.ensures.sums c.from_none.ensures.sums
+    c.from_none.ensures.none)
+    (part_is c.new-wiped.result.q c.running_sums-2.result c.from_none-2.result
+    c.running_sums-2.ensures.sums c.from_none-2.ensures.sums
+    c.from_none-2.ensures.none)
