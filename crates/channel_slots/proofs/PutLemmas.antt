@@ -2,6 +2,7 @@
 use Rattle.std.proofs.Common.{◌≡◌, ◌≤◌, ◌+◌, ℕ, List, [], ◌∷◌, ◌++◌, length, refl, sym, ap, ◌∙◌}
 use Rattle.std.proofs.Common.{arith}
 use Rattle.std.specs.Prelude.{map, Option, Some, None, option_map, MatchOption, IsSomeAnd}
+use Rattle.std.specs.Prelude.{Result, Ok, Err, IsOk, is_ok, cond}
 use Rattle.std.proofs.lemmas.List.{map-append, length-map}
 use Rattle.slot_protocol.specs.declared.event.Event.{Event}
 use Rattle.slot_protocol.specs.declared.event.SlotEvent.{SlotEvent}
@@ -19,6 +20,12 @@ pub put-one : (before after : List SlotEvent) (next : SlotEvent)
     → after ≡ put_in time_in next before → after ≡ put_all time_in before (next ∷ [])
 unfolding put_all
 put-one before after next e = e
+
+-- what was put into a list that had room for it
+pub put-in-room : {A E : Type 0} (r : Result Unit E) (is was now : List A) → IsOk r
+    → now ≡ cond (is_ok r) is was → now ≡ is
+put-in-room (Ok _) is was now room e = e
+put-in-room (Err _) is was now room e = search (room)
 
 pub puts-more : (es fs : List Event) (a b c : Timeline) → Puts es a b → Puts fs b c
     → Puts (es ++ fs) a c

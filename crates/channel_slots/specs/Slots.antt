@@ -1,17 +1,23 @@
 -- What a slot stands for: the samples so far and the commands that it was given.
-use Rattle.std.specs.Prelude.{◌≡◌, ◌≤◌, ◌<◌, ℕ, Bool, true, false, List, [], ◌++◌, length, take}
+use Rattle.std.specs.Prelude.{◌≡◌, ◌≤◌, ◌<◌, ℕ, Bool, true, false, List, [], ◌∷◌, ◌++◌, length}
+use Rattle.std.specs.Prelude.{take}
 use Rattle.std.specs.Prelude.{map, Option, Some, None}
 use Rattle.std.specs.List.{AllByRecursion}
 use Rattle.definitions.specs.Samples.{Sample}
 use Rattle.definitions.specs.Oscillators.{Settings}
-use Rattle.definitions.specs.Commands.{TimedRequest, Start}
+use Rattle.definitions.specs.Answers.{answer_at_end}
+use Rattle.definitions.specs.Commands.{TimedRequest, Request, Start}
 use Rattle.definitions.specs.Lives.{Life, life_of, life_now, dumps_of_life}
 use Rattle.definitions.specs.Events.{events_at_end, unprinted_count}
 use Rattle.channels.specs.declared.window.Window.{Window}
 use Rattle.channel_slots.specs.declared.slot.Slot.{Slot}
 use Rattle.slot_protocol.specs.declared.event.Event.{Event}
 use Rattle.slot_protocol.specs.Events.{event_in}
+use Rattle.slot_protocol.specs.declared.answer.Answer.{Answer}
+use Rattle.slot_protocol.specs.Answers.{answer_in, IsRefusal}
+use Rattle.channel_slots.specs.declared.stage.Stage.{Stage}
 use Rattle.channel_slots.specs.Stages as stages
+use Rattle.channel_slots.specs.Stages.{most_wait}
 
 -- whether it follows nothing
 abbrev pub is_idle : Slot → Bool
@@ -71,3 +77,28 @@ pub record Emits (settings : Settings) (xs ys : List Sample) (commands : List Ti
       → events_at_end settings (xs ++ take j ys) commands ≡ []
   pub told : map event_in answer ≡ events_at_end settings (xs ++ ys) commands
   pub stands : StandsFor settings (xs ++ ys) commands slot
+
+-- a stage begins with a start at this time, after the samples so far
+pub record BeginsAt (settings : Settings) (time : ℕ) (start : Start) (stage : Stage) : Type 0 where
+  pub follows : (xs : List Sample) → length xs ≡ time
+      → stages.Follows settings xs (first_life time start) stage
+  pub sound : (first : ℕ) → first ≤ time
+      → stages.is_sound first time (most_wait settings) stage ≡ true
+  pub waits : time < stages.next_event stage
+
+-- a slot took a request at this time, and answered it as the definition does; a refused one changes
+-- nothing
+pub record Obeys (settings : Settings) (time : ℕ) (request : Request) (old new : Slot)
+    (answer : Answer) : Type 0 where
+  pub answers : (xs : List Sample) (commands : List TimedRequest) → length xs ≡ time
+      → StandsFor settings xs commands old
+      → answer_in answer ≡ answer_at_end settings xs commands request
+  pub stands : (xs : List Sample) (commands : List TimedRequest) → length xs ≡ time
+      → StandsFor settings xs commands old
+      → StandsFor settings xs (commands
+      ++ record { time = length xs; request = request } ∷ []) new
+  pub refused : IsRefusal answer → new ≡ old
+  pub sound : (first : ℕ) → first ≤ time
+      → is_sound first time (most_wait settings) old ≡ true
+      → is_sound first time (most_wait settings) new ≡ true
+  pub waits : time < next_event old → time < next_event new

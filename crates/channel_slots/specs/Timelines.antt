@@ -1,6 +1,5 @@
 -- The events over a run of samples, in order of time.
-use Rattle.std.specs.Prelude.{◌≡◌, ℕ, List, map}
-use Rattle.arrayvec.specs.ArrayVec.{array_vec_len}
+use Rattle.std.specs.Prelude.{◌≡◌, ℕ, List, map, length}
 use Rattle.slot_protocol.specs.declared.event.Event.{Event}
 use Rattle.slot_protocol.specs.declared.event.SlotEvent.{SlotEvent}
 use Rattle.slot_protocol.specs.Events.{time_in}
@@ -11,7 +10,7 @@ abbrev pub events_in : Timeline → List SlotEvent
 events_in t = t.events.items
 
 abbrev pub count_of : Timeline → ℕ
-count_of t = array_vec_len t.events
+count_of t = length t.events.items
 
 -- an event of a client's slot at a time
 abbrev pub event_at : ℕ → ℕ → ℕ → Event → SlotEvent

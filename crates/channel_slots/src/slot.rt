@@ -13,9 +13,9 @@ ghost use Rattle.channel_slots.specs.declared.bank.TheConstants.{MOST_TIME};
 use crate::slot_news::SlotNews;
 use crate::stage::Stage;
 use acquisition::{Cell, Plan, SearchRoom};
-use ca_codes::CodeBook;
+use ca_codes::{CodeBook, Prn};
 use channels::{Followed, Searched, Window};
-use oscillators::Settings;
+use oscillators::{Doppler, HalfChip, Settings};
 use slot_protocol::{Answer, Command, Phase, Refusal, SlotState};
 use std::mem;
 use tracking_loops::News;
@@ -41,7 +41,8 @@ pub struct Slot {
 impl Slot {
     ghost use Rattle.std.specs.Prelude.{ℕ, [], ◌∷◌, ◌++◌, length, IfSome, IsNone, nat_lt, true};
     ghost use Rattle.std.specs.Prelude.{unsigned_abs, false};
-    ghost use Rattle.definitions.specs.Commands.{TimedRequest, Start, begin, acquire};
+    ghost use Rattle.definitions.specs.Commands.{TimedRequest, Start, begin, hold, track};
+    ghost use Rattle.definitions.specs.Commands.{acquire};
     ghost use Rattle.definitions.specs.Answers.{answer_at_end};
     ghost use Rattle.acquisition.specs.declared.dwell.TheConstants.{MOST_START};
     ghost use Rattle.channels.specs.Windows.{IsOver, IsSame, end_of, dump_of};
@@ -53,7 +54,7 @@ impl Slot {
     ghost use Rattle.channel_slots.specs.Stages.{most_wait, after_dump, IsSettled};
     ghost use Rattle.channel_slots.specs.declared.stage.Stage.TheVariants as variants;
     ghost use Rattle.channel_slots.specs.Slots.{StandsFor, Emits, IsSound, is_sound, chances};
-    ghost use Rattle.channel_slots.specs.Slots.{is_idle, next_event, cells_done_of, first_life};
+    ghost use Rattle.channel_slots.specs.Slots.{is_idle, next_event, cells_done_of, BeginsAt, Obeys};
 
     /// A slot that was never asked for anything, with the room for its searches.
     pub fn new(room: SearchRoom) -> Slot
@@ -215,24 +216,12 @@ impl Slot {
     }
 
     /// Makes the slot follow a stage that is no search, and print no dump, if it is idle.
+    #[inline(always)]
     fn start(&mut self, stage: Stage) -> Answer
         requires { is_searching stage ≡ false }
-        ensures answer { (settings : DefinedSettings) (xs : List Sample)
-            (commands : List TimedRequest) (start : Start)
-            → StandsFor settings xs commands self.old
-            → answer_in result ≡ answer_at_end settings xs commands (begin start) }
-        ensures stands { (settings : DefinedSettings) (xs : List Sample)
-            (commands : List TimedRequest) (start : Start)
-            → StandsFor settings xs commands self.old
-            → stages.Follows settings xs (first_life (length xs) start) stage
-            → StandsFor settings xs (commands
-            ++ record { time = length xs; request = begin start } ∷ []) self.new }
-        ensures refused { IsRefusal result → self.new ≡ self.old }
-        ensures sound { (first time reach : ℕ) → is_sound first time reach self.old ≡ true
-            → stages.is_sound first time reach stage ≡ true
-            → is_sound first time reach self.new ≡ true }
-        ensures waits { (time : ℕ) → time < next_event self.old → time < stages.next_event stage
-            → time < next_event self.new }
+        ensures { (settings : DefinedSettings) (time : ℕ) (start : Start)
+            → BeginsAt settings time start stage
+            → Obeys settings time (begin start) self.old self.new result }
     {
         if !self.is_idle() {
             return Answer::Refused(Refusal::Busy);
@@ -242,22 +231,46 @@ impl Slot {
         Answer::Accepted
     }
 
+    /// Makes the slot hold a satellite from sample `time` on, if it is idle. A start isn't inlined,
+    /// here and below: what is followed is large, and other commands need no room for it.
+    #[inline(never)]
+    fn hold(
+        &mut self,
+        settings: &Settings,
+        time: u64,
+        prn: Prn,
+        doppler: Doppler,
+        half: HalfChip,
+    ) -> Answer
+        requires { time ≤ MOST_START }
+        ensures { Obeys settings.now time (begin (hold prn doppler half)) self.old self.new result }
+    {
+        self.start(Stage::Following(Followed::hold(settings, prn, doppler, half, time)))
+    }
+
+    /// Makes the slot track a satellite from sample `time` on, if it is idle.
+    #[inline(never)]
+    fn track(
+        &mut self,
+        settings: &Settings,
+        time: u64,
+        prn: Prn,
+        doppler: Doppler,
+        half: HalfChip,
+    ) -> Answer
+        requires { time ≤ MOST_START }
+        ensures { Obeys settings.now time (begin (track prn doppler half)) self.old self.new
+            result }
+    {
+        self.start(Stage::Following(Followed::track(settings, prn, doppler, half, time)))
+    }
+
     /// Makes the slot search for a satellite from sample `time` on, and print no dump, if it is
     /// idle. Its room goes to the search.
+    #[inline(never)]
     fn acquire(&mut self, settings: &Settings, plan: Plan, time: u64) -> Answer
         requires { time ≤ MOST_START }
-        ensures answer { (xs : List Sample) (commands : List TimedRequest) → length xs ≡ time
-            → StandsFor settings.now xs commands self.old
-            → answer_in result ≡ answer_at_end settings.now xs commands (begin (acquire plan)) }
-        ensures stands { (xs : List Sample) (commands : List TimedRequest) → length xs ≡ time
-            → StandsFor settings.now xs commands self.old
-            → StandsFor settings.now xs (commands
-            ++ record { time = length xs; request = begin (acquire plan) } ∷ []) self.new }
-        ensures refused { IsRefusal result → self.new ≡ self.old }
-        ensures sound { (first : ℕ) → first ≤ time
-            → is_sound first time (most_wait settings.now) self.old ≡ true
-            → is_sound first time (most_wait settings.now) self.new ≡ true }
-        ensures waits { time < next_event self.old → time < next_event self.new }
+        ensures { Obeys settings.now time (begin (acquire plan)) self.old self.new result }
     {
         if self.is_idle() {
             let room = self.room.take().unwrap();
@@ -293,13 +306,13 @@ impl Slot {
                 prn,
                 doppler,
                 half,
-            } => self.start(Stage::Following(Followed::hold(settings, prn, doppler, half, time))),
+            } => self.hold(settings, time, prn, doppler, half),
             Command::Track {
                 slot: _,
                 prn,
                 doppler,
                 half,
-            } => self.start(Stage::Following(Followed::track(settings, prn, doppler, half, time))),
+            } => self.track(settings, time, prn, doppler, half),
             Command::State { .. } => Answer::State(self.state()),
             Command::Counts { slot: _, n } => {
                 if self.is_idle() {

@@ -16,7 +16,7 @@ use channel_slots::{Bank, MOST_CLIENTS, OpenFault, SlotEvent, Timeline};
 use oscillators::Settings;
 use printed_lines::Line;
 use sample_planes::{Format, PackedSamples};
-use std::alloc::{AllocError, Global};
+use std::alloc::Global;
 
 /// Room for the script of each client.
 pub const QUEUES: usize = MOST_CLIENTS;
@@ -26,8 +26,8 @@ pub const QUEUES: usize = MOST_CLIENTS;
 pub struct Session<'a> {
     bank: Bank,
     queues: ArrayVec<Queue<'a>, QUEUES>,
-    /// The slots' events over the last run of samples. They are large, so they are on the heap.
-    timeline: Box<Timeline>,
+    /// The slots' events over the last run of samples.
+    timeline: Timeline,
     ghost clients: { length queues.items ≡ length (shares_of bank) },
     ghost in_shares: { are_in_shares (shares_of bank) queues.items ≡ true },
 }
@@ -68,10 +68,8 @@ impl<'a> Session<'a> {
             (answer_lines settings
             (clients_with shares.now (map (λ script. script.now) scripts.now)) [])) }
     {
-        // They come first, while there is memory for the stack that they pass over.
-        let timeline = boxed_timeline(alloc);
         let bank = Bank::open(alloc, settings, shares)?;
-        let Ok(timeline) = timeline else {
+        let Ok(timeline) = Timeline::new(alloc) else {
             return Err(OpenFault::NoMemory);
         };
         Ok(Session {
@@ -113,7 +111,7 @@ impl<'a> Session<'a> {
 
     /// The slots' events over the last run of samples.
     pub fn events(&self) -> &[SlotEvent]
-        ensures { result.now ≡ events_in self.now.timeline.value }
+        ensures { result.now ≡ events_in self.now.timeline }
     {
         self.timeline.events()
     }
@@ -135,10 +133,10 @@ impl<'a> Session<'a> {
         ensures told { (settings : DefinedSettings) (clients : List Client) (xs : List Sample)
             → StandsFor settings clients self.old xs []
             → body_lines settings (xs ++ run.now.samples) clients
-            ≡ body_lines settings xs clients ++ map line_of (events_in self.new.timeline.value)
+            ≡ body_lines settings xs clients ++ map line_of (events_in self.new.timeline)
             ++ answer_lines settings clients (xs ++ run.now.samples) }
     {
-        self.bank.feed(run, self.timeline.as_mut());
+        self.bank.feed(run, &mut self.timeline);
     }
 
     /// Takes the next entry that is to be answered at this time.
@@ -174,12 +172,4 @@ impl<'a> Session<'a> {
     {
         due.answer(&mut self.bank, line);
     }
-}
-
-/// A timeline without events, on the heap. It stands apart, so that it is on the stack for no
-/// longer than it takes to move it.
-#[cold]
-#[inline(never)]
-fn boxed_timeline(alloc: Global) -> Result<Box<Timeline>, AllocError> {
-    Ok(Box::new(alloc, Timeline::new())?)
 }

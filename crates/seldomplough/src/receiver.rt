@@ -54,13 +54,11 @@ impl Receiver {
         ensures time { IfOk result (λ receiver. time_of receiver ≡ 0) }
         ensures events { IfOk result (λ receiver. events_in receiver ≡ []) }
     {
-        match Bank::open(alloc, settings, shares) {
-            Ok(bank) => Ok(Receiver {
-                bank,
-                timeline: Timeline::new(),
-            }),
-            Err(fault) => Err(fault),
-        }
+        let bank = Bank::open(alloc, settings, shares)?;
+        let Ok(timeline) = Timeline::new(alloc) else {
+            return Err(OpenFault::NoMemory);
+        };
+        Ok(Receiver { bank, timeline })
     }
 
     /// How the samples are packed that the receiver takes.

@@ -15,6 +15,11 @@ fn bank() -> Bank {
     Bank::open(Global, settings, &[4, 4]).expect("a bank")
 }
 
+/// A timeline without events.
+fn timeline() -> Timeline {
+    Timeline::new(Global).expect("a timeline")
+}
+
 /// The sums of a dump, all of one size.
 fn sums(of_each: i32) -> Counts {
     Counts {
@@ -29,7 +34,7 @@ fn sums(of_each: i32) -> Counts {
 
 #[test]
 fn as_much_as_may_be() {
-    bank().feed(&PackedSamples::new(Format::Real1, &[0; 128]), &mut Timeline::new());
+    bank().feed(&PackedSamples::new(Format::Real1, &[0; 128]), &mut timeline());
     BitSync::new().push(-(1 << 18));
     Loops::start(1 << 30).take(sums(1 << 18));
     let _ = nav_parity::check((1 << 30) - 1, 3);
@@ -39,13 +44,13 @@ fn as_much_as_may_be() {
 #[should_panic(expected = "Bank::feed requires length run.now.samples ≤ MAX_SAMPLES")]
 fn a_run_of_1025_samples() {
     let run = PackedSamples::new(Format::Real1, &[0; 129]).part(0, 1_025);
-    bank().feed(&run, &mut Timeline::new());
+    bank().feed(&run, &mut timeline());
 }
 
 #[test]
 #[should_panic(expected = "Bank::feed requires run.now.packing ≡ (settings_of self.old).packing")]
 fn a_run_in_another_packing() {
-    bank().feed(&PackedSamples::new(Format::Iq2, &[0; 128]), &mut Timeline::new());
+    bank().feed(&PackedSamples::new(Format::Iq2, &[0; 128]), &mut timeline());
 }
 
 #[test]

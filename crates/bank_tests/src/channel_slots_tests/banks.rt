@@ -26,7 +26,7 @@ fn bank_that_holds(alloc: Global) -> Result<Bank, Fail> {
 #[test]
 fn a_feed_begins_anywhere(rt: HostRuntime) -> Result<(), Fail> {
     let mut bank = bank_that_holds(rt.alloc())?;
-    let mut timeline = Timeline::new();
+    let mut timeline = Timeline::new(rt.alloc())?;
     let run = PackedSamples::new(Format::Real1, &[255, 127]).part(8, 1);
     bank.try_feed(&run, &mut timeline)?;
     let told = [SlotEvent {
@@ -78,7 +78,7 @@ fn dumps_do_not_depend_on_the_runs(rt: HostRuntime) -> Result<(), Fail> {
                 commands::counts(slot, 2).ok_or("a number of dumps")?,
             );
         }
-        let told = feed_to(&mut bank, &recording, piece, 4_000)?;
+        let told = feed_to(rt.alloc(), &mut bank, &recording, piece, 4_000)?;
         assert_same_at!(rt; piece, told.as_slice(), wanted.as_slice());
         assert_same_at!(rt; piece, bank.time(), 4_000);
     }
@@ -98,7 +98,7 @@ static RUNS: [(Format, usize, Result<u64, FeedFault>); 6] = [
 #[test]
 fn runs_that_do_not_fit_are_refused(rt: HostRuntime) -> Result<(), Fail> {
     let mut bank = Bank::open(rt.alloc(), plain_settings()?, &[1])?;
-    let mut timeline = Timeline::new();
+    let mut timeline = Timeline::new(rt.alloc())?;
     let zeros = [0; 129];
     for &(format, bytes, time) in &RUNS {
         let before = bank.time();

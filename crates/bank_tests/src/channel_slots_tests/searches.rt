@@ -29,6 +29,7 @@ fn bank_of_one(alloc: Global) -> Result<Bank, Fail> {
 
 /// Feeds a bank the samples of a recording up to a time, in pieces, and gives its events.
 pub(super) fn feed_to(
+    alloc: Global,
     bank: &mut Bank,
     recording: &PackedSamples,
     piece: usize,
@@ -41,7 +42,7 @@ pub(super) fn feed_to(
         return Err(Fail::new("the recording is too long"));
     }
     let mut told = ArrayVec::new();
-    let mut timeline = Timeline::new();
+    let mut timeline = Timeline::new(alloc)?;
     for _ in 0..until {
         let time = bank.time();
         if until <= time {
@@ -56,14 +57,14 @@ pub(super) fn feed_to(
 
 /// The same, and sees that its events are just those that are wanted.
 fn hear(
-    rt: &impl Abort,
+    rt: &(impl Abort + Alloc<A = Global>),
     bank: &mut Bank,
     recording: &PackedSamples,
     piece: usize,
     until: u64,
     wanted: &[SlotEvent],
 ) -> Result<(), Fail> {
-    let told = feed_to(bank, recording, piece, until)?;
+    let told = feed_to(rt.alloc(), bank, recording, piece, until)?;
     assert_same_at!(rt; piece, told.as_slice(), wanted);
     Ok(())
 }
@@ -94,10 +95,10 @@ fn told_at(time: u64, event: Event) -> SlotEvent {
 
 /// Client 1's slot 0 is to search over ten periods at time 0, and slot s of client k over one at
 /// time 4 (k - 1) + s.
-fn ask_in_turn(bank: &mut Bank, recording: &PackedSamples) -> Result<(), Fail> {
+fn ask_in_turn(alloc: Global, bank: &mut Bank, recording: &PackedSamples) -> Result<(), Fail> {
     let prn = Prn::new(1).ok_or("a satellite")?;
     for turn in 0..32u8 {
-        feed_to(bank, recording, 1, u64::from(turn))?;
+        feed_to(alloc, bank, recording, 1, u64::from(turn))?;
         let (bins, dwell) = if turn == 0 { (40, 10) } else { (0, 1) };
         let plan = Plan::new(prn, 0, bins, dwell, 1_000)?;
         let slot = SlotNo::new(turn % 4).ok_or("a slot")?;
@@ -152,11 +153,11 @@ fn cells_among_strangers(rt: HostRuntime) -> Result<(), Fail> {
     let recording = PackedSamples::new(Format::Real1, &zeros);
     let mut bank = Bank::open(rt.alloc(), plain_settings()?, &[4; 8])?;
     have_done(&rt, &bank, &[(1, 0, None)])?;
-    ask_in_turn(&mut bank, &recording)?;
+    ask_in_turn(rt.alloc(), &mut bank, &recording)?;
     have_done(&rt, &bank, &[(8, 3, Some(0))])?;
     hear(&rt, &mut bank, &recording, 1_024, 10_000, &[])?;
     have_done(&rt, &bank, &DONE_AT_10_000)?;
-    let told = feed_to(&mut bank, &recording, 1_024, 20_463)?;
+    let told = feed_to(rt.alloc(), &mut bank, &recording, 1_024, 20_463)?;
     hear_in_turn(&rt, told.as_slice());
     have_done(&rt, &bank, &[(8, 3, None), (1, 0, Some(0))])?;
     hear(&rt, &mut bank, &recording, 1_024, 20_464, &[])?;
@@ -234,6 +235,7 @@ fn samples_by_whole_runs(rt: HostRuntime) -> Result<(), Fail> {
 
 /// Feeds a bank the first ten runs of a recording, and gives its events.
 fn feed_ten_runs(
+    alloc: Global,
     bank: &mut Bank,
     recording: &PackedSamples,
 ) -> Result<ArrayVec<SlotEvent, MOST_TOLD>, Fail> {
@@ -241,7 +243,7 @@ fn feed_ten_runs(
         return Err(Fail::new("samples are missing"));
     }
     let mut told = ArrayVec::new();
-    let mut timeline = Timeline::new();
+    let mut timeline = Timeline::new(alloc)?;
     for run in 0..10 {
         bank.try_feed(&recording.part(run * 1_024, 1_024), &mut timeline)?;
         told.try_extend_from_slice(timeline.events())?;
@@ -266,7 +268,7 @@ fn a_slot_searches_again(rt: HostRuntime) -> Result<(), Fail> {
     for due in [16_370, 26_610] {
         assert_same!(rt; bank.command(1, stop), Answer::Accepted);
         assert_same!(rt; bank.command(1, acquire(1, 10)?), Answer::Accepted);
-        let told = feed_ten_runs(&mut bank, &again)?;
+        let told = feed_ten_runs(rt.alloc(), &mut bank, &again)?;
         let named = [told_at(due, found_at_two()?)];
         assert_same!(rt; told.as_slice(), named.as_slice());
     }

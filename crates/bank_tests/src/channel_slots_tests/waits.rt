@@ -40,19 +40,31 @@ fn feed_with_commands(
     let settings = Settings::new(2_046_000, 511_500, Format::Real1)?;
     let mut bank = Bank::open(rt.alloc(), settings, &[2])?;
     begin(&mut bank, 0)?;
-    feed_to(&mut bank, &recording, piece, 500)?;
+    feed_to(rt.alloc(), &mut bank, &recording, piece, 500)?;
     begin(&mut bank, 1)?;
-    feed_to(&mut bank, &recording, piece, 600)?;
+    feed_to(rt.alloc(), &mut bank, &recording, piece, 600)?;
     has_had(rt, &mut bank, 0, 0)?;
     bank.command(1, commands::stop(1).ok_or("a stop")?);
-    feed_to(&mut bank, &recording, piece, 700)?;
+    feed_to(rt.alloc(), &mut bank, &recording, piece, 700)?;
     begin(&mut bank, 1)?;
-    let mut told = feed_to(&mut bank, &recording, piece, 2_045)?;
+    let mut told = feed_to(rt.alloc(), &mut bank, &recording, piece, 2_045)?;
     has_had(rt, &mut bank, 0, 1)?;
     has_had(rt, &mut bank, 1, 0)?;
-    told.try_extend_from_slice(feed_to(&mut bank, &recording, piece, 2_046)?.as_slice())?;
+    told.try_extend_from_slice(feed_to(
+        rt.alloc(),
+        &mut bank,
+        &recording,
+        piece,
+        2_046,
+    )?.as_slice())?;
     has_had(rt, &mut bank, 1, 1)?;
-    told.try_extend_from_slice(feed_to(&mut bank, &recording, piece, 4_000)?.as_slice())?;
+    told.try_extend_from_slice(feed_to(
+        rt.alloc(),
+        &mut bank,
+        &recording,
+        piece,
+        4_000,
+    )?.as_slice())?;
     has_had(rt, &mut bank, 0, 2)?;
     has_had(rt, &mut bank, 1, 1)?;
     Ok(told)

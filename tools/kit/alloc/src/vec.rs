@@ -46,6 +46,15 @@ impl<T> Vec<T> {
         self.0.push(item);
     }
 
+    /// Puts an item in, before the one that is at `index` now.
+    pub fn insert(&mut self, index: usize, item: T) -> Result<(), AllocFailed<T>> {
+        if self.0.try_reserve(1).is_err() {
+            return Err(AllocFailed(item));
+        }
+        self.0.insert(index, item);
+        Ok(())
+    }
+
     #[must_use]
     pub fn into_boxed_slice(self) -> BoxedSlice<T> {
         BoxedSlice(self.0)

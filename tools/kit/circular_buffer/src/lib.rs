@@ -55,12 +55,12 @@ impl<T: Copy + Default> HeapCircularBuffer<T> {
         if room == 0 {
             return;
         }
-        let end = (self.start + self.len) % room;
+        let end = within(self.start + self.len, room);
         let cut = items.len().min(room - end);
         self.items[end..end + cut].copy_from_slice(&items[..cut]);
         self.items[..items.len() - cut].copy_from_slice(&items[cut..]);
         let gone = (self.len + items.len()).saturating_sub(room);
-        self.start = (self.start + gone) % room;
+        self.start = within(self.start + gone, room);
         self.len += items.len() - gone;
     }
 
@@ -72,5 +72,15 @@ impl<T: Copy + Default> HeapCircularBuffer<T> {
             &self.items[self.start..self.start + front],
             &self.items[..self.len - front],
         )
+    }
+}
+
+/// A place in a ring of so many, of one that may lie up to once around after it. A division would
+/// take longer than copying the bytes of a run.
+fn within(place: usize, room: usize) -> usize {
+    if place < room {
+        place
+    } else {
+        place - room
     }
 }

@@ -1,4 +1,4 @@
-use Rattle.std.proofs.Common.{refl, ap}
+use Rattle.std.proofs.Common.{refl}
 use Rattle.channel_slots.specs.declared.seat.Seat.{Seat}
 use Rattle.channel_slots.specs.declared.slot.Slot.{Slot}
 use Rattle.channel_slots.proofs.seats.command_at.Goals as goal
@@ -16,9 +16,11 @@ returns c =
       set = rw (← same) refl;
       client = refl;
       number = refl;
-      refused = λ refusal. ap with-slot ((rw (← same) at c.command.ensures.refused) refusal);
-      sound = rw (← same) at c.command.ensures.sound;
-      waits = rw (← same) at c.command.ensures.waits;
-      answers = rw (← same) at c.command.ensures.answer;
-      stands = rw (← same) at c.command.ensures.stands;
+      obeys = record {
+        answers = rw (← same) at c.command.ensures.answer;
+        stands = rw (← same) at c.command.ensures.stands;
+        refused = rw (← same) at c.command.ensures.refused;
+        sound = rw (← same) at c.command.ensures.sound;
+        waits = rw (← same) at c.command.ensures.waits;
+      };
     }

@@ -56,7 +56,7 @@ invariant_of-self c =
     omega (arith, c.min-self.ensures, r.next_is ∙ ap (λ (p : Seat). next_event p.slot) is) in
     let rest : AllRest bank.next_event ps = all-rest bank.next_event ps bank.rests in
     let later : time < next_event e.new.slot =
-    e.waits (omega (
+    e.obeys.waits (omega (
       arith,
       bank.waits,
       rw (sym e.is) at (each-at (λ (p : Seat). bank.next_event ≤ next_event p.slot) ps at e.old b
@@ -66,7 +66,7 @@ invariant_of-self c =
       early = bank.early;
       sound = rw (e.set, whole)
           (set-keeps-tested (λ (p : Seat). is_sound first time reach p.slot) ps at e.old e.new e.is
-          (e.sound first (omega (arith, bank.window.open.begun, bank.window.open.taken)))
+          (e.obeys.sound first (omega (arith, bank.window.open.begun, bank.window.open.taken)))
           bank.sound);
       packed = bank.packed;
       room = bank.room;
@@ -94,7 +94,7 @@ returns-clause-answer c settings xs asked s has =
     at c.command_at-answer.result s.recorded c.end-time.ensures c.deref_mut.ensures.value
     c.command_at-answer.ensures in
     let n : c.slot.result ≡ slot_of c.args.command = c.slot.ensures in
-    e.answers xs _ (sym s.now) (subst
+    e.obeys.answers xs _ (sym s.now) (subst
     (λ (m : ℕ). StandsFor settings xs (asked c.args.client m) e.old.slot) n
     (stands-at settings xs asked ps at c.args.client c.slot.result (time_of c.args.self.now) e.old
     e.old (once-of c.args.self.now.shares.items ps c.args.self.now.keys)
@@ -124,5 +124,5 @@ returns-clause-stands c settings xs asked s has =
           e.old e.new (once-of c.args.self.now.shares.items ps c.args.self.now.keys)
           c.in-Some.ensures.there e.is
           (request_in c.args.command) s.slots e.client e.number
-          (λ commands t. e.stands xs commands (sym s.now) t));
+          (λ commands t. e.obeys.stands xs commands (sym s.now) t));
     }

@@ -1,30 +1,31 @@
-use Rattle.std.proofs.Common.{ap, arith, refl, sym, ◌∙◌, true, false}
+use Rattle.std.proofs.Common.{ap, arith, refl, sym, ◌∙◌}
 use Rattle.std.specs.Prelude.{Some, None}
 use Rattle.slot_protocol.specs.Commands.{request_in}
-use Rattle.channel_slots.specs.Stages.{most_wait, is_idle}
-use Rattle.channel_slots.proofs.ReadyLemmas.{channel-begins-sound}
-use Rattle.channel_slots.proofs.ReadyLemmas.{channel-begins-quiet}
+use Rattle.channel_slots.specs.Stages.{is_idle}
 use Rattle.channel_slots.proofs.ReadyLemmas.{idle-is-quiet}
 use Rattle.channel_slots.proofs.SlotLemmas.{idle-now, life-now, has-life, answers, stays-idle}
 use Rattle.channel_slots.proofs.SlotLemmas.{becomes-idle, prints, shown-stays}
-use Rattle.channel_slots.proofs.StageLemmas.{starts-held, starts-tracked}
 use Rattle.channel_slots.proofs.slot.Slot.command.Goals as goal
 
+pub returns-in-Acquire-clause-answer : goal.returns-in-Acquire-clause-answer
+returns-in-Acquire-clause-answer c =
+    rw (ap request_in c.in-Acquire.is) c.acquire.ensures.answers
+
 pub returns-in-Acquire-clause-stands : goal.returns-in-Acquire-clause-stands
-returns-in-Acquire-clause-stands c xs commands now s =
-    rw (ap request_in c.in-Acquire.is) (c.acquire.ensures.stands xs commands now s)
+returns-in-Acquire-clause-stands c =
+    rw (ap request_in c.in-Acquire.is) c.acquire.ensures.stands
+
+pub returns-in-Hold-clause-answer : goal.returns-in-Hold-clause-answer
+returns-in-Hold-clause-answer c = rw (ap request_in c.in-Hold.is) c.hold.ensures.answers
 
 pub returns-in-Hold-clause-stands : goal.returns-in-Hold-clause-stands
-returns-in-Hold-clause-stands c xs commands now s =
-    rw (ap request_in c.in-Hold.is) (c.start.ensures.stands _ xs commands _ s
-    (starts-held _ xs _ c.hold.result _ _ _ refl refl
-    c.hold.ensures.begins.steered_is (c.hold.ensures.stands xs now)))
+returns-in-Hold-clause-stands c = rw (ap request_in c.in-Hold.is) c.hold.ensures.stands
+
+pub returns-in-Track-clause-answer : goal.returns-in-Track-clause-answer
+returns-in-Track-clause-answer c = rw (ap request_in c.in-Track.is) c.track.ensures.answers
 
 pub returns-in-Track-clause-stands : goal.returns-in-Track-clause-stands
-returns-in-Track-clause-stands c xs commands now s =
-    rw (ap request_in c.in-Track.is) (c.start-in-Track.ensures.stands _ xs commands _ s
-    (starts-tracked _ xs _ c.track.result _ _ _ refl refl
-    c.track.ensures.begins.steered_is (c.track.ensures.stands xs now)))
+returns-in-Track-clause-stands c = rw (ap request_in c.in-Track.is) c.track.ensures.stands
 
 pub returns-then-is_idle-clause-answer : goal.returns-then-is_idle-clause-answer
 returns-then-is_idle-clause-answer c xs commands now s =
@@ -71,28 +72,6 @@ returns-else-is_idle-2-clause-stands c xs commands now s =
     let i = has-life _ xs commands _ s on in
     rw (ap request_in c.in-Stop.is) (becomes-idle _ xs commands _ s _ _ (Some i.life) _ i.of
     (life-now _ xs commands _ s on) refl (ap is_idle c.rest.ensures.stage))
-
-pub returns-in-Hold-clause-sound : goal.returns-in-Hold-clause-sound
-returns-in-Hold-clause-sound c first later sound =
-    c.start.ensures.sound first _ _ sound
-    (channel-begins-sound false first c.args.time (most_wait c.args.settings.now) c.hold.result
-    later c.hold.ensures.begins)
-
-pub returns-in-Track-clause-sound : goal.returns-in-Track-clause-sound
-returns-in-Track-clause-sound c first later sound =
-    c.start-in-Track.ensures.sound first _ _ sound
-    (channel-begins-sound true first c.args.time (most_wait c.args.settings.now) c.track.result
-    later c.track.ensures.begins)
-
-pub returns-in-Hold-clause-waits : goal.returns-in-Hold-clause-waits
-returns-in-Hold-clause-waits c before =
-    c.start.ensures.waits _ before
-    (channel-begins-quiet false _ c.hold.result c.hold.ensures.begins)
-
-pub returns-in-Track-clause-waits : goal.returns-in-Track-clause-waits
-returns-in-Track-clause-waits c before =
-    c.start-in-Track.ensures.waits _ before
-    (channel-begins-quiet true _ c.track.result c.track.ensures.begins)
 
 pub returns-else-is_idle-2-clause-waits : goal.returns-else-is_idle-2-clause-waits
 returns-else-is_idle-2-clause-waits c before =
