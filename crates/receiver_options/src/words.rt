@@ -11,7 +11,7 @@ use std::str::from_utf8;
 /// Room for a word, of which Linux takes less than 128 KiB. It is on the stack, and more than all
 /// that comes later takes of it. So the stack has grown for good when the words are read, and no
 /// later call is ended by a limit on the address space.
-const WORD_ROOM: usize = 344 << 10;
+const WORD_ROOM: usize = 224 << 10;
 
 /// What gives the words of a command line.
 pub trait CommandLine {
