@@ -10,7 +10,7 @@ ghost use Rattle.sample_history.specs.declared.history.TheConstants.{MOST_TAKEN}
 use crate::dump::Dump;
 use lane_correlator::Counts;
 use sample_history::SampleHistory;
-use sample_planes::{Format, MAX_SAMPLES, PackedSamples, Planes, SampleSource};
+use sample_planes::{Format, MAX_SAMPLES, NEAR_BYTES, PackedSamples, Planes, SampleSource};
 use std::alloc::{AllocError, Global};
 
 /// The last samples of a recording, of which at most `MAX_SAMPLES` are open: these are unpacked
@@ -21,6 +21,8 @@ pub struct Window {
     history: SampleHistory,
     /// The open samples, as far as they are unpacked. They are large, so that they are kept.
     planes: Planes,
+    /// Room for the bytes that they are unpacked from.
+    near: [u8; NEAR_BYTES],
     /// The number of the first open sample.
     first: u64,
     /// The number after that of the last one that is unpacked.
@@ -50,6 +52,7 @@ impl Window {
         Ok(Window {
             history: SampleHistory::open(alloc, format, room)?,
             planes: Planes::new(),
+            near: [0; NEAR_BYTES],
             first: 0,
             unpacked: 0,
             dump: Dump::plain(Counts::NONE),
@@ -122,7 +125,8 @@ impl Window {
         if self.unpacked < self.end() {
             self.unpacked = self.end();
             let len = (self.unpacked - self.first) as usize;
-            self.history.unpack_into(self.first, len, &mut self.planes);
+            self.history
+                .unpack_into(self.first, len, &mut self.near, &mut self.planes);
         }
     }
 

@@ -104,8 +104,9 @@ impl SampleHistory {
     }
 
     /// Unpacks the samples `n` to `n + len - 1`, all of which it holds, into planes that are kept;
-    /// `len` is at most `MAX_SAMPLES`.
-    pub fn unpack_into(&self, n: u64, len: usize, planes: &mut Planes)
+    /// `len` is at most `MAX_SAMPLES`. Their bytes are put into `near`, which is kept too, so that
+    /// nothing is cleared first. Any bytes may be there before.
+    pub fn unpack_into(&self, n: u64, len: usize, near: &mut [u8; NEAR_BYTES], planes: &mut Planes)
         requires first { first_of self.now ≤ n }
         requires end { n + len ≤ taken_of self.now }
         requires short { len ≤ MAX_SAMPLES }
@@ -115,9 +116,9 @@ impl SampleHistory {
         let width = 8 / per_byte;
         let place = (n - self.first()) as usize;
         let start = place % per_byte;
-        let mut near = [0; NEAR_BYTES];
-        self.put_bytes(place / per_byte, (width * (start + len) + 7) / 8, &mut near);
-        planes.fill(self.format, &near, start, len);
+        let count = (width * (start + len) + 7) / 8;
+        self.put_bytes(place / per_byte, count, near);
+        planes.fill(self.format, near, start, len);
     }
 
     /// Puts `count` of its bytes, from byte `from` of the ring on, at the start of `near`. The byte
@@ -158,7 +159,7 @@ impl SampleSource for SampleHistory {
 
     fn planes(&self, n: u64, len: usize) -> Planes {
         let mut planes = Planes::new();
-        self.unpack_into(n, len, &mut planes);
+        self.unpack_into(n, len, &mut [0; NEAR_BYTES], &mut planes);
         planes
     }
 }
