@@ -53,7 +53,7 @@ pub no-fault : (n : ℕ) → 0 < n → n ≤ 8 → AreWrong n → ⊥
 no-fault n some few (inl none) = omega (arith, some, none)
 no-fault n some few (inr many) = omega (arith, few, many)
 
-some-clients : (scripts : List (List ℕ)) → (AreWrong (length scripts) → ⊥)
+pub some-clients : (scripts : List (List ℕ)) → (AreWrong (length scripts) → ⊥)
     → are_clients scripts ≡ true
 some-clients scripts right =
     let some : nat_le 1 (length scripts) ≡ true = elim (cases_lt 0 (length scripts)) [
