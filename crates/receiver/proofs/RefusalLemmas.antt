@@ -95,32 +95,30 @@ refuses task input text (Err TooLong) a = accepted task (Err TooLong) refl refl 
 refuses task input text (Ok n) a = accepted task (Ok n) refl refl a.0
 
 -- a run by a reader and a writer
-module _ {R W : Type 0} (source : Source R) (sink : Sink W) (task : Task) (reader : R)
-    (writer : W) where
+module _ {R W : Type 0} (source : Source R) (sink : Sink W) (task : Task) (old : R × W) where
   -- one that was refused
   pub refused-task : (fault : RunFault)
-      → IsRun task (devices_at source sink reader writer) (devices_at source sink reader writer)
+      → IsRun task (devices_at source sink old.0 old.1) (devices_at source sink old.0 old.1)
       (Err fault)
-      → RunsTask source sink task reader reader writer writer (Err fault)
+      → RunsTask source sink task old old (Err fault)
   refused-task fault run =
       let by = refuses task run.input run.text (Err fault) run.answer in
       record {
         clients = by.0;
         share = by.1;
-        untouched = λ _. (refl, refl);
+        untouched = λ _. refl;
         once = λ _. refl;
         run = run;
       }
 
   -- one that was begun
-  pub begun-task : (reader_after : R) (writer_after : W) (result : Result ℕ RunFault)
+  pub begun-task : (new : R × W) (result : Result ℕ RunFault)
       → nat_lt 2 (number_of result) ≡ true
-      → (source.has_failed reader ≡ false
-      → source.was_asked_again reader_after ≡ source.was_asked_again reader)
-      → IsRun task (devices_at source sink reader writer)
-      (devices_at source sink reader_after writer_after) result
-      → RunsTask source sink task reader reader_after writer writer_after result
-  begun-task reader_after writer_after result begun once run =
+      → (source.has_failed old.0 ≡ false
+      → source.was_asked_again new.0 ≡ source.was_asked_again old.0)
+      → IsRun task (devices_at source sink old.0 old.1) (devices_at source sink new.0 new.1) result
+      → RunsTask source sink task old new result
+  begun-task new result begun once run =
       let by = refuses task run.input run.text result run.answer in
       record {
         clients = by.0;
@@ -148,32 +146,26 @@ fours-are-shares zero = refl
 fours-are-shares (suc n) = fours-are-shares n
 
 module _ {R W : Type 0} (source : Source R) (sink : Sink W) (settings : Settings)
-    (scripts : List (List ℕ)) (limit : ℕ) (reader reader_after : R) (writer writer_after : W)
-    (result : Result ℕ RunFault) where
+    (scripts : List (List ℕ)) (limit : ℕ) (old new : R × W) (result : Result ℕ RunFault) where
   -- of more than eight scripts eight shares are as good as all
   pub in-fours : (shares : List ℕ) → shares ≡ replicate (min (length scripts) 8) 4
-      → RunsTask source sink (task_of settings shares scripts limit) reader reader_after writer
-      writer_after result
-      → RunsTask source sink (task_in_fours settings scripts limit) reader reader_after writer
-      writer_after result
+      → RunsTask source sink (task_of settings shares scripts limit) old new result
+      → RunsTask source sink (task_in_fours settings scripts limit) old new result
   in-fours shares are runs = elim (cases_lt 8 (length scripts)) [
     | inl many ↦
         let is = runs.clients.1 (inr many) in
-        let same = runs.untouched (inl is) in
-        rw (is, same.0, same.1)
-        (refused-task source sink (task_in_fours settings scripts limit) reader writer Clients
+        rw (is, runs.untouched (inl is))
+        (refused-task source sink (task_in_fours settings scripts limit) old Clients
         (without-clients settings (four_each scripts) scripts limit _ (inr many)))
     | inr few ↦
         let e : min (length scripts) 8 ≡ length scripts = omega (arith, few) in
         subst
-        (λ (l : List ℕ). RunsTask source sink (task_of settings l scripts limit) reader reader_after
-        writer writer_after result)
+        (λ (l : List ℕ). RunsTask source sink (task_of settings l scripts limit) old new result)
         (are ∙ ap (λ (n : ℕ). replicate n 4) e) runs
   ]
 
   -- they are right shares
-  pub fours-are-right : RunsTask source sink (task_in_fours settings scripts limit) reader
-      reader_after writer writer_after result
+  pub fours-are-right : RunsTask source sink (task_in_fours settings scripts limit) old new result
       → result ≡ Err Share → ⊥
   fours-are-right runs is =
       let right : are_shares (four_each scripts) scripts ≡ true =

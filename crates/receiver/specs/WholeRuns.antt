@@ -9,22 +9,21 @@ use Rattle.receiver.specs.declared.faults.RunFault.{RunFault}
 use Rattle.receiver.specs.declared.faults.RunFault.TheVariants.{Clients, Share, NoMemory}
 use Rattle.receiver.specs.Runs.{IsRun}
 
--- a run of a task by a reader and a writer, which it leaves as `reader_after` and `writer_after`
+-- a run of a task, which takes a reader and a writer from `old` to `new`
 pub record RunsTask {R W : Type 0} (source : Source R) (sink : Sink W) (task : Task)
-    (reader reader_after : R) (writer writer_after : W) (result : Result ℕ RunFault) : Type 0 where
+    (old new : R × W) (result : Result ℕ RunFault) : Type 0 where
   -- the scripts are refused exactly where there is none, or there are more than eight
   pub clients : (result ≡ Err Clients)
       ↔ ((length task.scripts ≡ 0) ⊎ (MOST_CLIENTS < length task.scripts))
   -- else the shares are refused exactly where they aren't one of 1 to 8 slots for each script
   pub share : (result ≡ Err Share) ↔ ((0 < length task.scripts)
       × (length task.scripts ≤ MOST_CLIENTS) × (are_shares task.shares task.scripts ≡ false))
-  -- a run that is refused, or for which there is no memory, leaves reader and writer as they were
+  -- a run that is refused, or has no memory, leaves the reader and the writer as they were
   pub untouched : (result ≡ Err Clients) ⊎ (result ≡ Err Share) ⊎ (result ≡ Err NoMemory)
-      → (reader_after ≡ reader) × (writer_after ≡ writer)
-  -- a reader that hadn't failed before isn't asked again once it has failed
-  pub once : source.has_failed reader ≡ false
-      → source.was_asked_again reader_after ≡ source.was_asked_again reader
-  -- the result and the lines that are written are those that are defined for the task and for the
-  -- bytes that the reader gave
-  pub run : IsRun task (devices_at source sink reader writer)
-      (devices_at source sink reader_after writer_after) result
+      → new ≡ old
+  -- a reader that hadn't failed before the run isn't asked again once it has failed
+  pub once : source.has_failed old.0 ≡ false
+      → source.was_asked_again new.0 ≡ source.was_asked_again old.0
+  -- the bytes that were read, the text that was written and the result go together as defined
+  pub run : IsRun task (devices_at source sink old.0 old.1) (devices_at source sink new.0 new.1)
+      result

@@ -70,7 +70,7 @@ pub fn run<R: Source, W: Sink>(
 ) -> Result<u64, RunFault>
     ensures runs { RunsTask R.Source W.Sink
         (task_in_fours settings (map (λ script. script.now) scripts.now) MOST_TIME)
-        reader.old reader.new writer.old writer.new result }
+        (reader.old, writer.old) (reader.new, writer.new) result }
     ensures shared { ¬ IsErrOf result RunFault.Share }
 {
     run_to(alloc, settings, scripts, MOST_TIME, reader, writer)
@@ -90,7 +90,7 @@ pub fn run_to<R: Source, W: Sink>(
     requires whole { limit % 8 ≡ 0 }
     ensures runs { RunsTask R.Source W.Sink
         (task_in_fours settings (map (λ script. script.now) scripts.now) limit)
-        reader.old reader.new writer.old writer.new result }
+        (reader.old, writer.old) (reader.new, writer.new) result }
     ensures shared { ¬ IsErrOf result RunFault.Share }
 {
     // Of more scripts no share is looked at.
@@ -114,7 +114,7 @@ pub fn run_shares<R: Source, W: Sink>(
     requires whole { limit % 8 ≡ 0 }
     ensures runs { RunsTask R.Source W.Sink
         (task_of settings shares.now (map (λ script. script.now) scripts.now) limit)
-        reader.old reader.new writer.old writer.new result }
+        (reader.old, writer.old) (reader.new, writer.new) result }
 {
     if scripts.is_empty() || MOST_CLIENTS < scripts.len() {
         return Err(RunFault::Clients);

@@ -17,7 +17,7 @@ returns-then-is_empty g c =
     let number : length texts ≡ length a.scripts.now = length-map a.scripts.now _ in
     record {
       runs =
-          refused-task g.R.Source g.W.Sink (task_of a.settings a.shares.now texts a.limit) _ _ _
+          refused-task g.R.Source g.W.Sink (task_of a.settings a.shares.now texts a.limit) _ _
           (without-clients a.settings a.shares.now texts a.limit _
           (elim c.then-is_empty.either [
             | inl none ↦ inl (number ∙ none-of (length a.scripts.now)
@@ -34,7 +34,7 @@ returns-then-shares-scripts g c =
     let some = some-of (length a.scripts.now) c.if-is_empty.ensures in
     record {
       runs =
-          refused-task g.R.Source g.W.Sink (task_of a.settings a.shares.now texts a.limit) _ _ _
+          refused-task g.R.Source g.W.Sink (task_of a.settings a.shares.now texts a.limit) _ _
           (without-shares a.settings a.shares.now texts a.limit _
           (no-fault (length texts) (omega (arith, number, some))
           (omega (arith, number, c.if-scripts-gt-MOST_CLIENTS.false)))
@@ -47,7 +47,7 @@ returns-in-Err-NoMemory g c =
     let texts : List (List ℕ) = map (λ script. script.now) a.scripts.now in
     record {
       runs =
-          refused-task g.R.Source g.W.Sink (task_of a.settings a.shares.now texts a.limit) _ _ _
+          refused-task g.R.Source g.W.Sink (task_of a.settings a.shares.now texts a.limit) _ _
           (refused-memory (λ script. script.now) a.settings a.shares.now a.scripts.now a.limit
           c.if-is_empty.ensures c.if-scripts-gt-MOST_CLIENTS.false c.if-shares-scripts.false
           c.open-opened.result _
@@ -62,7 +62,7 @@ returns-in-Err-Share g c =
     let texts : List (List ℕ) = map (λ script. script.now) a.scripts.now in
     record {
       runs =
-          refused-task g.R.Source g.W.Sink (task_of a.settings a.shares.now texts a.limit) _ _ _
+          refused-task g.R.Source g.W.Sink (task_of a.settings a.shares.now texts a.limit) _ _
           (refused-share (λ script. script.now) a.settings a.shares.now a.scripts.now a.limit
           c.if-is_empty.ensures c.if-scripts-gt-MOST_CLIENTS.false c.if-shares-scripts.false _
           (c.open-opened.ensures.share.0 (c.in-Err-Share.is
@@ -80,8 +80,8 @@ returns-in-Ok-AtEnd g c =
     c.open-opened.ensures.stands in
     record {
       runs =
-          begun-task g.R.Source g.W.Sink (task_of a.settings a.shares.now texts a.limit) _ _ _ _ _
-          refl c.run_session.ensures.once
+          begun-task g.R.Source g.W.Sink (task_of a.settings a.shares.now texts a.limit) _ _ _ refl
+          c.run_session.ensures.once
           (ran-to-end a.settings a.shares.now texts a.limit c.time.result
           c.run_session.new.session _ _ is.right
           (rw c.in-Ok-AtEnd.field-0-is at (c.in-Ok-AtEnd.ensures.ran a.settings a.shares.now texts
@@ -99,8 +99,8 @@ returns-in-Ok-ReadFailed g c =
     c.open-opened.ensures.stands in
     record {
       runs =
-          begun-task g.R.Source g.W.Sink (task_of a.settings a.shares.now texts a.limit) _ _ _ _ _
-          refl c.run_session.ensures.once
+          begun-task g.R.Source g.W.Sink (task_of a.settings a.shares.now texts a.limit) _ _ _ refl
+          c.run_session.ensures.once
           (ran-to-fault a.settings a.shares.now texts a.limit c.run_session.new.session _ _
           is.right
           (rw c.in-Ok-ReadFailed.field-0-is at (c.in-Ok-ReadFailed.ensures.ran a.settings
@@ -117,8 +117,8 @@ returns-in-Ok-PastLimit g c =
     c.open-opened.ensures.stands in
     record {
       runs =
-          begun-task g.R.Source g.W.Sink (task_of a.settings a.shares.now texts a.limit) _ _ _ _ _
-          refl c.run_session.ensures.once
+          begun-task g.R.Source g.W.Sink (task_of a.settings a.shares.now texts a.limit) _ _ _ refl
+          c.run_session.ensures.once
           (ran-to-limit a.settings a.shares.now texts a.limit c.run_session.new.session _ _
           is.right
           (rw c.in-Ok-PastLimit.field-0-is at (c.in-Ok-PastLimit.ensures.ran a.settings
@@ -135,8 +135,8 @@ returns g c =
     c.open-opened.ensures.stands in
     record {
       runs =
-          begun-task g.R.Source g.W.Sink (task_of a.settings a.shares.now texts a.limit) _ _ _ _ _
-          refl c.run_session.ensures.once
+          begun-task g.R.Source g.W.Sink (task_of a.settings a.shares.now texts a.limit) _ _ _ refl
+          c.run_session.ensures.once
           (broke-off a.settings a.shares.now texts a.limit _ _ is.right
           (c.in-Err.ensures.broken a.settings a.shares.now texts is.is_open));
     }

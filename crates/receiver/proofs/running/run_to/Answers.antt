@@ -9,7 +9,7 @@ returns-clause-runs g c =
     let texts : List (List ℕ) = map (λ script. script.now) c.args.scripts.now in
     let number : length texts ≡ length c.args.scripts.now = length-map c.args.scripts.now _ in
     let few : c.min.result ≤ 8 = omega (arith, c.min.ensures) in
-    in-fours g.R.Source g.W.Sink c.args.settings texts c.args.limit _ _ _ _ _ _
+    in-fours g.R.Source g.W.Sink c.args.settings texts c.args.limit _ _ _ _
     (take-replicate c.min.result 8 4 few
     ∙ ap (λ n. replicate n 4) (c.min.ensures ∙ ap (λ n. min n 8) (sym number)))
     c.run_shares.ensures.runs
@@ -17,5 +17,5 @@ returns-clause-runs g c =
 pub returns-clause-shared : goal.returns-clause-shared
 returns-clause-shared g c =
     fours-are-right g.R.Source g.W.Sink c.args.settings
-    (map (λ script. script.now) c.args.scripts.now) c.args.limit _ _ _ _ _
+    (map (λ script. script.now) c.args.scripts.now) c.args.limit _ _ _
     (returns-clause-runs g c)
