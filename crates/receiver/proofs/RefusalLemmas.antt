@@ -6,7 +6,8 @@ use Rattle.std.specs.List.{list_all}
 use Rattle.std.proofs.lemmas.Bool.{and_parts, cases_lt, eqb-false, leb-true, ltb-true}
 use Rattle.std.proofs.lemmas.List.{length-replicate}
 use Rattle.definitions.specs.Oscillators.{Settings}
-use Rattle.definitions.specs.Runs.{Task, Input, AreRight, IsAnswer, are_clients, are_shares, is_share}
+use Rattle.definitions.specs.Runs.{Task, Input, AreRight, IsAnswer, are_clients, are_shares}
+use Rattle.definitions.specs.Runs.{is_share}
 use Rattle.devices.specs.Moments.{devices_at}
 use Rattle.devices.specs.declared.source.Source.{Ghosts as Source}
 use Rattle.devices.specs.declared.sink.Sink.{Ghosts as Sink}
@@ -20,7 +21,7 @@ use Rattle.receiver.proofs.TableLemmas.{AreWrong, no-fault, some-clients, right-
 use Rattle.receiver.proofs.TableLemmas.{without-clients}
 
 -- answers by number: first those before which nothing is read
-abbrev pub number_of : Result ℕ RunFault → ℕ
+abbrev number_of : Result ℕ RunFault → ℕ
 number_of (Err Clients) = 0
 number_of (Err Share) = 1
 number_of (Err NoMemory) = 2

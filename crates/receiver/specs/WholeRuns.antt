@@ -1,4 +1,4 @@
--- What a run promises who calls it.
+-- What a run promises.
 use Rattle.std.specs.Prelude.{◌≡◌, ◌≤◌, ◌<◌, ◌⊎◌, ◌↔◌, ℕ, false, length, Result, Err}
 use Rattle.channel_slots.specs.declared.seats.TheConstants.{MOST_CLIENTS}
 use Rattle.definitions.specs.Runs.{Task, are_shares}
@@ -9,7 +9,7 @@ use Rattle.receiver.specs.declared.faults.RunFault.{RunFault}
 use Rattle.receiver.specs.declared.faults.RunFault.TheVariants.{Clients, Share, NoMemory}
 use Rattle.receiver.specs.Runs.{IsRun}
 
--- a run of a task, which takes a reader and a writer from `old` to `new`
+-- a run of a task takes a reader and a writer from `old` to `new`, and has this result
 pub record RunsTask {R W : Type 0} (source : Source R) (sink : Sink W) (task : Task)
     (old new : R × W) (result : Result ℕ RunFault) : Type 0 where
   -- the scripts are refused exactly where there is none, or there are more than eight
@@ -24,6 +24,6 @@ pub record RunsTask {R W : Type 0} (source : Source R) (sink : Sink W) (task : T
   -- a reader that hadn't failed before the run isn't asked again once it has failed
   pub once : source.has_failed old.0 ≡ false
       → source.was_asked_again new.0 ≡ source.was_asked_again old.0
-  -- the bytes that were read, the text that was written and the result go together as defined
+  -- the text that is written and the result are those defined for the bytes that the reader gave
   pub run : IsRun task (devices_at source sink old.0 old.1) (devices_at source sink new.0 new.1)
       result

@@ -93,7 +93,7 @@ pub fn run_to<R: Source, W: Sink>(
         (reader.old, writer.old) (reader.new, writer.new) result }
     ensures shared { ¬ IsErrOf result RunFault.Share }
 {
-    // Of more scripts no share is looked at.
+    // `run_shares` refuses more scripts before it looks at a share.
     let shares = &FOUR_EACH[..scripts.len().min(MOST_CLIENTS)];
     run_shares(alloc, settings, scripts, shares, limit, reader, writer)
 }

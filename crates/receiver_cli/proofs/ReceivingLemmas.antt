@@ -47,17 +47,20 @@ as-many-clients known text handed paths n are is =
 
 -- the program ends before its run
 pub failed-before : {R W : Type 0} (source : Source R) (sink : Sink W) (asked : Asked)
-    (files : List (Option (List ℕ))) (old : R × W) (fault : OptionFault) (r : Result ℕ Failure) → r ≡ Err (Options fault) → IsAllowed asked
+    (files : List (Option (List ℕ))) (old : R × W) (fault : OptionFault)
+    (r : Result ℕ Failure) → r ≡ Err (Options fault) → IsAllowed asked
     → IsSome (shares_by (clients_of files) asked.shares)
     → ((fault ≡ options.NoMemory) ⊎ ((fault ≡ options.Script) × SomeMayBeRefused files))
     → Receives source sink asked files old old r
-failed-before source sink asked files old fault r is allowed shared (inl e) = rw (is, e) (allowed, refl)
+failed-before source sink asked files old fault r is allowed shared (inl e) =
+    rw (is, e) (allowed, refl)
 failed-before source sink asked files old fault r is allowed shared (inr h) =
     rw (is, h.0) (allowed, shared, h.1, refl)
 
 -- for its shares
 pub failed-at-shares : {R W : Type 0} (source : Source R) (sink : Sink W) (asked : Asked)
-    (files : List (Option (List ℕ))) (old : R × W) (fault : OptionFault) (r : Result ℕ Failure) → r ≡ Err (Options fault) → IsAllowed asked
+    (files : List (Option (List ℕ))) (old : R × W) (fault : OptionFault)
+    (r : Result ℕ Failure) → r ≡ Err (Options fault) → IsAllowed asked
     → ((fault ≡ options.NoMemory) ⊎ ((fault ≡ options.Shares)
     × (shares_by (clients_of files) asked.shares ≡ None)))
     → Receives source sink asked files old old r

@@ -54,8 +54,10 @@ pub record RunsFiles {R W : Type 0} (source : Source R) (sink : Sink W) (asked :
 abbrev pub Receives : {R W : Type 0} → Source R → Sink W → Asked → List (Option (List ℕ)) → R × W
     → R × W → Result ℕ Failure → Type 0
 Receives source sink asked files old new (Ok n) = RunsFiles source sink asked files old new (Ok n)
-Receives source sink asked files old new (Err (Run fault)) = RunsFiles source sink asked files old new (Err fault)
-Receives source sink asked files old new (Err (Options options.NoMemory)) = IsAllowed asked × (new ≡ old)
+Receives source sink asked files old new (Err (Run fault)) =
+    RunsFiles source sink asked files old new (Err fault)
+Receives source sink asked files old new (Err (Options options.NoMemory)) =
+    IsAllowed asked × (new ≡ old)
 Receives source sink asked files old new (Err (Options options.Shares)) =
     IsAllowed asked × (shares_by (clients_of files) asked.shares ≡ None) × (new ≡ old)
 Receives source sink asked files old new (Err (Options options.Script)) =

@@ -17,7 +17,9 @@ returns-in_err-shares g c =
     as-many-clients known (λ path. path.now) c.scripts-paths.result.now _ c.max.result
     c.scripts-paths.ensures c.max.ensures in
     record {
-      receives = failed-at-shares g.R.Source g.W.Sink _ _ _ c.in_err-shares.field-0.0 c.from_residual.result
+      receives =
+          failed-at-shares g.R.Source g.W.Sink _ _ _ c.in_err-shares.field-0.0
+          c.from_residual.result
           (err-is c.from_residual.result (Options c.in_err-shares.field-0.0)
           c.from_residual.ensures.1)
           c.in-Ok.ensures.allowed (rw many at c.in_err-shares.ensures.fault);
@@ -34,7 +36,9 @@ returns-in_err-texts g c =
     as-many-clients known (λ path. path.now) c.scripts-paths.result.now _ c.max.result
     c.scripts-paths.ensures c.max.ensures in
     record {
-      receives = failed-before g.R.Source g.W.Sink _ _ _ c.in_err-texts.field-0.0 c.from_residual-in_err-texts.result
+      receives =
+          failed-before g.R.Source g.W.Sink _ _ _ c.in_err-texts.field-0.0
+          c.from_residual-in_err-texts.result
           (err-is c.from_residual-in_err-texts.result (Options c.in_err-texts.field-0.0)
           c.from_residual-in_err-texts.ensures.1)
           c.in-Ok.ensures.allowed
@@ -54,7 +58,9 @@ returns g c =
     as-many-clients known (λ path. path.now) c.scripts-paths.result.now _ c.max.result
     c.scripts-paths.ensures c.max.ensures in
     record {
-      receives = received g.R.Source g.W.Sink _ _ c.in-Ok.settings c.in_ok-shares.shares.items texts _ _ c.run_texts.result
+      receives =
+          received g.R.Source g.W.Sink _ _ c.in-Ok.settings c.in_ok-shares.shares.items texts _ _
+          c.run_texts.result
           c.in-Ok.ensures.allowed (rw many at c.in_ok-shares.ensures.given)
           c.in-Ok.ensures.same (subst (λ l. AreTextsOf l texts) files c.in_ok-texts.ensures.each)
           (rw (c.deref.ensures.value, c.deref-2.ensures.value) at c.run_texts.ensures.runs);
