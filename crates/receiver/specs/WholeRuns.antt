@@ -24,6 +24,6 @@ pub record RunsTask {R W : Type 0} (source : Source R) (sink : Sink W) (task : T
   -- a reader that hadn't failed before the run isn't asked again once it has failed
   pub once : source.has_failed old.0 ≡ false
       → source.was_asked_again new.0 ≡ source.was_asked_again old.0
-  -- the text that is written and the result are those defined for the bytes that the reader gave
+  -- the text that is written and the result are those defined for the bytes that were read
   pub run : IsRun task (devices_at source sink old.0 old.1) (devices_at source sink new.0 new.1)
       result

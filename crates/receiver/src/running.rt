@@ -1,4 +1,4 @@
-//! A whole run: what is written, and what it answers.
+//! A whole run: what is written, and what it answers. `RunsTask` says what it promises.
 
 ghost use Rattle.std.specs.Prelude.{◌≡◌, ◌≤◌, ◌%◌, ℕ, List, map};
 ghost use Rattle.std.specs.Prelude.{false, OnErr, IfOk, IsErrOf};

@@ -22,7 +22,7 @@ one_or_more [] = [] ∷ []
 one_or_more (text ∷ texts) = text ∷ texts
 
 -- a run of these scripts, one for each client, with these shares, or no run for want of memory,
--- with nothing read or written
+-- with the reader and the writer as they were
 abbrev pub RunsTexts : {R W : Type 0} → Source R → Sink W → DefinedSettings → List ℕ
     → List (List ℕ) → R × W → R × W → Result ℕ Failure → Type 0
 RunsTexts source sink settings shares texts old new (Ok n) =
@@ -49,8 +49,8 @@ pub record RunsFiles {R W : Type 0} (source : Source R) (sink : Sink W) (asked :
   pub runs : RunsTask source sink
       (task_of (recording_of asked) shares (one_or_more scripts) MOST_TIME) old new answer
 
--- by its answer: such a run, to its end or to a fault; or the first failure before it, with nothing
--- read or written
+-- by its answer: such a run, to its end or to a fault; or the first failure before it, with the
+-- reader and the writer as they were
 abbrev pub Receives : {R W : Type 0} → Source R → Sink W → Asked → List (Option (List ℕ)) → R × W
     → R × W → Result ℕ Failure → Type 0
 Receives source sink asked files old new (Ok n) = RunsFiles source sink asked files old new (Ok n)
