@@ -44,7 +44,7 @@ use Rattle.receiver.specs.Runs.{WriterReports, answer_of, task_of, samples_read,
 abbrev pub AreWrong : ℕ → Type 0
 AreWrong n = (n ≡ 0) ⊎ (8 < n)
 
-pub are-wrong : (scripts : List (List ℕ)) → AreWrong (length scripts) → are_clients scripts ≡ false
+are-wrong : (scripts : List (List ℕ)) → AreWrong (length scripts) → are_clients scripts ≡ false
 are-wrong scripts (inl none) = rw none refl
 are-wrong scripts (inr many) =
     rw (lt-leb (length scripts) 8 many) (and-false (nat_le 1 (length scripts)))
@@ -53,7 +53,7 @@ pub no-fault : (n : ℕ) → 0 < n → n ≤ 8 → AreWrong n → ⊥
 no-fault n some few (inl none) = omega (arith, some, none)
 no-fault n some few (inr many) = omega (arith, few, many)
 
-some-clients : (scripts : List (List ℕ)) → (AreWrong (length scripts) → ⊥)
+pub some-clients : (scripts : List (List ℕ)) → (AreWrong (length scripts) → ⊥)
     → are_clients scripts ≡ true
 some-clients scripts right =
     let some : nat_le 1 (length scripts) ≡ true = elim (cases_lt 0 (length scripts)) [
@@ -77,7 +77,7 @@ pub wrong-number : (shares : List ℕ) (scripts : List (List ℕ))
     → (length shares ≡ length scripts → ⊥) → are_shares shares scripts ≡ false
 wrong-number shares scripts other = rw (ne_eqb (length shares) (length scripts) other) refl
 
-pub wrong-share : (shares : List ℕ) (scripts : List (List ℕ)) → list_all is_share shares ≡ false
+wrong-share : (shares : List ℕ) (scripts : List (List ℕ)) → list_all is_share shares ≡ false
     → are_shares shares scripts ≡ false
 wrong-share shares scripts wrong =
     rw wrong (and-false (nat_eq (length shares) (length scripts)))
@@ -394,7 +394,7 @@ module _ {A : Type 0} (text : A → List ℕ) (settings : Settings) (shares : Li
       is stands)
 
   -- what wasn't opened for want of memory
-  pub shares-are : {S : Type 0} (opened : Result S OpenFault) → opened ≡ Err Faults.NoMemory
+  shares-are : {S : Type 0} (opened : Result S OpenFault) → opened ≡ Err Faults.NoMemory
       → (opened ≡ Err Faults.Share) ↔ ((0 < length handed) × (length handed ≤ 8)
       × (list_all is_share shares ≡ false))
       → are_shares shares (map text handed) ≡ true

@@ -3,6 +3,7 @@ pub mod Outputs
 pub mod Clients
 pub mod Sessions
 pub mod Runs
+pub mod WholeRuns
 pub mod LastLines
 pub mod Queues
 pub mod Printed

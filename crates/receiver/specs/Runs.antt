@@ -11,6 +11,7 @@ use Rattle.definitions.specs.Runs as runs
 use Rattle.definitions.specs.Receiver.{body, full, body_lines}
 use Rattle.definitions.specs.Lines.{as_bytes}
 use Rattle.devices.specs.Moments.{Devices}
+use Rattle.receiver.specs.Clients.{four_each}
 use Rattle.receiver.specs.Printed.{LinesAreRight}
 use Rattle.receiver.specs.Texts.{AppendsPart, WroteUpTo}
 use Rattle.definitions.specs.Receiver.{answer_lines}
@@ -77,6 +78,10 @@ task_of settings shares scripts limit = record {
   scripts = scripts;
   limit = limit;
 }
+
+-- what a run is asked for whose clients have four slots each
+abbrev pub task_in_fours : Settings → List (List ℕ) → ℕ → Task
+task_in_fours settings scripts limit = task_of settings (four_each scripts) scripts limit
 
 -- a run's result, as the definitions' table names it
 abbrev pub answer_of : Result ℕ RunFault → RunAnswer

@@ -1,14 +1,13 @@
-//! A whole run: what is written, and what it answers.
+//! A whole run: what is written, and what it answers. `RunsTask` says what it promises.
 
-ghost use Rattle.std.specs.Prelude.{◌≡◌, ◌≤◌, ◌<◌, ◌%◌, ◌⊎◌, ◌↔◌, ℕ, List, length, map};
-ghost use Rattle.std.specs.Prelude.{false, OnErr, IfOk, Err, IsErrOf};
+ghost use Rattle.std.specs.Prelude.{◌≡◌, ◌≤◌, ◌%◌, ℕ, List, map};
+ghost use Rattle.std.specs.Prelude.{false, OnErr, IfOk, IsErrOf};
 ghost use Rattle.definitions.specs.Oscillators.{Settings as DefinedSettings};
 ghost use Rattle.channel_slots.specs.declared.bank.TheConstants.{MOST_TIME};
-ghost use Rattle.channel_slots.specs.declared.seats.TheConstants.{MOST_CLIENTS};
-ghost use Rattle.definitions.specs.Runs.{clients_of, are_shares};
-ghost use Rattle.receiver.specs.Clients.{four_each};
+ghost use Rattle.definitions.specs.Runs.{clients_of};
 ghost use Rattle.devices.specs.Moments.{devices_at};
-ghost use Rattle.receiver.specs.Runs.{task_of, IsOpen, Ran, BrokeOff, IsRun};
+ghost use Rattle.receiver.specs.WholeRuns.{RunsTask};
+ghost use Rattle.receiver.specs.Runs.{task_of, task_in_fours, IsOpen, Ran, BrokeOff};
 ghost use Rattle.receiver.specs.Sessions.{time_of};
 
 use crate::faults::{RunFault, Stop};
@@ -69,16 +68,10 @@ pub fn run<R: Source, W: Sink>(
     reader: &mut R,
     writer: &mut W,
 ) -> Result<u64, RunFault>
-    ensures clients { (result ≡ Err RunFault.Clients)
-        ↔ ((length scripts.now ≡ 0) ⊎ (MOST_CLIENTS < length scripts.now)) }
-    ensures untouched { IsErrOf result RunFault.Clients ⊎ IsErrOf result RunFault.NoMemory
-        → (reader.new ≡ reader.old) × (writer.new ≡ writer.old) }
-    ensures once { R.has_failed reader.old ≡ false
-        → R.was_asked_again reader.new ≡ R.was_asked_again reader.old }
-    ensures run { IsRun (task_of settings (four_each (map (λ script. script.now) scripts.now))
-        (map (λ script. script.now) scripts.now) MOST_TIME)
-        (devices_at R.Source W.Sink reader.old writer.old)
-        (devices_at R.Source W.Sink reader.new writer.new) result }
+    ensures runs { RunsTask R.Source W.Sink
+        (task_in_fours settings (map (λ script. script.now) scripts.now) MOST_TIME)
+        (reader.old, writer.old) (reader.new, writer.new) result }
+    ensures shared { ¬ IsErrOf result RunFault.Share }
 {
     run_to(alloc, settings, scripts, MOST_TIME, reader, writer)
 }
@@ -95,20 +88,13 @@ pub fn run_to<R: Source, W: Sink>(
 ) -> Result<u64, RunFault>
     requires limit { limit ≤ MOST_TIME }
     requires whole { limit % 8 ≡ 0 }
-    ensures clients { (result ≡ Err RunFault.Clients)
-        ↔ ((length scripts.now ≡ 0) ⊎ (MOST_CLIENTS < length scripts.now)) }
-    ensures untouched { IsErrOf result RunFault.Clients ⊎ IsErrOf result RunFault.NoMemory
-        → (reader.new ≡ reader.old) × (writer.new ≡ writer.old) }
-    ensures once { R.has_failed reader.old ≡ false
-        → R.was_asked_again reader.new ≡ R.was_asked_again reader.old }
-    ensures run { IsRun (task_of settings (four_each (map (λ script. script.now) scripts.now))
-        (map (λ script. script.now) scripts.now) limit)
-        (devices_at R.Source W.Sink reader.old writer.old)
-        (devices_at R.Source W.Sink reader.new writer.new) result }
+    ensures runs { RunsTask R.Source W.Sink
+        (task_in_fours settings (map (λ script. script.now) scripts.now) limit)
+        (reader.old, writer.old) (reader.new, writer.new) result }
+    ensures shared { ¬ IsErrOf result RunFault.Share }
 {
-    let Some(shares) = FOUR_EACH.get(..scripts.len()) else {
-        return Err(RunFault::Clients);
-    };
+    // `run_shares` refuses more scripts before it looks at a share.
+    let shares = &FOUR_EACH[..scripts.len().min(MOST_CLIENTS)];
     run_shares(alloc, settings, scripts, shares, limit, reader, writer)
 }
 
@@ -126,20 +112,9 @@ pub fn run_shares<R: Source, W: Sink>(
 ) -> Result<u64, RunFault>
     requires limit { limit ≤ MOST_TIME }
     requires whole { limit % 8 ≡ 0 }
-    ensures clients { (result ≡ Err RunFault.Clients)
-        ↔ ((length scripts.now ≡ 0) ⊎ (MOST_CLIENTS < length scripts.now)) }
-    ensures share { (result ≡ Err RunFault.Share) ↔ ((0 < length scripts.now)
-        × (length scripts.now ≤ MOST_CLIENTS)
-        × (are_shares shares.now (map (λ script. script.now) scripts.now) ≡ false)) }
-    ensures untouched { IsErrOf result RunFault.Clients ⊎ IsErrOf result RunFault.Share
-        ⊎ IsErrOf result RunFault.NoMemory
-        → (reader.new ≡ reader.old) × (writer.new ≡ writer.old) }
-    ensures once { R.has_failed reader.old ≡ false
-        → R.was_asked_again reader.new ≡ R.was_asked_again reader.old }
-    ensures run { IsRun
+    ensures runs { RunsTask R.Source W.Sink
         (task_of settings shares.now (map (λ script. script.now) scripts.now) limit)
-        (devices_at R.Source W.Sink reader.old writer.old)
-        (devices_at R.Source W.Sink reader.new writer.new) result }
+        (reader.old, writer.old) (reader.new, writer.new) result }
 {
     if scripts.is_empty() || MOST_CLIENTS < scripts.len() {
         return Err(RunFault::Clients);

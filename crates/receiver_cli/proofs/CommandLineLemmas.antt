@@ -7,7 +7,8 @@ use Rattle.clap.specs.Kinds.{IsAmong}
 use Rattle.clap.specs.declared.builder.value_parser.ValueParser.{ValueParser}
 use Rattle.clap.specs.declared.error.kind.ErrorKind.{ErrorKind}
 use Rattle.clap.specs.declared.error.kind.ErrorKind.TheVariants.{OutOfMemory}
-use Rattle.devices.specs.Moments.{Devices}
+use Rattle.devices.specs.declared.source.Source.{Ghosts as Source}
+use Rattle.devices.specs.declared.sink.Sink.{Ghosts as Sink}
 use Rattle.receiver_options.proofs.CommandLineLemmas.{some-names, names-formats}
 use Rattle.receiver_options.specs.CommandLines.{receiver, NamesFormats}
 use Rattle.receiver_cli.specs.Endings.{HasEnded, ShowsFor, without_words, without_options}
@@ -21,10 +22,10 @@ given-words None = tt
 given-words (Some all) = refl
 
 -- the program ends before the options are known, for want of memory
-pub without-memory : (given : Option (List Text)) (bytes_of : List ℕ → Option (List ℕ))
-    (devices : Devices) (outcome : Outcome) → outcome ≡ Status 1
-    → HasEnded given bytes_of devices devices outcome
-without-memory given bytes_of devices outcome is = record {
+pub without-memory : {R W : Type 0} (source : Source R) (sink : Sink W)
+    (given : Option (List Text)) (bytes_of : List ℕ → Option (List ℕ)) (old : R × W)
+    (outcome : Outcome) → outcome ≡ Status 1 → HasEnded source sink given bytes_of old old outcome
+without-memory source sink given bytes_of old outcome is = record {
   words = unwrap_or given [];
   are_given = given-words given;
   names = some-names;
@@ -36,13 +37,15 @@ without-memory given bytes_of devices outcome is = record {
 }
 
 -- the option parser gives no options, and no device was touched
-pub with-options-refused : (given : Option (List Text)) (bytes_of : List ℕ → Option (List ℕ))
-    (devices : Devices) (words : List Text) (names : ValueParser) (kind : ErrorKind)
+pub with-options-refused : {R W : Type 0} (source : Source R) (sink : Sink W)
+    (given : Option (List Text)) (bytes_of : List ℕ → Option (List ℕ)) (old : R × W)
+    (words : List Text) (names : ValueParser) (kind : ErrorKind)
     (outcome : Outcome) → status_in outcome ≡ parser_status kind → ShowsFor kind outcome
     → IfSome given (λ all. words ≡ all) → NamesFormats names
     → (kind ≡ OutOfMemory) ⊎ IsAmong kind (fault_of (receiver names) words)
-    → HasEnded given bytes_of devices devices outcome
-with-options-refused given bytes_of devices words names kind outcome is shows are formats fault =
+    → HasEnded source sink given bytes_of old old outcome
+with-options-refused source sink given bytes_of old words names kind outcome is shows are formats
+    fault =
     record {
       words = words;
       are_given = are;

@@ -9,7 +9,8 @@ use Rattle.clap.specs.declared.builder.value_parser.ValueParser.{ValueParser}
 use Rattle.clap.specs.declared.error.kind.ErrorKind.{ErrorKind}
 use Rattle.clap.specs.declared.error.kind.ErrorKind.TheVariants.{OutOfMemory, DisplayHelp}
 use Rattle.clap.specs.declared.error.kind.ErrorKind.TheVariants.{DisplayVersion}
-use Rattle.devices.specs.Moments.{Devices}
+use Rattle.devices.specs.declared.source.Source.{Ghosts as Source}
+use Rattle.devices.specs.declared.sink.Sink.{Ghosts as Sink}
 use Rattle.receiver_options.specs.CommandLines.{receiver, NamesFormats}
 use Rattle.receiver_options.specs.Requests.{asked_in, paths_in}
 use Rattle.receiver_cli.specs.Programs.{Receives, status_of}
@@ -57,23 +58,26 @@ Shows _ (Help help) = ⊥
 -- an ending comes of the faults that the option parser has for the words, in the order of its
 -- steps, and of the options that it finds in them. Nothing is read or written before these are
 -- known
-abbrev pub ComesOf : Kinds → List Row → (List ℕ → Option (List ℕ)) → Devices → Devices → Ending
-    → Type 0
-ComesOf faults options bytes_of old new without_words = new ≡ old
-ComesOf faults options bytes_of old new (without_options kind) =
+abbrev pub ComesOf : {R W : Type 0} → Source R → Sink W → Kinds → List Row
+    → (List ℕ → Option (List ℕ)) → R × W → R × W → Ending → Type 0
+ComesOf source sink faults options bytes_of old new without_words = new ≡ old
+ComesOf source sink faults options bytes_of old new (without_options kind) =
     ((kind ≡ OutOfMemory) ⊎ IsAmong kind faults) × (new ≡ old)
-ComesOf faults options bytes_of old new (received answer) =
-    (faults ≡ []) × Receives (asked_in options) (map bytes_of (paths_in options)) old new answer
+ComesOf source sink faults options bytes_of old new (received answer) =
+    (faults ≡ [])
+    × Receives source sink (asked_in options) (map bytes_of (paths_in options)) old new answer
 
--- the program comes to an outcome as the words of its command line ask for
-pub record HasEnded (given : Option (List Text)) (bytes_of : List ℕ → Option (List ℕ))
-    (old new : Devices) (outcome : Outcome) : Type 0 where
+-- the program comes to an outcome as the words of its command line ask for, with these script
+-- files, and takes a reader and a writer from `old` to `new`
+pub record HasEnded {R W : Type 0} (source : Source R) (sink : Sink W)
+    (given : Option (List Text)) (bytes_of : List ℕ → Option (List ℕ)) (old new : R × W)
+    (outcome : Outcome) : Type 0 where
   pub words : List Text
   pub are_given : IfSome given (λ all. words ≡ all)
   pub names : ValueParser
   pub formats : NamesFormats names
   pub ending : Ending
-  pub comes : ComesOf (fault_of (receiver names) words) (matches_of (receiver names) words)
-      bytes_of old new ending
+  pub comes : ComesOf source sink (fault_of (receiver names) words)
+      (matches_of (receiver names) words) bytes_of old new ending
   pub by_ending : status_in outcome ≡ ending_status ending
   pub shows : Shows ending outcome

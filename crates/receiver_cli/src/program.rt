@@ -2,7 +2,6 @@
 
 ghost use Rattle.std.specs.Prelude.{◌≡◌};
 ghost use Rattle.clap.specs.Values.{kind_of};
-ghost use Rattle.devices.specs.Moments.{devices_at};
 ghost use Rattle.receiver_cli.specs.Programs.{status_of};
 ghost use Rattle.receiver_cli.specs.Endings.{HasEnded, ShowsFor, parser_status, status_in};
 
@@ -33,9 +32,8 @@ where
     S: ScriptFiles,
     R: Source,
     W: Sink,
-    ensures ended { HasEnded (C.given line.now) (S.bytes_of files.now)
-        (devices_at R.Source W.Sink reader.old writer.old)
-        (devices_at R.Source W.Sink reader.new writer.new) result }
+    ensures ended { HasEnded R.Source W.Sink (C.given line.now) (S.bytes_of files.now)
+        (reader.old, writer.old) (reader.new, writer.new) result }
 {
     match room_for_stack(rt.alloc()) {
         Ok(()) => carry_out_in_room(rt, line, files, reader, writer),
@@ -71,9 +69,8 @@ where
     S: ScriptFiles,
     R: Source,
     W: Sink,
-    ensures ended { HasEnded (C.given line.now) (S.bytes_of files.now)
-        (devices_at R.Source W.Sink reader.old writer.old)
-        (devices_at R.Source W.Sink reader.new writer.new) result }
+    ensures ended { HasEnded R.Source W.Sink (C.given line.now) (S.bytes_of files.now)
+        (reader.old, writer.old) (reader.new, writer.new) result }
 {
     let words = match line.words(rt.alloc()) {
         Ok(words) => words,

@@ -3,9 +3,8 @@
 ghost use Rattle.std.specs.Prelude.{◌≡◌, map, IfOk, IfErr};
 ghost use Rattle.receiver_options.specs.CommandLines.{options_in};
 ghost use Rattle.receiver_options.specs.Requests.{asked_in, paths_in};
-ghost use Rattle.devices.specs.Moments.{devices_at};
 ghost use Rattle.receiver_options.specs.declared.fault.OptionFault.TheVariants as options;
-ghost use Rattle.receiver_cli.specs.Programs.{Receives, RunsTexts, IsBeforeReading, one_or_more};
+ghost use Rattle.receiver_cli.specs.Programs.{Receives, RunsTexts, one_or_more};
 
 use crate::failure::Failure;
 use channel_slots::MOST_TIME;
@@ -24,13 +23,10 @@ pub fn receive<S: ScriptFiles, R: Source, W: Sink>(
     reader: &mut R,
     writer: &mut W,
 ) -> Result<u64, Failure>
-    ensures untouched { IfErr result (λ failure. IsBeforeReading failure
-        → (reader.new ≡ reader.old) × (writer.new ≡ writer.old)) }
-    ensures receives { Receives
+    ensures receives { Receives R.Source W.Sink
         (asked_in (options_in matches.now))
         (map (λ path. S.bytes_of files.now path) (paths_in (options_in matches.now)))
-        (devices_at R.Source W.Sink reader.old writer.old)
-        (devices_at R.Source W.Sink reader.new writer.new) result }
+        (reader.old, writer.old) (reader.new, writer.new) result }
 {
     let settings = match receiver_options::settings(matches) {
         Ok(settings) => settings,
@@ -51,11 +47,9 @@ fn run_texts<R: Source, W: Sink>(
     reader: &mut R,
     writer: &mut W,
 ) -> Result<u64, Failure>
-    ensures untouched { IfErr result (λ failure. IsBeforeReading failure
-        → (reader.new ≡ reader.old) × (writer.new ≡ writer.old)) }
-    ensures runs { RunsTexts settings shares.now (map (λ text. text.items) texts.now)
-        (devices_at R.Source W.Sink reader.old writer.old)
-        (devices_at R.Source W.Sink reader.new writer.new) result }
+    ensures runs { RunsTexts R.Source W.Sink settings shares.now
+        (map (λ text. text.items) texts.now) (reader.old, writer.old) (reader.new, writer.new)
+        result }
 {
     let scripts = one_or_more(alloc, texts)?;
     match run_shares(alloc, settings, &scripts, shares, MOST_TIME, reader, writer) {

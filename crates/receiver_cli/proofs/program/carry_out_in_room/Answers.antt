@@ -8,7 +8,7 @@ use Rattle.receiver_cli.proofs.program.carry_out_in_room.Goals as goal
 pub returns-in-Err : goal.returns-in-Err
 returns-in-Err g c = record {
   ended =
-      without-memory (g.C.CommandLine.given c.args.line.now) _ _ _
+      without-memory g.R.Source g.W.Sink (g.C.CommandLine.given c.args.line.now) _ _ _
       c.tell.ensures.status;
 }
 
@@ -33,7 +33,7 @@ returns g c =
     let parses = rw c.deref.ensures.value at c.in-Err-matches.ensures.parses in
     record {
       ended =
-          with-options-refused (g.C.CommandLine.given c.args.line.now) _ _
+          with-options-refused g.R.Source g.W.Sink (g.C.CommandLine.given c.args.line.now) _ _
           (map (λ word. string_bytes word) c.in-Ok.words.items) parses.names
           (kind_of c.in-Err-matches.error) _ c.refuse.ensures.status c.refuse.ensures.help
           c.in-Ok.ensures.all parses.formats parses.fault;
