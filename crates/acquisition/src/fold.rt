@@ -1,7 +1,7 @@
 //! Samples without their carrier, added up by the half chips at which they lie.
 
-ghost use Rattle.std.specs.Prelude.{◌≡◌, ◌+◌, ◌*◌, ◌<◌, ◌≤◌, ◌%◌, ℕ, length};
-ghost use Rattle.std.specs.Prelude.{unsigned_abs, true, ◌↔◌};
+ghost use Rattle.std.specs.Prelude.{◌≡◌, ◌+◌, ◌*◌, ◌<◌, ◌≤◌, ℕ, length};
+ghost use Rattle.std.specs.Prelude.{true, ◌↔◌};
 ghost use Rattle.definitions.specs.Oscillators.{code_cycle};
 ghost use Rattle.definitions.specs.Samples.{Sample, sample_at};
 ghost use Rattle.bit_planes.specs.declared.plane.TheConstants.{WORD_PLACES};

@@ -50,7 +50,6 @@ impl Slot {
     ghost use Rattle.slot_protocol.specs.Commands.{request_in};
     ghost use Rattle.slot_protocol.specs.Answers.{answer_in, IsRefusal};
     ghost use Rattle.channel_slots.specs.NewsEvents.{events_of, events_with, time_of, time_after};
-    ghost use Rattle.channel_slots.specs.Stages as stages;
     ghost use Rattle.channel_slots.specs.Stages.{most_wait, after_dump, IsSettled};
     ghost use Rattle.channel_slots.specs.declared.stage.Stage.TheVariants as variants;
     ghost use Rattle.channel_slots.specs.Slots.{StandsFor, Emits, IsSound, is_sound, chances};

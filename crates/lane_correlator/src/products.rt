@@ -1,6 +1,6 @@
 //! The samples of a run without their carrier, added up.
 
-ghost use Rattle.std.specs.Prelude.{◌≡◌, ◌<◌, ◌≤◌, ◌+◌, ◌-◌, ◌*◌, ℕ, length, slice_index};
+ghost use Rattle.std.specs.Prelude.{◌≡◌, ◌<◌, ◌≤◌, ◌+◌, ◌-◌, ℕ, length, slice_index};
 ghost use Rattle.std.specs.Prelude.{unsigned_abs};
 ghost use Rattle.definitions.specs.Oscillators.{carrier_phase_after};
 ghost use Rattle.definitions.specs.Sums.{sum_between};
