@@ -53,7 +53,8 @@ impl Slot {
     ghost use Rattle.channel_slots.specs.Stages.{most_wait, after_dump, IsSettled};
     ghost use Rattle.channel_slots.specs.declared.stage.Stage.TheVariants as variants;
     ghost use Rattle.channel_slots.specs.Slots.{StandsFor, Emits, IsSound, is_sound, chances};
-    ghost use Rattle.channel_slots.specs.Slots.{is_idle, next_event, cells_done_of, BeginsAt, Obeys};
+    ghost use Rattle.channel_slots.specs.Slots.{is_idle, next_event, cells_done_of, BeginsAt};
+    ghost use Rattle.channel_slots.specs.Slots.{Obeys};
 
     /// A slot that was never asked for anything, with the room for its searches.
     pub fn new(room: SearchRoom) -> Slot

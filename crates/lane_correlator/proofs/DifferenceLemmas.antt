@@ -55,8 +55,8 @@ parts_total sums first (suc n) below few small =
     let size : unsigned_abs (total (λ j. part_in sums (first + j)) n) ≤ n * 9 =
     total-bound (λ j. part_in sums (first + j)) 9 n (λ j h. small j (omega arith)) in
     rw at (more (sum_to sums (first + n + 1)) (sum_to sums (first + n)) (sum_to sums first)
-    (total (λ j. part_in sums (first + j)) n) (below (64 - (first + n + 1))) (below (64 - (first + n)))
-    (below (64 - first)) before (omega (arith, size, few)) (small n (omega arith)))
+    (total (λ j. part_in sums (first + j)) n) (below (64 - (first + n + 1)))
+    (below (64 - (first + n))) (below (64 - first)) before (omega (arith, size, few)) (small n (omega arith)))
   where
     more : (up here from : ℕ) (sum : ℤ) → up < 256 → here < 256 → from < 256
         → signed_byte (here + (256 - from)) ≡ sum → unsigned_abs sum ≤ 117

@@ -59,7 +59,8 @@ module _ (xs : List Sample) (w : ℕ) (carrier : Oscillation) (eighths codes : L
         (cosine_in (place_in eighths j)) (sine_in (place_in eighths j)) (part j h long)
         (part_q j h long) (small_wave (place_in eighths j)));
     small_quadrature = λ j h long.
-        rw (quadrature j h, is.quadrature j h long) (wiped_quadrature_small (sample_at xs (64 * w + j)).in_phase
+        rw (quadrature j h, is.quadrature j h long)
+        (wiped_quadrature_small (sample_at xs (64 * w + j)).in_phase
         (sample_at xs (64 * w + j)).quadrature (cosine_in (place_in eighths j))
         (sine_in (place_in eighths j)) (part j h long) (part_q j h long)
         (small_wave (place_in eighths j)));

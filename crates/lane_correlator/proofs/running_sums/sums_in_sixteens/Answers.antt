@@ -34,13 +34,16 @@ have_eight_on : AreMasksOn 8 HAVE_EIGHT_ON
 have_eight_on = by_table (λ (k : ℕ). cond (leb (k % 16 + 8) 15) 255 0) HAVE_EIGHT_ON refl
 
 pub doubled-twos-requires-clause-on : goal.doubled-twos-requires-clause-on
-doubled-twos-requires-clause-on c = record { long = refl; few = λ k h. rw (one_on k h) (omega arith) }
+doubled-twos-requires-clause-on c =
+    record { long = refl; few = λ k h. rw (one_on k h) (omega arith) }
 
 pub doubled-fours-requires-clause-on : goal.doubled-fours-requires-clause-on
-doubled-fours-requires-clause-on c = record { long = refl; few = λ k h. rw (two_on k h) (omega arith) }
+doubled-fours-requires-clause-on c =
+    record { long = refl; few = λ k h. rw (two_on k h) (omega arith) }
 
 pub doubled-eights-requires-clause-on : goal.doubled-eights-requires-clause-on
-doubled-eights-requires-clause-on c = record { long = refl; few = λ k h. rw (four_on k h) (omega arith) }
+doubled-eights-requires-clause-on c =
+    record { long = refl; few = λ k h. rw (four_on k h) (omega arith) }
 
 pub doubled-requires-clause-on : goal.doubled-requires-clause-on
 doubled-requires-clause-on c = record { long = refl; few = λ k h. rw (eight_on k h) (omega arith) }
