@@ -87,7 +87,7 @@ pub record BeginsAt (settings : Settings) (time : ℕ) (start : Start) (stage : 
   pub waits : time < stages.next_event stage
 
 -- a slot took a request at this time, and answered it as the definition does; a refused one changes
--- nothing
+-- nothing. What is known of the slot at this time still is, and its next event still comes later
 pub record Obeys (settings : Settings) (time : ℕ) (request : Request) (old new : Slot)
     (answer : Answer) : Type 0 where
   pub answers : (xs : List Sample) (commands : List TimedRequest) → length xs ≡ time
