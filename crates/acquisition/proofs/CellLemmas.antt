@@ -9,8 +9,9 @@ use Rattle.definitions.specs.Codes.{chip, chip_sign}
 use Rattle.definitions.proofs.SumsLemmas.{total-same}
 use Rattle.acquisition.specs.Folds.{correlation, correlation_to, sizes_to, total_to}
 use Rattle.acquisition.specs.Ones.{AreOnes, count_of, first_place, next_place}
-use Rattle.acquisition.specs.Rings.{chip_from, cell_sum, IsRing, IsSumAtOnes, place_of, sum_at}
-use Rattle.acquisition.specs.Rings.{AreRaised, HasSmallCells, IsPairAtOnes, IsPart, with_next}
+use Rattle.acquisition.specs.Rings.{chip_from, cell_sum, half_chip_in_ring, IsRing, IsSumAtOnes}
+use Rattle.acquisition.specs.Rings.{place_of, sum_at, AreRaised, HasSmallCells, IsPairAtOnes}
+use Rattle.acquisition.specs.Rings.{IsPart, with_next}
 use Rattle.acquisition.specs.Twos.{HasPairs}
 use Rattle.acquisition.specs.declared.chip_ring.TheConstants.{RAISED}
 use Rattle.acquisition.specs.declared.half_chip_table.HalfChipTable.{HalfChipTable}
@@ -22,6 +23,8 @@ use Rattle.acquisition.proofs.FoldLemmas.{entry_in_32}
 use Rattle.acquisition.proofs.TableLemmas.{correlation_size, size_of_one}
 use Rattle.std.proofs.Common.{to_z, of_z, w32}
 use Rattle.std.proofs.lemmas.Int.{to_z-of_z, fits_signed_from_abs}
+use Rattle.acquisition.specs.declared.half_chip_table.TheConstants.{HALF_CHIPS}
+use Rattle.ca_codes.specs.declared.book.TheConstants.{CODE_CHIPS}
 
 -- a sum whose terms go round by one
 total-next : (f : ℕ → ℤ) (n : ℕ) → total (λ k. f (suc k)) n +ℤ f 0 ≡ total f n +ℤ f n
@@ -41,22 +44,23 @@ total-round f n same =
     cancel a b c d h e = omega (arith, ints, h, e)
 
 -- a sum around a cycle, wherever it begins
-total-turned : (f : ℕ → ℤ) (h : ℕ) → total (λ k. f ((h + k) % 2046)) 2046 ≡ total f 2046
+total-turned : (f : ℕ → ℤ) (h : ℕ)
+    → total (λ k. f ((h + k) % HALF_CHIPS)) HALF_CHIPS ≡ total f HALF_CHIPS
 total-turned f zero =
-    total-same (λ k. f ((0 + k) % 2046)) f 2046 (λ k below. ap f (inside k below))
+    total-same (λ k. f ((0 + k) % HALF_CHIPS)) f HALF_CHIPS (λ k below. ap f (inside k below))
   where
-    inside : (k : ℕ) → k < 2046 → (0 + k) % 2046 ≡ k
+    inside : (k : ℕ) → k < HALF_CHIPS → (0 + k) % HALF_CHIPS ≡ k
     inside k below = omega (arith, below)
 total-turned f (suc h) =
-    total-same (λ k. f ((suc h + k) % 2046)) (λ k. f ((h + suc k) % 2046)) 2046
-    (λ k below. ap (λ (m : ℕ). f (m % 2046)) (on h k))
-    ∙ total-round (λ k. f ((h + k) % 2046)) 2046 (ap f (around h))
+    total-same (λ k. f ((suc h + k) % HALF_CHIPS)) (λ k. f ((h + suc k) % HALF_CHIPS)) HALF_CHIPS
+    (λ k below. ap (λ (m : ℕ). f (m % HALF_CHIPS)) (on h k))
+    ∙ total-round (λ k. f ((h + k) % HALF_CHIPS)) HALF_CHIPS (ap f (around h))
     ∙ total-turned f h
   where
     on : (h k : ℕ) → suc h + k ≡ h + suc k
     on h k = omega arith
 
-    around : (h : ℕ) → (h + 2046) % 2046 ≡ (h + 0) % 2046
+    around : (h : ℕ) → (h + HALF_CHIPS) % HALF_CHIPS ≡ (h + 0) % HALF_CHIPS
     around h = omega arith
 
 -- a sum by pairs
@@ -95,33 +99,38 @@ total-signs t prn at (suc n) =
     one_more true sign t a b one nought = rw (one refl) (less t a b)
     one_more false sign t a b one nought = rw (nought refl) (more t a b)
 
+-- the half chip from a cell's first one on, counted around the code, by its number in the code
+abbrev from_cell : ℕ → ℕ → ℕ
+from_cell cell m = (m + 2 * HALF_CHIPS - cell) % HALF_CHIPS
+
 -- the entry of a table at a half chip of the code that begins `cell` half chips on, where the chip
 -- there is 1
 at_one : ℕ → ℕ → List ℤ → ℕ → ℤ
 at_one prn cell table m =
-    cond (chip prn (m / 2) == 1) (get_or table ((m + 4092 - cell) % 2046) (pos 0)) (pos 0)
+    cond (chip prn (m / 2) == 1) (get_or table (from_cell cell m) (pos 0)) (pos 0)
 
-entry_at_one : (prn cell k : ℕ) (table : List ℤ) → cell ≤ 4092 → k < 2046
+entry_at_one : (prn cell k : ℕ) (table : List ℤ) → cell ≤ 2 * HALF_CHIPS → k < HALF_CHIPS
     → cond (chip prn ((cell + k) / 2) == 1) (get_or table k (pos 0)) (pos 0)
-    ≡ at_one prn cell table ((cell + k) % 2046)
+    ≡ at_one prn cell table ((cell + k) % HALF_CHIPS)
 unfolding at_one chip
 entry_at_one prn cell k table few below =
-    let place : ((cell + k) % 2046 + 4092 - cell) % 2046 ≡ k = omega (arith, few, below) in
-    let here : (cell + k) % 2046 / 2 % 1023 ≡ (cell + k) / 2 % 1023 = omega arith in
+    let place : from_cell cell ((cell + k) % HALF_CHIPS) ≡ k = omega (arith, few, below) in
+    let here : (cell + k) % HALF_CHIPS / 2 % CODE_CHIPS ≡ (cell + k) / 2 % CODE_CHIPS =
+    omega arith in
     rw (place, here) refl
 
-chip_at_one : (prn cell c : ℕ) (table : List ℤ) → cell ≤ 4092
+chip_at_one : (prn cell c : ℕ) (table : List ℤ) → cell ≤ 2 * HALF_CHIPS
     → at_one prn cell table (2 * c) +ℤ at_one prn cell table (2 * c + 1)
-    ≡ cond (chip prn c == 1) (chip_from table ((2 * c + 4092 - cell) % 2046)) (pos 0)
+    ≡ cond (chip prn c == 1) (chip_from table (from_cell cell (2 * c))) (pos 0)
 unfolding at_one
 chip_at_one prn cell c table few =
     let first : 2 * c / 2 ≡ c = omega arith in
     let second : (2 * c + 1) / 2 ≡ c = omega arith in
-    let next : (2 * c + 1 + 4092 - cell) % 2046 ≡ ((2 * c + 4092 - cell) % 2046 + 1) % 2046 =
+    let next : from_cell cell (2 * c + 1) ≡ (from_cell cell (2 * c) + 1) % HALF_CHIPS =
     omega (arith, few) in
     rw (first, second, next) (both (chip prn c == 1)
-    (get_or table ((2 * c + 4092 - cell) % 2046) (pos 0))
-    (get_or table (((2 * c + 4092 - cell) % 2046 + 1) % 2046) (pos 0)))
+    (get_or table (from_cell cell (2 * c)) (pos 0))
+    (get_or table ((from_cell cell (2 * c) + 1) % HALF_CHIPS) (pos 0)))
   where
     both : (is : Bool) (a b : ℤ)
         → cond is a (pos 0) +ℤ cond is b (pos 0) ≡ cond is (a +ℤ b) (pos 0)
@@ -131,21 +140,21 @@ chip_at_one prn cell c table few =
 -- the sum over a table at the chips of 1, chip by chip
 pub sum_at_ones : ℕ → ℕ → List ℤ → ℤ
 sum_at_ones prn cell table = total
-    (λ c. cond (chip prn c == 1) (chip_from table ((2 * c + 4092 - cell) % 2046)) (pos 0)) 1023
+    (λ c. cond (chip prn c == 1) (chip_from table (from_cell cell (2 * c))) (pos 0)) CODE_CHIPS
 
-pub less_ones : (prn cell : ℕ) (table : List ℤ) → cell ≤ 4092 → correlation prn cell table
-    ≡ total_to table 2046 -ℤ pos 2 *ℤ sum_at_ones prn cell table
+pub less_ones : (prn cell : ℕ) (table : List ℤ) → cell ≤ 2 * HALF_CHIPS → correlation prn cell table
+    ≡ total_to table HALF_CHIPS -ℤ pos 2 *ℤ sum_at_ones prn cell table
 unfolding correlation_to total_to sum_at_ones
 less_ones prn cell table few =
     let entry : ℕ → ℤ = λ k. get_or table k (pos 0) in
-    total-signs entry prn (λ k. (cell + k) / 2) 2046
-    ∙ ap (λ (z : ℤ). total entry 2046 -ℤ pos 2 *ℤ z)
+    total-signs entry prn (λ k. (cell + k) / 2) HALF_CHIPS
+    ∙ ap (λ (z : ℤ). total entry HALF_CHIPS -ℤ pos 2 *ℤ z)
     (total-same (λ k. cond (chip prn ((cell + k) / 2) == 1) (entry k) (pos 0))
-    (λ k. at_one prn cell table ((cell + k) % 2046)) 2046
+    (λ k. at_one prn cell table ((cell + k) % HALF_CHIPS)) HALF_CHIPS
     (λ k below. entry_at_one prn cell k table few below)
-    ∙ total-turned (at_one prn cell table) cell ∙ total-pairs (at_one prn cell table) 1023
+    ∙ total-turned (at_one prn cell table) cell ∙ total-pairs (at_one prn cell table) CODE_CHIPS
     ∙ total-same (λ c. at_one prn cell table (2 * c) +ℤ at_one prn cell table (2 * c + 1))
-    (λ c. cond (chip prn c == 1) (chip_from table ((2 * c + 4092 - cell) % 2046)) (pos 0)) 1023
+    (λ c. cond (chip prn c == 1) (chip_from table (from_cell cell (2 * c))) (pos 0)) CODE_CHIPS
     (λ c below. chip_at_one prn cell c table few))
 
 -- a sum of terms that are all raised by as much
@@ -162,17 +171,17 @@ total-raised b f (suc n) =
 
 -- the entries of a ring at the places of some chips, and at those of twos
 ring_entry : (half l place : ℕ) → ℕ
-ring_entry half l place = (4091 - (place_of half place + l)) % 2046
+ring_entry half l place = half_chip_in_ring (place_of half place + l)
 
-next_entry : (half l place : ℕ) → half < 2046 → l < 64
-    → (4091 - (place_of half place + l + 2044) % 2046) % 2046
+next_entry : (half l place : ℕ) → half < HALF_CHIPS → l < 64
+    → half_chip_in_ring (next_place (place_of half place + l))
     ≡ ring_entry half l (next_place place)
 unfolding ring_entry
 next_entry half l place inside lane = omega (arith, inside, lane)
 
 -- the raised sum over a ring at the chips of 1
-pub raised_ones : (prn half l : ℕ) (alone twos ring : List ℕ) (table : List ℤ) → half < 2046
-    → l < 64 → AreOnes prn 1023 alone twos → IsRing table ring
+pub raised_ones : (prn half l : ℕ) (alone twos ring : List ℕ) (table : List ℤ) → half < HALF_CHIPS
+    → l < 64 → AreOnes prn CODE_CHIPS alone twos → IsRing table ring
     → sum_at (slice_index ring) half alone (length alone) l
     +ℤ sum_at (with_next (slice_index ring)) half twos (length twos) l
     ≡ pos (RAISED * count_of alone twos) +ℤ sum_at_ones prn (half + l) table
@@ -202,12 +211,12 @@ raised_ones prn half l alone twos ring table inside lane ones is =
     (length twos)) (sum_at_ones prn (half + l) table)
     (ones.sums from
     ∙ total-same (λ c. cond (chip prn c == 1) (from (first_place c)) (pos 0))
-    (λ c. cond (chip prn c == 1) (chip_from table ((2 * c + 4092 - (half + l)) % 2046)) (pos 0))
-    1023 (λ c below. ap (λ (k : ℕ). cond (chip prn c == 1) (chip_from table k) (pos 0))
+    (λ c. cond (chip prn c == 1) (chip_from table (from_cell (half + l) (2 * c))) (pos 0))
+    CODE_CHIPS (λ c below. ap (λ (k : ℕ). cond (chip prn c == 1) (chip_from table k) (pos 0))
     (at_chip c below))))
   where
-    at_chip : (c : ℕ) → c < 1023
-        → ring_entry half l (first_place c) ≡ (2 * c + 4092 - (half + l)) % 2046
+    at_chip : (c : ℕ) → c < CODE_CHIPS
+        → ring_entry half l (first_place c) ≡ from_cell (half + l) (2 * c)
     at_chip c below = omega (arith, inside, lane, below)
 
     both : (a b : ℕ) (x y : ℤ) → pos a ≡ pos RAISED +ℤ x → pos b ≡ pos RAISED +ℤ y
@@ -218,11 +227,11 @@ raised_ones prn half l alone twos ring table inside lane ones is =
         ≡ pos (2 * RAISED) +ℤ (chip_from table (ring_entry half l p)
         +ℤ chip_from table (ring_entry half l (next_place p)))
     two p = both (slice_index ring (place_of half p + l))
-        (slice_index ring ((place_of half p + l + 2044) % 2046))
+        (slice_index ring (next_place (place_of half p + l)))
         (chip_from table (ring_entry half l p))
         (chip_from table (ring_entry half l (next_place p)))
         (is (place_of half p + l) (omega (arith, lane)))
-        (is ((place_of half p + l + 2044) % 2046) (omega arith)
+        (is (next_place (place_of half p + l)) (omega arith)
         ∙ ap (λ (k : ℕ). pos RAISED +ℤ chip_from table k) (next_entry half l p inside lane))
 
     added : (m n : ℕ) (x y z : ℤ) → x +ℤ y ≡ z
@@ -231,7 +240,7 @@ raised_ones prn half l alone twos ring table inside lane ones is =
     added m n x y z e = omega (arith, ints, e)
 
 -- a table's entries are no greater than the samples of a period
-pub table_sizes : (table : HalfChipTable) → sizes_to table.sums 2046 ≤ MOST_PERIOD_SUM
+pub table_sizes : (table : HalfChipTable) → sizes_to table.sums HALF_CHIPS ≤ MOST_PERIOD_SUM
 table_sizes table = table.small
 
 -- how many chips of 1 there are
@@ -244,8 +253,8 @@ pub record IsCellSum (prn cell : ℕ) (table : List ℤ) (sum : ℤ) : Type 0 wh
   pub small : unsigned_abs sum ≤ MOST_PERIOD_SUM
 
 pub is_cell_sum : (ones : Ones) (half l lane : ℕ) (table : List ℤ) (ring : List ℕ)
-    (whole sum : ℤ) → half < 2046 → l < 64 → sizes_to table 2046 ≤ MOST_PERIOD_SUM
-    → IsRing table ring → whole ≡ total_to table 2046
+    (whole sum : ℤ) → half < HALF_CHIPS → l < 64 → sizes_to table HALF_CHIPS ≤ MOST_PERIOD_SUM
+    → IsRing table ring → whole ≡ total_to table HALF_CHIPS
     → IsSumAtOnes ones (slice_index ring) half l lane
     → sum ≡ cell_sum whole lane (ones_of ones)
     → IsCellSum ones.prn (half + l) table sum
@@ -261,14 +270,15 @@ is_cell_sum ones half l lane table ring whole sum inside few small is all at is_
     (sym (less_ones ones.prn cell table (omega (arith, inside, few)))) in
     record {
       value = value;
-      small = rw value (omega (arith, correlation_size ones.prn cell 2046 table, small));
+      small = rw value (omega (arith, correlation_size ones.prn cell HALF_CHIPS table, small));
     }
   where
     lowered : (n : ℕ) (z : ℤ) → pos n +ℤ z -ℤ pos n ≡ z
     lowered n z = omega (arith, ints)
 
 pub small_cells : (table : List ℤ) (ring : List ℕ) (whole : ℤ)
-    → sizes_to table 2046 ≤ MOST_PERIOD_SUM → IsRing table ring → whole ≡ total_to table 2046
+    → sizes_to table HALF_CHIPS ≤ MOST_PERIOD_SUM → IsRing table ring
+    → whole ≡ total_to table HALF_CHIPS
     → HasSmallCells ring whole
 small_cells table ring whole sizes is all ones half l lane inside few at =
     (is_cell_sum ones half l lane table ring whole (cell_sum whole lane (ones_of ones)) inside few
@@ -276,19 +286,20 @@ small_cells table ring whole sizes is all ones half l lane inside few at =
 
 -- the ring of a part
 pub is_part : (table : HalfChipTable) (ring : List ℕ) (whole : ℤ) → IsRing table.sums ring
-    → whole ≡ total_to table.sums 2046 → IsPart ring whole
+    → whole ≡ total_to table.sums HALF_CHIPS → IsPart ring whole
 is_part table ring whole is all = record {
   raised = λ i h.
-      let k : ℕ = (4091 - i) % 2046 in
+      let k : ℕ = half_chip_in_ring i in
       bounded (slice_index ring i) (get_or table.sums k (pos 0))
-      (get_or table.sums ((k + 1) % 2046) (pos 0)) (is i h)
-      (size_of_one table.sums k 2046 (omega arith))
-      (size_of_one table.sums ((k + 1) % 2046) 2046 (omega arith));
+      (get_or table.sums ((k + 1) % HALF_CHIPS) (pos 0)) (is i h)
+      (size_of_one table.sums k HALF_CHIPS (omega arith))
+      (size_of_one table.sums ((k + 1) % HALF_CHIPS) HALF_CHIPS (omega arith));
   cells = small_cells table.sums ring whole (table_sizes table) is all;
 }
   where
     bounded : (n : ℕ) (a b : ℤ) → pos n ≡ pos RAISED +ℤ (a +ℤ b)
-        → unsigned_abs a ≤ sizes_to table.sums 2046 → unsigned_abs b ≤ sizes_to table.sums 2046
+        → unsigned_abs a ≤ sizes_to table.sums HALF_CHIPS
+        → unsigned_abs b ≤ sizes_to table.sums HALF_CHIPS
         → n ≤ 2 * RAISED
     bounded n a b e small_a small_b =
         omega (arith, ints, e, small_a, small_b, table_sizes table)
@@ -307,9 +318,9 @@ pairs_of_part ring raised i h = sym (kept (slice_index ring i) (raised i h))
 
 pub record IsPartAtOnes (ones : Ones) (ring : List ℕ) (half l lane : ℕ) : Type 0 where
   pub sum : IsSumAtOnes ones (slice_index ring) half l lane
-  pub most : lane ≤ 2 * RAISED * 1023
+  pub most : lane ≤ 2 * RAISED * CODE_CHIPS
 
-pub part_at_ones : (ones : Ones) (ring : List ℕ) (whole : ℤ) (half l lane : ℕ) → half < 2046
+pub part_at_ones : (ones : Ones) (ring : List ℕ) (whole : ℤ) (half l lane : ℕ) → half < HALF_CHIPS
     → l < 64 → IsPart ring whole → unsigned_abs whole ≤ MOST_PERIOD_SUM
     → IsPairAtOnes ones (slice_index ring) (λ _. 0) half l lane
     → IsPartAtOnes ones ring half l lane
@@ -317,17 +328,17 @@ part_at_ones ones ring whole half l lane inside few part small is =
     let count : ℕ = ones_of ones in
     let none : pos is.of_second ≡ pos 0 = is.is_second
     ∙ rw (total-zeros (length ones.alone.items), total-zeros (length ones.twos.items)) refl in
-    let most : is.of_first ≤ 2 * RAISED * 1023 =
+    let most : is.of_first ≤ 2 * RAISED * CODE_CHIPS =
     bounded whole is.of_first count ones.are.few small
     (part.cells ones half l is.of_first inside few is.is_first) in
     let same : lane ≡ is.of_first = is.is_pair ∙ alone is.of_first is.of_second none most in
     record { sum = rw same is.is_first; most = rw same most }
   where
-    bounded : (whole : ℤ) (n count : ℕ) → count ≤ 1023 → unsigned_abs whole ≤ MOST_PERIOD_SUM
-        → unsigned_abs (cell_sum whole n count) ≤ MOST_PERIOD_SUM → n ≤ 2 * RAISED * 1023
+    bounded : (whole : ℤ) (n count : ℕ) → count ≤ CODE_CHIPS → unsigned_abs whole ≤ MOST_PERIOD_SUM
+        → unsigned_abs (cell_sum whole n count) ≤ MOST_PERIOD_SUM → n ≤ 2 * RAISED * CODE_CHIPS
     bounded whole n count few small cell = omega (arith, ints, few, small, cell)
 
-    alone : (n m : ℕ) → pos m ≡ pos 0 → n ≤ 2 * RAISED * 1023 → (n + 2 ^ 16 * m) % 2 ^ 32 ≡ n
+    alone : (n m : ℕ) → pos m ≡ pos 0 → n ≤ 2 * RAISED * CODE_CHIPS → (n + 2 ^ 16 * m) % 2 ^ 32 ≡ n
     alone n m none most = omega (arith, ints, none, most)
 
 -- and so for cells that follow one another
@@ -335,14 +346,15 @@ abbrev pub AreAtOnes : Ones → List ℕ → ℕ → List ℕ → Type 0
 AreAtOnes ones ring half lanes = (first second : ℕ → ℕ) → HasPairs first second ring
     → (l : ℕ) → l < 64 → IsPairAtOnes ones first second half l (slice_index lanes l)
 
-pub part_cell : (ones : Ones) (ring lanes : List ℕ) (whole : ℤ) (half l : ℕ) → half < 2046
+pub part_cell : (ones : Ones) (ring lanes : List ℕ) (whole : ℤ) (half l : ℕ) → half < HALF_CHIPS
     → l < 64 → IsPart ring whole → unsigned_abs whole ≤ MOST_PERIOD_SUM
     → AreAtOnes ones ring half lanes → IsPartAtOnes ones ring half l (slice_index lanes l)
 part_cell ones ring lanes whole half l inside few part small are =
     part_at_ones ones ring whole half l (slice_index lanes l) inside few part small
     (are (slice_index ring) (λ _. 0) (pairs_of_part ring part.raised) l few)
 
-pub part_small : (ones : Ones) (ring lanes : List ℕ) (whole sum : ℤ) (half l : ℕ) → half < 2046
+pub part_small : (ones : Ones) (ring lanes : List ℕ) (whole sum : ℤ) (half l : ℕ)
+    → half < HALF_CHIPS
     → l < 64 → IsPart ring whole → unsigned_abs whole ≤ MOST_PERIOD_SUM
     → AreAtOnes ones ring half lanes
     → sum ≡ cell_sum whole (slice_index lanes l) (ones_of ones)
@@ -359,6 +371,6 @@ kept_small z small = to_z-of_z w32 z (fits_signed_from_abs w32 z (omega (arith, 
 
 -- a cell's sum is no greater than the sizes of the entries
 pub small_sum : (prn cell : ℕ) (table : List ℤ) (sum : ℤ) → IsCellSum prn cell table sum
-    → sizes_to table 2046 ≤ MOST_SMALL → unsigned_abs sum ≤ MOST_SMALL
+    → sizes_to table HALF_CHIPS ≤ MOST_SMALL → unsigned_abs sum ≤ MOST_SMALL
 small_sum prn cell table sum is small =
-    rw is.value (omega (arith, correlation_size prn cell 2046 table, small))
+    rw is.value (omega (arith, correlation_size prn cell HALF_CHIPS table, small))

@@ -23,7 +23,7 @@ pub record IsInTable (prn k mask : ℕ) : Type 0 where
   pub one : mask ≡ 255 → (chip prn k == 1) ≡ true
   pub nought : mask ≢ 255 → (chip prn k == 1) ≡ false
 
-pub in_table : (prn k : ℕ) (table : List ℕ) → IsTable prn table → k < 1023
+pub in_table : (prn k : ℕ) (table : List ℕ) → IsTable prn table → k < CODE_CHIPS
     → IsInTable prn k (slice_index table (k + 1))
 unfolding IsTable
 in_table prn k table is inside =

@@ -1,5 +1,5 @@
 -- Rings of chips.
-use Rattle.std.proofs.Common.{inl, inr, ◌≡◌, ℕ, ◌+◌, ◌-◌, ◌%◌, ◌<◌, ◌≤◌, refl, ap, ◌∙◌, arith}
+use Rattle.std.proofs.Common.{inl, inr, ◌≡◌, ℕ, ◌+◌, ◌-◌, ◌<◌, ◌≤◌, refl, ap, ◌∙◌, arith}
 use Rattle.std.proofs.Common.{to_z, of_z, w32, FitsSigned}
 use Rattle.std.specs.Prelude.{ℤ, pos, ◌+ℤ◌, ◌⊎◌, List, slice_index, unsigned_abs}
 use Rattle.std.specs.Prelude.{length, take, drop}
@@ -9,16 +9,17 @@ use Rattle.std.proofs.lemmas.List.{get_or-take, get_or-drop, length-take-le}
 use Rattle.std.specs.Simd.Lanes.{chunk}
 use Rattle.std.proofs.lemmas.Bool.{cases_lt}
 use Rattle.std.proofs.lemmas.Simd.{get_or-chunk, length-chunk}
-use Rattle.acquisition.specs.Rings.{chip_from, IsRing, AreEntries}
-use Rattle.acquisition.specs.declared.chip_ring.TheConstants.{RAISED}
+use Rattle.acquisition.specs.Rings.{chip_from, half_chip_in_ring, IsRing, AreEntries}
+use Rattle.acquisition.specs.declared.chip_ring.TheConstants.{RAISED, RING}
 use Rattle.acquisition.specs.declared.sums.TheConstants.{MOST_PERIOD_SUM}
 use Rattle.acquisition.proofs.SizeLemmas.{abs_add}
+use Rattle.acquisition.specs.declared.half_chip_table.TheConstants.{HALF_CHIPS, LAST}
 
 -- sixteen of 64 places
-pub entries_of : (chips : List ℕ) (at n k : ℕ) → length chips ≡ 2109 → at + 64 ≤ 2109 → n ≡ 64
+pub entries_of : (chips : List ℕ) (at n k : ℕ) → length chips ≡ RING → at + 64 ≤ RING → n ≡ 64
     → k + 16 ≤ 64 → AreEntries chips (at + k) (chunk k 16 (take n (drop at chips)))
 entries_of chips at n k long within whole inside =
-    let rest : length (drop at chips) ≡ 2109 - at = length-drop at chips ∙ rw long refl in
+    let rest : length (drop at chips) ≡ RING - at = length-drop at chips ∙ rw long refl in
     let of : length (take n (drop at chips)) ≡ 64 =
     length-take-le n (drop at chips) (omega (arith, whole, within, rest)) ∙ whole in
     record {
@@ -57,16 +58,16 @@ chip_is a b small_a small_b =
 -- the chips that begin at the first n half chips are put in
 abbrev pub AreSet : ℕ → List ℤ → List ℕ → Type 0
 AreSet n table ring = (j : ℕ) → j < n
-    → pos (slice_index ring (2045 - j)) ≡ pos RAISED +ℤ chip_from table j
+    → pos (slice_index ring (LAST - j)) ≡ pos RAISED +ℤ chip_from table j
 
-pub set_next : (n : ℕ) (chip : ℤ) (table : List ℤ) (old new : List ℕ) → n < 2046
+pub set_next : (n : ℕ) (chip : ℤ) (table : List ℤ) (old new : List ℕ) → n < HALF_CHIPS
     → AreSet n table old → chip ≡ chip_from table n
-    → pos (slice_index new (2045 - n)) ≡ pos RAISED +ℤ chip
-    → ((i : ℕ) → (i ≡ 2045 - n → ⊥) → slice_index new i ≡ slice_index old i)
+    → pos (slice_index new (LAST - n)) ≡ pos RAISED +ℤ chip
+    → ((i : ℕ) → (i ≡ LAST - n → ⊥) → slice_index new i ≡ slice_index old i)
     → AreSet (n + 1) table new
 set_next n chip table old new below before is put others j h = elim (last_or_before j n h) [
   | inl same ↦ rw same (put ∙ rw is refl)
-  | inr earlier ↦ rw (others (2045 - j) (λ e. absurd (omega (arith, earlier, below, e))))
+  | inr earlier ↦ rw (others (LAST - j) (λ e. absurd (omega (arith, earlier, below, e))))
       (before j earlier)
 ]
   where
@@ -74,30 +75,31 @@ set_next n chip table old new below before is put others j h = elim (last_or_bef
     last_or_before j k h = grind arith
 
 -- and once all are, and the first ones again after the last
-pub ring_is : (table : List ℤ) (old new : List ℕ) → AreSet 2046 table old
-    → ((i : ℕ) → 2046 ≤ i → i < 2109 → slice_index new i ≡ slice_index old (i - 2046))
-    → ((i : ℕ) → i < 2046 → slice_index new i ≡ slice_index old i)
+pub ring_is : (table : List ℤ) (old new : List ℕ) → AreSet HALF_CHIPS table old
+    → ((i : ℕ) → HALF_CHIPS ≤ i → i < RING → slice_index new i ≡ slice_index old (i - HALF_CHIPS))
+    → ((i : ℕ) → i < HALF_CHIPS → slice_index new i ≡ slice_index old i)
     → IsRing table new
-ring_is table old new all after others i h = elim (cases_lt i 2046) [
+ring_is table old new all after others i h = elim (cases_lt i HALF_CHIPS) [
   | inl low ↦ ap pos (others i low ∙ ap (slice_index old) (back i low))
-      ∙ all (2045 - i) (omega arith)
+      ∙ all (LAST - i) (omega arith)
       ∙ ap raised (first_turn i low)
   | inr high ↦ ap pos (after i high h ∙ ap (slice_index old) (back_again i high h))
-      ∙ all (4091 - i) (omega (arith, high))
+      ∙ all (HALF_CHIPS + LAST - i) (omega (arith, high))
       ∙ ap raised (second_turn i high h)
 ]
   where
     raised : ℕ → ℤ
     raised k = pos RAISED +ℤ chip_from table k
 
-    back : (i : ℕ) → i < 2046 → i ≡ 2045 - (2045 - i)
+    back : (i : ℕ) → i < HALF_CHIPS → i ≡ LAST - (LAST - i)
     back i h = omega (arith, h)
 
-    back_again : (i : ℕ) → 2046 ≤ i → i < 2109 → i - 2046 ≡ 2045 - (4091 - i)
+    back_again : (i : ℕ) → HALF_CHIPS ≤ i → i < RING
+        → i - HALF_CHIPS ≡ LAST - (HALF_CHIPS + LAST - i)
     back_again i high h = omega (arith, high, h)
 
-    first_turn : (i : ℕ) → i < 2046 → 2045 - i ≡ (4091 - i) % 2046
+    first_turn : (i : ℕ) → i < HALF_CHIPS → LAST - i ≡ half_chip_in_ring i
     first_turn i low = omega (arith, low)
 
-    second_turn : (i : ℕ) → 2046 ≤ i → i < 2109 → 4091 - i ≡ (4091 - i) % 2046
+    second_turn : (i : ℕ) → HALF_CHIPS ≤ i → i < RING → HALF_CHIPS + LAST - i ≡ half_chip_in_ring i
     second_turn i low high = omega (arith, low, high)

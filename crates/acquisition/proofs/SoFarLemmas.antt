@@ -13,33 +13,35 @@ use Rattle.acquisition.specs.declared.bin_powers.BinPowers.{BinPowers}
 use Rattle.acquisition.specs.declared.bin_steps.Steps.{Steps}
 use Rattle.acquisition.specs.declared.period_sums.PeriodSums.{PeriodSums}
 use Rattle.acquisition.proofs.PowerLemmas.{power-none, power-more}
+use Rattle.acquisition.specs.declared.plan.TheConstants.{BIN_CELLS}
 
 -- over how many periods a cell's power is
 pub periods-none : (cell : ℕ) → periods_of cell 0 ≡ 0
 periods-none cell = omega arith
 
-pub periods-all : (cell added periods : ℕ) → cell < 2046 → added ≡ 2046 * periods
+pub periods-all : (cell added periods : ℕ) → cell < BIN_CELLS → added ≡ BIN_CELLS * periods
     → periods_of cell added ≡ periods
 periods-all cell added periods inside all = omega (arith, inside, all)
 
 -- a run of powers, from a cell on
 pub record IsRun (added cell count : ℕ) : Type 0 where
-  pub from : cell ≡ added % 2046
-  pub within : cell + count ≤ 2046
+  pub from : cell ≡ added % BIN_CELLS
+  pub within : cell + count ≤ BIN_CELLS
 
 pub periods-there : (added cell count l : ℕ) → IsRun added cell count → l < count
-    → periods_of (cell + l) added ≡ added / 2046
+    → periods_of (cell + l) added ≡ added / BIN_CELLS
 periods-there added cell count l run inside = omega (arith, run.from, run.within, inside)
 
 pub periods-more : (added cell count l : ℕ) → IsRun added cell count → l < count
-    → periods_of (cell + l) (added + count) ≡ added / 2046 + 1
+    → periods_of (cell + l) (added + count) ≡ added / BIN_CELLS + 1
 periods-more added cell count l run inside = omega (arith, run.from, run.within, inside)
 
 pub periods-before : (added cell count i : ℕ) → IsRun added cell count → i < cell
     → periods_of i (added + count) ≡ periods_of i added
 periods-before added cell count i run before = omega (arith, run.from, run.within, before)
 
-pub periods-after : (added cell count i : ℕ) → IsRun added cell count → cell + count ≤ i → i < 2046
+pub periods-after : (added cell count i : ℕ) → IsRun added cell count → cell + count ≤ i
+    → i < BIN_CELLS
     → periods_of i (added + count) ≡ periods_of i added
 periods-after added cell count i run after inside =
     omega (arith, run.from, run.within, after, inside)
@@ -50,7 +52,7 @@ three i cell count = grind arith
 
 -- none of them
 pub so_far-none : (x : ℕ → Sample) (prn long : ℕ) (steps : Steps) (bin : BinPowers) → bin.added ≡ 0
-    → ((i : ℕ) → i < 2046 → get_or bin.powers i 0 ≡ 0) → AreSoFar x prn long steps bin
+    → ((i : ℕ) → i < BIN_CELLS → get_or bin.powers i 0 ≡ 0) → AreSoFar x prn long steps bin
 so_far-none x prn long steps bin none zeros = record {
   powers = λ cell inside. zeros cell inside
       ∙ rw (none, periods-none cell)
@@ -61,10 +63,10 @@ so_far-none x prn long steps bin none zeros = record {
 -- some more
 pub so_far-more : (x : ℕ → Sample) (prn long : ℕ) (steps : Steps) (old new : BinPowers)
     (sums : PeriodSums) (cell count : ℕ) (more : List ℕ) → IsRun old.added cell count
-    → AreSumsOf x steps.code steps.carrier (old.added / 2046 * long) long sums
+    → AreSumsOf x steps.code steps.carrier (old.added / BIN_CELLS * long) long sums
     → ((l : ℕ) → l < count → get_or more l 0 ≡ power_over x
-    (replica_of prn (phases (cell + l) steps.code steps.carrier)) (old.added / 2046 * long)
-    (old.added / 2046 * long + long))
+    (replica_of prn (phases (cell + l) steps.code steps.carrier)) (old.added / BIN_CELLS * long)
+    (old.added / BIN_CELLS * long + long))
     → ((l : ℕ) → l < count → get_or new.powers (cell + l) 0
     ≡ get_or old.powers (cell + l) 0 + get_or more l 0)
     → ((i : ℕ) → i < cell → get_or new.powers i 0 ≡ get_or old.powers i 0)
@@ -85,7 +87,7 @@ so_far-more x prn long steps old new sums cell count more run folded powers ther
               let at : cell + l ≡ i = omega (arith, from) in
               let replica : Replica = replica_of prn (phases i steps.code steps.carrier) in
               rw at at (there l few)
-              ∙ power-more x replica long (old.added / 2046) (get_or old.powers i 0)
+              ∙ power-more x replica long (old.added / BIN_CELLS) (get_or old.powers i 0)
               (get_or more l 0)
               (so_far.powers i inside ∙ rw (rw at at (periods-there old.added cell count l run few))
               refl) (rw at at (powers l few))
@@ -93,7 +95,7 @@ so_far-more x prn long steps old new sums cell count more run folded powers ther
         ]
       ];
       sums = λ some.
-          let here : new.added / 2046 ≡ old.added / 2046 =
+          let here : new.added / BIN_CELLS ≡ old.added / BIN_CELLS =
           omega (arith, added, run.from, run.within, rw added at some) in
           rw (here, same) folded;
     }

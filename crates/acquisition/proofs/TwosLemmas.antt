@@ -1,16 +1,18 @@
 -- Pairs of sums that are added up in lanes, from rings for one chip and for two.
-use Rattle.std.proofs.Common.{◌≡◌, ℕ, suc, ◌+◌, ◌-◌, ◌*◌, ◌%◌, ◌^◌, ◌<◌, ◌≤◌, refl, ap, ◌∙◌, sym}
+use Rattle.std.proofs.Common.{◌≡◌, ℕ, suc, ◌+◌, ◌*◌, ◌%◌, ◌^◌, ◌<◌, ◌≤◌, refl, ap, ◌∙◌, sym}
 use Rattle.std.proofs.Common.{arith}
 use Rattle.std.specs.Prelude.{ℤ, pos, ◌+ℤ◌, List, length, slice_index}
 use Rattle.std.proofs.lemmas.Int.{ints}
 use Rattle.std.proofs.lemmas.Simd.{get_or-zip2}
 use Rattle.definitions.specs.Sums.{total}
 use Rattle.acquisition.specs.Rings.{place_of, ArePaired, AreEntries, IsPairAtOnes, IsRing}
-use Rattle.acquisition.specs.Rings.{sum_at, with_next}
+use Rattle.acquisition.specs.Ones.{next_place}
+use Rattle.acquisition.specs.Rings.{half_chip_in_ring, sum_at, with_next}
 use Rattle.acquisition.specs.Twos.{IsClosed, AreTwos, HasPairs, IsPair, ArePairs}
 use Rattle.acquisition.specs.declared.ones.Ones.{Ones}
 use Rattle.acquisition.specs.declared.chip_ring.TheConstants.{RING}
 use Rattle.acquisition.proofs.LaneLemmas.{both_lanes, lanes_long}
+use Rattle.acquisition.specs.declared.half_chip_table.TheConstants.{HALF_CHIPS}
 
 pair_added : (a b c d : ℕ) → ((a + 2 ^ 16 * b) % 2 ^ 32 + (c + 2 ^ 16 * d) % 2 ^ 32) % 2 ^ 32
     ≡ (a + c + 2 ^ 16 * (b + d)) % 2 ^ 32
@@ -83,22 +85,22 @@ pairs_more ring chips f g x y half from n at lanes more has few here entries are
 -- rings that begin anew after the last half chip
 pub closed_of_ring : (table : List ℤ) (ring : List ℕ) → IsRing table ring → IsClosed ring
 closed_of_ring table ring is i h =
-    let same : (4091 - i) % 2046 ≡ (4091 - i % 2046) % 2046 = omega (arith, h) in
-    let e : pos (slice_index ring i) ≡ pos (slice_index ring (i % 2046)) =
-    is i h ∙ rw same refl ∙ sym (is (i % 2046) (omega (arith, h))) in
+    let same : half_chip_in_ring i ≡ half_chip_in_ring (i % HALF_CHIPS) = omega (arith, h) in
+    let e : pos (slice_index ring i) ≡ pos (slice_index ring (i % HALF_CHIPS)) =
+    is i h ∙ rw same refl ∙ sym (is (i % HALF_CHIPS) (omega (arith, h))) in
     omega (arith, ints, e)
 
 pub closed_of_pairs : (first second pairs : List ℕ) → ArePaired first second pairs
     → IsClosed first → IsClosed second → IsClosed pairs
 closed_of_pairs first second pairs are closed closed_q i h =
-    are i h ∙ rw (closed i h, closed_q i h) refl ∙ sym (are (i % 2046) (omega (arith, h)))
+    are i h ∙ rw (closed i h, closed_q i h) refl ∙ sym (are (i % HALF_CHIPS) (omega (arith, h)))
 
 -- the pairs of a ring for two chips
 pub pairs_of_twos : (f g : ℕ → ℕ) (ring twos : List ℕ) → HasPairs f g ring → AreTwos ring twos
     → HasPairs (with_next f) (with_next g) twos
 pairs_of_twos f g ring twos has by i h =
-    by i h ∙ rw (has i h, has ((i + 2044) % 2046) (omega arith))
-    (pair_added (f i) (g i) (f ((i + 2044) % 2046)) (g ((i + 2044) % 2046)))
+    by i h ∙ rw (has i h, has (next_place i) (omega arith))
+    (pair_added (f i) (g i) (f (next_place i)) (g (next_place i)))
 
 -- the sums at the chips of 1, from the lanes that have them
 pub pair_at_ones : (ones : Ones) (f g : ℕ → ℕ) (half l lane : ℕ)
@@ -124,11 +126,4 @@ pair_at_ones ones f g half l lane is = record {
 pub twos_of_zeros : (ring twos : List ℕ) → ((i : ℕ) → i < RING → slice_index ring i ≡ 0)
     → ((i : ℕ) → i < RING → slice_index twos i ≡ 0) → AreTwos ring twos
 twos_of_zeros ring twos zeros are i h =
-    are i h ∙ rw (zeros i h, zeros ((i + 2044) % 2046) (omega arith)) refl
-
--- the place of the next chip
-pub next_place : (ring : List ℕ) (i : ℕ) → IsClosed ring → 2 ≤ i → i < RING
-    → slice_index ring (i - 2) ≡ slice_index ring ((i + 2044) % 2046)
-next_place ring i closed some h =
-    let e : (i - 2) % 2046 ≡ (i + 2044) % 2046 = omega (arith, some) in
-    closed (i - 2) (omega (arith, h)) ∙ ap (slice_index ring) e
+    are i h ∙ rw (zeros i h, zeros (next_place i) (omega arith)) refl

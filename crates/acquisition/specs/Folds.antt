@@ -14,7 +14,7 @@ sum_at_key y key n k = total (λ i. cond (key i == k) (y i) (pos 0)) n
 
 -- the half chip at which sample j lies, for a code that begins at phase 0
 abbrev pub half_chip_at : ℕ → ℕ → ℕ
-half_chip_at step j = j * step / 2 ^ 31 % 2046
+half_chip_at step j = j * step / 2 ^ 31 % HALF_CHIPS
 
 -- sample j times the conjugate of the carrier, which begins at phase 0
 abbrev pub in_phase_at : (ℕ → Sample) → ℕ → ℕ → ℤ

@@ -3,15 +3,15 @@ use Rattle.std.specs.Prelude.{◌≡◌, ◌<◌, ◌≤◌, ◌+◌, ◌-◌, �
 use Rattle.std.specs.Prelude.{List, length, slice_index}
 use Rattle.definitions.specs.Sums.{total}
 use Rattle.definitions.specs.Codes.{chip}
-use Rattle.acquisition.specs.declared.half_chip_table.TheConstants.{HALF_CHIPS}
+use Rattle.acquisition.specs.declared.half_chip_table.TheConstants.{HALF_CHIPS, LAST}
 
 -- the place of a chip in a ring, for a code that begins at half chip 0, and that of the next chip,
 -- which lies two places before it
 abbrev pub first_place : ℕ → ℕ
-first_place chip = 2045 - 2 * chip
+first_place chip = LAST - 2 * chip
 
 abbrev pub next_place : ℕ → ℕ
-next_place place = (place + 2044) % 2046
+next_place place = (place + (HALF_CHIPS - 2)) % HALF_CHIPS
 
 -- how many chips two lists of places have, where the second one has each with the next chip
 abbrev pub count_of : List ℕ → List ℕ → ℕ

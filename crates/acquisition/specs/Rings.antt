@@ -4,7 +4,7 @@ use Rattle.std.specs.Prelude.{◌-ℤ◌, ◌*ℤ◌, unsigned_abs}
 use Rattle.std.specs.Prelude.{List, get_or, slice_index, length}
 use Rattle.definitions.specs.Sums.{total}
 use Rattle.acquisition.specs.Ones.{count_of, next_place}
-use Rattle.acquisition.specs.declared.half_chip_table.TheConstants.{HALF_CHIPS}
+use Rattle.acquisition.specs.declared.half_chip_table.TheConstants.{HALF_CHIPS, LAST}
 use Rattle.acquisition.specs.declared.ones.Ones.{Ones}
 use Rattle.acquisition.specs.declared.sums.TheConstants.{MOST_PERIOD_SUM}
 use Rattle.acquisition.specs.declared.chip_ring.TheConstants.{RING, RAISED, CELLS_AT_ONCE}
@@ -12,12 +12,15 @@ use Rattle.bit_planes.specs.declared.lanes.TheConstants.{LANES}
 
 -- the sum over the chip that begins at half chip k, from a table by half chips
 abbrev pub chip_from : List ℤ → ℕ → ℤ
-chip_from table k = get_or table k (pos 0) +ℤ get_or table ((k + 1) % 2046) (pos 0)
+chip_from table k = get_or table k (pos 0) +ℤ get_or table ((k + 1) % HALF_CHIPS) (pos 0)
 
--- place i of a ring belongs to half chip 4,091 - i, counted around the code
+-- the half chip of a place in a ring: it is so many before the last one, counted around the code
+abbrev pub half_chip_in_ring : ℕ → ℕ
+half_chip_in_ring place = (HALF_CHIPS + LAST - place) % HALF_CHIPS
+
 abbrev pub IsRing : List ℤ → List ℕ → Type 0
 IsRing table ring = (i : ℕ) → i < RING → pos (slice_index ring i)
-    ≡ pos RAISED +ℤ chip_from table ((4091 - i) % 2046)
+    ≡ pos RAISED +ℤ chip_from table (half_chip_in_ring i)
 
 -- each entry of a ring is that of a first one plus 2^16 times that of a second one, modulo 2^32
 abbrev pub ArePaired : List ℕ → List ℕ → List ℕ → Type 0
@@ -39,7 +42,7 @@ pub record AreEntries (ring : List ℕ) (at : ℕ) (lanes : List ℕ) : Type 0 w
 
 -- the place of a chip for a code that begins at a half chip, from that for one that begins at 0
 abbrev pub place_of : ℕ → ℕ → ℕ
-place_of half first = (half + first) % 2046
+place_of half first = (half + first) % HALF_CHIPS
 
 -- the entry of a chip at a place with that of the next chip
 abbrev pub with_next : (ℕ → ℕ) → ℕ → ℕ

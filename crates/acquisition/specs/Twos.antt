@@ -5,10 +5,11 @@ use Rattle.acquisition.specs.Rings.{with_next}
 use Rattle.acquisition.specs.declared.chip_ring.TheConstants.{RING}
 use Rattle.acquisition.specs.declared.pair_lanes.PairLanes.{PairLanes}
 use Rattle.bit_planes.specs.declared.lanes.TheConstants.{LANES}
+use Rattle.acquisition.specs.declared.half_chip_table.TheConstants.{HALF_CHIPS}
 
 -- after the last half chip a ring begins anew
 abbrev pub IsClosed : List ℕ → Type 0
-IsClosed ring = (i : ℕ) → i < RING → slice_index ring i ≡ slice_index ring (i % 2046)
+IsClosed ring = (i : ℕ) → i < RING → slice_index ring i ≡ slice_index ring (i % HALF_CHIPS)
 
 -- a ring has the entries of two chips each, modulo 2^32
 abbrev pub AreTwos : List ℕ → List ℕ → Type 0

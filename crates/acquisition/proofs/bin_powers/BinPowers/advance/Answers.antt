@@ -4,6 +4,7 @@ use Rattle.acquisition.proofs.SoFarLemmas.{so_far-more, IsRun}
 use Rattle.acquisition.proofs.bin_powers.BinPowers.advance.Given.{Over}
 use Rattle.acquisition.proofs.bin_powers.BinPowers.advance.Goals as goal
 use Rattle.acquisition.proofs.bin_powers.BinPowers.advance.Goals.{then-cell-eq0, else-cell-eq0}
+use Rattle.acquisition.specs.declared.plan.TheConstants.{BIN_CELLS}
 
 -- the sums of a period that begins are made, and nothing else changes
 powers_stay : (g : Over) (c : goal.After-add g)
@@ -20,7 +21,7 @@ as_many g c = elim c.if-cell-eq0.branch [
 ]
 
 run : (g : Over) (c : goal.After-add g)
-    → IsRun c.loop-self.self.added (c.loop-self.self.added % 2046) c.min-count.result
+    → IsRun c.loop-self.self.added (c.loop-self.self.added % BIN_CELLS) c.min-count.result
 run g c = record {
   from = refl;
   within = omega (arith, c.min-count.ensures, c.min.ensures);
@@ -44,16 +45,16 @@ loop-self-preserved g c =
       );
       powers = λ x same begun.
           let before = here.powers x same begun in
-          let sums : AreSumsOf x steps.code steps.carrier (old.added / 2046 * long) long
+          let sums : AreSumsOf x steps.code steps.carrier (old.added / BIN_CELLS * long) long
           c.if-cell-eq0.self.sums = elim c.if-cell-eq0.branch [
             | then-cell-eq0 w ↦ rw w.self-is (w.sum_up.ensures x same)
             | else-cell-eq0 w ↦ rw w.self-is (before.sums (omega (arith, w.if-cell-eq0.false)))
           ] in
           so_far-more x c.args.ones.now.prn long steps old c.add.new.self
-          c.if-cell-eq0.self.sums (old.added % 2046) c.min-count.result
+          c.if-cell-eq0.self.sums (old.added % BIN_CELLS) c.min-count.result
           c.powers-powers.result (run g c) sums
           (λ l h. c.powers-powers.ensures.powers x steps.code steps.carrier
-          (old.added / 2046 * long) long sums l (omega (arith, h, c.min-count.ensures)))
+          (old.added / BIN_CELLS * long) long sums l (omega (arith, h, c.min-count.ensures)))
           (rw (powers_stay g c) at more.powers) (rw (powers_stay g c) at more.before)
           (rw (powers_stay g c) at more.after) (rw (as_many g c) at more.added)
           more.sums before;

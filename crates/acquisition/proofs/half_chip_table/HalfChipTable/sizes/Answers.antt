@@ -3,9 +3,10 @@ use Rattle.std.proofs.Common.{sym, unsigned_abs}
 use Rattle.acquisition.specs.Folds.{sizes_to}
 use Rattle.acquisition.specs.declared.half_chip_table.HalfChipTable.{HalfChipTable}
 use Rattle.acquisition.proofs.TableLemmas.{entry-kept, sizes-first, sizes-next, sizes-within}
+use Rattle.acquisition.specs.declared.half_chip_table.TheConstants.{HALF_CHIPS}
 use Rattle.acquisition.proofs.half_chip_table.HalfChipTable.sizes.Goals as goal
 
-next : (table : HalfChipTable) (k sizes size : ℕ) → k < 2046 → sizes ≡ sizes_to table.sums k
+next : (table : HalfChipTable) (k sizes size : ℕ) → k < HALF_CHIPS → sizes ≡ sizes_to table.sums k
     → size ≡ unsigned_abs (to_z w32 (of_z w32 (get_or table.sums k (pos 0))))
     → sizes + size ≡ sizes_to table.sums (k + 1)
 next table k sizes size inside before is =
@@ -20,7 +21,7 @@ overflow_add-sizes c =
     c.loop-k.invariant c.unsigned_abs-sizes.ensures.value) (omega (
       arith,
       sizes-within table.sums
-          (k + 1) 2046 (omega (arith, c.loop-k-test.true)),
+          (k + 1) HALF_CHIPS (omega (arith, c.loop-k-test.true)),
       table.small,
     ))
 

@@ -16,6 +16,7 @@ use Rattle.acquisition.proofs.search.Search.take_cells.Given.{Over}
 use Rattle.acquisition.proofs.search.Search.take_cells.Goals as goal
 use Rattle.acquisition.proofs.search.Search.take_cells.Goals.{then-first-count-eq-HALF_CHIPS}
 use Rattle.acquisition.proofs.search.Search.take_cells.Goals.{else-first-count-eq-HALF_CHIPS}
+use Rattle.acquisition.specs.declared.plan.TheConstants.{BIN_CELLS}
 
 module _ (g : Over) (c : goal.After-self-2-1 g) (settings : Settings) (plan : Plan) (start : ℕ)
     (xs : List Sample) (holds : AreSamplesOf xs start (dwell_end settings plan start)
@@ -23,7 +24,7 @@ module _ (g : Over) (c : goal.After-self-2-1 g) (settings : Settings) (plan : Pl
     (s : StandsFor settings plan start xs c.args.self.now)
   where
     abbrev bin : ℕ
-    bin = c.args.self.now.done / 2046
+    bin = c.args.self.now.done / BIN_CELLS
 
     few : bin ≤ 2 * plan.bins
     few = omega (arith, rw s.plan_is at c.requires.end, c.requires.some)
@@ -46,7 +47,7 @@ module _ (g : Over) (c : goal.After-self-2-1 g) (settings : Settings) (plan : Pl
         c.if-first-count-eq-HALF_CHIPS.self.1.1.1.1.0
     tally = elim c.if-first-count-eq-HALF_CHIPS.branch [
       | then-first-count-eq-HALF_CHIPS w ↦
-          let all : c.advance.new.self.added ≡ 2046 * plan.dwell =
+          let all : c.advance.new.self.added ≡ BIN_CELLS * plan.dwell =
           c.advance.ensures.added ∙ rw (w.if-first-count-eq-HALF_CHIPS.true, s.periods) refl in
           rw w.self-is (w.take_bin.ensures.tallies (power_of settings plan xs start)
           (λ i h. rw c.args.self.now.whole_bins (power-of_whole settings plan xs start bin i
@@ -65,13 +66,13 @@ module _ (g : Over) (c : goal.After-self-2-1 g) (settings : Settings) (plan : Pl
         → ((j : ℕ) → j < dwell_length settings plan → sample_at xs (start + j) ≡ x j)
         → ForPowers c.if-first-count-eq-HALF_CHIPS.self.1.1.1.1.1.1.0
         (AreSoFar x plan.prn (samples_per_ms settings) (steps_in c.args.self.now.steps
-        ((c.args.self.now.done + c.min-count.result) / 2046)))
+        ((c.args.self.now.done + c.min-count.result) / BIN_CELLS)))
     powers x same d = elim c.if-first-count-eq-HALF_CHIPS.branch [
       | then-first-count-eq-HALF_CHIPS w ↦
           rw (w.self-is, written _ d)
           (w.clear.ensures.powers x plan.prn (samples_per_ms settings) _)
       | else-first-count-eq-HALF_CHIPS w ↦
-          let here : (c.args.self.now.done + c.min-count.result) / 2046 ≡ bin = omega
+          let here : (c.args.self.now.done + c.min-count.result) / BIN_CELLS ≡ bin = omega
           (arith, c.min-count.ensures, w.if-first-count-eq-HALF_CHIPS.false) in
           rw (w.self-is, here, written _ d) (so_far x same)
     ]
