@@ -123,8 +123,6 @@ UNSAID = {
     'IsReady': 'what a search looks at ends at a number or at its due time, whichever comes first',
     'next_dump self.old ≤ to →': 'it is asked where a dump comes alone',
     'slice_index numbers': 'the lanes of the stable Rust give none of theirs alone',
-    'in_phase_of self.now': 'products keep their sums alone, and give none of a single product',
-    'quadrature_of self.now': 'the same',
 }
 
 

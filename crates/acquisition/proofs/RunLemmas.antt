@@ -5,6 +5,8 @@ use Rattle.std.specs.Prelude.{ℤ, pos, ◌+ℤ◌, ◌==◌, cond, List, get_or
 use Rattle.definitions.specs.Sums.{total, sum_between}
 use Rattle.definitions.proofs.SumsLemmas.{total-same, total-bound}
 use Rattle.definitions.specs.Oscillators.{code_phase_after}
+use Rattle.bit_planes.specs.declared.plane.TheConstants.{WORD_PLACES}
+use Rattle.oscillators.specs.declared.carrier.TheConstants.{MOST_PRODUCT}
 use Rattle.acquisition.specs.Folds.{IsTable, half_chip_at}
 use Rattle.acquisition.specs.FoldStates.{HasRoom}
 use Rattle.acquisition.specs.declared.fold.Fold.{Fold}
@@ -59,12 +61,12 @@ table_run y step from n done len place part sum old new is here of run more =
 
 -- of products of a word that a walk and the word's end leave, at most fourteen are added up
 pub word_sum : (part : ℕ → ℤ) (count done left near len : ℕ) (sum : ℤ) → len ≡ min near 14
-    → near ≡ min left (count - done) → done < count
-    → ((j : ℕ) → j < count → unsigned_abs (part j) ≤ 9)
+    → near ≡ min left (count - done) → done < count → count ≤ WORD_PLACES
+    → ((j : ℕ) → j < WORD_PLACES → unsigned_abs (part j) ≤ MOST_PRODUCT)
     → sum ≡ sum_between part done (done + len) → IsRunSum part done len sum
-word_sum part count done left near len sum is_len is_near more small is =
+word_sum part count done left near len sum is_len is_near more inside small is =
     is_run_sum part done len sum (omega (arith, is_len))
-    (λ j h. small j (omega (arith, h, is_len, is_near, more))) is
+    (λ j h. small j (omega (arith, h, is_len, is_near, more, inside))) is
 
 -- the room that is left for the products of a word that are still to come
 pub room_left : (count done : ℕ) (old fold : Fold) → done < count → HasRoom count old

@@ -1,5 +1,5 @@
 -- What a fold stands for.
-use Rattle.std.specs.Prelude.{◌≡◌, ◌≤◌, ◌<◌, ◌+◌, ◌*◌, ℕ, unsigned_abs}
+use Rattle.std.specs.Prelude.{◌≡◌, ◌≤◌, ◌<◌, ◌+◌, ◌*◌, ℕ}
 use Rattle.definitions.specs.Samples.{Sample}
 use Rattle.oscillators.specs.declared.carrier.TheConstants.{MOST_PRODUCT}
 use Rattle.lane_correlator.specs.SampleProducts.{in_phase_of, quadrature_of}
@@ -24,11 +24,6 @@ pub record AreWiped (x : ℕ → Sample) (carrier_step from n : ℕ) (products :
         → in_phase_of products j ≡ in_phase_at x carrier_step (from + j)
     pub quadrature : (j : ℕ) → j < n
         → quadrature_of products j ≡ quadrature_at x carrier_step (from + j)
-
--- and none of them is greater in size than such a product can be
-pub record AreSmall (n : ℕ) (products : Products) : Type 0 where
-  pub in_phase : (j : ℕ) → j < n → unsigned_abs (in_phase_of products j) ≤ MOST_PRODUCT
-  pub quadrature : (j : ℕ) → j < n → unsigned_abs (quadrature_of products j) ≤ MOST_PRODUCT
 
 -- the sums of all entries of a fold
 pub record IsWhole (sums : Sums) (fold : Fold) : Type 0 where

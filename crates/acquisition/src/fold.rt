@@ -30,7 +30,7 @@ pub(crate) struct Fold {
 impl Fold {
     ghost use Rattle.definitions.specs.Oscillators.{code_phase_after, carrier_phase_after};
     ghost use Rattle.acquisition.specs.FoldStates.{IsFold, IsSmall, IsWhole, HasRoom};
-    ghost use Rattle.acquisition.specs.FoldStates.{AreSmall, AreWiped};
+    ghost use Rattle.acquisition.specs.FoldStates.{AreWiped};
     ghost use Rattle.acquisition.specs.Walks.{IsAt};
 
     /// The sums over no samples.
@@ -110,7 +110,6 @@ impl Fold {
     fn take_word(&mut self, products: &Products, count: usize, walk: &mut HalfChipWalk)
         requires count { count ≤ WORD_PLACES }
         requires room { HasRoom count self.old }
-        requires small { AreSmall count products.now }
         ensures fold { (x : ℕ → Sample) (step carrier_step from n : ℕ)
             → IsFold x step carrier_step from n self.old
             → IsAt (code_phase_after 0 step (from + n)) step walk.old

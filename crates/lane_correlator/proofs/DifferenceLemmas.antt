@@ -7,9 +7,9 @@ use Rattle.std.proofs.lemmas.Int.{ints, to_z-of_z, fits_signed_from_abs}
 use Rattle.definitions.specs.Sums.{total, sum_between}
 use Rattle.definitions.proofs.SumsLemmas.{total-bound}
 use Rattle.bit_planes.specs.ByteLanes.{place_in}
-use Rattle.lane_correlator.specs.Bytes.{signed_byte}
-use Rattle.lane_correlator.specs.RunningSums.{byte_sum, AreRunningSums}
-use Rattle.lane_correlator.specs.SampleProducts.{sum_to, part_in}
+use Rattle.lane_correlator.specs.Bytes.{signed_byte, AreAtMost}
+use Rattle.lane_correlator.specs.RunningSums.{byte_sum, sum_to, part_in, AreRunningSums}
+use Rattle.lane_correlator.specs.RunningSums.{ArePartsAtMost}
 
 -- the part of a product, from the running sums of the lanes of all
 pub part_is : (lanes running sums : List ℕ) → AreRunningSums lanes running
@@ -35,6 +35,13 @@ part_is lanes running sums are same none j h =
         → signed_byte (up + (256 - to)) ≡ signed_byte lane
     one_more lane before up to is_up is_to = omega (arith, ints, is_up, is_to)
 
+-- no part is greater in size than the lanes are
+pub parts_at_most : (most : ℕ) (lanes running sums : List ℕ) → AreAtMost most lanes
+    → AreRunningSums lanes running → ((k : ℕ) → k < 64 → get_or sums k 0 ≡ get_or running k 0)
+    → get_or sums 64 0 ≡ 0 → ArePartsAtMost most sums
+parts_at_most most lanes running sums small are same none j h =
+    rw (part_is lanes running sums are same none j h) (small j h)
+
 -- a sum of at most 14 parts is what the running sum after them is more than that before them
 pub parts_total : (sums : List ℕ) (first n : ℕ) → ((k : ℕ) → get_or sums k 0 < 256) → n ≤ 14
     → ((j : ℕ) → j < n → unsigned_abs (part_in sums (first + j)) ≤ 9)
@@ -56,7 +63,8 @@ parts_total sums first (suc n) below few small =
     total-bound (λ j. part_in sums (first + j)) 9 n (λ j h. small j (omega arith)) in
     rw at (more (sum_to sums (first + n + 1)) (sum_to sums (first + n)) (sum_to sums first)
     (total (λ j. part_in sums (first + j)) n) (below (64 - (first + n + 1)))
-    (below (64 - (first + n))) (below (64 - first)) before (omega (arith, size, few)) (small n (omega arith)))
+    (below (64 - (first + n))) (below (64 - first)) before (omega (arith, size, few))
+    (small n (omega arith)))
   where
     more : (up here from : ℕ) (sum : ℤ) → up < 256 → here < 256 → from < 256
         → signed_byte (here + (256 - from)) ≡ sum → unsigned_abs sum ≤ 117

@@ -1,5 +1,5 @@
 -- Samples times the conjugate of a carrier, by the bytes that tables give.
-use Rattle.std.proofs.Common.{◌≡◌, ℕ, ◌+◌, ◌-◌, ◌*◌, ◌%◌, ◌<◌, ◌≤◌, refl, ap, ◌∙◌, arith, List}
+use Rattle.std.proofs.Common.{◌≡◌, ℕ, ◌+◌, ◌-◌, ◌*◌, ◌/◌, ◌%◌, ◌<◌, ◌≤◌, refl, ap, ◌∙◌, arith, List}
 use Rattle.std.proofs.Common.{length, get_or}
 use Rattle.std.specs.Prelude.{ℤ, pos, ◌+ℤ◌, ◌-ℤ◌, ◌*ℤ◌, unsigned_abs, bit_xor}
 use Rattle.std.specs.Simd.Lanes.{zip2}
@@ -9,12 +9,13 @@ use Rattle.std.proofs.lemmas.Int.{ints}
 use Rattle.std.proofs.lemmas.Simd.{get_or-zip2}
 use Rattle.definitions.specs.Samples.{Sample, sample_at}
 use Rattle.bit_planes.specs.ByteLanes.{place_in}
-use Rattle.sample_planes.specs.Signs.{AreReal}
+use Rattle.sample_planes.specs.Signs.{AreReal, part_of}
 use Rattle.sample_planes.specs.Codes.{IsCode, AreCodes, AreQuadratureCodes}
 use Rattle.lane_correlator.specs.Bytes.{signed_byte, cosine_in, sine_in, cosine_times, sine_times}
 use Rattle.lane_correlator.specs.Bytes.{minus_sine_times, AreFound}
 use Rattle.lane_correlator.specs.ByteSums.{IsWiped}
-use Rattle.lane_correlator.proofs.TableLemmas.{with_code, sine_with_code}
+use Rattle.lane_correlator.proofs.SmallLemmas.{wiped_small, wiped_quadrature_small}
+use Rattle.lane_correlator.proofs.TableLemmas.{with_code, sine_with_code, small_part, small_wave}
 
 -- a part's carrier, turned by its code
 pub record IsTurned (eighths codes at : List ℕ) : Type 0 where
@@ -84,6 +85,15 @@ module _ (xs : List Sample) (w : ℕ) (eighths : List ℕ) where
       ∙ ap minus_sine_times (turned.turned (63 - j) (omega arith))
       ∙ ap (λ (z : ℤ). pos 0 -ℤ z) (sine_with_code x (place_in eighths j) (place_in codes j) is)
 
+  -- a lane has the code of some part, whether there is a sample or not
+  part_there : List ℕ → ℕ → ℤ
+  part_there codes j = part_of (place_in codes j / 4 % 2) (place_in codes j / 8)
+
+  is_code : (codes : List ℕ) (j : ℕ) → place_in codes j % 4 ≡ 0 → place_in codes j < 16
+      → IsCode (part_there codes j) (place_in codes j)
+  unfolding part_there
+  is_code codes j fourth few = record { fourth = fourth; few = few; value = refl }
+
   -- real samples, and complex ones
   module _ (codes at i q : List ℕ) (of : AreCodes xs w codes) (turned : IsTurned eighths codes at)
       (in_phase : AreFound cosine_times at i) (quadrature : AreFound minus_sine_times at q) where
@@ -98,6 +108,8 @@ module _ (xs : List Sample) (w : ℕ) (eighths : List ℕ) where
           minus_sine_at (sample_at xs (64 * w + j)).in_phase codes at q j h (of.codes j h long)
           turned quadrature
           ∙ quadrature_alone _ _ _ (real (64 * w + j) long);
+      small_in_phase = λ j h. omega (arith, in_phase.small (63 - j) (omega arith));
+      small_quadrature = λ j h. omega (arith, quadrature.small (63 - j) (omega arith));
     }
 
     pub wiped_complex : (codes_q at_q sines cosines : List ℕ) → AreQuadratureCodes xs w codes_q
@@ -124,4 +136,33 @@ module _ (xs : List Sample) (w : ℕ) (eighths : List ℕ) where
           (of_q.codes j h long) turned_q cosine)
           ∙ flipped ((sample_at xs (64 * w + j)).in_phase *ℤ sine_in (place_in eighths j))
           ((sample_at xs (64 * w + j)).quadrature *ℤ cosine_in (place_in eighths j));
+      small_in_phase = λ j h.
+          let e : ℕ = place_in eighths j in
+          let code = code_there j in
+          let code_q = code_q_there j in
+          rw (
+            sum_at i sines j li ls in_phase.small sine.small h,
+            cosine_at (part_there codes j) codes at i j h code turned in_phase,
+            sine_at (part_there codes_q j) codes_q at_q sines j h code_q turned_q sine,
+          ) (wiped_small (part_there codes j) (part_there codes_q j) (cosine_in e) (sine_in e)
+          (small_part _ _ code) (small_part _ _ code_q) (small_wave e));
+      small_quadrature = λ j h.
+          let e : ℕ = place_in eighths j in
+          let code = code_there j in
+          let code_q = code_q_there j in
+          rw (
+            sum_at q cosines j lq lc quadrature.small cosine.small h,
+            minus_sine_at (part_there codes j) codes at q j h code turned quadrature,
+            cosine_at (part_there codes_q j) codes_q at_q cosines j h code_q turned_q cosine,
+            flipped (part_there codes j *ℤ sine_in e) (part_there codes_q j *ℤ cosine_in e),
+          ) (wiped_quadrature_small (part_there codes j) (part_there codes_q j) (cosine_in e)
+          (sine_in e) (small_part _ _ code) (small_part _ _ code_q) (small_wave e));
     }
+      where
+        code_there : (j : ℕ) → IsCode (part_there codes j) (place_in codes j)
+        code_there j = is_code codes j (of.fourth (63 - j) (omega arith))
+            (of.few (63 - j) (omega arith))
+
+        code_q_there : (j : ℕ) → IsCode (part_there codes_q j) (place_in codes_q j)
+        code_q_there j = is_code codes_q j (of_q.fourth (63 - j) (omega arith))
+            (of_q.few (63 - j) (omega arith))

@@ -1,7 +1,8 @@
 -- Sums of the bytes at places of a word that follow one another.
-use Rattle.std.specs.Prelude.{◌≡◌, ℕ, zero, suc, ◌+◌, ◌-◌, ◌*◌, ◌/◌, ◌%◌, ◌<◌, List, slice_index}
-use Rattle.std.specs.Prelude.{cond, leb, min}
+use Rattle.std.specs.Prelude.{◌≡◌, ℕ, zero, suc, ◌+◌, ◌-◌, ◌*◌, ◌/◌, ◌%◌, ◌<◌, ◌≤◌, ℤ}
+use Rattle.std.specs.Prelude.{unsigned_abs, List, slice_index, cond, leb, min}
 use Rattle.bit_planes.specs.ByteLanes.{place_in}
+use Rattle.lane_correlator.specs.Bytes.{signed_byte}
 
 -- the bytes at n places from one on, added up
 unfoldable pub byte_sum : List ℕ → ℕ → ℕ → ℕ
@@ -39,3 +40,15 @@ AreSumsBefore n bytes sums = (j : ℕ) → j < 64
 abbrev pub AreRunningSums : List ℕ → List ℕ → Type 0
 AreRunningSums bytes sums = (j : ℕ) → j < 64
     → place_in sums j ≡ byte_sum bytes 0 (j + 1) % 256
+
+-- the sum modulo 256 over the first n products of a word, and a product's part: what the sum over
+-- the products up to it is more than that over those before it
+abbrev pub sum_to : List ℕ → ℕ → ℕ
+sum_to sums n = slice_index sums (64 - n)
+
+abbrev pub part_in : List ℕ → ℕ → ℤ
+part_in sums j = signed_byte (sum_to sums (j + 1) + (256 - sum_to sums j))
+
+-- no product's part is more than n in size
+abbrev pub ArePartsAtMost : ℕ → List ℕ → Type 0
+ArePartsAtMost n sums = (j : ℕ) → j < 64 → unsigned_abs (part_in sums j) ≤ n

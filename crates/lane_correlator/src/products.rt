@@ -1,10 +1,10 @@
 //! The samples of a run without their carrier, added up.
 
 ghost use Rattle.std.specs.Prelude.{◌≡◌, ◌<◌, ◌≤◌, ◌+◌, ◌-◌, ℕ, length, slice_index};
-ghost use Rattle.std.specs.Prelude.{unsigned_abs};
 ghost use Rattle.definitions.specs.Oscillators.{carrier_phase_after};
 ghost use Rattle.definitions.specs.Sums.{sum_between};
 ghost use Rattle.lane_correlator.specs.Bytes.{signed_byte};
+ghost use Rattle.lane_correlator.specs.RunningSums.{ArePartsAtMost};
 ghost use Rattle.lane_correlator.specs.declared.products.TheConstants.{SUMS, MOST_AT_ONCE};
 ghost use Rattle.bit_planes.specs.declared.plane.TheConstants.{WORD_PLACES, WORDS};
 ghost use Rattle.oscillators.specs.declared.carrier.TheConstants.{MOST_PRODUCT};
@@ -33,6 +33,8 @@ pub struct Products {
     quadrature: [u8; SUMS],
     ghost long: { length in_phase ≡ SUMS },
     ghost long_q: { length quadrature ≡ SUMS },
+    ghost small: { ArePartsAtMost MOST_PRODUCT in_phase },
+    ghost small_q: { ArePartsAtMost MOST_PRODUCT quadrature },
 }
 
 impl Products {
@@ -63,8 +65,6 @@ impl Products {
         requires ordered { first ≤ end }
         requires end { end ≤ WORD_PLACES }
         requires few { end - first ≤ MOST_AT_ONCE }
-        requires small { (j : ℕ) → first ≤ j → j < end
-            → unsigned_abs (in_phase_of self.now j) ≤ MOST_PRODUCT }
         ensures { result ≡ sum_between (in_phase_of self.now) first end }
     {
         difference(
@@ -79,8 +79,6 @@ impl Products {
         requires ordered { first ≤ end }
         requires end { end ≤ WORD_PLACES }
         requires few { end - first ≤ MOST_AT_ONCE }
-        requires small { (j : ℕ) → first ≤ j → j < end
-            → unsigned_abs (quadrature_of self.now j) ≤ MOST_PRODUCT }
         ensures { result ≡ sum_between (quadrature_of self.now) first end }
     {
         difference(

@@ -21,6 +21,7 @@ pub record IsCode (part : ℤ) (code : ℕ) : Type 0 where
 pub record AreCodes (xs : List Sample) (w : ℕ) (lanes : List ℕ) : Type 0 where
   pub long : length lanes ≡ 64
   pub few : (k : ℕ) → k < 64 → slice_index lanes k < 16
+  pub fourth : (k : ℕ) → k < 64 → slice_index lanes k % 4 ≡ 0
   pub codes : (j : ℕ) → j < 64 → 64 * w + j < length xs
       → IsCode (sample_at xs (64 * w + j)).in_phase (place_in lanes j)
 
@@ -28,5 +29,6 @@ pub record AreCodes (xs : List Sample) (w : ℕ) (lanes : List ℕ) : Type 0 whe
 pub record AreQuadratureCodes (xs : List Sample) (w : ℕ) (lanes : List ℕ) : Type 0 where
   pub long : length lanes ≡ 64
   pub few : (k : ℕ) → k < 64 → slice_index lanes k < 16
+  pub fourth : (k : ℕ) → k < 64 → slice_index lanes k % 4 ≡ 0
   pub codes : (j : ℕ) → j < 64 → 64 * w + j < length xs
       → IsCode (sample_at xs (64 * w + j)).quadrature (place_in lanes j)

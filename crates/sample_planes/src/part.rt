@@ -66,6 +66,7 @@ impl Part {
         requires { w < WORDS }
         ensures long { length result ≡ WORD_PLACES }
         ensures few { (k : ℕ) → k < WORD_PLACES → slice_index result k < 16 }
+        ensures fourth { (k : ℕ) → k < WORD_PLACES → slice_index result k % 4 ≡ 0 }
         ensures codes { (j : ℕ) → j < WORD_PLACES
             → IsCode (part_at self.now (WORD_PLACES * w + j)) (place_in result j) }
     {

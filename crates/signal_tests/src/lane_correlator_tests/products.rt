@@ -1,10 +1,8 @@
 //! Sums of products of samples with a carrier against those that are worked out one by one.
 
-ghost use Rattle.std.specs.Prelude.{◌≡◌, ◌≤◌, ◌<◌, ◌+◌, ◌-◌, ℕ, length, unsigned_abs};
+ghost use Rattle.std.specs.Prelude.{◌≡◌, ◌≤◌, ◌+◌, ◌-◌, length};
 ghost use Rattle.bit_planes.specs.declared.plane.TheConstants.{WORD_PLACES};
-ghost use Rattle.lane_correlator.specs.SampleProducts.{in_phase_of, quadrature_of};
 ghost use Rattle.lane_correlator.specs.declared.products.TheConstants.{MOST_AT_ONCE};
-ghost use Rattle.oscillators.specs.declared.carrier.TheConstants.{MOST_PRODUCT};
 ghost use Rattle.sample_planes.specs.declared.planes.TheConstants.{MAX_SAMPLES};
 
 use crate::noise::noise_bytes;
@@ -47,10 +45,6 @@ fn right_in_word(
     requires inside { from + count ≤ length samples.now }
     requires run { length samples.now ≤ MAX_SAMPLES }
     requires word { count ≤ WORD_PLACES }
-    requires in_phase { (j : ℕ) → j < count
-        → unsigned_abs (in_phase_of products.now j) ≤ MOST_PRODUCT }
-    requires quadrature { (j : ℕ) → j < count
-        → unsigned_abs (quadrature_of products.now j) ≤ MOST_PRODUCT }
 {
     let mut right = 0u32;
     for first in 0..count {
@@ -77,10 +71,6 @@ fn right_from(
     requires run { length samples.now ≤ MAX_SAMPLES }
     requires word { end ≤ WORD_PLACES }
     requires few { end - first ≤ MOST_AT_ONCE }
-    requires in_phase { (j : ℕ) → j < end
-        → unsigned_abs (in_phase_of products.now j) ≤ MOST_PRODUCT }
-    requires quadrature { (j : ℕ) → j < end
-        → unsigned_abs (quadrature_of products.now j) ≤ MOST_PRODUCT }
 {
     let (mut in_phase, mut quadrature) = (0i32, 0i32);
     let mut right = 0u32;

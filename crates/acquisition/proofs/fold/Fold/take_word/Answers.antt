@@ -10,7 +10,8 @@ pub add-requires-clause-room : goal.add-requires-clause-room
 add-requires-clause-room c =
     let sum = word_sum (in_phase_of c.args.products.now) c.args.count c.loop-done.done
     c.loop-done.walk.left c.min.result c.min-len.result c.in_phase.result c.min-len.ensures
-    c.min.ensures c.loop-done-test.true c.requires.small.in_phase c.in_phase.ensures in
+    c.min.ensures c.loop-done-test.true c.requires.count
+    c.args.products.now.small c.in_phase.ensures in
     let room = room_left c.args.count c.loop-done.done c.args.self.now c.loop-done.self
     c.loop-done-test.true c.requires.room c.loop-done.invariant.room in
     omega (arith, sum.small, room.in_phase, c.min-len.ensures, c.min.ensures)
@@ -19,7 +20,8 @@ pub add-requires-in-loop-done-clause-room : goal.add-requires-in-loop-done-claus
 add-requires-in-loop-done-clause-room c =
     let sum = word_sum (quadrature_of c.args.products.now) c.args.count c.loop-done.done
     c.loop-done.walk.left c.min.result c.min-len.result c.quadrature.result c.min-len.ensures
-    c.min.ensures c.loop-done-test.true c.requires.small.quadrature c.quadrature.ensures in
+    c.min.ensures c.loop-done-test.true c.requires.count
+    c.args.products.now.small_q c.quadrature.ensures in
     let room = room_left c.args.count c.loop-done.done c.args.self.now c.loop-done.self
     c.loop-done-test.true c.requires.room c.loop-done.invariant.room in
     omega (arith, sum.small, room.quadrature, c.min-len.ensures, c.min.ensures)
@@ -38,10 +40,12 @@ loop-done-preserved c =
     let left : len ≤ c.loop-done.walk.left = omega (arith, c.min-len.ensures, c.min.ensures) in
     let i = word_sum (in_phase_of c.args.products.now) c.args.count done
     c.loop-done.walk.left c.min.result len c.in_phase.result c.min-len.ensures
-    c.min.ensures c.loop-done-test.true c.requires.small.in_phase c.in_phase.ensures in
+    c.min.ensures c.loop-done-test.true c.requires.count
+    c.args.products.now.small c.in_phase.ensures in
     let q = word_sum (quadrature_of c.args.products.now) c.args.count done
     c.loop-done.walk.left c.min.result len c.quadrature.result c.min-len.ensures
-    c.min.ensures c.loop-done-test.true c.requires.small.quadrature c.quadrature.ensures in
+    c.min.ensures c.loop-done-test.true c.requires.count
+    c.args.products.now.small_q c.quadrature.ensures in
     record {
       done = within;
       room = λ n has.

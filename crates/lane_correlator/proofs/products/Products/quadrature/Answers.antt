@@ -1,9 +1,10 @@
-use Rattle.std.proofs.Common.{◌<◌, ℕ, rules, get_or}
+use Rattle.std.proofs.Common.{ℕ, Fits, w8, arith, rules, get_or}
 use Rattle.lane_correlator.proofs.DifferenceLemmas.{sum_in_32}
 use Rattle.lane_correlator.proofs.products.Products.quadrature.Goals as goal
 
 pub returns : goal.returns
 returns c =
-    let below : (k : ℕ) → get_or c.args.self.now.quadrature k 0 < 256 = search rules in
-    rw (c.difference.ensures) (sum_in_32 c.args.self.now.quadrature c.args.first c.args.end below
-    c.requires.ordered c.requires.few c.requires.small)
+    let byte : (k : ℕ) → Fits w8 (get_or c.args.self.now.quadrature k 0) = search rules in
+    rw (c.difference.ensures) (sum_in_32 c.args.self.now.quadrature c.args.first c.args.end
+    (λ k. omega (arith, byte k)) c.requires.ordered c.requires.few
+    (λ j from before. c.args.self.now.small_q j (omega (arith, before, c.requires.end))))

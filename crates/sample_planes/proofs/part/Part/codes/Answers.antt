@@ -14,6 +14,11 @@ returns-clause-few c k h =
     rw (loaded c.args.self.now.codes c.args.w k c.requires h)
     (c.args.self.now.few (64 * c.args.w + k) (omega (arith, c.requires)))
 
+pub returns-clause-fourth : goal.returns-clause-fourth
+returns-clause-fourth c k h =
+    rw (loaded c.args.self.now.codes c.args.w k c.requires h)
+    (c.args.self.now.fourth (64 * c.args.w + k) (omega (arith, c.requires)))
+
 pub returns-clause-codes : goal.returns-clause-codes
 unfolding code_at
 returns-clause-codes c j h =

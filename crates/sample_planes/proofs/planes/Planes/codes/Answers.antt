@@ -11,6 +11,7 @@ returns c = record {
   codes = record {
     long = c.codes.ensures.long;
     few = c.codes.ensures.few;
+    fourth = c.codes.ensures.fourth;
     codes = λ j below inside. code_of
         (sample_at c.args.self.now (64 * c.args.w + j)).in_phase
         (part_at c.self.inside.in_phase (64 * c.args.w + j))

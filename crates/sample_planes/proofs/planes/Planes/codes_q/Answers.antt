@@ -10,6 +10,7 @@ pub returns-then-self-clause-codes : goal.returns-then-self-clause-codes
 returns-then-self-clause-codes c = record {
   long = c.codes.ensures.long;
   few = c.codes.ensures.few;
+  fourth = c.codes.ensures.fourth;
   codes = λ j below inside. code_of
       (sample_at c.args.self.now (64 * c.args.w + j)).quadrature
       (part_at c.self.inside.quadrature (64 * c.args.w + j)) (slice_index c.codes.result (63 - j))
