@@ -40,7 +40,7 @@ impl ChipRing {
         ChipRing { chips: [0; RING] }
     }
 
-    /// Becomes the ring of a table.
+    /// Makes the ring that of a table, whatever it was before.
     pub(crate) fn set(&mut self, table: &HalfChipTable)
         ensures { IsRing table.now.sums self.new.chips }
     {

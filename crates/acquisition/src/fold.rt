@@ -46,7 +46,7 @@ impl Fold {
         }
     }
 
-    /// Becomes the fold of samples `first` to `first + len - 1` of a source, for a code and a
+    /// Makes the fold that of samples `first` to `first + len - 1` of a source, for a code and a
     /// carrier that stand at the first of them; `len` is at most `MOST_PER_MS`. The code, which
     /// began at phase 0, goes on by `code_step`.
     pub(crate) fn fill<S: SampleSource>(

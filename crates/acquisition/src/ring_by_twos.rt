@@ -30,7 +30,7 @@ impl RingByTwos {
         }
     }
 
-    /// Becomes the ring of a table.
+    /// Makes the ring that of a table, whatever it was before.
     pub(crate) fn set(&mut self, table: &HalfChipTable)
         ensures { IsRing table.now.sums self.new.one.chips }
     {
@@ -38,7 +38,7 @@ impl RingByTwos {
         self.two.set_twos(&self.one);
     }
 
-    /// Becomes the pairs of the rings of two tables.
+    /// Makes the ring the pairs of the rings of two tables, whatever it was before.
     pub(crate) fn set_pairs(&mut self, first: &HalfChipTable, second: &HalfChipTable)
         ensures { ArePairsOf first.now.sums second.now.sums self.new.one.chips }
     {

@@ -10,7 +10,7 @@ impl ChipRing {
     ghost use Rattle.acquisition.specs.Rings.{ArePaired, with_next};
     ghost use Rattle.acquisition.specs.Twos.{AreTwos, IsClosed};
 
-    /// Becomes the pairs of what it was and of another ring.
+    /// Makes each entry the pair of what it was and of the entry of another ring.
     pub(crate) fn pair_with(&mut self, second: &ChipRing)
         ensures { ArePaired self.old.chips second.now.chips self.new.chips }
     {
@@ -19,7 +19,7 @@ impl ChipRing {
         }
     }
 
-    /// Becomes the sums of two chips that follow one another, from those of one.
+    /// Makes each entry the sum of two chips that follow one another, from a ring of single chips.
     pub(crate) fn set_twos(&mut self, one: &ChipRing)
         requires { IsClosed one.now.chips }
         ensures { AreTwos one.now.chips self.new.chips }

@@ -28,7 +28,7 @@ fn answers(text: &[u8]) -> [Option<Answer>; 3] {
     answers_with(4, text)
 }
 
-/// The same of a client with a share of the slots.
+/// The first three entries of the script of a client with so many slots.
 fn answers_with(share: u8, text: &[u8]) -> [Option<Answer>; 3]
     requires some { 1 ≤ share }
     requires most { share ≤ MOST_SLOTS }

@@ -99,7 +99,7 @@ impl Subframe {
         self.words.iter().all(|word| word.is_some())
     }
 
-    /// The same subframe with this as word `i`, or with that word missing.
+    /// The subframe with its word `i` replaced by this one, or missing.
     pub(crate) fn with_word(self, i: usize, word: Option<u32>) -> Subframe
         requires behind_header { HEADER_WORDS < i }
         requires to_ten { i ≤ SUBFRAME_WORDS }

@@ -49,9 +49,9 @@ const FROM_PLACE: [u8; 2 * WORD_PLACES] = [
 /// sample 63 - k.
 #[derive(Clone, Copy, Debug)]
 pub(crate) struct Wiped {
-    /// Their parts in phase.
+    /// The parts in phase of the 64 products.
     pub(crate) i: u8x64,
-    /// Their parts in quadrature.
+    /// The parts in quadrature of the 64 products.
     pub(crate) q: u8x64,
 }
 

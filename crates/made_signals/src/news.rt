@@ -8,8 +8,8 @@ pub enum PlainNews {
     Nothing,
     /// The signal is followed well from here on.
     Lock,
-    /// It no longer is.
+    /// The signal isn't followed well any more.
     Unlock,
-    /// It hasn't been for so long that tracking ends.
+    /// The signal hasn't been followed well for so long that tracking ends.
     Lost,
 }

@@ -19,13 +19,13 @@ pub struct SampleStream<'a> {
 }
 
 impl<'a> SampleStream<'a> {
-    /// So many samples of a signal.
+    /// The first `samples` samples of a signal.
     pub fn new(signal: MadeSignal<'a>, samples: u64) -> Self {
         SampleStream::with_noise(signal, samples, &[])
     }
 
-    /// So many samples, with noise from the first number of each pair up to the one before the
-    /// second.
+    /// The first `samples` samples of a signal, with noise from the first number of each pair up to
+    /// the one before the second.
     pub fn with_noise(signal: MadeSignal<'a>, samples: u64, noisy: &'a [(u64, u64)]) -> Self {
         SampleStream {
             signal,

@@ -14,9 +14,9 @@ use std::num::{nearest_f64_to_f32_with_nan, nearest_usize_to_f64};
 /// The floats of a part of a recording's samples.
 #[derive(Clone, Copy, Debug, PartialEq)]
 struct Floats {
-    /// Their mean.
+    /// The mean of the floats.
     mean: f64,
-    /// The mean of their squares.
+    /// The mean of the floats' squares.
     square: f64,
 }
 

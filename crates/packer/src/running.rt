@@ -133,7 +133,7 @@ pub fn read<R: Source>(reader: &mut R, buffer: &mut [u8]) -> Result<usize, Failu
     }
 }
 
-/// So many bytes of memory.
+/// A list of so many bytes, each 0.
 pub fn zeros(alloc: Global, count: usize) -> Result<Vec<u8>, AllocError>
     ensures { IfOk result (λ bytes. length bytes.items ≡ count) }
 {

@@ -5,8 +5,8 @@ use clap::Error;
 /// What the program comes to, once its run is over or can't begin.
 #[derive(Drop)]
 pub enum Outcome {
-    /// It ends with this status, and has reported what went wrong.
+    /// The program ends with this status, and has reported what went wrong.
     Status(u8),
-    /// Its help or its version was asked for, and is to be shown.
+    /// The program's help or its version was asked for, and is to be shown.
     Help(Error),
 }

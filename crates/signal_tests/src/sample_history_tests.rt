@@ -88,7 +88,7 @@ fn take_part(history: &mut SampleHistory, bytes: &[u8], first: usize, len: usize
 }
 
 /// The history takes the next `len` samples of the stream, which begin at place `first` of a byte.
-/// It answers whether it could.
+/// Gives whether it could.
 fn take_next(history: &mut SampleHistory, first: usize, len: usize) -> bool {
     let bytes = stream_bytes(history.format(), history.end(), first);
     take_part(history, &bytes, first, len)

@@ -55,7 +55,8 @@ pub(super) fn feed_to(
     Ok(told)
 }
 
-/// The same, and sees that its events are just those that are wanted.
+/// Feeds a bank a recording in pieces, up to a sample, and sees that its events are just those that
+/// are wanted.
 fn hear(
     rt: &(impl Abort + Alloc<A = Global>),
     bank: &mut Bank,
@@ -164,7 +165,7 @@ fn cells_among_strangers(rt: HostRuntime) -> Result<(), Fail> {
     have_done(&rt, &bank, &[(1, 0, Some(1))])
 }
 
-/// The same samples after a number of others, fewer than a byte has.
+/// The bytes of one-bit samples, after a number of other samples, fewer than a byte has.
 fn behind(bytes: &[u8; 1_536], first: usize) -> [u8; 1_537]
     requires { first < 8 }
 {

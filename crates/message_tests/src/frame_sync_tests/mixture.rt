@@ -31,7 +31,7 @@ pub struct Mixture {
 }
 
 impl Mixture {
-    /// So many bits of it.
+    /// The first `len` bits of a mixture.
     pub fn of_length(alloc: Global, len: usize) -> Result<Vec<bool>, AllocError> {
         let mut mixture = Mixture {
             register: 0x9e37_79b9_7f4a_7c15,

@@ -18,7 +18,7 @@ struct Almanac {
 }
 
 impl Almanac {
-    /// Its values, in the order of the standard's table.
+    /// The almanac's values, in the order of the standard's table.
     fn report(&self) -> Report {
         let (sv, toa, health) = (self.satellite.into(), self.toa.into(), self.health.into());
         Report::Alm([1, sv, 0, toa, 0, 0, health, 0, 0, 0, 0, 0, 0])

@@ -83,7 +83,8 @@ fn flush_fails(
     Ok(())
 }
 
-/// The same of a run over two bytes and at most eight samples. Gives the number of writes.
+/// A run over two bytes and at most eight samples says that its writer failed, where that only
+/// fails to flush. Gives the number of writes.
 fn flush_fails_past_limit(
     rt: &(impl Abort + Alloc<A = Global>),
     script: &[u8],

@@ -97,7 +97,7 @@ fn values(signs: &[i32; 1023]) -> [i32; SAMPLES] {
     values
 }
 
-/// Those values as two-bit samples.
+/// Values of 1, -1, 3 and -3 as two-bit samples.
 fn two_bit_samples(values: &[i32; SAMPLES]) -> [u8; SAMPLES / 4] {
     let mut bytes = [0; SAMPLES / 4];
     for k in 0..SAMPLES / 4 {
