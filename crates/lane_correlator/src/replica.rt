@@ -39,7 +39,7 @@ pub(crate) struct WordReplica<'a> {
 
 /// What is known of the words of a part.
 #[derive(Clone, Copy, Debug, PartialEq, Eq)]
-enum Words {
+enum WordKind {
     /// The code has windows, and the samples are real.
     Real,
     /// The code has windows, and the samples may be complex.
@@ -51,15 +51,15 @@ enum Words {
 impl RunPart<'_> {
     /// The codes in quadrature of word `w`.
     #[inline(always)]
-    fn codes_q(&self, w: usize, words: Words) -> Option<[u8; WORD_PLACES]>
+    fn codes_q(&self, w: usize, words: WordKind) -> Option<[u8; WORD_PLACES]>
         requires word { w < WORDS }
-        requires real { words ≡ Words.Real → AreReal self.now.samples.now }
+        requires real { words ≡ WordKind.Real → AreReal self.now.samples.now }
         ensures codes { IfSome result (λ lanes. AreQuadratureCodes self.now.samples.now w lanes) }
         ensures real { IfNone result (AreReal self.now.samples.now) }
     {
         match words {
-            Words::Real => None,
-            Words::Complex | Words::Any => self.samples.codes_q(w),
+            WordKind::Real => None,
+            WordKind::Complex | WordKind::Any => self.samples.codes_q(w),
         }
     }
 
@@ -104,8 +104,8 @@ impl<'a> WordReplica<'a> {
     {
         // Each kind of words has a loop of its own, so that this has few branches.
         match (self.code.has_windows(), part.samples.is_complex()) {
-            (true, false) => self.sums_of_words(part, book, Words::Real),
-            (true, true) => self.sums_of_words(part, book, Words::Complex),
+            (true, false) => self.sums_of_words(part, book, WordKind::Real),
+            (true, true) => self.sums_of_words(part, book, WordKind::Complex),
             (false, _) => self.sums_of_long_steps(part, book),
         }
     }
@@ -119,15 +119,15 @@ impl<'a> WordReplica<'a> {
         ensures sums { HasSums part.now self.old result }
         ensures moved { GoesOn (first_word part.now) (word_end part.now) self.old self.new }
     {
-        self.sums_of_words(part, book, Words::Any)
+        self.sums_of_words(part, book, WordKind::Any)
     }
 
     /// The sums over words of which this much is known.
     #[inline(always)]
-    fn sums_of_words(&mut self, part: &RunPart<'_>, book: &mut CodeBook, words: Words) -> Counts
+    fn sums_of_words(&mut self, part: &RunPart<'_>, book: &mut CodeBook, words: WordKind) -> Counts
         requires part { IsPart part.now }
-        requires windows { (words ≡ Words.Any) ⊎ (self.old.code.step ≤ MOST_WINDOW_STEP) }
-        requires real { words ≡ Words.Real → AreReal part.now.samples.now }
+        requires windows { (words ≡ WordKind.Any) ⊎ (self.old.code.step ≤ MOST_WINDOW_STEP) }
+        requires real { words ≡ WordKind.Real → AreReal part.now.samples.now }
         ensures sums { HasSums part.now self.old result }
         ensures moved { GoesOn (first_word part.now) (word_end part.now) self.old self.new }
     {
@@ -146,8 +146,8 @@ impl<'a> WordReplica<'a> {
 
 /// The chips of a code at the samples of the next word.
 #[inline(always)]
-fn next_chips(code: &mut CodeWords<'_>, table: &[u8; TABLE], words: Words) -> ChipLanes
-    requires { (words ≡ Words.Any) ⊎ (code.old.step ≤ MOST_WINDOW_STEP) }
+fn next_chips(code: &mut CodeWords<'_>, table: &[u8; TABLE], words: WordKind) -> ChipLanes
+    requires { (words ≡ WordKind.Any) ⊎ (code.old.step ≤ MOST_WINDOW_STEP) }
     ensures chips { (prn : ℕ) → IsTable prn table.now
         → AreChipLanes prn code.old.phase code.old.step result }
     ensures long { HasAllLanes result }
@@ -156,7 +156,7 @@ fn next_chips(code: &mut CodeWords<'_>, table: &[u8; TABLE], words: Words) -> Ch
     } }
 {
     match words {
-        Words::Real | Words::Complex => code.next_lanes_by_windows(table),
-        Words::Any => code.next_lanes(table),
+        WordKind::Real | WordKind::Complex => code.next_lanes_by_windows(table),
+        WordKind::Any => code.next_lanes(table),
     }
 }
