@@ -6,7 +6,7 @@ use Rattle.definitions.specs.Samples.{Packing}
 use Rattle.sample_planes.specs.CodedParts.{code_in}
 use Rattle.sample_planes.specs.Codes.{IsCodeNumber}
 use Rattle.sample_planes.specs.Layouts.{IsLayout, AreBytes, AreCodesIn}
-use Rattle.sample_planes.specs.declared.layout.Layout.{Layout}
+use Rattle.sample_planes.specs.declared.layout.WordLayout.{WordLayout}
 use Rattle.sample_planes.specs.Packings.{width_of, has_sizes}
 use Rattle.sample_planes.proofs.CodeLemmas.{is_code_in}
 use Rattle.sample_planes.proofs.PlaneLemmas.{HasRoom}
@@ -22,7 +22,7 @@ pub record IsWord (packing : Packing) (at start w : ℕ) (near lanes : List ℕ)
       → get_or lanes (63 - j) 0 ≡ code_of_part packing at near (start + (64 * w + j))
 
 -- what lanes have that a layout gives of the bytes of a word
-pub is_word : (packing : Packing) (at bit start w width : ℕ) (sizes : Bool) (l : Layout)
+pub is_word : (packing : Packing) (at bit start w width : ℕ) (sizes : Bool) (l : WordLayout)
     (near bytes lanes : List ℕ) → HasRoom packing at → width ≡ width_of packing
     → sizes ≡ has_sizes packing → bit ≡ at → IsLayout width start l
     → ((width start : ℕ) → IsLayout width start l → AreBytes width (start + 64 * w) near bytes)

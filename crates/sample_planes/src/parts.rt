@@ -8,7 +8,7 @@ ghost use Rattle.sample_planes.specs.declared.layout.TheConstants.{NEAR_BYTES};
 ghost use Rattle.sample_planes.specs.declared.planes.TheConstants.{MAX_SAMPLES};
 
 use crate::format::Format;
-use crate::layout::Layout;
+use crate::layout::WordLayout;
 use crate::part::Part;
 
 /// Makes parts those of `len` samples of `near`, from sample `start` of its first byte on. Where
@@ -34,7 +34,7 @@ pub(crate) fn fill_parts(
     let width = format.width();
     let has_sizes = format.has_sizes();
     let is_complex = format.has_quadrature();
-    let layout = Layout::new(width, start);
+    let layout = WordLayout::new(width, start);
     for w in 0..(len + 63) / 64 {
         // Both parts of a sample lie in one byte, so it is looked up once.
         let bytes = layout.bytes(near, w);

@@ -2,8 +2,8 @@ use Rattle.std.proofs.Common.{◌≡◌, ◌+◌, ◌-◌, ◌*◌, ◌%◌, ◌
 use Rattle.definitions.specs.Samples.{bit_in}
 use Rattle.sample_planes.proofs.CodeLemmas.{sum_lane, code_with, code_without, bit_small}
 use Rattle.sample_planes.proofs.LayoutLemmas.{bit_there}
-use Rattle.sample_planes.proofs.layout.Layout.codes.Goals as goal
-use Rattle.sample_planes.proofs.layout.Layout.codes.Goals.{then-has_sizes, else-has_sizes}
+use Rattle.sample_planes.proofs.layout.WordLayout.codes.Goals as goal
+use Rattle.sample_planes.proofs.layout.WordLayout.codes.Goals.{then-has_sizes, else-has_sizes}
 
 pub returns-clause-codes : goal.returns-clause-codes
 returns-clause-codes c width start w near l inside size bytes j h =

@@ -1,6 +1,6 @@
 use Rattle.std.proofs.Common.{◌-◌, ◌∙◌, arith}
 use Rattle.sample_planes.proofs.LayoutLemmas.{mask_of, shifted_lane, shifted_long}
-use Rattle.sample_planes.proofs.layout.Layout.masks.Goals as goal
+use Rattle.sample_planes.proofs.layout.WordLayout.masks.Goals as goal
 
 pub returns-clause-long : goal.returns-clause-long
 returns-clause-long c = shifted_long c.args.self.now.tops _ c.args.self.now.lanes.1

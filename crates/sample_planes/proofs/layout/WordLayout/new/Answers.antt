@@ -1,7 +1,7 @@
 use Rattle.sample_planes.proofs.LayoutLemmas.{shifted_long}
 use Rattle.sample_planes.proofs.FirstPlaces.{first_bytes, first_tops, tops_long}
 use Rattle.sample_planes.proofs.FirstPlaces.{shifts_fit, near_by, narrow}
-use Rattle.sample_planes.proofs.layout.Layout.new.Goals as goal
+use Rattle.sample_planes.proofs.layout.WordLayout.new.Goals as goal
 
 pub overflow_shr-result-2 : goal.overflow_shr-result-2
 overflow_shr-result-2 c = shifts_fit c.first_places-places.result
