@@ -5,8 +5,8 @@ use Rattle.definitions.specs.BitEdge.{edge_of}
 use Rattle.bit_sync.specs.Changes.{sign_of_last, changes_since_reset}
 use Rattle.bit_sync.specs.declared.edge_search.EdgeSearch.{EdgeSearch}
 use Rattle.bit_sync.specs.declared.bit_sum.BitSum.{BitSum}
-use Rattle.bit_sync.specs.declared.bit_sync.Stage.{Stage}
-use Rattle.bit_sync.specs.declared.bit_sync.Stage.TheVariants.{Searching, Summing}
+use Rattle.bit_sync.specs.declared.bit_sync.SyncState.{SyncState}
+use Rattle.bit_sync.specs.declared.bit_sync.SyncState.TheVariants.{Searching, Summing}
 use Rattle.bit_sync.specs.declared.bit_sync.BitSync.{BitSync}
 
 -- no push is the edge yet
@@ -28,7 +28,7 @@ abbrev pub whole_bits : Option Bool → List Bool
 whole_bits None = []
 whole_bits (Some bit) = bit ∷ []
 
-abbrev pub StandsAt : List ℤ → Stage → Type 0
+abbrev pub StandsAt : List ℤ → SyncState → Type 0
 StandsAt pushes (Searching search) = IsSearching pushes search
 StandsAt pushes (Summing bit) = IsSumming pushes bit
 

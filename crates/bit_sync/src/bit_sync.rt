@@ -19,7 +19,7 @@ pub enum BitNews {
 }
 
 #[derive(Debug, Drop)]
-enum Stage {
+enum SyncState {
     Searching(EdgeSearch),
     Summing(BitSum),
 }
@@ -32,7 +32,7 @@ enum Stage {
 /// places have four changes or more, all are counted anew.
 #[derive(Debug, Drop)]
 pub struct BitSync {
-    stage: Stage,
+    stage: SyncState,
 }
 
 impl BitSync {
@@ -45,7 +45,7 @@ impl BitSync {
         ensures { StandsFor [] result }
     {
         BitSync {
-            stage: Stage::Searching(EdgeSearch::new()),
+            stage: SyncState::Searching(EdgeSearch::new()),
         }
     }
 
@@ -59,15 +59,15 @@ impl BitSync {
             → Emits pushes (pushes ++ ip ∷ []) result }
     {
         match &mut self.stage {
-            Stage::Searching(search) => {
+            SyncState::Searching(search) => {
                 if search.push(ip) {
-                    self.stage = Stage::Summing(BitSum::begun_with(ip));
+                    self.stage = SyncState::Summing(BitSum::begun_with(ip));
                     BitNews::Edge
                 } else {
                     BitNews::Nothing
                 }
             }
-            Stage::Summing(sum) => match sum.push(ip) {
+            SyncState::Summing(sum) => match sum.push(ip) {
                 Some(bit) => BitNews::Bit(bit),
                 None => BitNews::Nothing,
             },
@@ -79,8 +79,8 @@ impl BitSync {
         ensures { (pushes : List ℤ) → StandsFor pushes self.now → result ≡ has_edge pushes }
     {
         match &self.stage {
-            Stage::Searching(_) => false,
-            Stage::Summing(_) => true,
+            SyncState::Searching(_) => false,
+            SyncState::Summing(_) => true,
         }
     }
 }
