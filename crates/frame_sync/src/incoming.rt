@@ -3,7 +3,7 @@
 ghost use Rattle.std.specs.Prelude.{◌≡◌, ◌+◌, ◌<◌, ◌≤◌, SomeIff};
 
 use crate::subframe::Subframe;
-use crate::window::Window;
+use crate::window::LastBits;
 
 /// The bits by which a start is recognised: words 1 and 2.
 pub const HEADER_BITS: u64 = 60;
@@ -31,7 +31,7 @@ impl Incoming {
 
     /// The subframe whose header ends with the newest bit, if there is one and it may start there:
     /// not inside the subframe before it, at whose end it is awaited.
-    pub(crate) fn starting(window: &Window, pushed: u64, awaited: Option<u64>) -> Option<Self>
+    pub(crate) fn starting(window: &LastBits, pushed: u64, awaited: Option<u64>) -> Option<Self>
         ensures { SomeIff result (StartsHere window.now.bits pushed awaited)
             (header_in window.now.bits pushed) }
     {
@@ -44,7 +44,7 @@ impl Incoming {
     }
 
     /// The subframe with the word that ends with the newest bit, if one does.
-    pub(crate) fn with_word(self, window: &Window, pushed: u64) -> Self
+    pub(crate) fn with_word(self, window: &LastBits, pushed: u64) -> Self
         requires behind_header { self.start + HEADER_BITS < pushed }
         requires within { pushed ≤ self.start + SUBFRAME_BITS }
         ensures { result ≡ with_word_in window.now.bits pushed self }

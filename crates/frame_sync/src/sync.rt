@@ -8,7 +8,7 @@ ghost use Rattle.frame_sync.specs.declared.sync.TheConstants.{MOST_BITS};
 
 use crate::incoming::{Incoming, SUBFRAME_BITS};
 use crate::subframe::Subframe;
-use crate::window::Window;
+use crate::window::LastBits;
 
 /// The most bits that are pushed to a search: those of more than 600 years.
 pub const MOST_BITS: u64 = 1 << 40;
@@ -28,7 +28,7 @@ pub struct Found {
 /// words of one subframe, whatever was pushed.
 #[derive(Debug, Drop)]
 pub struct FrameSync {
-    window: Window,
+    window: LastBits,
     pushed: u64,
     awaited: Option<u64>,
     incoming: Option<Incoming>,
@@ -46,7 +46,7 @@ impl FrameSync {
         ensures { StandsFor [] result }
     {
         FrameSync {
-            window: Window::new(),
+            window: LastBits::new(),
             pushed: 0,
             awaited: None,
             incoming: None,

@@ -19,15 +19,15 @@ pub const CHECKED_BITS: u32 = 32;
 
 /// The last 64 bits, the newest lowest, with 0 in place of those before the first.
 #[derive(Clone, Copy, Debug)]
-pub(crate) struct Window {
+pub(crate) struct LastBits {
     bits: u64,
 }
 
-impl Window {
+impl LastBits {
     pub(crate) fn new() -> Self
         ensures { result.bits ≡ 0 }
     {
-        Window { bits: 0 }
+        LastBits { bits: 0 }
     }
 
     #[tactic(auto, using(crate::proofs::Windows::pushed_in))]
