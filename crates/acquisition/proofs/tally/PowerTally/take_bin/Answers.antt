@@ -1,5 +1,5 @@
 use Rattle.std.proofs.Common.{◌∙◌, sym, arith}
-use Rattle.acquisition.proofs.tally.Tally.take_bin.Goals as goal
+use Rattle.acquisition.proofs.tally.PowerTally.take_bin.Goals as goal
 
 pub loop-i-preserved : goal.loop-i-preserved
 loop-i-preserved c =

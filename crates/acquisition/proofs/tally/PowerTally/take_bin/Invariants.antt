@@ -1,7 +1,7 @@
 use Rattle.std.proofs.Common.{◌≡◌, ◌<◌, ◌+◌, ℕ, get_or}
 use Rattle.acquisition.specs.Tallies.{Tallies}
 use Rattle.acquisition.specs.declared.plan.TheConstants.{BIN_CELLS}
-use Rattle.acquisition.proofs.tally.Tally.take_bin.Given as goal
+use Rattle.acquisition.proofs.tally.PowerTally.take_bin.Given as goal
 
 abbrev pub invariant-loop-i : goal.invariant-loop-i
 invariant-loop-i l = record {
