@@ -14,7 +14,7 @@ use Rattle.definitions.specs.Correlation.{Counts}
 use Rattle.definitions.specs.Lock.{is_good, window_count, any_good}
 use Rattle.tracking_loops.specs.Windows.{unfinished_window, ends_window, good_window, bad_run}
 use Rattle.tracking_loops.specs.Standing.{IsFilling}
-use Rattle.tracking_loops.specs.declared.window.Window.{Window}
+use Rattle.tracking_loops.specs.declared.window.LockWindow.{LockWindow}
 
 abbrev in_phase_size : Counts → ℕ
 in_phase_size d = unsigned_abs d.ip
@@ -30,7 +30,8 @@ module _ (ds : List Counts) (d : Counts) where
   pub early-count : length ds < 199 → window_count (ds ++ d ∷ []) ≡ 0
   early-count h = rw longer (omega arith)
 
-  pub early-filling : (s : Window) → length ds < 199 → IsFilling ds s → IsFilling (ds ++ d ∷ []) s
+  pub early-filling : (s : LockWindow) → length ds < 199 → IsFilling ds s
+      → IsFilling (ds ++ d ∷ []) s
   early-filling s h f = record {
     count = rw longer (f.count ∙ omega arith);
     in_phase = f.in_phase ∙ ap (sum_by in_phase_size) same;
@@ -58,7 +59,8 @@ module _ (ds : List Counts) (d : Counts) where
   bad_run-append (suc n) h = rw (is_good-append n (omega arith), bad_run-append n (omega arith))
       refl
 
-module _ (ds : List Counts) (d : Counts) (s : Window) (h : IsFilling ds s) (late : 199 ≤ length ds)
+module _ (ds : List Counts) (d : Counts) (s : LockWindow) (h : IsFilling ds s)
+    (late : 199 ≤ length ds)
   where
     more : length (ds ++ d ∷ []) ≡ length ds + 1
     more = longer ds d
@@ -81,8 +83,9 @@ module _ (ds : List Counts) (d : Counts) (s : Window) (h : IsFilling ds s) (late
     part-count : s.count + 1 < 20 → window_count (ds ++ d ∷ []) ≡ window_count ds
     part-count part = rw more (omega (arith, h.count))
 
-    pub part-goes_on : (new : Window) → s.count + 1 < 20 → new.count ≡ s.count + 1 → new.in_phase
-        ≡ s.in_phase + unsigned_abs d.ip → new.quadrature ≡ s.quadrature + unsigned_abs d.qp
+    pub part-goes_on : (new : LockWindow) → s.count + 1 < 20 → new.count ≡ s.count + 1
+        → new.in_phase ≡ s.in_phase + unsigned_abs d.ip
+        → new.quadrature ≡ s.quadrature + unsigned_abs d.qp
         → IsFilling (ds ++ d ∷ []) new
     part-goes_on new part count in_phase quadrature = record {
       count = rw (more, count) (omega (arith, h.count));
@@ -99,7 +102,7 @@ module _ (ds : List Counts) (d : Counts) (s : Window) (h : IsFilling ds s) (late
     pub whole-count : s.count + 1 ≡ 20 → window_count (ds ++ d ∷ []) ≡ window_count ds + 1
     whole-count whole = rw more (omega (arith, h.count))
 
-    pub whole-goes_on : (new : Window) → s.count + 1 ≡ 20 → new.count ≡ 0 → new.in_phase ≡ 0
+    pub whole-goes_on : (new : LockWindow) → s.count + 1 ≡ 20 → new.count ≡ 0 → new.in_phase ≡ 0
         → new.quadrature ≡ 0 → IsFilling (ds ++ d ∷ []) new
     whole-goes_on new whole count in_phase quadrature = record {
       count = rw (more, count) (omega (arith, h.count));

@@ -6,7 +6,7 @@ use Rattle.definitions.specs.Lock.{is_locked, window_count}
 use Rattle.lane_correlator.specs.Counting.{counts_in}
 use Rattle.tracking_loops.specs.Windows.{unfinished_window, bad_run}
 use Rattle.tracking_loops.specs.declared.steering.Steering.{Steering}
-use Rattle.tracking_loops.specs.declared.window.Window.{Window}
+use Rattle.tracking_loops.specs.declared.window.LockWindow.{LockWindow}
 use Rattle.tracking_loops.specs.declared.lock.Lock.{Lock}
 use Rattle.tracking_loops.specs.declared.loops.Loops.{Loops}
 
@@ -15,7 +15,7 @@ abbrev pub steering_in : Steering → DefinedLoops
 steering_in s = record { taken = s.dumps; last = counts_in s.last; u = s.u; v = s.v; w = s.w }
 
 -- what is kept of the dumps after the last whole window
-pub record IsFilling (dumps : List Counts) (window : Window) : Type 0 where
+pub record IsFilling (dumps : List Counts) (window : LockWindow) : Type 0 where
   pub count : window.count ≡ (length dumps - 199) % 20
   pub in_phase : window.in_phase ≡ sum_by (λ (d : Counts). unsigned_abs d.ip)
       (unfinished_window dumps)

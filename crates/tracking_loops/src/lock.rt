@@ -11,7 +11,7 @@ ghost use Rattle.tracking_loops.specs.declared.lock.TheConstants.{LOST_WINDOWS, 
 ghost use Rattle.tracking_loops.specs.declared.steering.TheConstants.{FIRST_HOLDING};
 
 use crate::news::News;
-use crate::window::Window;
+use crate::window::LockWindow;
 use lane_correlator::Counts;
 
 /// This many bad windows in a row end the lock.
@@ -23,7 +23,7 @@ const LOST_WINDOWS: u8 = 50;
 /// The lock, over the dumps by which the phase is held.
 #[derive(Debug, Drop)]
 pub struct Lock {
-    window: Window,
+    window: LockWindow,
     /// The bad windows in a row, up to `LOST_WINDOWS`.
     bad_windows: u8,
     pub is_locked: bool,
@@ -38,7 +38,7 @@ impl Lock {
         ensures { IsWatching [] result }
     {
         Lock {
-            window: Window::new(),
+            window: LockWindow::new(),
             bad_windows: 0,
             is_locked: false,
         }

@@ -15,7 +15,7 @@ const DUMPS_OF_WINDOW: u8 = 20;
 
 /// The window that isn't whole yet.
 #[derive(Debug, Drop)]
-pub struct Window {
+pub struct LockWindow {
     /// The number of dumps of the window, fewer than `DUMPS_OF_WINDOW`.
     count: u8,
     /// The sum of the sizes of the window's prompt sums in phase.
@@ -27,7 +27,7 @@ pub struct Window {
     ghost quadrature_in_range: { quadrature ≤ count * MOST_SUM },
 }
 
-impl Window {
+impl LockWindow {
     ghost use Rattle.tracking_loops.specs.Windows.{good_window};
     ghost use Rattle.tracking_loops.specs.Standing.{IsFilling};
 
@@ -35,7 +35,7 @@ impl Window {
     pub fn new() -> Self
         ensures { IsFilling [] result }
     {
-        Window {
+        LockWindow {
             count: 0,
             in_phase: 0,
             quadrature: 0,

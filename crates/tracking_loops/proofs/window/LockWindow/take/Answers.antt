@@ -4,7 +4,7 @@ use Rattle.std.proofs.Math.Path.{ap₂}
 use Rattle.std.proofs.lemmas.Int.{to_z-of_z}
 use Rattle.lane_correlator.specs.Counting.{counts_in}
 use Rattle.tracking_loops.proofs.WindowLemmas.{part-goes_on, part-none, whole-goes_on, whole-some}
-use Rattle.tracking_loops.proofs.window.Window.take.Goals as goal
+use Rattle.tracking_loops.proofs.window.LockWindow.take.Goals as goal
 
 pub returns-then-self-lt-DUMPS_OF_WINDOW-clause-goes_on :
     goal.returns-then-self-lt-DUMPS_OF_WINDOW-clause-goes_on
