@@ -30,7 +30,7 @@ FAILING = re.compile(rf'((?:^ *///.*\n)+)(?=(?: *#\[.*\]\n)*( *)pub (?:const )?f
 PART = re.compile(r'^ *///\n */// # (?:Panics|Contract)\n', re.M)
 
 # Enumerations that a later version may add to, beside all errors: by their names.
-OPEN = ('Answer', 'Event', 'Refusal', 'Report', 'SlotState')
+OPEN = ('Answer', 'Event', 'LineRefusal', 'Refusal', 'Report', 'SlotState')
 ENUMERATION = re.compile(r'^(#\[derive\(([^)]*)\)\]\n)(?=(?:#\[.*\]\n)*pub enum (\w+))', re.M)
 
 # A match up to its first brace, and an arm that takes all that is left.

@@ -7,11 +7,12 @@ use Rattle.acquisition.specs.Plans.{IsCentre, IsDwell, IsThreshold}
 use Rattle.acquisition.specs.declared.plan.TheConstants.{MOST_SIDE_BINS}
 use Rattle.acquisition.specs.declared.plan.PlanFault.{PlanFault}
 use Rattle.acquisition.specs.declared.plan.PlanFault.TheVariants.{Centre, Bins, Dwell, Threshold}
-use Rattle.client_commands.specs.declared.refusal.Refusal.{Refusal}
+use Rattle.client_commands.specs.declared.refusal.LineRefusal.{LineRefusal}
 use Rattle.client_commands.specs.Reading.{values_of_plan}
 
 pub in_range_is_plan : (prn : ℕ) (centre : ℤ) (bins dwell threshold : ℕ)
-    (tried : Result Plan PlanFault) (refusal : Refusal) → IsCentre centre → bins ≤ MOST_SIDE_BINS
+    (tried : Result Plan PlanFault) (refusal : LineRefusal) → IsCentre centre
+    → bins ≤ MOST_SIDE_BINS
     → IsDwell dwell → IsThreshold threshold → (tried ≡ Err Centre ↔ (¬ IsCentre centre))
     → (tried ≡ Err Bins ↔ (IsCentre centre × (MOST_SIDE_BINS < bins)))
     → (tried ≡ Err Dwell ↔ (IsCentre centre × (bins ≤ MOST_SIDE_BINS) × (¬ IsDwell dwell)))

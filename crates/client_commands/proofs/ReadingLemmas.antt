@@ -12,8 +12,8 @@ use Rattle.std.proofs.lemmas.Bool.{eq-eqb}
 use Rattle.std.proofs.lemmas.Int.{ints}
 use Rattle.definitions.specs.Scripts.{Range, Verb, up_to, around_zero, signed_number_in}
 use Rattle.definitions.specs.Scripts.{value_in, values_in, with_value, meant, command_with}
-use Rattle.client_commands.specs.declared.refusal.Refusal.{Refusal}
-use Rattle.client_commands.specs.declared.refusal.Refusal.TheVariants.{NotANumber, OutOfRange}
+use Rattle.client_commands.specs.declared.refusal.LineRefusal.{LineRefusal}
+use Rattle.client_commands.specs.declared.refusal.LineRefusal.TheVariants.{NotANumber, OutOfRange}
 use Rattle.client_commands.specs.Entries.{number_of}
 use Rattle.client_commands.specs.Reading.{integer_alone, number_alone}
 
@@ -23,13 +23,13 @@ unfolding values_in
 first_word range [] some = absurd (omega arith)
 first_word range (word ∷ words) some = refl
 
-none_refused : (range : Range) (o : Option ℤ) (refusal : Refusal)
+none_refused : (range : Range) (o : Option ℤ) (refusal : LineRefusal)
     → Err refusal ≡ ok_or o NotANumber → Err (number_of refusal) ≡ value_in range o (Ok [])
 none_refused range None refusal is = let e : refusal ≡ NotANumber = cc in rw e refl
 none_refused range (Some value) refusal is = cc
 
 -- a word that is no number
-pub no_number : (range : Range) (words : List (List ℕ)) (refusal : Refusal) → 0 < length words
+pub no_number : (range : Range) (words : List (List ℕ)) (refusal : LineRefusal) → 0 < length words
     → Err refusal ≡ ok_or (signed_number_in (get_or words 0 [])) NotANumber
     → Err (number_of refusal) ≡ values_in (range ∷ []) words
 no_number range words refusal some is = rw (first_word range words some)
@@ -157,7 +157,7 @@ taken_before range (Some number) value others is =
     by_range false refusal is = cc
 
 -- a refusal that is passed on
-pub passed_on : {T : Type 0} (r : Result T Refusal) {refusal : Refusal}
+pub passed_on : {T : Type 0} (r : Result T LineRefusal) {refusal : LineRefusal}
     → IsErrAnd r (λ other. other ≡ refusal) → r ≡ Err refusal
 passed_on (Ok value) is = absurd is
 passed_on (Err other) is = ap Err is

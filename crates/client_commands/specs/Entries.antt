@@ -4,15 +4,16 @@ use Rattle.definitions.specs.Commands.{Command as DefinedCommand}
 use Rattle.definitions.specs.Scripts.{Entry}
 use Rattle.slot_protocol.specs.declared.command.Command.{Command}
 use Rattle.slot_protocol.specs.Commands.{command_in}
-use Rattle.client_commands.specs.declared.refusal.Refusal.{Refusal}
-use Rattle.client_commands.specs.declared.refusal.Refusal.TheVariants.{LineTooLong, NotPrintable}
-use Rattle.client_commands.specs.declared.refusal.Refusal.TheVariants.{NoTime, TimeGoesBack, NoVerb}
-use Rattle.client_commands.specs.declared.refusal.Refusal.TheVariants.{WrongWordCount, NotANumber}
-use Rattle.client_commands.specs.declared.refusal.Refusal.TheVariants.{OutOfRange}
+use Rattle.client_commands.specs.declared.refusal.LineRefusal.{LineRefusal}
+use Rattle.client_commands.specs.declared.refusal.LineRefusal.TheVariants.{LineTooLong}
+use Rattle.client_commands.specs.declared.refusal.LineRefusal.TheVariants.{NotPrintable, NoTime}
+use Rattle.client_commands.specs.declared.refusal.LineRefusal.TheVariants.{TimeGoesBack, NoVerb}
+use Rattle.client_commands.specs.declared.refusal.LineRefusal.TheVariants.{WrongWordCount}
+use Rattle.client_commands.specs.declared.refusal.LineRefusal.TheVariants.{NotANumber, OutOfRange}
 use Rattle.client_commands.specs.declared.script.Timed.{Timed}
 
 -- the number that is printed
-abbrev pub number_of : Refusal → ℕ
+abbrev pub number_of : LineRefusal → ℕ
 number_of LineTooLong = 1
 number_of NotPrintable = 2
 number_of NoTime = 3
@@ -22,7 +23,7 @@ number_of WrongWordCount = 6
 number_of NotANumber = 7
 number_of OutOfRange = 8
 
-abbrev pub result_in : Result Command Refusal → Result DefinedCommand ℕ
+abbrev pub result_in : Result Command LineRefusal → Result DefinedCommand ℕ
 result_in (Ok command) = Ok (command_in command)
 result_in (Err refusal) = Err (number_of refusal)
 

@@ -3,7 +3,7 @@ use Rattle.std.specs.Prelude.{ℕ, ℤ, pos, List, [], ◌∷◌, Result, Ok, Er
 use Rattle.definitions.specs.Acquisition.{Plan}
 use Rattle.definitions.specs.Scripts.{Verb as DefinedVerb, hold_verb, track_verb, acquire_verb}
 use Rattle.definitions.specs.Scripts.{counts_verb, state_verb, stop_verb}
-use Rattle.client_commands.specs.declared.refusal.Refusal.{Refusal}
+use Rattle.client_commands.specs.declared.refusal.LineRefusal.{LineRefusal}
 use Rattle.client_commands.specs.declared.start.Start.{Start}
 use Rattle.client_commands.specs.declared.verb.Verb.{Verb}
 use Rattle.client_commands.specs.declared.verb.Verb.TheVariants.{Hold, Track, Acquire, Counts}
@@ -20,22 +20,22 @@ verb_in State = state_verb
 verb_in Stop = stop_verb
 
 -- the values of one word alone: the integer that it gives, or its refusal
-abbrev pub integer_alone : Result ℤ Refusal → Result (List ℤ) ℕ
+abbrev pub integer_alone : Result ℤ LineRefusal → Result (List ℤ) ℕ
 integer_alone (Ok integer) = Ok (integer ∷ [])
 integer_alone (Err refusal) = Err (number_of refusal)
 
 -- the values of one word alone: the number that it gives, or its refusal
-abbrev pub number_alone : Result ℕ Refusal → Result (List ℤ) ℕ
+abbrev pub number_alone : Result ℕ LineRefusal → Result (List ℤ) ℕ
 number_alone (Ok number) = Ok (pos number ∷ [])
 number_alone (Err refusal) = Err (number_of refusal)
 
 -- the values of the three words of a start, or the refusal of one of them
-abbrev pub values_of_start : Result Start Refusal → Result (List ℤ) ℕ
+abbrev pub values_of_start : Result Start LineRefusal → Result (List ℤ) ℕ
 values_of_start (Ok s) = Ok (pos s.prn ∷ s.doppler ∷ pos s.half ∷ [])
 values_of_start (Err refusal) = Err (number_of refusal)
 
 -- the values of the five words of a plan, or the refusal of one of them
-abbrev pub values_of_plan : Result Plan Refusal → Result (List ℤ) ℕ
+abbrev pub values_of_plan : Result Plan LineRefusal → Result (List ℤ) ℕ
 values_of_plan (Ok p) =
     Ok (pos p.prn ∷ p.centre ∷ pos p.bins ∷ pos p.dwell ∷ pos p.threshold ∷ [])
 values_of_plan (Err refusal) = Err (number_of refusal)

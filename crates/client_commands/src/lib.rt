@@ -27,6 +27,6 @@ mod start;
 mod verb;
 mod words;
 
-pub use refusal::Refusal;
+pub use refusal::LineRefusal;
 pub use script::{Script, Timed};
 pub use words::MOST_SHOWN_DUMPS;

@@ -10,7 +10,7 @@ ghost use Rattle.client_commands.specs.Entries.{entries_in, result_in};
 ghost use Rattle.slot_protocol.specs.declared.command.TheConstants.{MOST_SLOTS};
 
 use crate::number::number_in;
-use crate::refusal::Refusal;
+use crate::refusal::LineRefusal;
 use crate::script::Timed;
 use crate::verb::Verb;
 use crate::words::next_word;
@@ -31,15 +31,15 @@ pub(crate) fn entry(line: &[u8], before: u64, share: u8) -> Option<Timed>
     ensures { entries_in result ≡ entry_of verbs share before line.now }
 {
     if SCRIPT_LINE_BYTES < line.len() {
-        return refusal_at(before, Refusal::LineTooLong);
+        return refusal_at(before, LineRefusal::LineTooLong);
     }
     if !is_printable(line) {
-        return refusal_at(before, Refusal::NotPrintable);
+        return refusal_at(before, LineRefusal::NotPrintable);
     }
     let (word, rest) = next_word(line)?;
     match time_in(word) {
-        None => refusal_at(before, Refusal::NoTime),
-        Some(time) if time < before => refusal_at(before, Refusal::TimeGoesBack),
+        None => refusal_at(before, LineRefusal::NoTime),
+        Some(time) if time < before => refusal_at(before, LineRefusal::TimeGoesBack),
         Some(time) => Some(Timed {
             time,
             what: command(rest, share),
@@ -62,7 +62,7 @@ fn time_in(word: &[u8]) -> Option<u64>
 }
 
 /// A refusal at a time.
-fn refusal_at(time: u64, refusal: Refusal) -> Option<Timed>
+fn refusal_at(time: u64, refusal: LineRefusal) -> Option<Timed>
     ensures { result ≡ Some (record { time = time; what = Err refusal }) }
 {
     Some(Timed {
@@ -72,12 +72,12 @@ fn refusal_at(time: u64, refusal: Refusal) -> Option<Timed>
 }
 
 /// The command that the words after the time ask for.
-fn command(words: &[u8], share: u8) -> Result<Command, Refusal>
+fn command(words: &[u8], share: u8) -> Result<Command, LineRefusal>
     requires some { 1 ≤ share }
     requires most { share ≤ MOST_SLOTS }
     ensures { result_in result ≡ command_in verbs share (words_of words.now) }
 {
-    let (name, words) = next_word(words).ok_or(Refusal::NoVerb)?;
-    let verb = Verb::with_name(name).ok_or(Refusal::NoVerb)?;
+    let (name, words) = next_word(words).ok_or(LineRefusal::NoVerb)?;
+    let verb = Verb::with_name(name).ok_or(LineRefusal::NoVerb)?;
     verb.command(words, share)
 }

@@ -5,7 +5,7 @@ ghost use Rattle.client_commands.specs.Entries.{number_of};
 
 /// Why a line of a script is refused. The first case that applies is answered.
 #[derive(Clone, Copy, Debug, PartialEq, Eq)]
-pub enum Refusal {
+pub enum LineRefusal {
     /// The line is longer than 80 bytes.
     LineTooLong,
     /// A byte is outside 0x20 to 0x7e.
@@ -24,20 +24,20 @@ pub enum Refusal {
     OutOfRange,
 }
 
-impl Refusal {
+impl LineRefusal {
     /// The number that is printed: 1 to 8.
     pub fn number(self) -> u8
         ensures { result ≡ number_of self }
     {
         match self {
-            Refusal::LineTooLong => 1,
-            Refusal::NotPrintable => 2,
-            Refusal::NoTime => 3,
-            Refusal::TimeGoesBack => 4,
-            Refusal::NoVerb => 5,
-            Refusal::WrongWordCount => 6,
-            Refusal::NotANumber => 7,
-            Refusal::OutOfRange => 8,
+            LineRefusal::LineTooLong => 1,
+            LineRefusal::NotPrintable => 2,
+            LineRefusal::NoTime => 3,
+            LineRefusal::TimeGoesBack => 4,
+            LineRefusal::NoVerb => 5,
+            LineRefusal::WrongWordCount => 6,
+            LineRefusal::NotANumber => 7,
+            LineRefusal::OutOfRange => 8,
         }
     }
 }

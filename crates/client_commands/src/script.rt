@@ -5,7 +5,7 @@ ghost use Rattle.slot_protocol.specs.declared.command.TheConstants.{MOST_SLOTS};
 ghost use Rattle.client_commands.specs.Entries.{entry_in};
 
 use crate::line::entry;
-use crate::refusal::Refusal;
+use crate::refusal::LineRefusal;
 use crate::words::next_line;
 use slot_protocol::Command;
 use std::marker::Model;
@@ -16,7 +16,7 @@ pub struct Timed {
     /// The time in samples, at most 2^40.
     pub time: u64,
     /// A command, or why the line is refused.
-    pub what: Result<Command, Refusal>,
+    pub what: Result<Command, LineRefusal>,
 }
 
 /// What is left of a script. Clauses see it as the entries to come.

@@ -4,7 +4,7 @@ ghost use Rattle.std.specs.Prelude.{◌≡◌, length};
 ghost use Rattle.definitions.specs.Scripts.{start_ranges, values_in};
 ghost use Rattle.client_commands.specs.Reading.{values_of_start};
 
-use crate::refusal::Refusal;
+use crate::refusal::LineRefusal;
 use crate::words::Words;
 use ca_codes::Prn;
 use oscillators::{Doppler, HalfChip};
@@ -22,7 +22,7 @@ pub(crate) struct Start {
 
 impl Start {
     /// The values of three words: satellite, Doppler shift and half chip.
-    pub(crate) fn read(words: &mut Words<'_>) -> Result<Start, Refusal>
+    pub(crate) fn read(words: &mut Words<'_>) -> Result<Start, LineRefusal>
         requires { length words.old ≡ length start_ranges }
         ensures { values_of_start result ≡ values_in start_ranges words.old }
     {

@@ -9,7 +9,7 @@ ghost use Rattle.client_commands.specs.declared.words.TheConstants.{MOST_WORDS};
 ghost use Rattle.slot_protocol.specs.declared.command.TheConstants.{MOST_SLOTS};
 
 use crate::plan::read_plan;
-use crate::refusal::Refusal;
+use crate::refusal::LineRefusal;
 use crate::start::Start;
 use crate::words::Words;
 use slot_protocol::Command;
@@ -61,7 +61,7 @@ impl Verb {
     }
 
     /// The command that the words after the verb ask for, of a client with a share of the slots.
-    pub(crate) fn command(self, line: &[u8], share: u8) -> Result<Command, Refusal>
+    pub(crate) fn command(self, line: &[u8], share: u8) -> Result<Command, LineRefusal>
         requires some { 1 ≤ share }
         requires most { share ≤ MOST_SLOTS }
         ensures { result_in result ≡ command_with share (Some (verb_in self)) (words_of line.now) }

@@ -4,7 +4,7 @@ ghost use Rattle.std.specs.Prelude.{◌≡◌, ◌≤◌, ◌<◌, ◌==◌, ◌
 ghost use Rattle.definitions.specs.Lines.{pieces_ended_by, lines_of, words_of};
 
 use crate::number::signed_number_in;
-use crate::refusal::Refusal;
+use crate::refusal::LineRefusal;
 use acquisition::MOST_CENTRE;
 use arrayvec::ArrayVec;
 use ca_codes::Prn;
@@ -95,16 +95,16 @@ impl<'a> Words<'a> {
 
     /// The words of a line, of which there are to be `count`. They are split before the first of
     /// them is judged, since a wrong number of words is refused before any value.
-    pub(crate) fn split(line: &'a [u8], count: usize) -> Result<Words<'a>, Refusal>
+    pub(crate) fn split(line: &'a [u8], count: usize) -> Result<Words<'a>, LineRefusal>
         requires { count ≤ MOST_WORDS }
         ensures words { OkIff result (length (words_of line.now) ≡ count) (words_of line.now) }
-        ensures refused { IfErr result (λ refusal. refusal ≡ Refusal.WrongWordCount) }
+        ensures refused { IfErr result (λ refusal. refusal ≡ LineRefusal.WrongWordCount) }
     {
         let mut words = ArrayVec::new();
         let mut rest = line;
         while let Some((word, behind)) = next_word(rest) {
             if words.is_full() {
-                return Err(Refusal::WrongWordCount);
+                return Err(LineRefusal::WrongWordCount);
             }
             words.push(word);
             rest = behind;
@@ -112,24 +112,24 @@ impl<'a> Words<'a> {
         if words.len() == count {
             Ok(Words { words, read: 0 })
         } else {
-            Err(Refusal::WrongWordCount)
+            Err(LineRefusal::WrongWordCount)
         }
     }
 
     /// The number that the next word writes.
-    fn number(&mut self) -> Result<i64, Refusal>
+    fn number(&mut self) -> Result<i64, LineRefusal>
         requires { 0 < length self.old }
         ensures number { result
-            ≡ ok_or (defined_signed_number_in (get_or self.old 0 [])) Refusal.NotANumber }
+            ≡ ok_or (defined_signed_number_in (get_or self.old 0 [])) LineRefusal.NotANumber }
         ensures left { self.new ≡ drop 1 self.old }
     {
         let word = self.words[self.read];
         self.read += 1;
-        signed_number_in(word).ok_or(Refusal::NotANumber)
+        signed_number_in(word).ok_or(LineRefusal::NotANumber)
     }
 
     /// The number that the next word writes, `low` to `high`.
-    pub(crate) fn number_between(&mut self, low: u32, high: u32) -> Result<u32, Refusal>
+    pub(crate) fn number_between(&mut self, low: u32, high: u32) -> Result<u32, LineRefusal>
         requires { 0 < length self.old }
         ensures value { number_alone result ≡ values_in (up_to low high ∷ []) self.old }
         ensures range { IfOk result (λ number. (low ≤ number) × (number ≤ high)) }
@@ -138,11 +138,11 @@ impl<'a> Words<'a> {
         let number = u32::try_from(self.number()?).ok();
         number
             .filter(|number| low <= *number && *number <= high)
-            .ok_or(Refusal::OutOfRange)
+            .ok_or(LineRefusal::OutOfRange)
     }
 
     /// The slot that the next word names, of a client with a share of the slots.
-    pub(crate) fn slot(&mut self, share: u8) -> Result<SlotNo, Refusal>
+    pub(crate) fn slot(&mut self, share: u8) -> Result<SlotNo, LineRefusal>
         requires word { 0 < length self.old }
         requires some { 1 ≤ share }
         requires most { share ≤ MOST_SLOTS }
@@ -150,31 +150,31 @@ impl<'a> Words<'a> {
         ensures left { self.new ≡ drop 1 self.old }
     {
         let number = self.number_between(0, u32::from(share) - 1)?;
-        SlotNo::new(number as u8).ok_or(Refusal::OutOfRange)
+        SlotNo::new(number as u8).ok_or(LineRefusal::OutOfRange)
     }
 
     /// The satellite that the next word names, 1 to 32.
-    pub(crate) fn prn(&mut self) -> Result<Prn, Refusal>
+    pub(crate) fn prn(&mut self) -> Result<Prn, LineRefusal>
         requires { 0 < length self.old }
         ensures value { number_alone result ≡ values_in (satellites ∷ []) self.old }
         ensures left { self.new ≡ drop 1 self.old }
     {
         let number = u8::try_from(self.number()?).ok();
-        number.and_then(Prn::new).ok_or(Refusal::OutOfRange)
+        number.and_then(Prn::new).ok_or(LineRefusal::OutOfRange)
     }
 
     /// The Doppler shift that the next word writes, -16,000 to 16,000 Hz.
-    pub(crate) fn doppler(&mut self) -> Result<Doppler, Refusal>
+    pub(crate) fn doppler(&mut self) -> Result<Doppler, LineRefusal>
         requires { 0 < length self.old }
         ensures value { integer_alone result ≡ values_in (doppler_shifts ∷ []) self.old }
         ensures left { self.new ≡ drop 1 self.old }
     {
         let hz = i32::try_from(self.number()?).ok();
-        hz.and_then(Doppler::new).ok_or(Refusal::OutOfRange)
+        hz.and_then(Doppler::new).ok_or(LineRefusal::OutOfRange)
     }
 
     /// The centre of a search that the next word writes, -6,000 to 6,000 Hz.
-    pub(crate) fn centre(&mut self) -> Result<i32, Refusal>
+    pub(crate) fn centre(&mut self) -> Result<i32, LineRefusal>
         requires { 0 < length self.old }
         ensures value { integer_alone result ≡ values_in (centres ∷ []) self.old }
         ensures range { IfOk result (λ hz. unsigned_abs hz ≤ MOST_CENTRE) }
@@ -182,11 +182,11 @@ impl<'a> Words<'a> {
     {
         let hz = i32::try_from(self.number()?).ok();
         hz.filter(|hz| hz.unsigned_abs() <= MOST_CENTRE)
-            .ok_or(Refusal::OutOfRange)
+            .ok_or(LineRefusal::OutOfRange)
     }
 
     /// The place in the code that the next word writes, 0 to 2,045 half chips.
-    pub(crate) fn half_chip(&mut self) -> Result<HalfChip, Refusal>
+    pub(crate) fn half_chip(&mut self) -> Result<HalfChip, LineRefusal>
         requires { 0 < length self.old }
         ensures value { number_alone result ≡ values_in (half_chips ∷ []) self.old }
         ensures left { self.new ≡ drop 1 self.old }
@@ -194,11 +194,11 @@ impl<'a> Words<'a> {
         let half_chips = u16::try_from(self.number()?).ok();
         half_chips
             .and_then(HalfChip::new)
-            .ok_or(Refusal::OutOfRange)
+            .ok_or(LineRefusal::OutOfRange)
     }
 
     /// The number of dumps that the next word writes, 0 to `MOST_SHOWN_DUMPS`.
-    pub(crate) fn dumps(&mut self) -> Result<u32, Refusal>
+    pub(crate) fn dumps(&mut self) -> Result<u32, LineRefusal>
         requires { 0 < length self.old }
         ensures value { number_alone result ≡ values_in (dump_counts ∷ []) self.old }
         ensures left { self.new ≡ drop 1 self.old }

@@ -18,7 +18,7 @@ use Rattle.definitions.specs.Lines.{words_of, lines_of}
 use Rattle.definitions.specs.Receiver.{Client, entries_of}
 use Rattle.definitions.specs.Runs.{is_share}
 use Rattle.slot_protocol.specs.declared.command.Command.{Command as AskedCommand}
-use Rattle.client_commands.specs.declared.refusal.Refusal.{Refusal}
+use Rattle.client_commands.specs.declared.refusal.LineRefusal.{LineRefusal}
 use Rattle.slot_protocol.specs.Commands.{slot_of}
 use Rattle.client_commands.specs.Entries.{result_in}
 use Rattle.receiver.specs.declared.queue.Queue.{Queue}
@@ -223,7 +223,7 @@ in-shares (s ∷ shares) (script ∷ scripts) (q ∷ qs) each right e =
 
 -- ---- an entry that is due
 
-asked-in : (share : ℕ) (what : Result AskedCommand Refusal)
+asked-in : (share : ℕ) (what : Result AskedCommand LineRefusal)
     → asks_in_share share (result_in what) ≡ true
     → IfOk what (λ command. slot_of command < share)
 asked-in share (Ok command) h = ltb-true (slot_of command) share h

@@ -6,14 +6,14 @@ ghost use Rattle.slot_protocol.specs.Commands.{slot_of};
 ghost use Rattle.receiver.specs.Sessions.{Answers};
 
 use channel_slots::{Bank, Command};
-use client_commands::Refusal;
+use client_commands::LineRefusal;
 use printed_lines::Line;
 
 /// An entry of a client's script that is to be answered now.
 #[derive(Drop)]
 pub struct Due {
     pub client: u8,
-    pub what: Result<Command, Refusal>,
+    pub what: Result<Command, LineRefusal>,
 }
 
 impl Due {

@@ -22,7 +22,7 @@ fn public_types_are_of_threads() {
         ca_codes: CodeBook, Prn, PrnFault;
         channel_slots: Bank, FeedFault, OpenFault, Slot, SlotNews, Timeline;
         channels: Dump, Followed, Follower, LockedMessage, Searched, Tracking, Window;
-        client_commands: Refusal, Script, Timed;
+        client_commands: LineRefusal, Script, Timed;
         data_sets: AlmanacSet, DataSets, Report, Reports;
         devices: DeviceFault, Plain<u8>;
         frame_sync: Found, FrameSync, Subframe;

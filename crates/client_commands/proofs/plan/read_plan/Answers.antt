@@ -1,6 +1,6 @@
 use Rattle.std.proofs.Common.{rules, w32, FitsSigned}
 use Rattle.std.proofs.lemmas.Int.{to_z-of_z}
-use Rattle.client_commands.specs.declared.refusal.Refusal.TheVariants.{OutOfRange}
+use Rattle.client_commands.specs.declared.refusal.LineRefusal.TheVariants.{OutOfRange}
 use Rattle.client_commands.proofs.PlanLemmas.{in_range_is_plan}
 use Rattle.client_commands.proofs.ReadingLemmas.{passed_on, refused_first, taken_first, none_left}
 use Rattle.client_commands.proofs.plan.read_plan.Goals as goal
