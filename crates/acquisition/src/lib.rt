@@ -24,8 +24,8 @@
 //!     let numbered = NumberedSamples::new(PackedSamples::new(settings.format(), &bytes), 0);
 //!     search.advance(plan.cells(), &numbered, &mut CodeBook::new());
 //!     if let Some(cell) = search.result().filter(|cell| cell.found) {
-//!         // The signal is followed from the dwell's first sample on at this shift and half chip.
-//!         let start = (plan.doppler(&cell), cell.half);
+//!         // Where the code of the signal is at the dwell's first sample.
+//!         let half = plan.signal(&cell).map(|signal| signal.half);
 //!     }
 #![tactic(auto)]
 
@@ -48,6 +48,7 @@ mod ring_lanes;
 mod ring_pairs;
 mod search;
 mod search_room;
+mod signal;
 mod sums;
 mod tally;
 
@@ -59,4 +60,5 @@ pub use plan::{
 };
 pub use search::Search;
 pub use search_room::SearchRoom;
+pub use signal::Signal;
 pub use tally::MOST_POWER;

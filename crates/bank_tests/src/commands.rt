@@ -3,10 +3,19 @@
 ghost use Rattle.std.specs.Prelude.{◌≡◌, IfSome};
 ghost use Rattle.slot_protocol.specs.Commands.{slot_of};
 
-use acquisition::Plan;
+use acquisition::{Plan, Signal};
 use ca_codes::Prn;
 use oscillators::{Doppler, HalfChip};
 use slot_protocol::{Command, SlotNo};
+
+/// A signal by its shift in Hz and its half chip.
+fn signal(prn: u8, doppler: i32, half: u16) -> Option<Signal> {
+    Some(Signal {
+        prn: Prn::new(prn)?,
+        doppler: Doppler::new(doppler)?,
+        half: HalfChip::new(half)?,
+    })
+}
 
 /// A hold from a shift in Hz and a half chip on.
 pub fn hold(slot: u8, prn: u8, doppler: i32, half: u16) -> Option<Command>
@@ -14,9 +23,7 @@ pub fn hold(slot: u8, prn: u8, doppler: i32, half: u16) -> Option<Command>
 {
     Some(Command::Hold {
         slot: SlotNo::new(slot)?,
-        prn: Prn::new(prn)?,
-        doppler: Doppler::new(doppler)?,
-        half: HalfChip::new(half)?,
+        signal: signal(prn, doppler, half)?,
     })
 }
 
@@ -26,9 +33,7 @@ pub fn track(slot: u8, prn: u8, doppler: i32, half: u16) -> Option<Command>
 {
     Some(Command::Track {
         slot: SlotNo::new(slot)?,
-        prn: Prn::new(prn)?,
-        doppler: Doppler::new(doppler)?,
-        half: HalfChip::new(half)?,
+        signal: signal(prn, doppler, half)?,
     })
 }
 

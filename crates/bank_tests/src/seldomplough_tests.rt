@@ -5,7 +5,7 @@ use assertions::assert_same;
 use seldomplough::units::{chips, from_65536ths, seconds, value};
 use seldomplough::{
     Choice, ClockField, Doppler, Event, Field, Format, HalfChip, Kind, Packing, PackingFault, Plan,
-    Prn, Receiver, Refusal, Settings, SlotNo, SlotState, TooManySamples,
+    Prn, Receiver, Refusal, Settings, Signal, SlotNo, SlotState, TooManySamples,
 };
 use std::alloc::Global;
 use std::test::Fail;
@@ -20,21 +20,20 @@ fn slot(number: u8) -> Result<SlotNo, Fail> {
     Ok(SlotNo::new(number).ok_or("a slot")?)
 }
 
-/// A satellite, without a shift, from the first chip of its code on.
-fn start(prn: u8) -> Result<(Prn, Doppler, HalfChip), Fail> {
-    Ok((
-        Prn::new(prn).ok_or("a satellite")?,
-        Doppler::new(0).ok_or("a shift")?,
-        HalfChip::new(0).ok_or("a half chip")?,
-    ))
+/// A satellite's signal, without a shift, from the first chip of its code on.
+fn signal(prn: u8) -> Result<Signal, Fail> {
+    Ok(Signal {
+        prn: Prn::new(prn).ok_or("a satellite")?,
+        doppler: Doppler::new(0).ok_or("a shift")?,
+        half: HalfChip::new(0).ok_or("a half chip")?,
+    })
 }
 
 // Without a shift a code of 1,023 chips has 2,046 samples, so its first dump ends there.
 #[test]
 fn counts_come_at_the_end_of_a_code(rt: HostRuntime) -> Result<(), Fail> {
     let mut receiver = opened(rt.alloc())?;
-    let (prn, doppler, half) = start(7)?;
-    receiver.hold(2, slot(0)?, prn, doppler, half)?;
+    receiver.hold(2, slot(0)?, signal(7)?)?;
     receiver.counts(2, slot(0)?, 1)?;
     let bytes = [0x5a; 300];
     let mut rest: &[u8] = &bytes;
@@ -54,19 +53,19 @@ fn counts_come_at_the_end_of_a_code(rt: HostRuntime) -> Result<(), Fail> {
 #[test]
 fn commands_are_refused(rt: HostRuntime) -> Result<(), Fail> {
     let mut receiver = opened(rt.alloc())?;
-    let (prn, doppler, half) = start(7)?;
+    let signal = signal(7)?;
     assert_same!(rt; receiver.counts(1, slot(0)?, 1), Err(Refusal::Idle));
     assert_same!(rt; receiver.stop(1, slot(0)?), Err(Refusal::Idle));
-    assert_same!(rt; receiver.track(1, slot(0)?, prn, doppler, half), Ok(()));
-    assert_same!(rt; receiver.hold(1, slot(0)?, prn, doppler, half), Err(Refusal::Busy));
-    assert_same!(rt; receiver.track(2, slot(1)?, prn, doppler, half), Err(Refusal::NoSuchSlot));
-    assert_same!(rt; receiver.track(3, slot(0)?, prn, doppler, half), Err(Refusal::NoSuchSlot));
+    assert_same!(rt; receiver.track(1, slot(0)?, signal), Ok(()));
+    assert_same!(rt; receiver.hold(1, slot(0)?, signal), Err(Refusal::Busy));
+    assert_same!(rt; receiver.track(2, slot(1)?, signal), Err(Refusal::NoSuchSlot));
+    assert_same!(rt; receiver.track(3, slot(0)?, signal), Err(Refusal::NoSuchSlot));
     assert_same!(rt; receiver.state(2, slot(0)?), Ok(SlotState::Idle));
     assert_same!(rt; receiver.stop(1, slot(0)?), Ok(()));
-    let plan = Plan::new(prn, 0, 0, 1, 20)?;
+    let plan = Plan::new(signal.prn, 0, 0, 1, 20)?;
     assert_same!(rt; receiver.acquire(1, slot(0)?, plan), Ok(()));
     let searching = SlotState::Acquire {
-        prn,
+        prn: signal.prn,
         done: 0,
         cells: 2_046,
     };

@@ -12,10 +12,10 @@ ghost use Rattle.channel_slots.specs.declared.bank.TheConstants.{MOST_TIME};
 
 use crate::slot_news::SlotNews;
 use crate::stage::Stage;
-use acquisition::{Cell, Plan, SearchRoom};
-use ca_codes::{CodeBook, Prn};
+use acquisition::{Cell, Plan, SearchRoom, Signal};
+use ca_codes::CodeBook;
 use channels::{Followed, Searched, Window};
-use oscillators::{Doppler, HalfChip, Settings};
+use oscillators::Settings;
 use slot_protocol::{Answer, Command, Phase, Refusal, SlotState};
 use std::mem;
 use tracking_loops::News;
@@ -234,35 +234,22 @@ impl Slot {
     /// Makes the slot hold a satellite from sample `time` on, if it is idle. A start isn't inlined,
     /// here and below: what is followed is large, and other commands need no room for it.
     #[inline(never)]
-    fn hold(
-        &mut self,
-        settings: &Settings,
-        time: u64,
-        prn: Prn,
-        doppler: Doppler,
-        half: HalfChip,
-    ) -> Answer
+    fn hold(&mut self, settings: &Settings, time: u64, signal: Signal) -> Answer
         requires { time ≤ MOST_START }
-        ensures { Obeys settings.now time (begin (hold prn doppler half)) self.old self.new result }
+        ensures { Obeys settings.now time (begin (hold signal.prn signal.doppler signal.half))
+            self.old self.new result }
     {
-        self.start(Stage::Following(Followed::hold(settings, prn, doppler, half, time)))
+        self.start(Stage::Following(Followed::hold(settings, signal, time)))
     }
 
     /// Makes the slot track a satellite from sample `time` on, if it is idle.
     #[inline(never)]
-    fn track(
-        &mut self,
-        settings: &Settings,
-        time: u64,
-        prn: Prn,
-        doppler: Doppler,
-        half: HalfChip,
-    ) -> Answer
+    fn track(&mut self, settings: &Settings, time: u64, signal: Signal) -> Answer
         requires { time ≤ MOST_START }
-        ensures { Obeys settings.now time (begin (track prn doppler half)) self.old self.new
-            result }
+        ensures { Obeys settings.now time (begin (track signal.prn signal.doppler signal.half))
+            self.old self.new result }
     {
-        self.start(Stage::Following(Followed::track(settings, prn, doppler, half, time)))
+        self.start(Stage::Following(Followed::track(settings, signal, time)))
     }
 
     /// Makes the slot search for a satellite from sample `time` on, and print no dump, if it is
@@ -301,18 +288,8 @@ impl Slot {
     {
         match command {
             Command::Acquire { slot: _, plan } => self.acquire(settings, plan, time),
-            Command::Hold {
-                slot: _,
-                prn,
-                doppler,
-                half,
-            } => self.hold(settings, time, prn, doppler, half),
-            Command::Track {
-                slot: _,
-                prn,
-                doppler,
-                half,
-            } => self.track(settings, time, prn, doppler, half),
+            Command::Hold { slot: _, signal } => self.hold(settings, time, signal),
+            Command::Track { slot: _, signal } => self.track(settings, time, signal),
             Command::State { .. } => Answer::State(self.state()),
             Command::Counts { slot: _, n } => {
                 if self.is_idle() {

@@ -1,15 +1,14 @@
 -- A followed satellite, when it begins and when it takes samples.
-use Rattle.std.proofs.Common.{◌≡◌, ◌<◌, ℕ, ℤ, ◌+◌, List, [], ◌∷◌, ◌++◌, length, take, refl, sym, ap}
+use Rattle.std.proofs.Common.{◌≡◌, ◌<◌, ℤ, ◌+◌, List, [], ◌∷◌, ◌++◌, length, refl, sym, ap}
 use Rattle.std.proofs.Common.{subst, ◌∙◌, arith, length-append}
 use Rattle.std.specs.Prelude.{Some, None}
-use Rattle.std.proofs.lemmas.List.{map-append, take_all}
+use Rattle.std.proofs.lemmas.List.{map-append}
 use Rattle.definitions.specs.Samples.{Sample}
 use Rattle.definitions.specs.Oscillators.{Settings, code_step, carrier_step}
 use Rattle.definitions.specs.Correlation.{Counts}
 use Rattle.definitions.specs.Segments.{Channel, Dump as DefinedDump, Shift, counts_of}
-use Rattle.definitions.specs.Segments.{progress, first_progress}
-use Rattle.definitions.specs.Loops.{loops_after, shift_after}
-use Rattle.definitions.specs.Lives.{held_channel, tracked_channel}
+use Rattle.definitions.specs.Segments.{progress}
+use Rattle.definitions.specs.Loops.{shift_after}
 use Rattle.definitions.proofs.BlockLemmas.{progress-begun}
 use Rattle.lane_correlator.specs.declared.counts.Counts.{Counts as Sums}
 use Rattle.lane_correlator.specs.Counting.{counts_in}
@@ -21,65 +20,17 @@ use Rattle.channels.specs.Dumps.{plain_dump}
 use Rattle.channels.specs.Following as segments
 use Rattle.channels.specs.Following.{Opens, Stays, Closes}
 use Rattle.channels.specs.Trackings as trackings
-use Rattle.channels.specs.FollowedChannels.{Follows, Takes, IsSteeredFrom, IsSteady, HasLoops}
+use Rattle.channels.specs.FollowedChannels.{Follows, Takes, Steers, IsSteady, HasLoops}
 use Rattle.channels.specs.FollowedChannels.{counts_so_far}
 use Rattle.channels.proofs.FollowingLemmas.{at-once, waits, waits_same, waits_inside}
 
-module _ (settings : Settings) (xs : List Sample) (prn : ℕ) (doppler : ℤ) (half_chip : ℕ) where
-  abbrev held : Channel
-  held = held_channel (length xs) prn doppler half_chip
-
-  abbrev tracked : Channel
-  tracked = tracked_channel (length xs) prn doppler half_chip
-
-  pub held-none : progress settings held xs ≡ first_progress held
-  held-none = progress-begun settings held xs (omega arith)
-
-  pub tracked-none : progress settings tracked xs ≡ first_progress tracked
-  tracked-none = progress-begun settings tracked xs (omega arith)
-
-  -- before its first dump it goes on as one that is held
-  pub as-held : (f : Follower) → segments.at_of f ≡ length xs
-      → segments.Follows settings held xs f → segments.Follows settings tracked xs f
-  unfolding loops_after
-  as-held f all s =
-      let whole : take f.at xs ≡ xs = take_all f.at xs (omega (arith, all)) in
-      let now : segments.FollowsNow settings held xs f = rw whole at s.now in
-      let at = rw held-none at now.at in
-      at-once settings tracked xs f (record {
-        at = rw tracked-none (record {
-          taken = at.taken;
-          begun = at.begun;
-          opened = at.opened;
-          prn = at.prn;
-          code = at.code;
-          carrier = at.carrier;
-          sums = at.sums;
-        });
-        code_step = rw tracked-none now.code_step;
-        carrier_step = rw tracked-none now.carrier_step;
-      })
-
-  -- at a fixed shift
-  pub begins-held : (f : Followed) → segments.Follows settings held xs f.follower → f.dumps ≡ 0
-      → f.tracking ≡ None → Follows settings held xs f
-  begins-held f follows dumps none = record {
-    follows = follows;
-    dumps = rw held-none dumps;
-    steers = rw none (λ a b. refl);
-  }
-
--- loops that begin with a channel's shift steer it
-pub begins-steered : (settings : Settings) (channel : Channel) (xs : List Sample) (shift : ℤ)
-    (f : Followed) (s : Tracking) → segments.Follows settings channel xs f.follower → f.dumps ≡ 0
-    → f.tracking ≡ Some s → progress settings channel xs ≡ first_progress channel
-    → IsSteeredFrom shift channel → trackings.StandsFor settings shift [] s
-    → Follows settings channel xs f
-begins-steered settings channel xs shift f s follows dumps is none steered stands = record {
-  follows = follows;
-  dumps = rw none dumps;
-  steers = rw (is, none) (record { shift = shift; steered = steered; stands = stands });
-}
+-- one that begins now, at a fixed shift or with the loops that steer its channel
+pub begins : (settings : Settings) (channel : Channel) (xs : List Sample) (f : Followed)
+    → segments.Follows settings channel xs f.follower → f.dumps ≡ 0 → channel.start ≡ length xs
+    → Steers settings channel [] f.tracking → Follows settings channel xs f
+begins settings channel xs f follows dumps now steers =
+    let none = progress-begun settings channel xs (omega (arith, now)) in
+    record { follows = follows; dumps = rw none dumps; steers = rw none steers }
 
 module _ (settings : Settings) (channel : Channel) (xs ys : List Sample) (old new : Followed)
     (s : Follows settings channel xs old) where

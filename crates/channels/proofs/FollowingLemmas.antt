@@ -3,9 +3,10 @@ use Rattle.std.proofs.Common.{◌≡◌, ℕ, ◌+◌, ◌-◌, ◌*◌, ◌%◌
 use Rattle.std.proofs.Common.{length, take, drop, sym, ap, ◌∙◌, arith, length-append}
 use Rattle.std.proofs.lemmas.List.{length-take, take_all, take-append-drop, take-append-le}
 use Rattle.std.specs.Prelude.{false, true}
-use Rattle.std.proofs.Math.Nat.{mul-le-mul_right}
+use Rattle.std.proofs.Math.Nat.{mod-eq_of_lt, mul-le-mul_right}
 use Rattle.definitions.specs.Samples.{Sample, sample_at}
 use Rattle.definitions.specs.Oscillators.{Settings, carrier_phase_after, code_step, carrier_step}
+use Rattle.definitions.specs.Oscillators.{code_phase_after}
 use Rattle.definitions.specs.Correlation.{Counts, Phases, counts_over, six_sums, replica_of}
 use Rattle.definitions.specs.Correlation.{sum_of_counts}
 use Rattle.definitions.specs.Correlation.{no_counts}
@@ -394,3 +395,10 @@ module _ (settings : Settings) (channel : Channel) (xs ys : List Sample) (f g : 
         code_step = rw before t.code_step;
         carrier_step = rw before t.carrier_step;
       }
+
+-- the code of a channel that begins now is where it was, since no time has passed
+pub none-ago : (half step : ℕ) → half ≤ 2045
+    → half * 2 ^ 31 ≡ code_phase_after (half * 2 ^ 31) step 0
+none-ago half step low =
+    let none : half * 2 ^ 31 + 0 * step ≡ half * 2 ^ 31 = omega arith in
+    sym (rw none (mod-eq_of_lt (omega (arith, low))))

@@ -1,10 +1,10 @@
 -- A satellite that is searched for, when it begins and when it goes on.
-use Rattle.std.proofs.Common.{◌≡◌, ℤ, ℕ, zero, suc, ◌+◌, ◌-◌, ◌*◌, ◌/◌, ◌<◌, ◌≤◌, List, ◌++◌}
-use Rattle.std.proofs.Common.{length, refl, sym, ap, ◌∙◌, arith, pos, ◌^◌, length-append, inl, inr}
+use Rattle.std.proofs.Common.{◌≡◌, ℕ, zero, suc, ◌+◌, ◌-◌, ◌*◌, ◌/◌, ◌<◌, ◌≤◌, List, ◌++◌}
+use Rattle.std.proofs.Common.{length, refl, sym, ap, ◌∙◌, arith, pos, length-append, inl, inr}
 use Rattle.std.specs.Prelude.{Option, Some, None, IsSome, IfSome, min, ◌↔◌}
 use Rattle.std.proofs.lemmas.Bool.{iff_false, cases_lt}
 use Rattle.definitions.specs.Samples.{Sample}
-use Rattle.definitions.specs.Oscillators.{Settings, code_step, code_phase_after}
+use Rattle.definitions.specs.Oscillators.{Settings}
 use Rattle.definitions.specs.Segments.{Shift}
 use Rattle.definitions.specs.Loops.{loops_after}
 use Rattle.definitions.specs.Lives.{found_channel, doppler_shift}
@@ -12,6 +12,7 @@ use Rattle.definitions.specs.Acquisition.{Plan, cell_count, cells_done, dwell_en
 use Rattle.definitions.specs.Acquisition.{Cell as DefinedCell, result_of, bin_shift}
 use Rattle.acquisition.specs.declared.search.Search.{Search}
 use Rattle.acquisition.specs.declared.cell.Cell.{Cell}
+use Rattle.acquisition.specs.declared.signal.Signal.{Signal}
 use Rattle.acquisition.specs.Cells.{cell_in}
 use Rattle.acquisition.specs.Searches.{StandsFor, plan_of, end_of, done_of}
 use Rattle.acquisition.proofs.StandingLemmas.{stands-begun, stands-longer}
@@ -111,18 +112,15 @@ module _ (settings : Settings) (plan : Plan) (begun : ℕ) (xs : List Sample) (o
 -- the channel of a cell that was found begins at the due time, with its bin's shift and with its
 -- code where that has come since the dwell began
 pub found-begins : (settings : Settings) (plan : Plan) (begun n : ℕ) (cell : DefinedCell)
-    (prn ago : ℕ) (doppler : ℤ) → plan.prn ≡ prn → n ≡ due_time settings plan begun
-    → due_time settings plan begun - begun ≡ ago
-    → doppler_shift doppler ≡ (bin_shift plan cell.bin).v
-    → BeginsAfter settings prn doppler cell.half_chip ago n
+    (signal : Signal) (ago : ℕ) → signal.prn ≡ plan.prn
+    → doppler_shift signal.doppler ≡ (bin_shift plan cell.bin).v → signal.half ≡ cell.half_chip
+    → n ≡ due_time settings plan begun → due_time settings plan begun - begun ≡ ago
+    → BeginsAfter settings signal.prn signal.doppler signal.half ago n
     (found_channel settings plan begun cell)
 unfolding loops_after
-found-begins settings plan begun n cell prn ago doppler same now since shift = record {
-  prn_is = same;
+found-begins settings plan begun n cell signal ago prn shift half now since = record {
+  prn_is = sym prn;
   start = sym now;
-  code = ap (λ k. code_phase_after (cell.half_chip * 2 ^ 31)
-      (code_step settings (bin_shift plan cell.bin).v (pos 0)) k) since
-      ∙ ap (λ v. code_phase_after (cell.half_chip * 2 ^ 31) (code_step settings v (pos 0)) ago)
-      (sym shift);
+  code = rw (half, shift, since) refl;
   shift = ap (λ v. let s : Shift = record { v = v; w = pos 0 } in s) (sym shift);
 }

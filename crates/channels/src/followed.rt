@@ -10,8 +10,9 @@ use crate::follower::Follower;
 use crate::shift::shift_of;
 use crate::tracking::Tracking;
 use crate::window::Window;
+use acquisition::Signal;
 use ca_codes::{CodeBook, Prn};
-use oscillators::{Doppler, HalfChip, Settings};
+use oscillators::Settings;
 
 /// A satellite that is followed, and the number of its dumps. Where loops steer it, each dump goes
 /// to them, and their shift sets the steps of the next segment; else it goes on at the Doppler
@@ -29,8 +30,7 @@ impl Followed {
     ghost use Rattle.std.specs.Prelude.{IfSome, IsNone};
     ghost use Rattle.definitions.specs.Samples.{Sample};
     ghost use Rattle.definitions.specs.Oscillators.{Settings as DefinedSettings};
-    ghost use Rattle.definitions.specs.Segments.{Channel, progress, first_progress};
-    ghost use Rattle.channels.specs.Following as segments;
+    ghost use Rattle.definitions.specs.Segments.{Channel, progress};
     ghost use Rattle.definitions.specs.Lives.{held_channel, tracked_channel, doppler_shift};
     ghost use Rattle.channels.specs.Dumps.{dump_if};
     ghost use Rattle.channels.specs.Following.{BeginsAfter, how_many};
@@ -42,20 +42,15 @@ impl Followed {
     /// Begins at the next sample, which is number `time`, with the code at a half chip of its cycle
     /// and the carrier at 0; `time` is at most `MOST_TAKEN`. It goes on at this Doppler shift.
     #[inline(always)]
-    pub fn hold(
-        settings: &Settings,
-        prn: Prn,
-        doppler: Doppler,
-        half: HalfChip,
-        time: u64,
-    ) -> Followed
+    pub fn hold(settings: &Settings, signal: Signal, time: u64) -> Followed
         requires { time ≤ MOST_TAKEN }
         ensures stands { (xs : List Sample) → length xs ≡ time
-            → Follows settings.now (held_channel (length xs) prn doppler half) xs result }
+            → Follows settings.now
+            (held_channel (length xs) signal.prn signal.doppler signal.half) xs result }
         ensures begins { HasBegun time false result }
     {
         Followed {
-            follower: Follower::start(settings, prn, doppler, half, time),
+            follower: Follower::start(settings, signal, time),
             dumps: 0,
             tracking: None,
         }
@@ -63,58 +58,32 @@ impl Followed {
 
     /// Begins like `hold`, and loops that begin at this Doppler shift steer it.
     #[inline(always)]
-    pub fn track(
-        settings: &Settings,
-        prn: Prn,
-        doppler: Doppler,
-        half: HalfChip,
-        time: u64,
-    ) -> Followed
+    pub fn track(settings: &Settings, signal: Signal, time: u64) -> Followed
         requires { time ≤ MOST_TAKEN }
         ensures stands { (xs : List Sample) → length xs ≡ time
-            → Follows settings.now (tracked_channel (length xs) prn doppler half) xs result }
+            → Follows settings.now
+            (tracked_channel (length xs) signal.prn signal.doppler signal.half) xs result }
         ensures begins { HasBegun time true result }
     {
-        let follower = Follower::start(settings, prn, doppler, half, time);
-        Followed::with_loops(settings, doppler, follower)
+        Followed::track_after(settings, signal, time, 0)
     }
 
     /// Begins like `track`. But the code was at the half chip `ago` samples before the next one,
     /// and has gone on since at this shift.
     #[inline(always)]
-    pub fn track_after(
-        settings: &Settings,
-        prn: Prn,
-        doppler: Doppler,
-        half: HalfChip,
-        time: u64,
-        ago: u64,
-    ) -> Followed
+    pub fn track_after(settings: &Settings, signal: Signal, time: u64, ago: u64) -> Followed
         requires { time ≤ MOST_TAKEN }
         ensures stands { (channel : Channel) (xs : List Sample) → length xs ≡ time
-            → BeginsAfter settings.now prn doppler half ago (length xs) channel
-            → IsSteeredFrom (doppler_shift doppler) channel
+            → BeginsAfter settings.now signal.prn signal.doppler signal.half ago (length xs) channel
+            → IsSteeredFrom (doppler_shift signal.doppler) channel
             → Follows settings.now channel xs result }
         ensures begins { HasBegun time true result }
     {
-        let follower = Follower::start_after(settings, prn, doppler, half, time, ago);
-        Followed::with_loops(settings, doppler, follower)
-    }
-
-    /// Loops that begin at this Doppler shift steer a follower that begins with it.
-    #[inline(always)]
-    fn with_loops(settings: &Settings, doppler: Doppler, follower: Follower) -> Followed
-        ensures stands { (channel : Channel) (xs : List Sample)
-            → segments.Follows settings.now channel xs follower
-            → progress settings.now channel xs ≡ first_progress channel
-            → IsSteeredFrom (doppler_shift doppler) channel
-            → Follows settings.now channel xs result }
-        ensures begins { HasBegun (segments.at_of follower) true result }
-    {
+        let tracking = Tracking::start(settings, shift_of(signal.doppler));
         Followed {
-            follower,
+            follower: Follower::start_after(settings, signal, time, ago),
             dumps: 0,
-            tracking: Some(Tracking::start(settings, shift_of(doppler))),
+            tracking: Some(tracking),
         }
     }
 

@@ -9,9 +9,10 @@ ghost use Rattle.channels.specs.Sizes.{GrowWith};
 
 use crate::shift::shift_of;
 use crate::window::Window;
+use acquisition::Signal;
 use ca_codes::{CodeBook, Prn};
 use lane_correlator::{Counts, replica_sums};
-use oscillators::{CarrierOsc, CodeOsc, Doppler, HalfChip, Settings};
+use oscillators::{CarrierOsc, CodeOsc, Settings};
 
 /// The least step of a code, in 2^-32 chip a sample: below that of any settings.
 const LEAST_STEP: u32 = 200_000_000;
@@ -60,43 +61,31 @@ impl Follower {
     /// Begins at the next sample, which is number `time`, with the code at a half chip of its cycle
     /// and the carrier at 0. It goes on at this Doppler shift.
     #[inline(always)]
-    pub fn start(
-        settings: &Settings,
-        prn: Prn,
-        doppler: Doppler,
-        half: HalfChip,
-        time: u64,
-    ) -> Follower
+    pub fn start(settings: &Settings, signal: Signal, time: u64) -> Follower
         requires { time ≤ MOST_TAKEN }
         ensures follows { (xs : List Sample) → length xs ≡ time
-            → Follows settings.now (held_channel time prn doppler half) xs result }
+            → Follows settings.now
+            (held_channel time signal.prn signal.doppler signal.half) xs result }
         ensures at { at_of result ≡ time }
     {
-        Follower::start_after(settings, prn, doppler, half, time, 0)
+        Follower::start_after(settings, signal, time, 0)
     }
 
     /// Starts like `start`. But the code was at the half chip `ago` samples before the next one,
     /// and has gone on since at this shift.
     #[inline(always)]
-    pub fn start_after(
-        settings: &Settings,
-        prn: Prn,
-        doppler: Doppler,
-        half: HalfChip,
-        time: u64,
-        ago: u64,
-    ) -> Follower
+    pub fn start_after(settings: &Settings, signal: Signal, time: u64, ago: u64) -> Follower
         requires { time ≤ MOST_TAKEN }
         ensures follows { (channel : Channel) (xs : List Sample) → length xs ≡ time
-            → BeginsAfter settings.now prn doppler half ago time channel
+            → BeginsAfter settings.now signal.prn signal.doppler signal.half ago time channel
             → Follows settings.now channel xs result }
         ensures at { at_of result ≡ time }
     {
-        let v = shift_of(doppler);
-        let mut code = CodeOsc::new(half, settings.code_step(v, 0));
+        let v = shift_of(signal.doppler);
+        let mut code = CodeOsc::new(signal.half, settings.code_step(v, 0));
         code.jump(ago);
         Follower {
-            prn,
+            prn: signal.prn,
             at: time,
             ends: time + code.to_wrap(),
             code,

@@ -9,6 +9,7 @@
 //! many samples of the recording it has something to do next. Those before may wait: a `Window`
 //! holds them. Nothing here knows a command or a client.
 //!
+//!     use acquisition::Signal;
 //!     use ca_codes::{CodeBook, Prn};
 //!     use channels::{Followed, Window};
 //!     use oscillators::{Doppler, HalfChip, Settings};
@@ -16,10 +17,12 @@
 //!
 //!     // Satellite 5 at a shift of 1,250 Hz, from half chip 700 on.
 //!     let settings = Settings::new(2_046_000, 511_500, Format::Real1)?;
-//!     let prn = Prn::new(5).ok_or("no satellite")?;
-//!     let doppler = Doppler::new(1_250).ok_or("no shift")?;
-//!     let half = HalfChip::new(700).ok_or("no half chip")?;
-//!     let mut held = Followed::hold(&settings, prn, doppler, half, 0);
+//!     let signal = Signal {
+//!         prn: Prn::new(5).ok_or("no satellite")?,
+//!         doppler: Doppler::new(1_250).ok_or("no shift")?,
+//!         half: HalfChip::new(700).ok_or("no half chip")?,
+//!     };
+//!     let mut held = Followed::hold(&settings, signal, 0);
 //!     // As far as the next dump, or to the end of these samples.
 //!     let mut window = Window::new(rt.alloc(), settings.format(), 1_024)?;
 //!     window.take(&PackedSamples::new(settings.format(), &[0x5a; 128]));

@@ -138,11 +138,9 @@ impl Searched {
         if !cell.found {
             return None;
         }
-        let plan = self.search.plan();
+        let signal = self.search.plan().signal(cell)?;
         let due = self.search.due();
         let ago = due - self.search.start();
-        let doppler = plan.doppler(cell)?;
-        let prn = plan.prn();
-        Some(Followed::track_after(&self.settings, prn, doppler, cell.half, due, ago))
+        Some(Followed::track_after(&self.settings, signal, due, ago))
     }
 }

@@ -3,8 +3,8 @@ use Rattle.std.specs.Prelude.{ℕ, ℤ, pos, List, [], ◌∷◌, Result, Ok, Er
 use Rattle.definitions.specs.Acquisition.{Plan}
 use Rattle.definitions.specs.Scripts.{Verb as DefinedVerb, hold_verb, track_verb, acquire_verb}
 use Rattle.definitions.specs.Scripts.{counts_verb, state_verb, stop_verb}
+use Rattle.acquisition.specs.declared.signal.Signal.{Signal}
 use Rattle.client_commands.specs.declared.refusal.LineRefusal.{LineRefusal}
-use Rattle.client_commands.specs.declared.start.Start.{Start}
 use Rattle.client_commands.specs.declared.verb.Verb.{Verb}
 use Rattle.client_commands.specs.declared.verb.Verb.TheVariants.{Hold, Track, Acquire, Counts}
 use Rattle.client_commands.specs.declared.verb.Verb.TheVariants.{State, Stop}
@@ -29,10 +29,10 @@ abbrev pub number_alone : Result ℕ LineRefusal → Result (List ℤ) ℕ
 number_alone (Ok number) = Ok (pos number ∷ [])
 number_alone (Err refusal) = Err (number_of refusal)
 
--- the values of the three words of a start, or the refusal of one of them
-abbrev pub values_of_start : Result Start LineRefusal → Result (List ℤ) ℕ
-values_of_start (Ok s) = Ok (pos s.prn ∷ s.doppler ∷ pos s.half ∷ [])
-values_of_start (Err refusal) = Err (number_of refusal)
+-- the values of the three words of a signal, or the refusal of one of them
+abbrev pub values_of_signal : Result Signal LineRefusal → Result (List ℤ) ℕ
+values_of_signal (Ok s) = Ok (pos s.prn ∷ s.doppler ∷ pos s.half ∷ [])
+values_of_signal (Err refusal) = Err (number_of refusal)
 
 -- the values of the five words of a plan, or the refusal of one of them
 abbrev pub values_of_plan : Result Plan LineRefusal → Result (List ℤ) ℕ

@@ -23,7 +23,7 @@ mod number;
 mod plan;
 mod refusal;
 mod script;
-mod start;
+mod signal;
 mod verb;
 mod words;
 

@@ -10,7 +10,7 @@ ghost use Rattle.slot_protocol.specs.declared.command.TheConstants.{MOST_SLOTS};
 
 use crate::plan::read_plan;
 use crate::refusal::LineRefusal;
-use crate::start::Start;
+use crate::signal::read_signal;
 use crate::words::Words;
 use slot_protocol::Command;
 
@@ -69,8 +69,14 @@ impl Verb {
         let mut words = Words::split(line, self.word_count())?;
         let slot = words.slot(share)?;
         match self {
-            Verb::Hold => Ok(Start::read(&mut words)?.hold(slot)),
-            Verb::Track => Ok(Start::read(&mut words)?.track(slot)),
+            Verb::Hold => Ok(Command::Hold {
+                slot,
+                signal: read_signal(&mut words)?,
+            }),
+            Verb::Track => Ok(Command::Track {
+                slot,
+                signal: read_signal(&mut words)?,
+            }),
             Verb::Acquire => Ok(Command::Acquire {
                 slot,
                 plan: read_plan(&mut words)?,

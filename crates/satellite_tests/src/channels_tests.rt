@@ -11,6 +11,7 @@ mod searching;
 mod tracking;
 mod windows;
 
+use acquisition::Signal;
 use assertions::assert_same;
 use ca_codes::{CodeBook, Prn};
 use channels::{Followed, Window};
@@ -33,16 +34,22 @@ fn sums([ie, qe, ip, qp, il, ql]: [i32; 6]) -> Counts {
     }
 }
 
+/// The signal of a satellite by its numbers: the shift in Hz, and the half chip of its code.
+fn signal(prn: u8, hz: i32, half: u16) -> Result<Signal, Fail> {
+    Ok(Signal {
+        prn: Prn::new(prn).ok_or("a satellite")?,
+        doppler: Doppler::new(hz).ok_or("a shift")?,
+        half: HalfChip::new(half).ok_or("a half chip")?,
+    })
+}
+
 /// Satellite 5, held before the first sample of the recording.
 fn held() -> Result<Followed, Fail>
     ensures few { IfOk result (λ held. dumps_of held ≡ 0) }
     ensures at { IfOk result (λ held. at_of held ≡ 0) }
 {
     let settings = Settings::new(2_046_000, 511_500, Format::Real1)?;
-    let prn = Prn::new(5).ok_or("a satellite")?;
-    let doppler = Doppler::new(1_250).ok_or("a shift")?;
-    let half = HalfChip::new(700).ok_or("a half chip")?;
-    Ok(Followed::hold(&settings, prn, doppler, half, 0))
+    Ok(Followed::hold(&settings, signal(5, 1_250, 700)?, 0))
 }
 
 /// The most samples of the recording that these tests take.

@@ -6,16 +6,19 @@
 //! them. Each client's events are proved to be those of a receiver with that client alone. A
 //! `Packing` makes packed samples of a recording's values, which come in pieces too.
 //!
-//!     use seldomplough::{Doppler, Event, Format, HalfChip, Prn, Receiver, Settings, SlotNo};
+//!     use seldomplough::{Doppler, Event, Format, HalfChip, Prn, Receiver};
+//!     use seldomplough::{Settings, Signal, SlotNo};
 //!
 //!     // One client, with four slots. Its first slot tracks satellite 5.
 //!     let settings = Settings::new(2_046_000, 511_500, Format::Real1)?;
 //!     let mut receiver = Receiver::open(rt.alloc(), settings, &[4])?;
 //!     let slot = SlotNo::new(0).ok_or("no slot")?;
-//!     let prn = Prn::new(5).ok_or("no satellite")?;
-//!     let doppler = Doppler::new(1_250).ok_or("no shift")?;
-//!     let half = HalfChip::new(700).ok_or("no half chip")?;
-//!     receiver.track(1, slot, prn, doppler, half)?;
+//!     let signal = Signal {
+//!         prn: Prn::new(5).ok_or("no satellite")?,
+//!         doppler: Doppler::new(1_250).ok_or("no shift")?,
+//!         half: HalfChip::new(700).ok_or("no half chip")?,
+//!     };
+//!     receiver.track(1, slot, signal)?;
 //!     receiver.counts(1, slot, 5)?;
 //!     let mut sums = 0;
 //!     let bytes = [0x5a; 1_000];
@@ -38,7 +41,7 @@ mod too_many_samples;
 pub mod units;
 mod values;
 
-pub use acquisition::{Cell, Plan, PlanFault, Search, SearchRoom};
+pub use acquisition::{Cell, Plan, PlanFault, Search, SearchRoom, Signal};
 pub use bit_sync::{BitNews, BitSync};
 pub use ca_codes::{CodeBook, Prn, PrnFault};
 pub use channel_slots::{MOST_CLIENTS, MOST_TIME, OpenFault};

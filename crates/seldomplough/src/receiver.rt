@@ -13,10 +13,9 @@ ghost use Rattle.sample_planes.specs.declared.planes.TheConstants.{MAX_SAMPLES};
 ghost use Rattle.seldomplough.specs.Answers.{with_outcome, with_state, outcome_of, state_of, Asks};
 
 use crate::too_many_samples::TooManySamples;
-use acquisition::Plan;
-use ca_codes::Prn;
+use acquisition::{Plan, Signal};
 use channel_slots::{Bank, MOST_TIME, OpenFault, Timeline};
-use oscillators::{Doppler, HalfChip, Settings};
+use oscillators::Settings;
 use sample_planes::{Format, MAX_SAMPLES, PackedSamples};
 use slot_protocol::{Answer, Command, Refusal, SlotEvent, SlotNo, SlotState};
 use std::alloc::Global;
@@ -145,26 +144,11 @@ impl Receiver {
     /// # Errors
     ///
     /// The slot isn't idle, or the client has no such slot. Then nothing has changed.
-    pub fn hold(
-        &mut self,
-        client: u8,
-        slot: SlotNo,
-        prn: Prn,
-        doppler: Doppler,
-        half: HalfChip,
-    ) -> Result<(), Refusal>
-        ensures { Asks client slot (begin (hold prn doppler half)) (with_outcome result)
-            self.old self.new }
+    pub fn hold(&mut self, client: u8, slot: SlotNo, signal: Signal) -> Result<(), Refusal>
+        ensures { Asks client slot (begin (hold signal.prn signal.doppler signal.half))
+            (with_outcome result) self.old self.new }
     {
-        outcome(self.command(
-            client,
-            Command::Hold {
-                slot,
-                prn,
-                doppler,
-                half,
-            },
-        ))
+        outcome(self.command(client, Command::Hold { slot, signal }))
     }
 
     /// Has a slot track a satellite, from a Doppler shift and a half chip of its code on: its loops
@@ -173,26 +157,11 @@ impl Receiver {
     /// # Errors
     ///
     /// The slot isn't idle, or the client has no such slot. Then nothing has changed.
-    pub fn track(
-        &mut self,
-        client: u8,
-        slot: SlotNo,
-        prn: Prn,
-        doppler: Doppler,
-        half: HalfChip,
-    ) -> Result<(), Refusal>
-        ensures { Asks client slot (begin (track prn doppler half)) (with_outcome result)
-            self.old self.new }
+    pub fn track(&mut self, client: u8, slot: SlotNo, signal: Signal) -> Result<(), Refusal>
+        ensures { Asks client slot (begin (track signal.prn signal.doppler signal.half))
+            (with_outcome result) self.old self.new }
     {
-        outcome(self.command(
-            client,
-            Command::Track {
-                slot,
-                prn,
-                doppler,
-                half,
-            },
-        ))
+        outcome(self.command(client, Command::Track { slot, signal }))
     }
 
     /// Has a slot search for a satellite, and track it where it is found.

@@ -7,16 +7,16 @@ use Rattle.slot_protocol.specs.declared.command.Command.TheVariants.{Hold, Track
 use Rattle.slot_protocol.specs.declared.command.Command.TheVariants.{State, Stop}
 
 abbrev pub slot_of : Command → ℕ
-slot_of (Hold slot prn doppler half) = slot
-slot_of (Track slot prn doppler half) = slot
+slot_of (Hold slot signal) = slot
+slot_of (Track slot signal) = slot
 slot_of (Acquire slot plan) = slot
 slot_of (Counts slot n) = slot
 slot_of (State slot) = slot
 slot_of (Stop slot) = slot
 
 abbrev pub request_in : Command → Request
-request_in (Hold slot prn doppler half) = begin (hold prn doppler half)
-request_in (Track slot prn doppler half) = begin (track prn doppler half)
+request_in (Hold slot signal) = begin (hold signal.prn signal.doppler signal.half)
+request_in (Track slot signal) = begin (track signal.prn signal.doppler signal.half)
 request_in (Acquire slot plan) = begin (acquire plan)
 request_in (Counts slot n) = counts n
 request_in (State slot) = state

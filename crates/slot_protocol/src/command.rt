@@ -3,9 +3,7 @@
 ghost use Rattle.std.specs.Prelude.{◌≡◌, ◌<◌, ◌↔◌, ℕ, IsSome, IfSome};
 ghost use Rattle.slot_protocol.specs.declared.command.TheConstants.{MOST_SLOTS};
 
-use acquisition::Plan;
-use ca_codes::Prn;
-use oscillators::{Doppler, HalfChip};
+use acquisition::{Plan, Signal};
 use std::marker::Model;
 
 /// The most slots that a client has.
@@ -52,37 +50,17 @@ impl SlotNo {
 #[derive(Clone, Copy, Debug, PartialEq, Eq)]
 pub enum Command {
     /// Follow a satellite at a fixed Doppler shift, from a half chip of its code on.
-    Hold {
-        slot: SlotNo,
-        prn: Prn,
-        doppler: Doppler,
-        half: HalfChip,
-    },
+    Hold { slot: SlotNo, signal: Signal },
     /// Track a satellite, from a Doppler shift and a half chip of its code on: its loops steer it.
-    Track {
-        slot: SlotNo,
-        prn: Prn,
-        doppler: Doppler,
-        half: HalfChip,
-    },
+    Track { slot: SlotNo, signal: Signal },
     /// Search for a satellite, and track it where it is found.
-    Acquire {
-        slot: SlotNo,
-        plan: Plan,
-    },
+    Acquire { slot: SlotNo, plan: Plan },
     /// Print the next `n` dumps; 0 ends printing.
-    Counts {
-        slot: SlotNo,
-        n: u32,
-    },
+    Counts { slot: SlotNo, n: u32 },
     /// Show the slot.
-    State {
-        slot: SlotNo,
-    },
+    State { slot: SlotNo },
     /// Make the slot idle.
-    Stop {
-        slot: SlotNo,
-    },
+    Stop { slot: SlotNo },
 }
 
 impl Command {

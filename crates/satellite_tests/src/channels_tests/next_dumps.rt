@@ -4,11 +4,11 @@ ghost use Rattle.std.specs.Prelude.{◌≡◌, ◌+◌, ◌≤◌, IfOk};
 ghost use Rattle.channels.specs.FollowedChannels.{at_of};
 ghost use Rattle.channels.specs.Windows.{first_of, end_of};
 
-use super::open_to;
+use super::{open_to, signal};
 use assertions::{assert_same, assert_same_at};
-use ca_codes::{CodeBook, Prn};
+use ca_codes::CodeBook;
 use channels::{Followed, Window};
-use oscillators::{Doppler, HalfChip, Settings};
+use oscillators::Settings;
 use sample_planes::Format;
 use std::alloc::{Alloc, Global};
 use std::process::Abort;
@@ -95,10 +95,7 @@ fn held(rate: u32, hz: i32, half: u16, time: u64) -> Result<Followed, Fail>
         return Err(Fail::new("it is held too late"));
     }
     let settings = Settings::new(rate, 0, Format::Real1)?;
-    let prn = Prn::new(5).ok_or("a satellite")?;
-    let doppler = Doppler::new(hz).ok_or("a shift")?;
-    let half = HalfChip::new(half).ok_or("a half chip")?;
-    Ok(Followed::hold(&settings, prn, doppler, half, time))
+    Ok(Followed::hold(&settings, signal(5, hz, half)?, time))
 }
 
 #[test]
@@ -115,13 +112,10 @@ fn dumps_come_by_the_rate_of_the_code(rt: HostRuntime) -> Result<(), Fail> {
 fn first_dump_of_a_tracked_satellite(rt: HostRuntime) -> Result<(), Fail> {
     for &(rate, hz, half, time, dumps) in &ROWS {
         let settings = Settings::new(rate, 0, Format::Real1)?;
-        let prn = Prn::new(5).ok_or("a satellite")?;
-        let doppler = Doppler::new(hz).ok_or("a shift")?;
-        let half = HalfChip::new(half).ok_or("a half chip")?;
         if 2_000 < time {
             return Err(Fail::new("it is tracked too late"));
         }
-        let tracked = Followed::track(&settings, prn, doppler, half, time);
+        let tracked = Followed::track(&settings, signal(5, hz, half)?, time);
         assert_same_at!(rt; rate, (tracked.dumps(), tracked.next_dump()), (0, dumps[0]));
     }
     Ok(())

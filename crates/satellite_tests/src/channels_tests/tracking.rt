@@ -4,7 +4,7 @@ ghost use Rattle.std.specs.Prelude.{◌≡◌, ◌≤◌, IfOk};
 ghost use Rattle.channels.specs.FollowedChannels.{at_of};
 ghost use Rattle.channels.specs.Windows.{first_of, end_of};
 
-use super::{open_to, sums};
+use super::{open_to, signal, sums};
 use assertions::{assert_same, assert_same_at};
 use ca_codes::{CodeBook, Prn};
 use channels::{Followed, Window};
@@ -107,16 +107,11 @@ fn assert_same_dump(
 }
 
 /// The satellite of the signal, tracked from its first sample on.
-fn tracked(signal: &MadeSignal) -> Result<Followed, Fail>
+fn tracked(made: &MadeSignal) -> Result<Followed, Fail>
     ensures { IfOk result (λ tracked. at_of tracked ≡ 0) }
 {
-    Ok(Followed::track(
-        &Settings::new(signal.rate, signal.offset, Format::Real2)?,
-        Prn::new(7).ok_or("a satellite")?,
-        Doppler::new(1_000).ok_or("a shift")?,
-        HalfChip::new(100).ok_or("a half chip")?,
-        0,
-    ))
+    let settings = Settings::new(made.rate, made.offset, Format::Real2)?;
+    Ok(Followed::track(&settings, signal(7, 1_000, 100)?, 0))
 }
 
 // Each dump sets the steps of the segment after it. From dump 200 on they come by another law, and

@@ -67,7 +67,7 @@ fn plans_tell_their_parts(rt: HostRuntime) -> Result<(), Fail> {
 
 // Bins are 250 Hz wide.
 #[test]
-fn shifts_of_cells(rt: HostRuntime) -> Result<(), Fail> {
+fn signals_of_cells(rt: HostRuntime) -> Result<(), Fail> {
     let prn = Prn::new(9).ok_or("a satellite")?;
     let half = HalfChip::new(2_045).ok_or("a half chip")?;
     for (centre, bins, bin, shift) in [
@@ -87,8 +87,9 @@ fn shifts_of_cells(rt: HostRuntime) -> Result<(), Fail> {
             power: 0,
             found: false,
         };
-        let doppler = plan.doppler(&cell).map(|doppler| doppler.get());
-        assert_same_at!(rt; (centre, bins, bin), doppler, shift);
+        let signal = plan.signal(&cell);
+        let told = signal.map(|signal| (signal.prn, signal.doppler.get(), signal.half));
+        assert_same_at!(rt; (centre, bins, bin), told, shift.map(|hz| (prn, hz, half)));
     }
     Ok(())
 }

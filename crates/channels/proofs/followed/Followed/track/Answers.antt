@@ -1,14 +1,19 @@
-use Rattle.std.proofs.Common.{length, refl, sym, ◌∙◌}
+use Rattle.std.proofs.Common.{length, refl, rules}
 use Rattle.definitions.specs.Lives.{tracked_channel}
-use Rattle.channels.proofs.FollowedLemmas.{as-held, tracked-none}
+use Rattle.definitions.specs.Loops.{loops_after}
+use Rattle.channels.proofs.FollowingLemmas.{none-ago}
 use Rattle.channels.proofs.followed.Followed.track.Goals as goal
 
 pub returns-clause-stands : goal.returns-clause-stands
+unfolding loops_after
 returns-clause-stands c xs now =
-    let settings = c.args.settings.now in
-    c.with_loops.ensures.stands
-    (tracked_channel (length xs) c.args.prn c.args.doppler c.args.half) xs
-    (as-held settings xs c.args.prn c.args.doppler c.args.half _
-    (c.start-follower.ensures.at ∙ sym now)
-    (rw (← now) at (c.start-follower.ensures.follows xs now)))
-    (tracked-none settings xs c.args.prn c.args.doppler c.args.half) (λ dumps. refl)
+    let signal = c.args.signal in
+    c.track_after.ensures.stands
+    (tracked_channel (length xs) signal.prn signal.doppler signal.half) xs now
+    (record {
+      prn_is = refl;
+      start = refl;
+      code = none-ago signal.half _ (search rules);
+      shift = refl;
+    })
+    (λ dumps. refl)

@@ -1,9 +1,19 @@
-use Rattle.std.proofs.Common.{arith}
-use Rattle.definitions.proofs.BlockLemmas.{progress-begun}
+use Rattle.std.proofs.Common.{refl, ℤ, [], subst}
+use Rattle.definitions.specs.Lives.{doppler_shift}
+use Rattle.channels.specs.Trackings.{StandsFor}
+use Rattle.channels.proofs.FollowedLemmas.{begins}
+use Rattle.channels.proofs.ShiftLemmas.{same-shift}
 use Rattle.channels.proofs.followed.Followed.track_after.Goals as goal
 
 pub returns-clause-stands : goal.returns-clause-stands
-returns-clause-stands c channel xs now begins steered =
-    c.with_loops.ensures.stands channel xs
-    (c.start_after-follower.ensures.follows channel xs now (rw now at begins))
-    (progress-begun c.args.settings.now channel xs (omega (arith, begins.start))) steered
+returns-clause-stands c channel xs now b steered =
+    let tracking = c.start-tracking in
+    begins c.args.settings.now channel xs _
+    (c.start_after.ensures.follows channel xs now (rw now at b)) refl b.start
+    (record {
+      shift = doppler_shift c.args.signal.doppler;
+      steered = steered;
+      stands = subst (λ (v : ℤ). StandsFor c.args.settings.now v [] tracking.result)
+          (same-shift c.shift_of.result _ c.shift_of.ensures.small c.shift_of.ensures.value)
+          tracking.ensures.stands;
+    })

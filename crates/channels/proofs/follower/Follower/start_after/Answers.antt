@@ -32,7 +32,7 @@ returns-clause-follows c channel xs many begins =
     (started settings channel xs _ (begins.start ∙ sym many) (sym many) (sym begins.prn_is)
     (ap (λ (o : Oscillation). o.phase) c.jump.ensures
     ∙ ap (λ (o : Oscillation). code_phase_after o.phase o.step c.args.ago) c.new-code.ensures
-    ∙ ap (λ n. code_phase_after (c.args.half * 2 ^ 31) n c.args.ago) computed
+    ∙ ap (λ n. code_phase_after (c.args.signal.half * 2 ^ 31) n c.args.ago) computed
     ∙ sym begins.code)
     (ap (λ (o : Oscillation). o.phase) c.new.ensures)
     (ap (λ (o : Oscillation). o.step) c.jump.ensures ∙ step

@@ -29,29 +29,27 @@ returns-in_err-slot c =
     c.in_ok-words.words _ c.word_count.ensures.same c.in_ok-words.ensures.words
     c.in_err-slot.ensures.value)
 
-pub returns-in_err-read-in-Hold : goal.returns-in_err-read-in-Hold
-returns-in_err-read-in-Hold c =
-    rw (passed_on _ c.from_residual-in_err-read-in-Hold.ensures.1)
-    (asked_of_slot (goal.at.returns-in_err-read-in-Hold c).In_ok-slot c.in-Hold.is
-    (λ all. c.in_err-read-in-Hold.ensures))
+pub returns-in_err-read_signal-in-Hold : goal.returns-in_err-read_signal-in-Hold
+returns-in_err-read_signal-in-Hold c =
+    rw (passed_on _ c.from_residual-in_err-read_signal-in-Hold.ensures.1)
+    (asked_of_slot (goal.at.returns-in_err-read_signal-in-Hold c).In_ok-slot c.in-Hold.is
+    (λ all. c.in_err-read_signal-in-Hold.ensures))
 
-pub returns-in_ok-read-in-Hold : goal.returns-in_ok-read-in-Hold
-returns-in_ok-read-in-Hold c =
-    rw c.hold.ensures
-    (asked_of_slot (goal.at.returns-in_ok-read-in-Hold c).In_ok-slot c.in-Hold.is
-    (λ all. c.in_ok-read-in-Hold.ensures))
+pub returns-in_ok-read_signal-in-Hold : goal.returns-in_ok-read_signal-in-Hold
+returns-in_ok-read_signal-in-Hold c =
+    asked_of_slot (goal.at.returns-in_ok-read_signal-in-Hold c).In_ok-slot c.in-Hold.is
+    (λ all. c.in_ok-read_signal-in-Hold.ensures)
 
-pub returns-in_err-read-in-Track : goal.returns-in_err-read-in-Track
-returns-in_err-read-in-Track c =
-    rw (passed_on _ c.from_residual-in_err-read-in-Track.ensures.1)
-    (asked_of_slot (goal.at.returns-in_err-read-in-Track c).In_ok-slot c.in-Track.is
-    (λ all. c.in_err-read-in-Track.ensures))
+pub returns-in_err-read_signal-in-Track : goal.returns-in_err-read_signal-in-Track
+returns-in_err-read_signal-in-Track c =
+    rw (passed_on _ c.from_residual-in_err-read_signal-in-Track.ensures.1)
+    (asked_of_slot (goal.at.returns-in_err-read_signal-in-Track c).In_ok-slot c.in-Track.is
+    (λ all. c.in_err-read_signal-in-Track.ensures))
 
-pub returns-in_ok-read-in-Track : goal.returns-in_ok-read-in-Track
-returns-in_ok-read-in-Track c =
-    rw c.track.ensures
-    (asked_of_slot (goal.at.returns-in_ok-read-in-Track c).In_ok-slot c.in-Track.is
-    (λ all. c.in_ok-read-in-Track.ensures))
+pub returns-in_ok-read_signal-in-Track : goal.returns-in_ok-read_signal-in-Track
+returns-in_ok-read_signal-in-Track c =
+    asked_of_slot (goal.at.returns-in_ok-read_signal-in-Track c).In_ok-slot c.in-Track.is
+    (λ all. c.in_ok-read_signal-in-Track.ensures)
 
 pub returns-in_err-read_plan-in-Acquire : goal.returns-in_err-read_plan-in-Acquire
 returns-in_err-read_plan-in-Acquire c =

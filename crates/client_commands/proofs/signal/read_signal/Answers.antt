@@ -1,5 +1,5 @@
 use Rattle.client_commands.proofs.ReadingLemmas.{passed_on, refused_first, taken_first, none_left}
-use Rattle.client_commands.proofs.start.Start.read.Goals as goal
+use Rattle.client_commands.proofs.signal.read_signal.Goals as goal
 
 pub returns-in_err-prn : goal.returns-in_err-prn
 returns-in_err-prn c =
