@@ -1,5 +1,5 @@
 -- What a run reads and writes, by its answer.
-use Rattle.std.specs.Prelude.{◌≡◌, ◌≤◌, ◌<◌, ℕ, true, List, [], length, take}
+use Rattle.std.specs.Prelude.{◌≡◌, ◌≤◌, ◌<◌, ◌-◌, ℕ, true, List, [], length, take}
 use Rattle.std.specs.Prelude.{◌++◌, Option, Result, Ok, Err, IfOk, MatchResult, OnOk}
 use Rattle.std.specs.Io.KnownBytes.{Appends, Consumes, IsAtEnd}
 use Rattle.definitions.specs.Oscillators.{Settings}
@@ -15,7 +15,7 @@ use Rattle.receiver.specs.Clients.{four_each}
 use Rattle.receiver.specs.Printed.{LinesAreRight}
 use Rattle.receiver.specs.Texts.{AppendsPart, WroteUpTo}
 use Rattle.definitions.specs.Receiver.{answer_lines}
-use Rattle.receiver.specs.Sessions.{StandsFor, Gives}
+use Rattle.receiver.specs.Sessions.{StandsFor, Gives, packing_in, time_of}
 use Rattle.receiver.specs.Outputs.{Adds, Puts, promised}
 use Rattle.receiver.specs.declared.output.Output.{Output}
 use Rattle.devices.specs.declared.source.Source.{Ghosts as Source}
@@ -140,6 +140,11 @@ TakesOn run before after old new result =
     → IsWrittenTo settings clients start before old xs
     → MatchResult result (λ _. IsWrittenTo settings clients start after new (xs ++ run))
     (λ _. AppendsPart start new (body settings (xs ++ run) clients))
+
+-- of the samples of the bytes that come next, those before a limit
+abbrev pub samples_before : ℕ → Session → List ℕ → List Sample
+samples_before limit session bytes =
+    take (limit - time_of session) (samples (packing_in session) bytes)
 
 -- the answers that waited are added, and none waits then
 abbrev pub AddsAnswers : {A E : Type 0} → Session → Session → Option (List ℕ) → Option (List ℕ)

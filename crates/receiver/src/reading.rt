@@ -1,10 +1,12 @@
 //! The samples of a run, read and taken piece by piece.
 
-ghost use Rattle.std.specs.Prelude.{◌≡◌, ◌≤◌, ◌<◌, ◌+◌, ◌%◌, length, false, OnOk};
+ghost use Rattle.std.specs.Prelude.{◌≡◌, ◌≤◌, ◌<◌, ◌↔◌, ◌+◌, ◌-◌, ◌%◌, length, min, true, false};
+ghost use Rattle.std.specs.Prelude.{OnOk, IfOk};
+ghost use Rattle.definitions.specs.Samples.{sample_count, samples_per_byte};
 ghost use Rattle.channel_slots.specs.declared.bank.TheConstants.{MOST_TIME};
 ghost use Rattle.sample_planes.specs.declared.planes.TheConstants.{MAX_SAMPLES};
 ghost use Rattle.receiver.specs.Outputs.{promised, Writes};
-ghost use Rattle.receiver.specs.Runs.{devices_once_sent, ReadsOn, TakesOn};
+ghost use Rattle.receiver.specs.Runs.{devices_once_sent, ReadsOn, TakesOn, samples_before};
 ghost use Rattle.receiver.specs.Sessions.{packing_in, time_of, until_next};
 
 use crate::faults::Stop;
@@ -69,6 +71,36 @@ fn take_piece<W: Sink>(
     Ok(())
 }
 
+/// Takes those samples of the bytes that come before the limit, and puts the lines of each time. No
+/// byte has samples on both sides of the limit. It answers whether there were samples past it.
+fn take_bytes<W: Sink>(
+    session: &mut Session,
+    limit: u64,
+    bytes: &[u8],
+    out: &mut Output<W>,
+) -> Result<bool, DeviceFault>
+    requires limit { limit ≤ MOST_TIME }
+    requires within { time_of session.old ≤ limit }
+    requires whole { (limit - time_of session.old) % samples_per_byte (packing_in session.old) ≡ 0 }
+    requires ready { 0 < until_next session.old }
+    ensures packing { packing_in session.new ≡ packing_in session.old }
+    ensures time { OnOk result (time_of session.new ≡ min limit (time_of session.old
+        + sample_count (packing_in session.old) bytes.now)) }
+    ensures ready { OnOk result (0 < until_next session.new) }
+    ensures past { IfOk result (λ past. (past ≡ true) ↔ (limit < time_of session.old
+        + sample_count (packing_in session.old) bytes.now)) }
+    ensures takes { TakesOn (samples_before limit session.old bytes.now) session.old session.new
+        (promised W.Sink out.old) (promised W.Sink out.new) result }
+    ensures writes { Writes W.Sink out.old out.new result }
+{
+    let format = session.format();
+    let room = (limit - session.time()) / format.per_byte() as u64;
+    let used = (bytes.len() as u64).min(room) as usize;
+    let piece = PackedSamples::new(format, &bytes[..used]);
+    take_piece(session, &piece, out)?;
+    Ok(used < bytes.len())
+}
+
 /// Reads to the end, to a fault or past the limit, and puts the lines of each time up to there. All
 /// that was put is written before each read.
 pub fn read_all<R: Source, W: Sink>(
@@ -89,8 +121,6 @@ pub fn read_all<R: Source, W: Sink>(
         (devices_once_sent R.Source W.Sink reader.new out.new) result }
     ensures writes { Writes W.Sink out.old out.new result }
 {
-    let format = session.format();
-    let per_byte = format.per_byte() as u64;
     let mut buffer = [0; READ_BYTES];
     loop {
         // Nothing is held back while the run waits for bytes.
@@ -101,11 +131,7 @@ pub fn read_all<R: Source, W: Sink>(
         if count == 0 {
             return Ok(Stop::AtEnd);
         }
-        let room = (limit - session.time()) / per_byte;
-        let used = (count as u64).min(room) as usize;
-        let piece = PackedSamples::new(format, &buffer[..used]);
-        take_piece(session, &piece, out)?;
-        if used < count {
+        if take_bytes(session, limit, &buffer[..count], out)? {
             return Ok(Stop::PastLimit);
         }
     }

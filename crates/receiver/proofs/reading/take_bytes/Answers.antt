@@ -1,0 +1,34 @@
+use Rattle.std.proofs.Common.{◌≡◌, ◌∙◌, ◌++◌, List, subst}
+use Rattle.std.proofs.lemmas.Result.{MatchResult-from_err}
+use Rattle.definitions.specs.Samples.{Sample}
+use Rattle.definitions.specs.Receiver.{body}
+use Rattle.receiver.specs.Outputs.{promised}
+use Rattle.receiver.specs.Runs.{IsWrittenTo, samples_before}
+use Rattle.receiver.specs.Texts.{AppendsPart}
+use Rattle.receiver.proofs.ReadLemmas.{taken-before}
+use Rattle.receiver.proofs.reading.take_bytes.Goals as goal
+
+pub returns-in_err-take_piece-clause-takes : goal.returns-in_err-take_piece-clause-takes
+returns-in_err-take_piece-clause-takes g c settings clients start xs at =
+    let before : c.new-piece.result.samples
+    ≡ samples_before c.args.limit c.args.session.now c.args.bytes.now =
+    c.new-piece.ensures.samples
+    ∙ taken-before c.args.session.now c.args.limit c.args.bytes.now _ c.time.result
+    c.per_byte.result c.min-used.result c.format-format.ensures c.time.ensures
+    c.per_byte.ensures c.requires.whole c.min-used.ensures in
+    MatchResult-from_err c.from_residual.result _ _ c.from_residual.ensures.0 (λ _.
+    subst (λ (run : List Sample). AppendsPart start (promised g.W.Sink c.take_piece.new.out)
+    (body settings (xs ++ run) clients)) before
+    (c.in_err-take_piece.ensures.takes settings clients start xs at))
+
+pub returns-clause-takes : goal.returns-clause-takes
+returns-clause-takes g c settings clients start xs at =
+    let before : c.new-piece.result.samples
+    ≡ samples_before c.args.limit c.args.session.now c.args.bytes.now =
+    c.new-piece.ensures.samples
+    ∙ taken-before c.args.session.now c.args.limit c.args.bytes.now _ c.time.result
+    c.per_byte.result c.min-used.result c.format-format.ensures c.time.ensures
+    c.per_byte.ensures c.requires.whole c.min-used.ensures in
+    subst (λ (run : List Sample). IsWrittenTo settings clients start c.take_piece.new.session
+    (promised g.W.Sink c.take_piece.new.out) (xs ++ run)) before
+    (c.in_ok-take_piece.ensures.takes settings clients start xs at)
