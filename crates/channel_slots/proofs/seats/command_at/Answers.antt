@@ -16,11 +16,5 @@ returns c =
       set = rw (← same) refl;
       client = refl;
       number = refl;
-      obeys = record {
-        answers = rw (← same) at c.command.ensures.answer;
-        stands = rw (← same) at c.command.ensures.stands;
-        refused = rw (← same) at c.command.ensures.refused;
-        sound = rw (← same) at c.command.ensures.sound;
-        waits = rw (← same) at c.command.ensures.waits;
-      };
+      obeys = rw (← same) at c.command.ensures;
     }
