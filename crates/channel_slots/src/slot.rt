@@ -58,6 +58,7 @@ impl Slot {
     /// A slot that was never asked for anything, with the room for its searches.
     pub fn new(room: SearchRoom) -> Slot
         ensures stands { (settings : DefinedSettings) → StandsFor settings [] [] result }
+        ensures sound { (first time reach : ℕ) → is_sound first time reach result ≡ true }
         ensures idle { is_idle result ≡ true }
     {
         Slot {
