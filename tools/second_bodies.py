@@ -39,12 +39,36 @@ def owner_of(function, lines):
     return words[1] if IMPL.match(head) and 'for' not in words else None
 
 
+@functools.lru_cache(maxsize=None)
+def files_with(folder, ending):
+    """The texts of a crate's files with an ending, by their paths in its folder."""
+    texts = {}
+    for part in ('src', 'proofs'):
+        for at, _, files in os.walk(os.path.join(folder, part)):
+            for file in files:
+                if file.endswith(ending):
+                    path = os.path.join(at, file)
+                    with open(path, encoding='utf-8', newline='') as source:
+                        texts[os.path.relpath(path, folder)] = source.read()
+    return texts
+
+
+def path_by(file, owner, folder):
+    """The modules and the type, by which the prover calls what stands in a file of a crate: those
+    of the type, which may be declared in another."""
+    declared = re.compile(rf'\b(?:struct|enum|union) {owner}\b')
+    texts = files_with(folder, '.rt')
+    if owner and not declared.search(texts[file]):
+        file = next((it for it in sorted(texts) if declared.search(texts[it])), file)
+    return [*path_of(file), *filter(None, [owner])]
+
+
 class Second:
     """A second body of a function: as an edit turns it."""
 
-    def __init__(self, place, owner, number, edit):
+    def __init__(self, place, path, number, edit):
         (self.file, self.function), self.edit = place, edit
-        self.path = [*path_of(self.file), *filter(None, [owner])]
+        self.path = path
         self.name = f'{self.function.name}_body{number}'
         self.place = place
 
@@ -86,38 +110,34 @@ class Second:
 
     def is_refused(self, refused):
         """Whether it is refused at the goal of its edit."""
-        own = (line for line in refused if is_at(line, self.place))
+        own = (line for line in refused if is_at(line, self.place, self.path))
         return any(has_goal(re.sub(rf'\b{self.name}\b', self.function.name, line), self.edit)
                    for line in own)
 
 
-@functools.lru_cache(maxsize=None)
-def proofs_of(folder):
-    """The texts of all proofs of a crate, by their paths in its folder."""
-    texts = {}
-    for at, _, files in os.walk(os.path.join(folder, 'proofs')):
-        for file in files:
-            path = os.path.join(at, file)
-            with open(path, encoding='utf-8', newline='') as source:
-                texts[os.path.relpath(path, folder)] = source.read()
-    return texts
-
-
-def is_copied(place, folder, given):
-    """Whether a function of a crate in a folder can have a second body: a trait's method can't, nor
-    one of which another proof names what the prover makes of it."""
+def path_of_place(place, folder):
+    """How the prover calls what a function of a crate stands in; nothing where that is a trait's
+    `impl`, which takes no second method."""
     file, function = place
-    owner = owner_of(function, given(file).split('\n'))
-    if owner is None:
+    owner = owner_of(function, files_with(folder, '.rt')[file].split('\n'))
+    return None if owner is None else path_by(file, owner, folder)
+
+
+def is_copied(place, folder):
+    """Whether a function of a crate can have a second body: a trait's method can't, nor one of
+    which another proof names what the prover makes of it."""
+    path = path_of_place(place, folder)
+    if path is None:
         return False
-    home = os.path.join('proofs', *path_of(file), *filter(None, [owner]), function.name, '')
+    home = os.path.join('proofs', *path, place[1].name, '')
     return not any(home.replace(os.sep, '.') in text
-                   for path, text in proofs_of(folder).items() if not path.startswith(home))
+                   for file, text in files_with(folder, '.antt').items()
+                   if not file.startswith(home))
 
 
-def seconds_of(places, given):
-    """The second bodies of edits by their places."""
-    return [Second(place, owner_of(place[1], given(place[0]).split('\n')), number, edit)
+def seconds_of(places, folder):
+    """The second bodies of edits of a crate by their places."""
+    return [Second(place, path_of_place(place, folder), number, edit)
             for number, (edit, place) in enumerate(places.items(), 1)]
 
 
