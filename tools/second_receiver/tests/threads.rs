@@ -16,7 +16,7 @@ macro_rules! all_of_threads {
 #[test]
 fn public_types_are_of_threads() {
     all_of_threads! {
-        acquisition: Cell, Plan, PlanFault, Search, SearchRoom;
+        acquisition: Cell, Plan, PlanFault, Search, SearchRoom, Signal;
         bit_planes: Plane;
         bit_sync: BitNews, BitSync;
         ca_codes: CodeBook, Prn, PrnFault;
