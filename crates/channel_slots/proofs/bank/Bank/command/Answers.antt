@@ -27,7 +27,8 @@ invariant_of-self c =
     let obeys : Obeys bank.settings time (request_in c.args.command) p.slot q.slot
     c.command-answer.result = rw c.end-time.ensures at c.command-answer.ensures in
     let n : ℕ = c.min-self.result in
-    let own : n ≤ next_event q.slot = omega (arith, c.min-self.ensures, c.next_event.ensures.value) in
+    let own : n ≤ next_event q.slot =
+    omega (arith, c.min-self.ensures, c.next_event.ensures.value) in
     let rest : AllRest bank.next_event ps = all-rest bank.next_event ps bank.rests in
     let later : time < next_event q.slot =
     obeys.waits (omega (
