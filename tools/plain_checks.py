@@ -22,7 +22,7 @@ MOST_COLUMNS = 100
 
 # Functions that are called for a whole run, command, dump or bit at most, by their names.
 SELDOM = ('check', 'command', 'encode', 'feed', 'follow', 'measure', 'new', 'pack', 'push',
-          'run_shares', 'run_to', 'start', 'start_after', 'steer', 'take', 'word')
+          'run_shares', 'run_to', 'start', 'steer', 'take', 'word')
 
 # What functions are given that a bank asks for each slot and each run.
 ASKED_OFTEN = ('SampleSource', 'Window')

@@ -1,8 +1,9 @@
 """Wrong bodies that stand beside the right ones: each is a copy of its function under a name of its
 own, with the same contract and the same proof. So many edits of a crate are tried in one check, no
-caller waits for a function with a wrong body, and nothing else of the crate is proved again. Of
-each function there is also a copy with the right body: it shows that a copy is proved where nothing
-is turned."""
+caller waits for a function with a wrong body, and nothing else of the crate is proved again. The
+function itself is proved in the same check. Its copy differs from it by its name alone, and no
+other proof names what the prover makes of it."""
+import functools
 import os
 import re
 
@@ -38,19 +39,46 @@ def owner_of(function, lines):
     return words[1] if IMPL.match(head) and 'for' not in words else None
 
 
-class Second:
-    """A second body of a function: as an edit turns it, or as it is."""
+@functools.lru_cache(maxsize=None)
+def files_with(folder, ending):
+    """The texts of a crate's files with an ending, by their paths in its folder."""
+    texts = {}
+    for part in ('src', 'proofs'):
+        for at, _, files in os.walk(os.path.join(folder, part)):
+            for file in files:
+                if file.endswith(ending):
+                    path = os.path.join(at, file)
+                    with open(path, encoding='utf-8', newline='') as source:
+                        texts[os.path.relpath(path, folder)] = source.read()
+    return texts
 
-    def __init__(self, place, owner, number, edit=None):
+
+def path_by(file, owner, folder):
+    """The modules and the type, by which the prover calls what stands in a file of a crate: those
+    of the type, which may be declared in another."""
+    declared = re.compile(rf'\b(?:struct|enum|union) {owner}\b')
+    texts = files_with(folder, '.rt')
+    if owner and not declared.search(texts[file]):
+        file = next((it for it in sorted(texts) if declared.search(texts[it])), file)
+    return [*path_of(file), *filter(None, [owner])]
+
+
+class Second:
+    """A second body of a function: as an edit turns it."""
+
+    def __init__(self, place, path, number, edit):
         (self.file, self.function), self.edit = place, edit
-        self.path = [*path_of(self.file), *filter(None, [owner])]
+        self.path = path
         self.name = f'{self.function.name}_body{number}'
         self.place = place
 
+    def names(self):
+        """How the prover calls the function and its copy."""
+        return ['::'.join([*self.path, it]) for it in (self.function.name, self.name)]
+
     def copied(self, given):
         """Its lines."""
-        texts = self.edit.texts(given) if self.edit else {self.file: given(self.file)}
-        lines = texts[self.file].split('\n')
+        lines = self.edit.texts(given)[self.file].split('\n')
         at = named_at(self.function, lines)
         lines[at] = re.sub(rf'\bfn {self.function.name}\b', f'fn {self.name}', lines[at])
         return lines[self.function.first - 1:self.function.last + 1]
@@ -76,37 +104,41 @@ class Second:
                     made.write(dotted.sub(now.replace(os.sep, '.'), text))
         return os.path.join(folder, now)
 
-    def says(self, said):
-        """What the prover says of the second function."""
-        name = '::'.join([r'\w+', *map(re.escape, self.path), self.name])
-        found = re.search(rf'^fn {name}: (.*)', said, re.M)
-        return found[1] if found else ''
+    def has_proof(self, said):
+        """Whether the function itself is proved, by what the prover said."""
+        return bool(re.search(rf'^fn \w+::{re.escape(self.names()[0])}: proved$', said, re.M))
 
     def is_refused(self, refused):
         """Whether it is refused at the goal of its edit."""
-        own = (line for line in refused if is_at(line, self.place))
+        own = (line for line in refused if is_at(line, self.place, self.path))
         return any(has_goal(re.sub(rf'\b{self.name}\b', self.function.name, line), self.edit)
                    for line in own)
 
 
-def is_copied(place, given):
-    """Whether a function can have a second body: a trait's method can't."""
+def path_of_place(place, folder):
+    """How the prover calls what a function of a crate stands in; nothing where that is a trait's
+    `impl`, which takes no second method."""
     file, function = place
-    return owner_of(function, given(file).split('\n')) is not None
+    owner = owner_of(function, files_with(folder, '.rt')[file].split('\n'))
+    return None if owner is None else path_by(file, owner, folder)
 
 
-def seconds_of(places, given):
-    """The second bodies of edits by their places: of each function one with its right body, and one
-    of each edit."""
-    made, right = [], set()
-    for number, (edit, place) in enumerate(places.items(), 1):
-        file, function = place
-        owner = owner_of(function, given(file).split('\n'))
-        if (file, function.first) not in right:
-            right.add((file, function.first))
-            made.append(Second(place, owner, 0))
-        made.append(Second(place, owner, number, edit))
-    return made
+def is_copied(place, folder):
+    """Whether a function of a crate can have a second body: a trait's method can't, nor one of
+    which another proof names what the prover makes of it."""
+    path = path_of_place(place, folder)
+    if path is None:
+        return False
+    home = os.path.join('proofs', *path, place[1].name, '')
+    return not any(home.replace(os.sep, '.') in text
+                   for file, text in files_with(folder, '.antt').items()
+                   if not file.startswith(home))
+
+
+def seconds_of(places, folder):
+    """The second bodies of edits of a crate by their places."""
+    return [Second(place, path_of_place(place, folder), number, edit)
+            for number, (edit, place) in enumerate(places.items(), 1)]
 
 
 def with_seconds(seconds, given):

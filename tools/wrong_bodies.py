@@ -114,13 +114,14 @@ def path_of(file):
     return [] if parts[-1] in ('lib', 'main') else parts
 
 
-def is_at(line, place):
-    """Whether the prover refused a function by this line: in its own lines, or in its proof."""
+def is_at(line, place, path):
+    """Whether the prover refused a function by this line: in its own lines, or in its proof, where
+    a path leads to it."""
     file, function = place
     at, number = REFUSAL.match(line).groups()
     if at.startswith('src/'):
         return at == file and function.first <= int(number) <= function.last + 1
-    parts, path = at.split('/')[1:-1], path_of(file)
+    parts = at.split('/')[1:-1]
     return parts[:len(path)] == path and parts[-1:] == [function.name]
 
 

@@ -19,7 +19,7 @@ use Rattle.channel_slots.specs.declared.slot.Slot.{Slot}
 use Rattle.channel_slots.specs.declared.seat.Seat.{Seat}
 use Rattle.slot_protocol.specs.Answers.{cells_shown, cells_in_view}
 use Rattle.channel_slots.specs.Stages as stages
-use Rattle.channel_slots.specs.Stages.{Follows, IsSearched}
+use Rattle.channel_slots.specs.Stages.{Follows}
 use Rattle.channel_slots.specs.Slots.{StandsFor, is_idle, cells_done_of}
 use Rattle.channel_slots.specs.Banks.{cells_done_at, keys_of, IsAt}
 use Rattle.channel_slots.proofs.SearchLemmas.{shows-searched}

@@ -5,6 +5,7 @@ pub mod CommandLemmas
 pub mod GoesLemmas
 mod HoldLemmas
 pub mod NewsLemmas
+pub mod ObeyLemmas
 pub mod OrderLemmas
 pub mod PutLemmas
 pub mod QuietLemmas

@@ -59,25 +59,25 @@ pub record StandsFor (settings : Settings) (xs : List Sample)
   pub window : windows.StandsFor xs bank.window
   pub slots : BankStands settings xs asked (time_of bank) (boxed_slice_items bank.seats)
 
--- whatever a bank stood for: these events are what its slots emit over a run of samples
-abbrev pub Emits : Bank → List Sample → List SlotEvent → Type 0
-Emits old run events =
-    (settings : Settings) (xs : List Sample) (asked : ℕ → ℕ → List TimedRequest)
-    → StandsFor settings xs asked old
-    → AreEvents events (at_each_sample
-    (bank_events_at_end settings (layout (shares_of old)) asked) xs run)
+-- the same recording, and the same slots for each client
+pub record IsSame (old new : Bank) : Type 0 where
+  pub settings : settings_of new ≡ settings_of old
+  pub shares : shares_of new ≡ shares_of old
 
--- and after the run it stands for the same with these samples
-abbrev pub Takes : Bank → List Sample → Bank → Type 0
-Takes old run new =
-    (settings : Settings) (xs : List Sample) (asked : ℕ → ℕ → List TimedRequest)
-    → StandsFor settings xs asked old → StandsFor settings (xs ++ run) asked new
+-- these events are what a bank's slots emit over a run of samples, after which it stands for the
+-- same with these samples; a search that goes on has done at most m / 4 + 1 cells over m of them
+pub record HasTaken (settings : Settings) (xs run : List Sample)
+    (asked : ℕ → ℕ → List TimedRequest) (old new : Bank) (events : List SlotEvent) : Type 0 where
+  pub told : AreEvents events
+      (at_each_sample (bank_events_at_end settings (layout (shares_of old)) asked) xs run)
+  pub stands : StandsFor settings (xs ++ run) asked new
+  pub work : (client slot before after : ℕ)
+      → cells_done_in old client slot ≡ Some before → cells_done_in new client slot ≡ Some after
+      → after ≤ before + (length run / 4 + 1)
 
--- whatever a bank stood for: a search that goes on has done at most m / 4 + 1 cells over a run of m
--- samples
-abbrev pub WorksLittle : Bank → List Sample → Bank → Type 0
-WorksLittle old run new =
-    (settings : Settings) (xs : List Sample) (asked : ℕ → ℕ → List TimedRequest)
-    → StandsFor settings xs asked old → (client slot before after : ℕ)
-    → cells_done_in old client slot ≡ Some before → cells_done_in new client slot ≡ Some after
-    → after ≤ before + (length run / 4 + 1)
+-- so it is, whatever the bank stood for before
+pub record Takes (old : Bank) (run : List Sample) (new : Bank) (events : List SlotEvent)
+    : Type 0 where
+  pub taken : (settings : Settings) (xs : List Sample) (asked : ℕ → ℕ → List TimedRequest)
+      → StandsFor settings xs asked old → HasTaken settings xs run asked old new events
+  pub time : time_of new ≡ time_of old + length run

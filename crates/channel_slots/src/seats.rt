@@ -4,12 +4,10 @@ ghost use Rattle.std.specs.Prelude.{◌≡◌, ◌≤◌, ◌<◌, ◌+◌, ◌*
 ghost use Rattle.std.specs.Box.{boxed_slice_items};
 ghost use Rattle.std.specs.List.{AllByRecursion};
 ghost use Rattle.definitions.specs.Banks.{layout};
-ghost use Rattle.acquisition.specs.declared.dwell.TheConstants.{MOST_START};
-ghost use Rattle.slot_protocol.specs.Commands.{request_in};
 ghost use Rattle.slot_protocol.specs.declared.command.TheConstants.{MOST_SLOTS};
 ghost use Rattle.channels.specs.Windows.{IsSame, end_of};
 ghost use Rattle.channel_slots.specs.Banks.{keys_of, AllSound, AllRest, RunsAll, PassAll};
-ghost use Rattle.channel_slots.specs.Banks.{IsCommanded, HasDone, NextIs, total, AddsIdle, AllIdle};
+ghost use Rattle.channel_slots.specs.Banks.{total, AddsIdle, AllIdle};
 ghost use Rattle.channel_slots.specs.Timelines.{count_of, events_in};
 ghost use Rattle.channel_slots.specs.declared.seats.TheConstants.{MOST_CLIENTS};
 ghost use Rattle.channel_slots.specs.declared.slot.TheConstants.{SLOT_EVENTS};
@@ -21,8 +19,7 @@ use crate::timeline::Timeline;
 use acquisition::SearchRoom;
 use ca_codes::CodeBook;
 use channels::Window;
-use oscillators::Settings;
-use slot_protocol::{Answer, Command, MOST_SLOTS};
+use slot_protocol::MOST_SLOTS;
 use std::alloc::{AllocError, Global};
 use std::boxed::BoxedSlice;
 
@@ -113,35 +110,4 @@ pub fn pass_all(seats: &mut [Seat], window: &mut Window, book: &mut CodeBook)
     for seat in seats.iter_mut() {
         seat.slot.take(end, window, book);
     }
-}
-
-/// One of the slots does what its client asks, and answers it.
-pub fn command_at(
-    seats: &mut [Seat],
-    at: usize,
-    settings: &Settings,
-    time: u64,
-    command: Command,
-) -> Answer
-    requires at { at < length seats.old }
-    requires time { time ≤ MOST_START }
-    ensures { IsCommanded settings.now time (request_in command) seats.old seats.new at result }
-{
-    seats[at].slot.command(settings, time, command)
-}
-
-/// With how many samples of the recording one of the slots has something to do next.
-pub fn next_event_at(seats: &[Seat], at: usize) -> u64
-    requires { at < length seats.now }
-    ensures { NextIs seats.now at result }
-{
-    seats[at].slot.next_event()
-}
-
-/// How many cells the search of one of the slots has done, if it searches.
-pub fn cells_done_at(seats: &[Seat], at: usize) -> Option<u64>
-    requires { at < length seats.now }
-    ensures { HasDone seats.now at result }
-{
-    seats[at].slot.cells_done()
 }

@@ -39,7 +39,7 @@ pub struct Slot {
 }
 
 impl Slot {
-    ghost use Rattle.std.specs.Prelude.{ℕ, [], ◌∷◌, ◌++◌, length, IfSome, IsNone, nat_lt, true};
+    ghost use Rattle.std.specs.Prelude.{ℕ, [], ◌++◌, length, IfSome, IsNone, nat_lt, true};
     ghost use Rattle.std.specs.Prelude.{unsigned_abs, false};
     ghost use Rattle.definitions.specs.Commands.{TimedRequest, Start, begin, hold, track};
     ghost use Rattle.definitions.specs.Commands.{acquire};
@@ -48,9 +48,8 @@ impl Slot {
     ghost use Rattle.channels.specs.Windows.{IsOver, IsSame, end_of, dump_of};
     ghost use Rattle.channels.specs.Searching.{plan_of};
     ghost use Rattle.slot_protocol.specs.Commands.{request_in};
-    ghost use Rattle.slot_protocol.specs.Answers.{answer_in, IsRefusal};
     ghost use Rattle.channel_slots.specs.NewsEvents.{events_of, events_with, time_of, time_after};
-    ghost use Rattle.channel_slots.specs.Stages.{most_wait, after_dump, IsSettled};
+    ghost use Rattle.channel_slots.specs.Stages.{after_dump, IsSettled};
     ghost use Rattle.channel_slots.specs.declared.stage.Stage.TheVariants as variants;
     ghost use Rattle.channel_slots.specs.Slots.{StandsFor, Emits, IsSound, is_sound, chances};
     ghost use Rattle.channel_slots.specs.Slots.{is_idle, next_event, cells_done_of, BeginsAt};
@@ -273,18 +272,7 @@ impl Slot {
     /// The next sample is number `time`, at most `MOST_START`.
     pub fn command(&mut self, settings: &Settings, time: u64, command: Command) -> Answer
         requires { time ≤ MOST_START }
-        ensures answer { (xs : List Sample) (commands : List TimedRequest) → length xs ≡ time
-            → StandsFor settings.now xs commands self.old
-            → answer_in result ≡ answer_at_end settings.now xs commands (request_in command) }
-        ensures stands { (xs : List Sample) (commands : List TimedRequest) → length xs ≡ time
-            → StandsFor settings.now xs commands self.old
-            → StandsFor settings.now xs (commands
-            ++ record { time = length xs; request = request_in command } ∷ []) self.new }
-        ensures refused { IsRefusal result → self.new ≡ self.old }
-        ensures sound { (first : ℕ) → first ≤ time
-            → is_sound first time (most_wait settings.now) self.old ≡ true
-            → is_sound first time (most_wait settings.now) self.new ≡ true }
-        ensures waits { time < next_event self.old → time < next_event self.new }
+        ensures { Obeys settings.now time (request_in command) self.old self.new result }
     {
         match command {
             Command::Acquire { slot: _, plan } => self.acquire(settings, plan, time),

@@ -30,7 +30,7 @@ impl Followed {
     ghost use Rattle.std.specs.Prelude.{IfSome, IsNone};
     ghost use Rattle.definitions.specs.Samples.{Sample};
     ghost use Rattle.definitions.specs.Oscillators.{Settings as DefinedSettings};
-    ghost use Rattle.definitions.specs.Segments.{Channel, progress};
+    ghost use Rattle.definitions.specs.Segments.{Channel};
     ghost use Rattle.definitions.specs.Lives.{held_channel, tracked_channel, doppler_shift};
     ghost use Rattle.channels.specs.Dumps.{dump_if};
     ghost use Rattle.channels.specs.Following.{BeginsAfter, how_many};
@@ -50,7 +50,7 @@ impl Followed {
         ensures begins { HasBegun time false result }
     {
         Followed {
-            follower: Follower::start(settings, signal, time),
+            follower: Follower::start(settings, signal, time, 0),
             dumps: 0,
             tracking: None,
         }
@@ -81,7 +81,7 @@ impl Followed {
     {
         let tracking = Tracking::start(settings, shift_of(signal.doppler));
         Followed {
-            follower: Follower::start_after(settings, signal, time, ago),
+            follower: Follower::start(settings, signal, time, ago),
             dumps: 0,
             tracking: Some(tracking),
         }
@@ -89,19 +89,14 @@ impl Followed {
 
     /// The satellite that it follows.
     pub fn prn(&self) -> Prn
-        ensures value { result ≡ prn_of self.now }
-        ensures is { (settings : DefinedSettings) (channel : Channel) (xs : List Sample)
-            → Follows settings channel xs self.now → result ≡ channel.prn }
+        ensures { result ≡ prn_of self.now }
     {
         self.follower.prn()
     }
 
     /// The number of dumps that the satellite has had.
     pub fn dumps(&self) -> u64
-        ensures value { result ≡ dumps_of self.now }
-        ensures is { (settings : DefinedSettings) (channel : Channel) (xs : List Sample)
-            → Follows settings channel xs self.now
-            → result ≡ length (progress settings channel xs).dumps }
+        ensures { result ≡ dumps_of self.now }
     {
         self.dumps
     }

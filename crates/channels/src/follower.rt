@@ -52,29 +52,16 @@ impl Follower {
     ghost use Rattle.definitions.specs.Samples.{Sample};
     ghost use Rattle.definitions.specs.Oscillators.{Settings as DefinedSettings};
     ghost use Rattle.definitions.specs.Segments.{Channel, counts_of, progress};
-    ghost use Rattle.definitions.specs.Lives.{held_channel};
     ghost use Rattle.lane_correlator.specs.Counting.{counts_in, AreWithin};
     ghost use Rattle.channels.specs.Following.{Follows, Opens, Goes};
     ghost use Rattle.channels.specs.Following.{BeginsAfter, prn_of, at_of, ends_of, chance};
     ghost use Rattle.channels.specs.Windows.{IsOver, first_of, unpacked_of};
 
-    /// Begins at the next sample, which is number `time`, with the code at a half chip of its cycle
-    /// and the carrier at 0. It goes on at this Doppler shift.
+    /// Begins at the next sample, which is number `time`, with the carrier at 0. The code was at a
+    /// half chip of its cycle `ago` samples before that one, and has gone on since at this Doppler
+    /// shift, as it does from here on.
     #[inline(always)]
-    pub fn start(settings: &Settings, signal: Signal, time: u64) -> Follower
-        requires { time ≤ MOST_TAKEN }
-        ensures follows { (xs : List Sample) → length xs ≡ time
-            → Follows settings.now
-            (held_channel time signal.prn signal.doppler signal.half) xs result }
-        ensures at { at_of result ≡ time }
-    {
-        Follower::start_after(settings, signal, time, 0)
-    }
-
-    /// Starts like `start`. But the code was at the half chip `ago` samples before the next one,
-    /// and has gone on since at this shift.
-    #[inline(always)]
-    pub fn start_after(settings: &Settings, signal: Signal, time: u64, ago: u64) -> Follower
+    pub fn start(settings: &Settings, signal: Signal, time: u64, ago: u64) -> Follower
         requires { time ≤ MOST_TAKEN }
         ensures follows { (channel : Channel) (xs : List Sample) → length xs ≡ time
             → BeginsAfter settings.now signal.prn signal.doppler signal.half ago time channel

@@ -90,7 +90,6 @@ impl Window {
     /// Closes the samples that are open.
     pub fn close(&mut self)
         ensures first { first_of self.new ≡ end_of self.old }
-        ensures end { end_of self.new ≡ end_of self.old }
         ensures history { history_of self.new ≡ history_of self.old }
         ensures dump { dump_of self.new ≡ dump_of self.old }
         ensures stands { (xs : List Sample) → StandsFor xs self.old → StandsFor xs self.new }

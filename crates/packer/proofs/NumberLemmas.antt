@@ -10,14 +10,14 @@ use Rattle.std.proofs.Math.Nat.{div-mul-le_self}
 use Rattle.recordings.specs.Readings.{AreNumbers, bits_of, has_nans, four_bytes}
 use Rattle.recordings.specs.Recordings.{group_of, parts_of}
 use Rattle.recordings.specs.Packers.{recipe_in, held_in}
-use Rattle.recordings.specs.Windows.{Shows}
+use Rattle.recordings.specs.Stretches.{Shows}
 use Rattle.recordings.specs.declared.kind.Kind.{Kind}
 use Rattle.recordings.specs.declared.kind.Kind.TheVariants.{U8, I8, I16, I16Be, F32}
 use Rattle.recordings.specs.declared.kind.Kind.TheVariants.{Bits2Low, SignSizeLow}
 use Rattle.recordings.specs.declared.kind.Kind.TheVariants.{Bits1Low, Bits1High}
 use Rattle.recordings.specs.declared.recipe.Recipe.{Recipe}
 use Rattle.recordings.specs.declared.packer.Packer.{Packer}
-use Rattle.recordings.specs.declared.window.Window.{Window}
+use Rattle.recordings.specs.declared.stretch.Stretch.{Stretch}
 use Rattle.recordings.proofs.StreamLemmas.{whole_group}
 use Rattle.packer.specs.Runs.{IsCourse}
 use Rattle.packer.proofs.RunLemmas.{IsRest, rest_of, HasShown, shown_first}
@@ -70,16 +70,16 @@ whole_floats recipe n nans =
 
 -- so where what is held and what is next has none, the stretch has none
 pub none_in_stretch : (recipe : Recipe) (skip most : ℕ) (all : List ℕ)
-    (start old_rest new_rest held : Option (List ℕ)) (old_window new_window : Window)
+    (start old_rest new_rest held : Option (List ℕ)) (old_stretch new_stretch : Stretch)
     (packer : Packer) (piece wanted : List ℕ)
-    → IsCourse recipe skip most all start old_rest held old_window packer
+    → IsCourse recipe skip most all start old_rest held old_stretch packer
     → Consumes old_rest new_rest piece
-    → ((bytes shown : List ℕ) → Shows skip most bytes shown old_window
-    → Shows skip most (bytes ++ piece) (shown ++ wanted) new_window)
+    → ((bytes shown : List ℕ) → Shows skip most bytes shown old_stretch
+    → Shows skip most (bytes ++ piece) (shown ++ wanted) new_stretch)
     → (AreNumbers (recipe_in packer).kind (held_in packer ++ wanted) → ⊥)
     → AreNumbers recipe.kind (take most (drop skip all)) → ⊥
-none_in_stretch recipe skip most all start old_rest new_rest held old_window new_window packer piece
-    wanted c consumes shows none numbers =
+none_in_stretch recipe skip most all start old_rest new_rest held old_stretch new_stretch packer
+    piece wanted c consumes shows none numbers =
     none (λ nans. let whole = whole_floats (recipe_in packer) (length c.written) nans in
     inside (recipe_in packer).kind whole.0 done (held_in packer ++ wanted) s.ahead
     (sized ∙ whole.1) is nans)

@@ -7,11 +7,11 @@ use Rattle.std.specs.Io.KnownBytes.{Appends, Consumes, IsAtEnd, Keeps}
 use Rattle.std.proofs.KnownBytes.{Keeps-refl}
 use Rattle.std.proofs.lemmas.List.{length-take, length-drop}
 use Rattle.recordings.specs.Packers.{StandsFor, recipe_in}
-use Rattle.recordings.specs.Windows.{Shows}
+use Rattle.recordings.specs.Stretches.{Shows}
 use Rattle.recordings.specs.declared.recipe.Recipe.{Recipe}
 use Rattle.recordings.specs.declared.packer.Packer.{Packer}
-use Rattle.recordings.specs.declared.window.Window.{Window}
-use Rattle.recordings.proofs.WindowLemmas.{drop-two, take-two}
+use Rattle.recordings.specs.declared.stretch.Stretch.{Stretch}
+use Rattle.recordings.proofs.StretchLemmas.{drop-two, take-two}
 use Rattle.recordings.specs.declared.fault.PackFault.{PackFault}
 use Rattle.recordings.specs.declared.fault.PackFault.TheVariants as faults
 use Rattle.packer.specs.Devices.{AppendsFront}
@@ -77,9 +77,9 @@ shown_whole skip most came left full =
     ∙ ap (λ (k : ℕ). take most front ++ take k back) none ∙ append-nil (take most front))
 
 module _ (recipe : Recipe) (skip most : ℕ) (all : List ℕ) (start : Option (List ℕ))
-    (remaining contents : Option (List ℕ)) (window : Window) (packer : Packer) where
-  pub ends-over : IsCourse recipe skip most all start remaining contents window packer
-      → window.left ≡ 0 → HasPacked recipe (take most (drop skip all)) start contents
+    (remaining contents : Option (List ℕ)) (stretch : Stretch) (packer : Packer) where
+  pub ends-over : IsCourse recipe skip most all start remaining contents stretch packer
+      → stretch.left ≡ 0 → HasPacked recipe (take most (drop skip all)) start contents
   ends-over c over = record {
     written = c.written;
     appended = c.appended;
@@ -93,7 +93,7 @@ module _ (recipe : Recipe) (skip most : ℕ) (all : List ℕ) (start : Option (L
   }
 
   pub ends-empty : (bytes : List ℕ) (new : Option (List ℕ))
-      → IsCourse recipe skip most all start remaining contents window packer
+      → IsCourse recipe skip most all start remaining contents stretch packer
       → Consumes remaining new bytes → bytes ≡ [] → IsAtEnd new
       → HasPacked recipe (take most (drop skip all)) start contents
   ends-empty bytes new c consumes none at_end = record {
@@ -113,18 +113,18 @@ module _ (recipe : Recipe) (skip most : ℕ) (all : List ℕ) (start : Option (L
 -- ---- one more piece
 
 pub one_more : (recipe : Recipe) (skip most : ℕ) (all : List ℕ) (start : Option (List ℕ))
-    (old_rest new_rest old_held new_held : Option (List ℕ)) (old_window new_window : Window)
+    (old_rest new_rest old_held new_held : Option (List ℕ)) (old_stretch new_stretch : Stretch)
     (old_packer new_packer : Packer) (piece wanted more : List ℕ)
-    → IsCourse recipe skip most all start old_rest old_held old_window old_packer
+    → IsCourse recipe skip most all start old_rest old_held old_stretch old_packer
     → Consumes old_rest new_rest piece
-    → ((bytes shown : List ℕ) → Shows skip most bytes shown old_window
-    → Shows skip most (bytes ++ piece) (shown ++ wanted) new_window)
+    → ((bytes shown : List ℕ) → Shows skip most bytes shown old_stretch
+    → Shows skip most (bytes ++ piece) (shown ++ wanted) new_stretch)
     → ((bytes before : List ℕ) → StandsFor bytes before old_packer
     → StandsFor (bytes ++ wanted) (before ++ more) new_packer)
     → recipe_in new_packer ≡ recipe_in old_packer
     → Appends old_held new_held more
-    → IsCourse recipe skip most all start new_rest new_held new_window new_packer
-one_more recipe skip most all start old_rest new_rest old_held new_held old_window new_window
+    → IsCourse recipe skip most all start new_rest new_held new_stretch new_packer
+one_more recipe skip most all start old_rest new_rest old_held new_held old_stretch new_stretch
     old_packer new_packer piece wanted more c consumes shows stands same appends =
     let r : IsRest c.left piece new_rest = rest_of old_rest new_rest c.left piece c.rest consumes in
     record {
@@ -143,10 +143,10 @@ one_more recipe skip most all start old_rest new_rest old_held new_held old_wind
     }
 
 pub beginning : (recipe : Recipe) (skip most : ℕ) (all : List ℕ) (remaining contents : Option
-    (List ℕ)) (window : Window) (packer : Packer) → remaining ≡ Some all
-    → Shows skip most [] [] window → StandsFor [] [] packer → recipe_in packer ≡ recipe
-    → IsCourse recipe skip most all contents remaining contents window packer
-beginning recipe skip most all remaining contents window packer known shows stands is = record {
+    (List ℕ)) (stretch : Stretch) (packer : Packer) → remaining ≡ Some all
+    → Shows skip most [] [] stretch → StandsFor [] [] packer → recipe_in packer ≡ recipe
+    → IsCourse recipe skip most all contents remaining contents stretch packer
+beginning recipe skip most all remaining contents stretch packer known shows stands is = record {
   came = [];
   left = all;
   shown = [];
@@ -203,10 +203,10 @@ front_of_whole recipe stretch start old new h kept = record {
 
 -- in its course a run has written a front
 pub front_of_course : (recipe : Recipe) (skip most : ℕ) (all : List ℕ) (start : Option (List ℕ))
-    (remaining old new : Option (List ℕ)) (window : Window) (packer : Packer)
-    → IsCourse recipe skip most all start remaining old window packer → Keeps old new
+    (remaining old new : Option (List ℕ)) (stretch : Stretch) (packer : Packer)
+    → IsCourse recipe skip most all start remaining old stretch packer → Keeps old new
     → HasPackedFront recipe (take most (drop skip all)) start new
-front_of_course recipe skip most all start remaining old new window packer c kept =
+front_of_course recipe skip most all start remaining old new stretch packer c kept =
     let s : HasShown skip most all c.shown =
     shown_first skip most all c.came c.left c.shown c.split c.shows.part in
     record {
@@ -223,18 +223,18 @@ front_of_course recipe skip most all start remaining old new window packer c kep
 
 -- and where the writer took a front of the next bytes
 pub front_of_more : (recipe : Recipe) (skip most : ℕ) (all : List ℕ) (start : Option (List ℕ))
-    (old_rest new_rest old_held new_held : Option (List ℕ)) (old_window new_window : Window)
+    (old_rest new_rest old_held new_held : Option (List ℕ)) (old_stretch new_stretch : Stretch)
     (old_packer new_packer : Packer) (piece wanted more : List ℕ)
-    → IsCourse recipe skip most all start old_rest old_held old_window old_packer
+    → IsCourse recipe skip most all start old_rest old_held old_stretch old_packer
     → Consumes old_rest new_rest piece
-    → ((bytes shown : List ℕ) → Shows skip most bytes shown old_window
-    → Shows skip most (bytes ++ piece) (shown ++ wanted) new_window)
+    → ((bytes shown : List ℕ) → Shows skip most bytes shown old_stretch
+    → Shows skip most (bytes ++ piece) (shown ++ wanted) new_stretch)
     → ((bytes before : List ℕ) → StandsFor bytes before old_packer
     → StandsFor (bytes ++ wanted) (before ++ more) new_packer)
     → recipe_in new_packer ≡ recipe_in old_packer
     → AppendsFront old_held new_held more
     → HasPackedFront recipe (take most (drop skip all)) start new_held
-front_of_more recipe skip most all start old_rest new_rest old_held new_held old_window new_window
+front_of_more recipe skip most all start old_rest new_rest old_held new_held old_stretch new_stretch
     old_packer new_packer piece wanted more c consumes shows stands same f =
     let r : IsRest c.left piece new_rest = rest_of old_rest new_rest c.left piece c.rest consumes in
     let split : all ≡ (c.came ++ piece) ++ r.behind =
@@ -267,7 +267,7 @@ nothing_shown (suc skip) zero = refl
 nothing_shown (suc skip) (suc most) = refl
 
 -- with each piece fewer bytes are ahead
-pub fewer_ahead : (old new : Window) (piece wanted : List ℕ) → 0 < length piece
+pub fewer_ahead : (old new : Stretch) (piece wanted : List ℕ) → 0 < length piece
     → (old.left ≡ 0 → ⊥)
     → ((skip most : ℕ) (bytes shown : List ℕ) → Shows skip most bytes shown old
     → Shows skip most (bytes ++ piece) (shown ++ wanted) new)
@@ -310,14 +310,14 @@ packs_at_error recipe stretch old new (Err x) e h b =
 
 -- no memory before the first read
 pub packs_without_memory : (recipe : Recipe) (skip most : ℕ) (all : List ℕ)
-    (remaining contents : Option (List ℕ)) (window : Window) (packer : Packer)
+    (remaining contents : Option (List ℕ)) (stretch : Stretch) (packer : Packer)
     (r : Result (Unit {0}) Failure) → IsErrAnd r (λ x. x ≡ NoMemory)
-    → IsCourse recipe skip most all contents remaining contents window packer
+    → IsCourse recipe skip most all contents remaining contents stretch packer
     → Packs recipe (take most (drop skip all)) contents contents r
-packs_without_memory recipe skip most all remaining contents window packer r h course =
+packs_without_memory recipe skip most all remaining contents stretch packer r h course =
     packs_at_error recipe (take most (drop skip all)) contents contents r NoMemory h (record {
       front =
-          front_of_course recipe skip most all contents remaining contents contents window packer
+          front_of_course recipe skip most all contents remaining contents contents stretch packer
           course (Keeps-refl contents);
       number = λ e numbers. cc;
     })

@@ -4,10 +4,10 @@ use Rattle.std.specs.Io.KnownBytes.{Appends}
 use Rattle.recordings.specs.Readings.{AreNumbers}
 use Rattle.recordings.specs.Recordings.{IsPacked}
 use Rattle.recordings.specs.Packers.{StandsFor, recipe_in}
-use Rattle.recordings.specs.Windows.{Shows}
+use Rattle.recordings.specs.Stretches.{Shows}
 use Rattle.recordings.specs.declared.recipe.Recipe.{Recipe}
 use Rattle.recordings.specs.declared.packer.Packer.{Packer}
-use Rattle.recordings.specs.declared.window.Window.{Window}
+use Rattle.recordings.specs.declared.stretch.Stretch.{Stretch}
 use Rattle.packer.specs.declared.failure.Failure.{Failure}
 use Rattle.packer.specs.declared.failure.Failure.TheVariants.{NotANumber}
 
@@ -41,21 +41,21 @@ abbrev pub Packs : Recipe → List ℕ → Option (List ℕ) → Option (List �
 Packs recipe stretch old new (Ok done) = HasPacked recipe stretch old new
 Packs recipe stretch old new (Err failure) = HasBrokenOff recipe stretch old new failure
 
--- how many bytes may come before a window is over
-abbrev pub bytes_ahead : Window → ℕ
-bytes_ahead window = window.skip + window.left
+-- how many bytes may come before a stretch is over
+abbrev pub bytes_ahead : Stretch → ℕ
+bytes_ahead stretch = stretch.skip + stretch.left
 
 -- in the course of a run over all bytes of a reader some came and some are left; those that are
--- wanted of the first went through the window and the packer to the writer
+-- wanted of the first went through the stretch and the packer to the writer
 pub record IsCourse (recipe : Recipe) (skip most : ℕ) (all : List ℕ) (start : Option (List ℕ))
-    (remaining contents : Option (List ℕ)) (window : Window) (packer : Packer) : Type 0 where
+    (remaining contents : Option (List ℕ)) (stretch : Stretch) (packer : Packer) : Type 0 where
   pub came : List ℕ
   pub left : List ℕ
   pub shown : List ℕ
   pub written : List ℕ
   pub split : all ≡ came ++ left
   pub rest : remaining ≡ Some left
-  pub shows : Shows skip most came shown window
+  pub shows : Shows skip most came shown stretch
   pub stands : StandsFor shown written packer
   pub recipe_is : recipe_in packer ≡ recipe
   pub appended : Appends start contents written

@@ -7,7 +7,7 @@ ghost use Rattle.packer.specs.Endings.{EndsMeasuring};
 
 use crate::failure::Failure;
 use crate::measuring::tell_shares;
-use recordings::{MOST_BYTES, Measure, Part, Recipe};
+use recordings::{MOST_BYTES, Measure, PartRecipe, Recipe};
 use std::io::{self, Print};
 use std::num::{nearest_f64_to_f32_with_nan, nearest_usize_to_f64};
 
@@ -66,10 +66,10 @@ fn tell_part<P: Print>(rt: &P, name: &str, floats: &Floats, measure: &Measure) -
 }
 
 /// A part whose values have the sign that they are read with.
-fn about_zero(part: &Part) -> Part
+fn about_zero(part: &PartRecipe) -> PartRecipe
     ensures { result.place ≡ part.now.place }
 {
-    Part {
+    PartRecipe {
         place: part.place,
         centre: 0,
         is_turned: false,
@@ -89,7 +89,7 @@ fn bits(float: f32) -> u32 {
 impl Floats {
     /// Measures a part of all samples of some bytes. It fails at a float that is no number, or
     /// infinite.
-    fn measure(recipe: &Recipe, part: &Part, bytes: &[u8]) -> Result<Floats, Failure>
+    fn measure(recipe: &Recipe, part: &PartRecipe, bytes: &[u8]) -> Result<Floats, Failure>
         requires place { part.now.place < parts_of recipe.now }
         ensures fault { IfErr result EndsMeasuring }
     {

@@ -11,7 +11,7 @@ use crate::floats::measure_floats;
 use crate::halves::MOST_HALVES;
 use crate::running::{read, zeros};
 use devices::Source;
-use recordings::{Kind, MOST_BYTES, MOST_PIECE, Measure, Part, Recipe, Window};
+use recordings::{Kind, MOST_BYTES, MOST_PIECE, Measure, PartRecipe, Recipe, Stretch};
 use std::alloc::{AllocGlobal, Global};
 use std::io::{self, Print};
 
@@ -20,12 +20,12 @@ use std::io::{self, Print};
 pub fn measure<T: AllocGlobal + Print, R: Source>(
     rt: &T,
     recipe: &Recipe,
-    window: &mut Window,
+    stretch: &mut Stretch,
     reader: &mut R,
 ) -> Result<(), Failure>
     ensures fault { IfErr result EndsMeasuring }
 {
-    let bytes = gather(rt.alloc(), window, reader)?;
+    let bytes = gather(rt.alloc(), stretch, reader)?;
     if recipe.kind == Kind::F32 {
         return measure_floats(rt, recipe, &bytes);
     }
@@ -47,8 +47,8 @@ pub fn measure<T: AllocGlobal + Print, R: Source>(
 fn tell<P: Print>(
     rt: &P,
     recipe: &Recipe,
-    i: (&Part, &Measure),
-    q: (&Part, &Measure),
+    i: (&PartRecipe, &Measure),
+    q: (&PartRecipe, &Measure),
     threshold: u64,
 ) -> io::Result<()> {
     println!(rt; "samples {}", i.1.count)?;
@@ -65,7 +65,7 @@ fn tell_part<P: Print>(
     rt: &P,
     kind: Kind,
     name: &str,
-    part: &Part,
+    part: &PartRecipe,
     measure: &Measure,
 ) -> io::Result<()> {
     let count = measure.count;
@@ -95,14 +95,14 @@ pub fn tell_shares<P: Print>(rt: &P, name: &str, measure: &Measure) -> io::Resul
 }
 
 /// The part about the centre of its values, which is their mean to the nearest half.
-fn centred(recipe: &Recipe, part: &Part, bytes: &[u8]) -> Part
+fn centred(recipe: &Recipe, part: &PartRecipe, bytes: &[u8]) -> PartRecipe
     requires place { part.now.place < parts_of recipe.now }
     requires few { length bytes.now ≤ MOST_BYTES }
     ensures { result.place ≡ part.now.place }
 {
     let measure = recipe.measure(part, 0, bytes);
     let most = i64::from(MOST_HALVES);
-    Part {
+    PartRecipe {
         place: part.place,
         centre: nearest(measure.sum, measure.count).clamp(-most, most),
         is_turned: false,
@@ -110,7 +110,7 @@ fn centred(recipe: &Recipe, part: &Part, bytes: &[u8]) -> Part
 }
 
 /// The mean of the squares of the distances from the centres of both parts, rounded down.
-fn mean_square(recipe: &Recipe, i: &Part, q: &Part, bytes: &[u8]) -> u64
+fn mean_square(recipe: &Recipe, i: &PartRecipe, q: &PartRecipe, bytes: &[u8]) -> u64
     requires in_phase { i.now.place < parts_of recipe.now }
     requires quadrature { q.now.place < parts_of recipe.now }
     requires few { length bytes.now ≤ MOST_BYTES }
@@ -145,21 +145,25 @@ fn share(part: u64, count: u64) -> Hundredths {
 }
 
 /// The bytes of the stretch that is wanted, at most `MOST_BYTES`.
-fn gather<R: Source>(alloc: Global, window: &mut Window, reader: &mut R) -> Result<Vec<u8>, Failure>
+fn gather<R: Source>(
+    alloc: Global,
+    stretch: &mut Stretch,
+    reader: &mut R,
+) -> Result<Vec<u8>, Failure>
     ensures few { IfOk result (λ bytes. length bytes.items ≤ MOST_BYTES) }
     ensures fault { IfErr result EndsMeasuring }
 {
     let mut buffer = zeros(alloc, MOST_PIECE)?;
     let mut bytes = Vec::new(alloc);
     for _ in 0..u64::MAX {
-        if window.is_over() || bytes.len() == MOST_BYTES {
+        if stretch.is_over() || bytes.len() == MOST_BYTES {
             break;
         }
         let count = read(reader, &mut buffer)?;
         if count == 0 {
             break;
         }
-        let part = window.part(&buffer[..count]);
+        let part = stretch.part(&buffer[..count]);
         let room = part.len().min(MOST_BYTES - bytes.len());
         bytes.extend_from_slice(&part[..room])?;
     }

@@ -4,7 +4,7 @@ ghost use Rattle.std.specs.Prelude.{◌≡◌, ℕ, ℤ, [], Err, IfOk, IfErr, c
 ghost use Rattle.std.specs.List.{list_all};
 ghost use Rattle.std.specs.Result.{result_ok};
 ghost use Rattle.clap.specs.Matches.{found_of, first_value, one_text};
-ghost use Rattle.recordings.specs.Windows.{Shows};
+ghost use Rattle.recordings.specs.Stretches.{Shows};
 ghost use Rattle.recordings.specs.declared.choice.Choice.{Choice};
 ghost use Rattle.packer.specs.Statuses.{status_of};
 ghost use Rattle.packer.specs.Options.{Asks, HasCentres, IsAsked, CannotBeHad, IsStretch};
@@ -17,7 +17,7 @@ use crate::failure::Failure;
 use crate::formats::{format, from};
 use crate::halves::halves;
 use clap::ArgMatches;
-use recordings::{Choice, Kind, Recipe, Window};
+use recordings::{Choice, Kind, Recipe, Stretch};
 use sample_planes::Format;
 
 /// The recipe that the options ask for.
@@ -195,14 +195,14 @@ pub fn is_set(matches: &ArgMatches, name: &str) -> bool
 }
 
 /// The stretch of the recording that the options ask for.
-pub fn window(matches: &ArgMatches, recipe: &Recipe) -> Result<Window, Failure>
-    ensures asked { IfOk result (λ window. (skip : ℕ) × (most : ℕ)
-        × IsStretch (found_of matches.now) recipe.now skip most × Shows skip most [] [] window) }
+pub fn stretch(matches: &ArgMatches, recipe: &Recipe) -> Result<Stretch, Failure>
+    ensures asked { IfOk result (λ stretch. (skip : ℕ) × (most : ℕ)
+        × IsStretch (found_of matches.now) recipe.now skip most × Shows skip most [] [] stretch) }
     ensures status { IfErr result (λ failure. status_of (Err failure) ≡ 2) }
     ensures why { IfErr result (λ _. HasNoStretch (found_of matches.now) recipe.now) }
 {
     let skip = bytes(matches, recipe, "skip")?;
-    Ok(Window::new(skip, bytes(matches, recipe, "count")?))
+    Ok(Stretch::new(skip, bytes(matches, recipe, "count")?))
 }
 
 /// The bytes of a number of samples.

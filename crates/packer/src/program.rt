@@ -74,12 +74,12 @@ where
         (devices_at R.Source W.Sink reader.new writer.new) result }
 {
     let recipe = options::recipe(matches)?;
-    let mut window = options::window(matches, &recipe)?;
+    let mut stretch = options::stretch(matches, &recipe)?;
     if options::is_measured(matches) {
-        return measure(rt, &recipe, &mut window, reader);
+        return measure(rt, &recipe, &mut stretch, reader);
     }
     let mut packer = Packer::new(rt.alloc(), recipe)?;
-    run(rt.alloc(), &mut packer, &mut window, reader, writer)?;
+    run(rt.alloc(), &mut packer, &mut stretch, reader, writer)?;
     tell_rest(rt, &packer);
     Ok(())
 }

@@ -5,7 +5,7 @@ ghost use Rattle.std.specs.Prelude.{length, take, drop, IfOk, IfErr, OnOk, OnErr
 ghost use Rattle.std.specs.Io.{ReadsAtMost};
 ghost use Rattle.std.specs.Io.KnownBytes.{Appends, Keeps, ReadConsumes};
 ghost use Rattle.recordings.specs.Packers.{StandsFor, recipe_in};
-ghost use Rattle.recordings.specs.Windows.{Shows};
+ghost use Rattle.recordings.specs.Stretches.{Shows};
 ghost use Rattle.recordings.specs.declared.packer.TheConstants.{MOST_PIECE};
 ghost use Rattle.recordings.specs.declared.recipe.Recipe.{Recipe};
 ghost use Rattle.devices.specs.Calls.{ReportsFailure};
@@ -15,7 +15,7 @@ ghost use Rattle.packer.specs.Runs.{HasPacked, HasBrokenOff, Packs, IsCourse, by
 
 use crate::failure::Failure;
 use devices::{DeviceFault, Sink, Source};
-use recordings::{MOST_PIECE, Packer, Window};
+use recordings::{MOST_PIECE, Packer, Stretch};
 use std::alloc::{AllocError, Global};
 
 /// Packs the stretch of a recording that is wanted, piece by piece as reads give it. However they
@@ -23,21 +23,21 @@ use std::alloc::{AllocError, Global};
 pub fn run<R: Source, W: Sink>(
     alloc: Global,
     packer: &mut Packer,
-    window: &mut Window,
+    stretch: &mut Stretch,
     reader: &mut R,
     writer: &mut W,
 ) -> Result<(), Failure>
     ensures which { SaysWhich (devices_at R.Source W.Sink reader.old writer.old)
         (devices_at R.Source W.Sink reader.new writer.new) result }
     ensures packs { (skip most : ℕ) (all : List ℕ) → R.remaining reader.old ≡ Some all
-        → Shows skip most [] [] window.old → StandsFor [] [] packer.old
+        → Shows skip most [] [] stretch.old → StandsFor [] [] packer.old
         → Packs (recipe_in packer.old) (take most (drop skip all))
         (W.contents writer.old) (W.contents writer.new) result }
 {
     let mut buffer = zeros(alloc, MOST_PIECE)?;
     let mut written = Vec::with_capacity(alloc, MOST_PIECE)?;
     loop {
-        let goes_on = step(packer, window, reader, writer, &mut buffer, &mut written)?;
+        let goes_on = step(packer, stretch, reader, writer, &mut buffer, &mut written)?;
         if !goes_on {
             return flush(writer);
         }
@@ -59,7 +59,7 @@ fn flush<W: Sink>(writer: &mut W) -> Result<(), Failure>
 /// Packs one more piece, and answers whether there may be another.
 fn step<R: Source, W: Sink>(
     packer: &mut Packer,
-    window: &mut Window,
+    stretch: &mut Stretch,
     reader: &mut R,
     writer: &mut W,
     buffer: &mut [u8],
@@ -69,33 +69,33 @@ fn step<R: Source, W: Sink>(
     requires short { length buffer.old ≤ MOST_PIECE }
     ensures which { SaysWhich (devices_at R.Source W.Sink reader.old writer.old)
         (devices_at R.Source W.Sink reader.new writer.new) result }
-    ensures fewer { result ≡ Ok true → bytes_ahead window.new < bytes_ahead window.old }
+    ensures fewer { result ≡ Ok true → bytes_ahead stretch.new < bytes_ahead stretch.old }
     ensures goes_on { result ≡ Ok true
         → (recipe : Recipe) (skip most : ℕ) (all : List ℕ) (start : Option (List ℕ))
         → IsCourse recipe skip most all start (R.remaining reader.old)
-        (W.contents writer.old) window.old packer.old
+        (W.contents writer.old) stretch.old packer.old
         → IsCourse recipe skip most all start (R.remaining reader.new)
-        (W.contents writer.new) window.new packer.new }
+        (W.contents writer.new) stretch.new packer.new }
     ensures ends { result ≡ Ok false
         → (recipe : Recipe) (skip most : ℕ) (all : List ℕ) (start : Option (List ℕ))
         → IsCourse recipe skip most all start (R.remaining reader.old)
-        (W.contents writer.old) window.old packer.old
+        (W.contents writer.old) stretch.old packer.old
         → HasPacked recipe (take most (drop skip all)) start (W.contents writer.new) }
     ensures fails { IfErr result (λ failure.
         (recipe : Recipe) (skip most : ℕ) (all : List ℕ) (start : Option (List ℕ))
         → IsCourse recipe skip most all start (R.remaining reader.old)
-        (W.contents writer.old) window.old packer.old
+        (W.contents writer.old) stretch.old packer.old
         → HasBrokenOff recipe (take most (drop skip all)) start (W.contents writer.new)
         failure) }
 {
-    if window.is_over() {
+    if stretch.is_over() {
         return Ok(false);
     }
     let count = read(reader, buffer)?;
     if count == 0 {
         return Ok(false);
     }
-    packer.take(window.part(&buffer[..count]), written)?;
+    packer.take(stretch.part(&buffer[..count]), written)?;
     match write_all(writer, written) {
         Ok(()) => Ok(true),
         Err(_) => Err(Failure::Output),

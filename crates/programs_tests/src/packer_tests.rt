@@ -2,7 +2,7 @@
 
 use crate::choices::{recipe_of, signs};
 use packer::{Failure, Plain, run, status};
-use recordings::{Kind, Packer, Window};
+use recordings::{Kind, Packer, Stretch};
 use sample_planes::Format;
 use std::alloc::Global;
 use std::io::{self, Read, Write};
@@ -83,12 +83,12 @@ fn packer(alloc: Global) -> Result<Packer, Fail> {
 
 #[test]
 fn a_reader_that_fails(rt: HostRuntime) -> Result<(), Fail> {
-    let (mut packer, mut window) = (packer(rt.alloc())?, Window::new(0, 100));
+    let (mut packer, mut stretch) = (packer(rt.alloc())?, Stretch::new(0, 100));
     let mut writer = Plain::new(Vec::new(rt.alloc()));
     let ended = run(
         rt.alloc(),
         &mut packer,
-        &mut window,
+        &mut stretch,
         &mut Plain::new(Breaking { is_broken: false }),
         &mut writer,
     );
@@ -102,9 +102,9 @@ fn zeros_into<W: Write + Drop>(
     alloc: Global,
     writer: &mut Plain<W>,
 ) -> Result<Result<(), Failure>, Fail> {
-    let (mut packer, mut window) = (packer(alloc)?, Window::new(0, 100));
+    let (mut packer, mut stretch) = (packer(alloc)?, Stretch::new(0, 100));
     let mut reader = Plain::new(&[0; 24][..]);
-    Ok(run(alloc, &mut packer, &mut window, &mut reader, writer))
+    Ok(run(alloc, &mut packer, &mut stretch, &mut reader, writer))
 }
 
 #[test]

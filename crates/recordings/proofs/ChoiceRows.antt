@@ -5,13 +5,13 @@ use Rattle.sample_planes.specs.declared.format.Format.{Format}
 use Rattle.sample_planes.specs.declared.format.Format.TheVariants.{Real1, Real2, Iq1, Iq2}
 use Rattle.recordings.specs.Choices.{Makes, LacksPairs, LacksSizes, AsksPart, IsWithoutSizes}
 use Rattle.recordings.specs.Choices.{IsOfOnePart}
-use Rattle.recordings.specs.Windows.{Shows}
+use Rattle.recordings.specs.Stretches.{Shows}
 use Rattle.recordings.specs.declared.choice.Choice.{Choice}
 use Rattle.recordings.specs.declared.kind.Kind.{Kind}
 use Rattle.recordings.specs.declared.kind.Kind.TheVariants.{I8, Bits1Low, Bits2Low}
-use Rattle.recordings.specs.declared.part.Part.{Part}
+use Rattle.recordings.specs.declared.part.PartRecipe.{PartRecipe}
 use Rattle.recordings.specs.declared.recipe.Recipe.{Recipe}
-use Rattle.recordings.specs.declared.window.Window.{Window}
+use Rattle.recordings.specs.declared.stretch.Stretch.{Stretch}
 
 -- Of pairs or of real values a packing is asked, about the centres 1.5 in phase and 3.5 in
 -- quadrature. The pairs may be swapped or conjugate, and one part may be asked for.
@@ -28,7 +28,7 @@ asked kind is_paired format is_swapped is_conjugate takes_quadrature = record {
   takes_quadrature = takes_quadrature;
 }
 
-abbrev IsOf : Part → ℕ → ℕ → Bool → Type 0
+abbrev IsOf : PartRecipe → ℕ → ℕ → Bool → Type 0
 IsOf part place centre is_turned =
     (part.place ≡ place) × (part.centre ≡ pos centre) × (part.is_turned ≡ is_turned)
 
@@ -104,16 +104,16 @@ real_of_one_part (complex, part) = cc
 -- ---- stretches
 
 -- after the first two of seven bytes three are wanted
-stretch_within : (shown : List ℕ) (window : Window)
-    → Shows 2 3 (10 ∷ 11 ∷ 12 ∷ 13 ∷ 14 ∷ 15 ∷ 16 ∷ []) shown window
-    → (shown ≡ 12 ∷ 13 ∷ 14 ∷ []) × (window.skip ≡ 0)
-stretch_within shown window s = (s.part, s.before)
+stretch_within : (shown : List ℕ) (stretch : Stretch)
+    → Shows 2 3 (10 ∷ 11 ∷ 12 ∷ 13 ∷ 14 ∷ 15 ∷ 16 ∷ []) shown stretch
+    → (shown ≡ 12 ∷ 13 ∷ 14 ∷ []) × (stretch.skip ≡ 0)
+stretch_within shown stretch s = (s.part, s.before)
 
 -- two of the five bytes before the first that is wanted have come
-stretch_to_come : (shown : List ℕ) (window : Window) → Shows 5 3 (10 ∷ 11 ∷ []) shown window
-    → (shown ≡ []) × (window.skip ≡ 3)
-stretch_to_come shown window s = (s.part, s.before)
+stretch_to_come : (shown : List ℕ) (stretch : Stretch) → Shows 5 3 (10 ∷ 11 ∷ []) shown stretch
+    → (shown ≡ []) × (stretch.skip ≡ 3)
+stretch_to_come shown stretch s = (s.part, s.before)
 
 -- one of the bytes that are wanted has come, so two are left
-stretch_begun : (window : Window) → Shows 1 3 (10 ∷ 11 ∷ []) (11 ∷ []) window → window.left ≡ 2
-stretch_begun window s = s.left
+stretch_begun : (stretch : Stretch) → Shows 1 3 (10 ∷ 11 ∷ []) (11 ∷ []) stretch → stretch.left ≡ 2
+stretch_begun stretch s = s.left

@@ -11,12 +11,12 @@ use Rattle.recordings.specs.Recordings.{samples_of, IsPacked}
 use Rattle.recordings.specs.declared.kind.Kind.{Kind}
 use Rattle.recordings.specs.declared.kind.Kind.TheVariants.{U8, I8, I16, F32}
 use Rattle.recordings.specs.declared.kind.Kind.TheVariants.{Bits2Low, Bits1Low, Bits1High}
-use Rattle.recordings.specs.declared.part.Part.{Part}
+use Rattle.recordings.specs.declared.part.PartRecipe.{PartRecipe}
 use Rattle.recordings.specs.declared.recipe.Recipe.{Recipe}
 use Rattle.definitions.specs.Samples.{samples_per_byte, samples_from, sample}
 
 -- ---- signs and sizes
-abbrev about_128 : Bool → Part
+abbrev about_128 : Bool → PartRecipe
 about_128 turned = record { place = 0; centre = pos 256; is_turned = turned; near = omega arith }
 
 -- below the centre 1, at it and above it 0: of 127.5, 128 and 128.5 about 128
@@ -43,7 +43,7 @@ no_threshold : map (size_bit (about_128 false) 0) (pos 255 ∷ pos 256 ∷ pos 2
 no_threshold = refl
 
 -- ---- how many bytes of a recording become one
-abbrev about_0 : ℕ → Bool → Part
+abbrev about_0 : ℕ → Bool → PartRecipe
 about_0 place turned =
     record { place = place; centre = pos 0; is_turned = turned; near = omega arith }
 

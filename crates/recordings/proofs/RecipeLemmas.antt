@@ -17,7 +17,7 @@ use Rattle.recordings.specs.declared.kind.Kind.TheVariants.{Bits1Low, Bits1High}
 use Rattle.std.specs.Prelude.{◌-ℤ◌, unsigned_abs, int_lt, nat_lt}
 use Rattle.recordings.specs.Recordings.{sign_bit, size_bit, sign_in, size_in, code_in, code_of}
 use Rattle.recordings.specs.Recordings.{sample_in, sample_of, packing_in}
-use Rattle.recordings.specs.declared.part.Part.{Part}
+use Rattle.recordings.specs.declared.part.PartRecipe.{PartRecipe}
 use Rattle.recordings.specs.declared.recipe.Recipe.{Recipe}
 use Rattle.recordings.proofs.DigitLemmas.{HasDigits}
 
@@ -140,7 +140,7 @@ iq2_byte byte k s m t u digit h hs hm ht hu d e =
 
 -- ---- a byte of the samples of a recipe
 
-sign-bit : (part : Part) (value : ℤ) → sign_bit part value < 2
+sign-bit : (part : PartRecipe) (value : ℤ) → sign_bit part value < 2
 sign-bit part value = by part.is_turned (int_lt value part.centre)
   where
     by : (turned below : Bool)
@@ -150,7 +150,7 @@ sign-bit part value = by part.is_turned (int_lt value part.centre)
     by false true = omega arith
     by false false = omega arith
 
-size-bit : (part : Part) (threshold : ℕ) (value : ℤ) → size_bit part threshold value < 2
+size-bit : (part : PartRecipe) (threshold : ℕ) (value : ℤ) → size_bit part threshold value < 2
 size-bit part threshold value = by (nat_lt threshold (unsigned_abs (value -ℤ part.centre)))
   where
     by : (far : Bool) → (if far then 1 else 0) < 2

@@ -2,7 +2,7 @@
 use Rattle.std.specs.Prelude.{◌≡◌, ℕ, ◌⊎◌, ℤ, Bool, true, false, if◌then◌else◌}
 use Rattle.sample_planes.specs.Packings.{packing_of, has_quadrature, has_sizes}
 use Rattle.recordings.specs.Readings.{bits_of}
-use Rattle.recordings.specs.declared.part.Part.{Part}
+use Rattle.recordings.specs.declared.part.PartRecipe.{PartRecipe}
 use Rattle.recordings.specs.declared.recipe.Recipe.{Recipe}
 use Rattle.recordings.specs.declared.choice.Choice.{Choice}
 
@@ -14,15 +14,15 @@ abbrev pub quadrature_place : Choice → ℕ
 quadrature_place choice = if choice.is_swapped then 0 else 1
 
 -- a part is made of the value at a place of each sample, about a centre, its sign turned or not
-pub record IsPart (place : ℕ) (centre : ℤ) (is_turned : Bool) (part : Part) : Type 0 where
+pub record IsPart (place : ℕ) (centre : ℤ) (is_turned : Bool) (part : PartRecipe) : Type 0 where
   pub place_is : part.place ≡ place
   pub centre_is : part.centre ≡ centre
   pub turned_is : part.is_turned ≡ is_turned
 
-abbrev pub IsInPhase : Choice → Part → Type 0
+abbrev pub IsInPhase : Choice → PartRecipe → Type 0
 IsInPhase choice part = IsPart (in_phase_place choice) choice.centre false part
 
-abbrev pub IsQuadrature : Choice → Part → Type 0
+abbrev pub IsQuadrature : Choice → PartRecipe → Type 0
 IsQuadrature choice part =
     IsPart (quadrature_place choice) choice.centre_q choice.is_conjugate part
 

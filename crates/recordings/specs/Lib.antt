@@ -2,4 +2,4 @@ pub mod Readings
 pub mod Recordings
 pub mod Packers
 pub mod Choices
-pub mod Windows
+pub mod Stretches

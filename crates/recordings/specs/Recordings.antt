@@ -7,17 +7,17 @@ use Rattle.definitions.specs.Samples.{Sample, Packing, real1, real2, iq1, iq2, r
 use Rattle.definitions.specs.Samples.{samples, sample, samples_per_byte, sample_count}
 use Rattle.sample_planes.specs.Packings.{packing_of}
 use Rattle.recordings.specs.Readings.{bits_of, reading}
-use Rattle.recordings.specs.declared.part.Part.{Part}
+use Rattle.recordings.specs.declared.part.PartRecipe.{PartRecipe}
 use Rattle.recordings.specs.declared.recipe.Recipe.{Recipe}
 
 -- 1 for a value below the centre, or where the sign is turned for any other
-abbrev pub sign_bit : Part → ℤ → ℕ
+abbrev pub sign_bit : PartRecipe → ℤ → ℕ
 sign_bit part value =
     if part.is_turned then (if int_lt value part.centre then 0 else 1)
     else (if int_lt value part.centre then 1 else 0)
 
 -- 1 for a value farther from the centre than the threshold
-abbrev pub size_bit : Part → ℕ → ℤ → ℕ
+abbrev pub size_bit : PartRecipe → ℕ → ℤ → ℕ
 size_bit part threshold value =
     if nat_lt threshold (unsigned_abs (value -ℤ part.centre)) then 1 else 0
 
@@ -26,24 +26,24 @@ abbrev pub parts_of : Recipe → ℕ
 parts_of recipe = if recipe.is_paired then 2 else 1
 
 -- the value from which a part of sample n is made
-abbrev pub value_of : Recipe → Part → List ℕ → ℕ → ℤ
+abbrev pub value_of : Recipe → PartRecipe → List ℕ → ℕ → ℤ
 value_of recipe part bytes n = reading recipe.kind bytes (parts_of recipe * n + part.place)
 
 -- the bits of its sign and of its size
-abbrev pub sign_in : Recipe → Part → List ℕ → ℕ → ℕ
+abbrev pub sign_in : Recipe → PartRecipe → List ℕ → ℕ → ℕ
 sign_in recipe part bytes n = sign_bit part (value_of recipe part bytes n)
 
-abbrev pub size_in : Recipe → Part → List ℕ → ℕ → ℕ
+abbrev pub size_in : Recipe → PartRecipe → List ℕ → ℕ → ℕ
 size_in recipe part bytes n = size_bit part recipe.threshold (value_of recipe part bytes n)
 
-abbrev pub sign_and_size : Recipe → Part → List ℕ → ℕ → ℕ
+abbrev pub sign_and_size : Recipe → PartRecipe → List ℕ → ℕ → ℕ
 sign_and_size recipe part bytes n = 2 * sign_in recipe part bytes n + size_in recipe part bytes n
 
 -- that part as a sign alone, and as a sign and a size of 1 or 3
-abbrev pub one_bit : Recipe → Part → List ℕ → ℕ → ℤ
+abbrev pub one_bit : Recipe → PartRecipe → List ℕ → ℕ → ℤ
 one_bit recipe part bytes n = sign_of (sign_in recipe part bytes n)
 
-abbrev pub two_bits : Recipe → Part → List ℕ → ℕ → ℤ
+abbrev pub two_bits : Recipe → PartRecipe → List ℕ → ℕ → ℤ
 two_bits recipe part bytes n =
     sign_of (sign_in recipe part bytes n) *ℤ pos (1 + 2 * size_in recipe part bytes n)
 

@@ -3,7 +3,7 @@
 ghost use Rattle.std.specs.Prelude.{◌≡◌, ◌<◌, ◌↔◌, Err, IfOk, true, false, if◌then◌else◌};
 
 use crate::kind::Kind;
-use crate::part::Part;
+use crate::part::PartRecipe;
 use crate::recipe::Recipe;
 use sample_planes::Format;
 use thiserror::Error;
@@ -109,7 +109,7 @@ impl Choice {
     }
 
     /// The part that real samples are made of, or that in phase.
-    fn first_part(&self) -> Part
+    fn first_part(&self) -> PartRecipe
         requires { CanBeMade self.now }
         ensures there { result.place < (if self.now.is_paired then 2 else 1) }
         ensures in_phase { self.now.takes_quadrature ≡ false → IsInPhase self.now result }
@@ -123,7 +123,7 @@ impl Choice {
     }
 
     /// The part in quadrature, where there is one.
-    fn second_part(&self) -> Part
+    fn second_part(&self) -> PartRecipe
         requires { CanBeMade self.now }
         ensures there { result.place < (if self.now.is_paired then 2 else 1) }
         ensures quadrature { self.now.is_paired ≡ true → IsQuadrature self.now result }
@@ -136,10 +136,10 @@ impl Choice {
     }
 
     /// The part in phase.
-    fn in_phase(&self) -> Part
+    fn in_phase(&self) -> PartRecipe
         ensures { IsInPhase self.now result }
     {
-        Part {
+        PartRecipe {
             place: if self.is_swapped { 1 } else { 0 },
             centre: i64::from(self.centre),
             is_turned: false,
@@ -147,10 +147,10 @@ impl Choice {
     }
 
     /// The part in quadrature.
-    fn quadrature(&self) -> Part
+    fn quadrature(&self) -> PartRecipe
         ensures { IsQuadrature self.now result }
     {
-        Part {
+        PartRecipe {
             place: if self.is_swapped { 0 } else { 1 },
             centre: i64::from(self.centre_q),
             is_turned: self.is_conjugate,

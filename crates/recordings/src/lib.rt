@@ -2,11 +2,11 @@
 //!
 //! A `Choice` says what a recording is and what is asked of it, and gives the `Recipe` that makes
 //! it. A `Packer` takes the recording piece by piece: what it writes is proved to be the packing of
-//! all that came, however it was cut, by the definition that the receiver reads by. A `Window`
-//! shows the stretch that is wanted, and `Recipe::measure` shows what the values are like: of that
-//! only the number of samples is proved.
+//! all that came, however it was cut, by the definition that the receiver reads by. A `Stretch`
+//! says which bytes are wanted, and `Recipe::measure` shows what the values are like: of that only
+//! the number of samples is proved.
 //!
-//!     use recordings::{Choice, Kind, Packer, Window};
+//!     use recordings::{Choice, Kind, Packer, Stretch};
 //!     use sample_planes::Format;
 //!
 //!     // Bytes without a sign around 127.5, as two bits each: those farther off than 60 are large.
@@ -24,8 +24,8 @@
 //!     let mut packer = Packer::new(rt.alloc(), choice.recipe()?)?;
 //!     let mut written = Vec::new(rt.alloc());
 //!     // All but the first two bytes, and at most a million.
-//!     let mut window = Window::new(2, 1_000_000);
-//!     packer.take(window.part(&[0, 0, 120, 140, 200, 30]), &mut written)?;
+//!     let mut stretch = Stretch::new(2, 1_000_000);
+//!     packer.take(stretch.part(&[0, 0, 120, 140, 200, 30]), &mut written)?;
 #![tactic(auto)]
 
 mod choice;
@@ -36,7 +36,7 @@ mod numbers;
 mod packer;
 mod part;
 mod recipe;
-mod window;
+mod stretch;
 
 pub use choice::{Choice, ChoiceFault};
 pub use fault::PackFault;
@@ -44,6 +44,6 @@ pub use kind::Kind;
 pub use measure::Measure;
 pub use numbers::READING_LIMIT;
 pub use packer::{MOST_PIECE, Packer};
-pub use part::Part;
+pub use part::PartRecipe;
 pub use recipe::{MOST_BYTES, MOST_GROUP, MOST_SAMPLE_BITS, Recipe};
-pub use window::Window;
+pub use stretch::Stretch;

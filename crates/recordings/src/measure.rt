@@ -4,7 +4,7 @@ ghost use Rattle.std.specs.Prelude.{◌≡◌, ◌<◌, ◌≤◌, ◌*◌, ◌/
 ghost use Rattle.recordings.specs.Recordings.{parts_of, sample_bits};
 ghost use Rattle.recordings.specs.declared.recipe.TheConstants.{MOST_BYTES};
 
-use crate::part::Part;
+use crate::part::PartRecipe;
 use crate::recipe::Recipe;
 
 /// What is measured of a part of a recording's samples. Sums are of readings, which are twice the
@@ -25,7 +25,7 @@ pub struct Measure {
 
 impl Recipe {
     /// Measures a part of all samples of some bytes, with sizes by a threshold.
-    pub fn measure(&self, part: &Part, threshold: u64, bytes: &[u8]) -> Measure
+    pub fn measure(&self, part: &PartRecipe, threshold: u64, bytes: &[u8]) -> Measure
         requires place { part.now.place < parts_of self.now }
         requires few { length bytes.now ≤ MOST_BYTES }
         ensures { result.count ≡ 8 * length bytes.now / sample_bits self.now }

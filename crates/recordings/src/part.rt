@@ -7,7 +7,7 @@ use crate::numbers::READING_LIMIT;
 
 /// How a part of a sample is made: of which value, and about which centre.
 #[derive(Clone, Copy, Debug, PartialEq, Eq)]
-pub struct Part {
+pub struct PartRecipe {
     /// Which value of the recording's sample: 0 is the first.
     pub place: usize,
     /// The centre, twice its value: a value below it has the sign -1.
@@ -17,7 +17,7 @@ pub struct Part {
     ghost near: { unsigned_abs centre ≤ 2 ^ 32 },
 }
 
-impl Part {
+impl PartRecipe {
     ghost use Rattle.recordings.specs.Recordings.{sign_bit, size_bit};
 
     /// The bit of the sign.

@@ -9,7 +9,7 @@ ghost use Rattle.recordings.specs.declared.numbers.TheConstants.{SIGN_AND_SIZE_L
 
 use crate::fault::PackFault;
 use crate::kind::Kind;
-use crate::part::Part;
+use crate::part::PartRecipe;
 use sample_planes::Format;
 use std::alloc::AllocError;
 
@@ -40,9 +40,9 @@ pub struct Recipe {
     /// A value farther from its centre than this has the size 3: twice the value, as the centre.
     pub threshold: u64,
     /// The part in phase.
-    pub in_phase: Part,
+    pub in_phase: PartRecipe,
     /// The part in quadrature. Where the packing is real it isn't used.
-    pub quadrature: Part,
+    pub quadrature: PartRecipe,
     ghost in_phase_is_there: { in_phase.place < (if is_paired then 2 else 1) },
     ghost quadrature_is_there: { quadrature.place < (if is_paired then 2 else 1) },
     ghost whole: { samples_per_byte (packing_of format)
@@ -172,7 +172,7 @@ impl Recipe {
     }
 
     /// The bit of the sign of a part of sample `n`.
-    fn sign(&self, part: &Part, bytes: &[u8], n: usize) -> u8
+    fn sign(&self, part: &PartRecipe, bytes: &[u8], n: usize) -> u8
         requires place { part.now.place < parts_of self.now }
         requires few { length bytes.now ≤ MOST_BYTES }
         requires within { sample_bits self.now * (n + 1) ≤ 8 * length bytes.now }
@@ -183,7 +183,7 @@ impl Recipe {
     }
 
     /// The bits of a part's sign and size.
-    fn sign_and_size(&self, part: &Part, bytes: &[u8], n: usize) -> u8
+    fn sign_and_size(&self, part: &PartRecipe, bytes: &[u8], n: usize) -> u8
         requires place { part.now.place < parts_of self.now }
         requires few { length bytes.now ≤ MOST_BYTES }
         requires within { sample_bits self.now * (n + 1) ≤ 8 * length bytes.now }
@@ -195,7 +195,7 @@ impl Recipe {
     }
 
     /// The value that a part is made of.
-    pub(crate) fn value(&self, part: &Part, bytes: &[u8], n: usize) -> i64
+    pub(crate) fn value(&self, part: &PartRecipe, bytes: &[u8], n: usize) -> i64
         requires place { part.now.place < parts_of self.now }
         requires few { length bytes.now ≤ MOST_BYTES }
         requires within { sample_bits self.now * (n + 1) ≤ 8 * length bytes.now }

@@ -72,12 +72,8 @@ pub record TakesFront (bytes rest : List ℕ) (old new : Receiver) : Type 0 wher
   pub most : (0 < length rest)
       → (MAX_SAMPLES < sample_count (packing_in old) taken + samples_per_byte (packing_in old))
       ⊎ (MOST_TIME < time_of new + samples_per_byte (packing_in old))
-  pub emits : banks.Emits old.bank (samples (packing_in old) taken) (events_in new)
+  pub takes : banks.Takes old.bank (samples (packing_in old) taken) new.bank (events_in new)
   pub alone : EmitsAlone old (samples (packing_in old) taken) (events_in new)
-  pub stands : (settings : Settings) (xs : List Sample) (asked : ℕ → ℕ → List TimedRequest)
-      → StandsFor settings xs asked old
-      → StandsFor settings (xs ++ samples (packing_in old) taken) asked new
-  pub work : banks.WorksLittle old.bank (samples (packing_in old) taken) new.bank
   pub time : time_of new ≡ time_of old + sample_count (packing_in old) taken
   pub settings_same : settings_of new ≡ settings_of old
   pub shares_same : shares_of new ≡ shares_of old

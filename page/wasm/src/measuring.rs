@@ -5,7 +5,7 @@ use crate::files::Recording;
 use crate::numbers::{self, Ending, PAIRED, SWAPPED};
 use crate::packing::{MOST_HALVES, ending_of};
 use receiver::Source;
-use recordings::{Choice, Kind, MOST_BYTES, Measure, Part, Recipe};
+use recordings::{Choice, Kind, MOST_BYTES, Measure, PartRecipe, Recipe};
 use sample_planes::Format;
 
 const FLOAT_BYTES: usize = size_of::<f32>();
@@ -73,11 +73,11 @@ fn of_integers(recipe: &Recipe, bytes: &[u8]) -> Result<Given, Ending> {
 }
 
 /// A part about the mean of its values. Readings and centres are twice the values.
-fn centred(recipe: &Recipe, part: Part, bytes: &[u8]) -> Part {
+fn centred(recipe: &Recipe, part: PartRecipe, bytes: &[u8]) -> PartRecipe {
     let Measure { sum, count, .. } = recipe.measure(&part, 0, bytes);
     let (count, most) = (count as i64, MOST_HALVES as i64);
     let centre = (sum + count / 2).div_euclid(count.max(1));
-    Part {
+    PartRecipe {
         centre: centre.clamp(-most, most),
         ..part
     }
@@ -100,7 +100,7 @@ fn of_floats(recipe: &Recipe, bytes: &[u8]) -> Result<Given, Ending> {
 }
 
 /// The mean square of a part's floats.
-fn mean_square(recipe: &Recipe, part: &Part, bytes: &[u8]) -> Result<f64, Ending> {
+fn mean_square(recipe: &Recipe, part: &PartRecipe, bytes: &[u8]) -> Result<f64, Ending> {
     let samples = bytes.chunks_exact(recipe.sample_bits() / 8);
     let (mut squares, count) = (0.0, samples.len());
     for sample in samples {

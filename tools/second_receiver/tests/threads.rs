@@ -16,7 +16,7 @@ macro_rules! all_of_threads {
 #[test]
 fn public_types_are_of_threads() {
     all_of_threads! {
-        acquisition: Cell, Plan, PlanFault, Search, SearchRoom;
+        acquisition: Cell, Plan, PlanFault, Search, SearchRoom, Signal;
         bit_planes: Plane;
         bit_sync: BitNews, BitSync;
         ca_codes: CodeBook, Prn, PrnFault;
@@ -36,7 +36,8 @@ fn public_types_are_of_threads() {
         printed_lines: Line;
         receiver: RunFault;
         receiver_options: OptionFault, Stored<u8>, SystemCommandLine<u8>;
-        recordings: Choice, ChoiceFault, Kind, Measure, PackFault, Packer, Part, Recipe, Window;
+        recordings: Choice, ChoiceFault, Kind, Measure, PackFault, Packer;
+        recordings: PartRecipe, Recipe, Stretch;
         sample_history: SampleHistory;
         sample_planes: Format, NumberedSamples, PackedSamples, Planes;
         seldomplough: Packing, PackingFault, Receiver, TooManySamples;

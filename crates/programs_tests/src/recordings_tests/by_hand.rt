@@ -2,7 +2,7 @@
 
 use crate::recordings_tests::{choice, in_pieces};
 use assertions::assert_same;
-use recordings::{Choice, ChoiceFault, Kind, PackFault, Packer, Window};
+use recordings::{Choice, ChoiceFault, Kind, PackFault, Packer, Stretch};
 use sample_planes::Format;
 use std::alloc::Global;
 use std::process::Abort;
@@ -86,18 +86,18 @@ fn what_cannot_be_had(rt: HostRuntime) {
 
 #[test]
 fn a_stretch_of_pieces(rt: HostRuntime) {
-    let mut window = Window::new(3, 4);
-    assert_part(&rt, &mut window, &[0, 1], &[]);
-    assert_part(&rt, &mut window, &[2, 3, 4], &[3, 4]);
-    assert!(rt; !window.is_over());
-    assert_part(&rt, &mut window, &[5, 6, 7], &[5, 6]);
-    assert!(rt; window.is_over());
-    assert_part(&rt, &mut window, &[8], &[]);
+    let mut stretch = Stretch::new(3, 4);
+    assert_part(&rt, &mut stretch, &[0, 1], &[]);
+    assert_part(&rt, &mut stretch, &[2, 3, 4], &[3, 4]);
+    assert!(rt; !stretch.is_over());
+    assert_part(&rt, &mut stretch, &[5, 6, 7], &[5, 6]);
+    assert!(rt; stretch.is_over());
+    assert_part(&rt, &mut stretch, &[8], &[]);
 }
 
-/// Asserts what a window takes of a piece.
-fn assert_part(rt: &impl Abort, window: &mut Window, piece: &[u8], expected: &[u8]) {
-    assert_same!(rt; window.part(piece), expected);
+/// Asserts what a stretch takes of a piece.
+fn assert_part(rt: &impl Abort, stretch: &mut Stretch, piece: &[u8], expected: &[u8]) {
+    assert_same!(rt; stretch.part(piece), expected);
 }
 
 #[test]

@@ -5,19 +5,19 @@ use Rattle.devices.specs.Moments.{devices_at}
 use Rattle.packer.proofs.AskedLemmas.{err_is, refused, packed}
 use Rattle.packer.proofs.program.pack.Goals as goal
 
-pub returns-in_err-window : goal.returns-in_err-window
-returns-in_err-window g c = record {
+pub returns-in_err-stretch : goal.returns-in_err-stretch
+returns-in_err-stretch g c = record {
   carries_out =
       refused (found_of c.args.matches.now)
       (devices_at g.R.Source g.W.Sink c.args.reader.now c.args.writer.now)
-      c.in_ok-recipe.recipe c.from_residual-in_err-window.result c.in_err-window.field-0.0
-      (err_is c.from_residual-in_err-window.result c.in_err-window.field-0.0
-      c.from_residual-in_err-window.ensures.1) c.in_err-window.ensures.status
-      c.in_ok-recipe.ensures.asked c.in_err-window.ensures.why;
+      c.in_ok-recipe.recipe c.from_residual-in_err-stretch.result c.in_err-stretch.field-0.0
+      (err_is c.from_residual-in_err-stretch.result c.in_err-stretch.field-0.0
+      c.from_residual-in_err-stretch.ensures.1) c.in_err-stretch.ensures.status
+      c.in_ok-recipe.ensures.asked c.in_err-stretch.ensures.why;
 }
 
 pub returns-in_err-run : goal.returns-in_err-run
-returns-in_err-run g c = let w = c.in_ok-window.ensures.asked in record {
+returns-in_err-run g c = let w = c.in_ok-stretch.ensures.asked in record {
   carries_out =
       packed (found_of c.args.matches.now) c.in_ok-recipe.recipe
       (recipe_in c.in_ok-packer.packer) w.0 w.1
@@ -33,7 +33,7 @@ returns-in_err-run g c = let w = c.in_ok-window.ensures.asked in record {
 }
 
 pub returns : goal.returns
-returns g c = let w = c.in_ok-window.ensures.asked in record {
+returns g c = let w = c.in_ok-stretch.ensures.asked in record {
   carries_out =
       packed (found_of c.args.matches.now) c.in_ok-recipe.recipe
       (recipe_in c.in_ok-packer.packer) w.0 w.1

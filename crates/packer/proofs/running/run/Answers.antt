@@ -16,7 +16,7 @@ returns-in_err-buffer-clause-packs g c skip most all known shows stands =
     c.from_residual.ensures.1
     (beginning (recipe_in c.args.packer.now) skip most all
     (g.R.Source.remaining c.args.reader.now) (g.W.Sink.contents c.args.writer.now)
-    c.args.window.now c.args.packer.now known shows stands refl)
+    c.args.stretch.now c.args.packer.now known shows stands refl)
 
 pub returns-in_err-written-clause-packs : goal.returns-in_err-written-clause-packs
 returns-in_err-written-clause-packs g c skip most all known shows stands =
@@ -24,7 +24,7 @@ returns-in_err-written-clause-packs g c skip most all known shows stands =
     c.from_residual-in_err-written.ensures.1
     (beginning (recipe_in c.args.packer.now) skip most all
     (g.R.Source.remaining c.args.reader.now) (g.W.Sink.contents c.args.writer.now)
-    c.args.window.now c.args.packer.now known shows stands refl)
+    c.args.stretch.now c.args.packer.now known shows stands refl)
 
 pub returns-in_err-goes_on-clause-packs : goal.returns-in_err-goes_on-clause-packs
 returns-in_err-goes_on-clause-packs g c skip most all known shows stands =

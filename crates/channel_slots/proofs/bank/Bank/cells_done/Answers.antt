@@ -1,6 +1,5 @@
 use Rattle.std.proofs.Common.{◌∙◌, ℕ, List, sym, refl}
 use Rattle.channel_slots.specs.declared.seat.Seat.{Seat}
-use Rattle.channel_slots.specs.Banks.{HasDone}
 use Rattle.channel_slots.specs.BankStates.{time_of}
 use Rattle.channel_slots.proofs.CommandLemmas.{stands-at}
 use Rattle.channel_slots.proofs.CellLemmas.{cells-at, cells-nowhere, cells-shown}
@@ -18,18 +17,15 @@ returns-in_err-at-clause-done c =
 pub returns-clause-done : goal.returns-clause-done
 returns-clause-done c =
     let ps : List Seat = c.args.self.now.seats.items.items in
-    let d : HasDone ps c.in_ok-at.at c.cells_done_at.result =
-    rw c.deref.ensures.value at c.cells_done_at.ensures in
-    d.done_is ∙ sym (cells-at ps c.in_ok-at.at c.args.client c.args.slot d.seat
-    (once-of c.args.self.now.shares.items ps c.args.self.now.keys) c.in_ok-at.ensures.there d.is)
+    c.cells_done.ensures ∙ sym (cells-at ps c.in_ok-at.at c.args.client c.args.slot
+    c.index.result.now (once-of c.args.self.now.shares.items ps c.args.self.now.keys)
+    c.in_ok-at.ensures.there c.index.ensures)
 
 pub returns-clause-shown : goal.returns-clause-shown
 returns-clause-shown c settings xs asked s has =
     let ps : List Seat = c.args.self.now.seats.items.items in
-    let d : HasDone ps c.in_ok-at.at c.cells_done_at.result =
-    rw c.deref.ensures.value at c.cells_done_at.ensures in
-    d.done_is ∙ cells-shown settings xs _ d.seat.slot
+    c.cells_done.ensures ∙ cells-shown settings xs _ c.index.result.now.slot
     (stands-at settings xs asked ps c.in_ok-at.at c.args.client c.args.slot
-    (time_of c.args.self.now) d.seat d.seat
-    (once-of c.args.self.now.shares.items ps c.args.self.now.keys) c.in_ok-at.ensures.there d.is
-    s.slots)
+    (time_of c.args.self.now) c.index.result.now c.index.result.now
+    (once-of c.args.self.now.shares.items ps c.args.self.now.keys) c.in_ok-at.ensures.there
+    c.index.ensures s.slots)

@@ -1,5 +1,6 @@
 use Rattle.std.proofs.Common.{refl, ◌∙◌, ◌≡◌, arith, sym, ap}
-use Rattle.std.specs.Prelude.{true}
+use Rattle.std.specs.Prelude.{true, Result, Ok, Err}
+use Rattle.std.specs.Result.{result_or}
 use Rattle.std.specs.List.{list_all}
 use Rattle.definitions.specs.Banks.{layout}
 use Rattle.definitions.specs.Runs.{is_share}
@@ -9,36 +10,45 @@ use Rattle.channel_slots.proofs.ShareLemmas.{few-each}
 use Rattle.channel_slots.proofs.RestLemmas.{idle-rest}
 use Rattle.channel_slots.proofs.bank.Bank.open.Goals as goal
 
+-- what is there although an error would be another
+from-or : {A E F : Type 0} (r : Result A E) (fault : F) (x : A) → result_or r (Err fault) ≡ Ok x
+    → r ≡ Ok x
+from-or (Ok y) fault x is = cc
+from-or (Err e) fault x is = cc
+
 pub idle_seats-requires-clause-few : goal.idle_seats-requires-clause-few
 idle_seats-requires-clause-few c =
     few-each c.args.shares.now (sym c.are_shares.ensures ∙ c.if-not-are_shares.false)
 
 pub invariant_of-result : goal.invariant_of-result
 invariant_of-result c =
-    let idle = c.in-Ok-idle_seats.ensures.idle in
+    let window = from-or c.new.result _ _ (sym c.or.ensures ∙ c.in_ok-window.was) in
+    let made = rw window at c.new.ensures in
+    let seats = from-or c.idle_seats.result _ _ (sym c.or-2.ensures ∙ c.in_ok-seats.was) in
+    let idle = rw seats at c.idle_seats.ensures in
     let shared : list_all is_share c.args.shares.now ≡ true =
     sym c.are_shares.ensures ∙ c.if-not-are_shares.false in
     record {
-      early = omega (arith, c.in-Ok-new.ensures.end);
-      sound = all-idle-tested _ _ _ _ idle;
-      packed = c.in-Ok-new.ensures.packing ∙ c.format.ensures;
-      room = omega (arith, c.in-Ok-new.ensures.room, c.most_reach.ensures);
+      early = omega (arith, made.end);
+      sound = all-idle-tested _ _ _ _ idle.idle;
+      packed = made.packing ∙ c.format.ensures;
+      room = omega (arith, made.room, c.most_reach-reach.ensures);
       clients = rw c.in-Ok.ensures.0 c.in-Ok.ensures.1;
       shared = ap (list_all is_share) c.in-Ok.ensures.0 ∙ shared;
-      rests = idle-rest _ idle;
-      waits = omega (arith, c.in-Ok-new.ensures.end);
-      keys = c.in-Ok-idle_seats.ensures.keys ∙ ap layout (sym c.in-Ok.ensures.0);
+      rests = idle-rest _ idle.idle;
+      waits = omega (arith, made.end);
+      keys = idle.keys ∙ ap layout (sym c.in-Ok.ensures.0);
     }
 
 pub returns-clause-stands : goal.returns-clause-stands
 returns-clause-stands c =
+    let window = from-or c.new.result _ _ (sym c.or.ensures ∙ c.in_ok-window.was) in
+    let made = rw window at c.new.ensures in
+    let seats = from-or c.idle_seats.result _ _ (sym c.or-2.ensures ∙ c.in_ok-seats.was) in
+    let idle = rw seats at c.idle_seats.ensures in
     record {
       recorded = refl;
-      now = c.in-Ok-new.ensures.end;
-      window = c.in-Ok-new.ensures.stands;
-      slots =
-          record {
-            now = c.in-Ok-new.ensures.end;
-            each = idle-stand c.args.settings _ c.in-Ok-idle_seats.ensures.idle;
-          };
+      now = made.end;
+      window = made.stands;
+      slots = record { now = made.end; each = idle-stand c.args.settings _ idle.idle };
     }

@@ -1,79 +1,65 @@
 use Rattle.std.proofs.Common.{ap, arith, refl, sym, ◌∙◌}
-use Rattle.std.specs.Prelude.{Some, None}
+use Rattle.std.specs.Prelude.{Some}
 use Rattle.slot_protocol.specs.Commands.{request_in}
 use Rattle.channel_slots.specs.Stages.{is_idle}
-use Rattle.channel_slots.proofs.ReadyLemmas.{idle-is-quiet}
-use Rattle.channel_slots.proofs.SlotLemmas.{idle-now, life-now, has-life, answers, stays-idle}
+use Rattle.channel_slots.proofs.ObeyLemmas.{idle-refuses}
+use Rattle.channel_slots.proofs.ReadyLemmas.{idle-is-quiet, idle-is-sound}
+use Rattle.channel_slots.proofs.SlotLemmas.{life-now, has-life, answers}
 use Rattle.channel_slots.proofs.SlotLemmas.{becomes-idle, prints, shown-stays}
 use Rattle.channel_slots.proofs.slot.Slot.command.Goals as goal
 
-pub returns-in-Acquire-clause-answer : goal.returns-in-Acquire-clause-answer
-returns-in-Acquire-clause-answer c =
-    rw (ap request_in c.in-Acquire.is) c.acquire.ensures.answers
+pub returns-in-Acquire : goal.returns-in-Acquire
+returns-in-Acquire c = rw (ap request_in c.in-Acquire.is) c.acquire.ensures
 
-pub returns-in-Acquire-clause-stands : goal.returns-in-Acquire-clause-stands
-returns-in-Acquire-clause-stands c =
-    rw (ap request_in c.in-Acquire.is) c.acquire.ensures.stands
+pub returns-in-Hold : goal.returns-in-Hold
+returns-in-Hold c = rw (ap request_in c.in-Hold.is) c.hold.ensures
 
-pub returns-in-Hold-clause-answer : goal.returns-in-Hold-clause-answer
-returns-in-Hold-clause-answer c = rw (ap request_in c.in-Hold.is) c.hold.ensures.answers
+pub returns-in-Track : goal.returns-in-Track
+returns-in-Track c = rw (ap request_in c.in-Track.is) c.track.ensures
 
-pub returns-in-Hold-clause-stands : goal.returns-in-Hold-clause-stands
-returns-in-Hold-clause-stands c = rw (ap request_in c.in-Hold.is) c.hold.ensures.stands
+pub returns-in-State : goal.returns-in-State
+returns-in-State c = rw (ap request_in c.in-State.is) (record {
+  answers = λ xs commands now s. c.state.ensures _ xs commands s;
+  stands = λ xs commands now s. shown-stays _ xs commands _ s;
+  refused = λ refusal. absurd refusal;
+  sound = λ first later sound. sound;
+  waits = λ before. before;
+})
 
-pub returns-in-Track-clause-answer : goal.returns-in-Track-clause-answer
-returns-in-Track-clause-answer c = rw (ap request_in c.in-Track.is) c.track.ensures.answers
+pub returns-then-is_idle : goal.returns-then-is_idle
+returns-then-is_idle c =
+    rw (ap request_in c.in-Counts.is) (idle-refuses _ _ _
+    (sym c.is_idle.ensures ∙ c.if-is_idle.true) _ (λ xs. refl) (λ last n. refl))
 
-pub returns-in-Track-clause-stands : goal.returns-in-Track-clause-stands
-returns-in-Track-clause-stands c = rw (ap request_in c.in-Track.is) c.track.ensures.stands
+pub returns-else-is_idle : goal.returns-else-is_idle
+returns-else-is_idle c =
+    let on = sym c.is_idle.ensures ∙ c.if-is_idle.false in
+    rw (ap request_in c.in-Counts.is) (record {
+      answers = λ xs commands now s. answers _ xs commands _ s _ (Some _)
+          (life-now _ xs commands _ s on);
+      stands = λ xs commands now s. prints _ xs commands _ s on c.in-Counts.n _ refl refl;
+      refused = λ refusal. absurd refusal;
+      sound = λ first later sound. sound;
+      waits = λ before. before;
+    })
 
-pub returns-then-is_idle-clause-answer : goal.returns-then-is_idle-clause-answer
-returns-then-is_idle-clause-answer c xs commands now s =
-    rw (ap request_in c.in-Counts.is) (answers _ xs commands _ s _ None
-    (idle-now _ xs commands _ s (sym c.is_idle.ensures ∙ c.if-is_idle.true)))
+pub returns-then-is_idle-2 : goal.returns-then-is_idle-2
+returns-then-is_idle-2 c =
+    rw (ap request_in c.in-Stop.is) (idle-refuses _ _ _
+    (sym c.is_idle-in-Stop.ensures ∙ c.if-is_idle-2.true) _ (λ xs. refl) (λ last n. refl))
 
-pub returns-then-is_idle-clause-stands : goal.returns-then-is_idle-clause-stands
-returns-then-is_idle-clause-stands c xs commands now s =
-    rw (ap request_in c.in-Counts.is) (stays-idle _ xs commands _ s
-    (sym c.is_idle.ensures ∙ c.if-is_idle.true) _ refl)
-
-pub returns-else-is_idle-clause-answer : goal.returns-else-is_idle-clause-answer
-returns-else-is_idle-clause-answer c xs commands now s =
-    rw (ap request_in c.in-Counts.is) (answers _ xs commands _ s _ (Some _)
-    (life-now _ xs commands _ s (sym c.is_idle.ensures ∙ c.if-is_idle.false)))
-
-pub returns-else-is_idle-clause-stands : goal.returns-else-is_idle-clause-stands
-returns-else-is_idle-clause-stands c xs commands now s =
-    rw (ap request_in c.in-Counts.is) (prints _ xs commands _ s
-    (sym c.is_idle.ensures ∙ c.if-is_idle.false) c.in-Counts.n _ refl refl)
-
-pub returns-in-State-clause-stands : goal.returns-in-State-clause-stands
-returns-in-State-clause-stands c xs commands now s =
-    rw (ap request_in c.in-State.is) (shown-stays _ xs commands _ s)
-
-pub returns-then-is_idle-2-clause-answer : goal.returns-then-is_idle-2-clause-answer
-returns-then-is_idle-2-clause-answer c xs commands now s =
-    rw (ap request_in c.in-Stop.is) (answers _ xs commands _ s _ None
-    (idle-now _ xs commands _ s (sym c.is_idle-in-Stop.ensures ∙ c.if-is_idle-2.true)))
-
-pub returns-then-is_idle-2-clause-stands : goal.returns-then-is_idle-2-clause-stands
-returns-then-is_idle-2-clause-stands c xs commands now s =
-    rw (ap request_in c.in-Stop.is) (stays-idle _ xs commands _ s
-    (sym c.is_idle-in-Stop.ensures ∙ c.if-is_idle-2.true) _ refl)
-
-pub returns-else-is_idle-2-clause-answer : goal.returns-else-is_idle-2-clause-answer
-returns-else-is_idle-2-clause-answer c xs commands now s =
-    rw (ap request_in c.in-Stop.is) (answers _ xs commands _ s _ (Some _)
-    (life-now _ xs commands _ s (sym c.is_idle-in-Stop.ensures ∙ c.if-is_idle-2.false)))
-
-pub returns-else-is_idle-2-clause-stands : goal.returns-else-is_idle-2-clause-stands
-returns-else-is_idle-2-clause-stands c xs commands now s =
+pub returns-else-is_idle-2 : goal.returns-else-is_idle-2
+returns-else-is_idle-2 c =
     let on = sym c.is_idle-in-Stop.ensures ∙ c.if-is_idle-2.false in
-    let i = has-life _ xs commands _ s on in
-    rw (ap request_in c.in-Stop.is) (becomes-idle _ xs commands _ s _ _ (Some i.life) _ i.of
-    (life-now _ xs commands _ s on) refl (ap is_idle c.rest.ensures.stage))
-
-pub returns-else-is_idle-2-clause-waits : goal.returns-else-is_idle-2-clause-waits
-returns-else-is_idle-2-clause-waits c before =
-    idle-is-quiet _ c.rest.new.self.stage (ap is_idle c.rest.ensures.stage)
-    (omega (arith, c.requires))
+    let idle = ap is_idle c.rest.ensures.stage in
+    rw (ap request_in c.in-Stop.is) (record {
+      answers = λ xs commands now s. answers _ xs commands _ s _ (Some _)
+          (life-now _ xs commands _ s on);
+      stands = λ xs commands now s.
+          let i = has-life _ xs commands _ s on in
+          becomes-idle _ xs commands _ s _ _ (Some i.life) _ i.of (life-now _ xs commands _ s on)
+          refl idle;
+      refused = λ refusal. absurd refusal;
+      sound = λ first later sound. idle-is-sound first _ _ c.rest.new.self.stage idle;
+      waits = λ before. idle-is-quiet _ c.rest.new.self.stage idle (omega (arith, c.requires));
+    })

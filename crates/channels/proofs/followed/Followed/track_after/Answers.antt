@@ -9,7 +9,7 @@ pub returns-clause-stands : goal.returns-clause-stands
 returns-clause-stands c channel xs now b steered =
     let tracking = c.start-tracking in
     begins c.args.settings.now channel xs _
-    (c.start_after.ensures.follows channel xs now (rw now at b)) refl b.start
+    (c.start.ensures.follows channel xs now (rw now at b)) refl b.start
     (record {
       shift = doppler_shift c.args.signal.doppler;
       steered = steered;

@@ -1,15 +1,42 @@
-use Rattle.std.proofs.Common.{rules, refl}
-use Rattle.definitions.specs.Lives.{held_channel}
-use Rattle.channels.proofs.FollowingLemmas.{none-ago}
+use Rattle.std.proofs.Common.{refl, sym, arith, pos, ap, ◌<◌, ◌*◌, ◌^◌, ◌∙◌, w64}
+use Rattle.std.proofs.lemmas.Int.{to_z-of_z, fits_signed_from_abs}
+use Rattle.definitions.specs.Oscillators.{code_step, carrier_step, code_phase_after}
+use Rattle.definitions.specs.Segments.{Shift}
+use Rattle.oscillators.specs.Views.{Oscillation}
+use Rattle.channels.proofs.FollowingLemmas.{started, at-once}
+use Rattle.channels.proofs.WrapLemmas.{end-near}
 use Rattle.channels.proofs.follower.Follower.start.Goals as goal
 
+pub overflow_add-result : goal.overflow_add-result
+overflow_add-result c =
+    let moves : 0 < c.jump.new.self.step =
+    rw (c.jump.ensures, c.new-code.ensures) (omega (arith, c.code_step.ensures.fast)) in
+    omega (
+      arith,
+      c.requires,
+      end-near c.jump.new.self.phase c.jump.new.self.step c.to_wrap.result moves
+          c.to_wrap.ensures.least,
+    )
+
 pub returns-clause-follows : goal.returns-clause-follows
-returns-clause-follows c xs many =
-    c.start_after.ensures.follows
-    (held_channel c.args.time c.args.signal.prn c.args.signal.doppler c.args.signal.half) xs many
-    (record {
-      prn_is = refl;
-      start = refl;
-      code = none-ago c.args.signal.half _ (search rules);
-      shift = refl;
-    })
+returns-clause-follows c channel xs many begins =
+    let settings = c.args.settings.now in
+    let shift =
+    to_z-of_z w64 c.shift_of-v.result
+    (fits_signed_from_abs w64 c.shift_of-v.result (omega (arith, c.shift_of-v.ensures.small)))
+    ∙ c.shift_of-v.ensures.value in
+    let computed =
+    c.code_step.ensures.value ∙ ap (λ v. code_step settings v (pos 0)) shift in
+    let step = ap (λ (o : Oscillation). o.step) c.new-code.ensures ∙ computed in
+    at-once settings channel xs _
+    (started settings channel xs _ (begins.start ∙ sym many) (sym many) (sym begins.prn_is)
+    (ap (λ (o : Oscillation). o.phase) c.jump.ensures
+    ∙ ap (λ (o : Oscillation). code_phase_after o.phase o.step c.args.ago) c.new-code.ensures
+    ∙ ap (λ n. code_phase_after (c.args.signal.half * 2 ^ 31) n c.args.ago) computed
+    ∙ sym begins.code)
+    (ap (λ (o : Oscillation). o.phase) c.new.ensures)
+    (ap (λ (o : Oscillation). o.step) c.jump.ensures ∙ step
+    ∙ ap (λ (d : Shift). code_step settings d.v d.w) (sym begins.shift))
+    (ap (λ (o : Oscillation). o.step) c.new.ensures ∙ c.carrier_step.ensures
+    ∙ ap (λ v. carrier_step settings v) shift
+    ∙ ap (λ (d : Shift). carrier_step settings d.v) (sym begins.shift)) refl)

@@ -22,8 +22,8 @@ same-line client time now text other t e =
 
 pub returns-in-Ok : goal.returns-in-Ok
 returns-in-Ok c = record {
-  settings = c.command-answer.ensures.settings;
-  shares = c.command-answer.ensures.shares;
+  settings = c.command-answer.ensures.same.settings;
+  shares = c.command-answer.ensures.same.shares;
   time = c.command-answer.ensures.time;
   line = λ settings xs done s.
       let command : DefinedCommand = command_in c.in-Ok.command in

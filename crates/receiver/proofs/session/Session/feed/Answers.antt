@@ -26,8 +26,8 @@ returns-clause-stands c settings clients xs s =
     c.requires.quiet s.bank.now in
     record {
       done = s.done;
-      bank = c.feed.ensures.stands settings xs (asked_of s.done) s.bank;
-      shares = s.shares ∙ sym c.feed.ensures.shares;
+      bank = (c.feed.ensures.takes.taken settings xs (asked_of s.done) s.bank).stands;
+      shares = s.shares ∙ sym c.feed.ensures.same.shares;
       queues = queues-later settings xs ys s.done c.requires.some 1 clients queues s.queues free;
       waits = waiting-later settings xs ys s.done c.requires.some clients queues s.queues free;
     }
@@ -44,4 +44,4 @@ returns-clause-told c settings clients xs s =
     (subst (λ (l : List ℕ). AreEvents (events_in c.feed.new.timeline)
     (at_each_sample (bank_events_at_end settings (layout l) (asked_of s.done)) xs ys))
     (sym s.shares)
-    (c.feed.ensures.told settings xs (asked_of s.done) s.bank))
+    (c.feed.ensures.takes.taken settings xs (asked_of s.done) s.bank).told)

@@ -7,8 +7,8 @@ returns c = record {
   stands = c.command.ensures.stands;
   none = c.command.ensures.none;
   refused = λ refusal. rw (c.command.ensures.refused refusal) refl;
-  settings_same = c.command.ensures.settings;
-  shares_same = c.command.ensures.shares;
+  settings_same = c.command.ensures.same.settings;
+  shares_same = c.command.ensures.same.shares;
   time_same = c.command.ensures.time;
   events_same = refl;
 }

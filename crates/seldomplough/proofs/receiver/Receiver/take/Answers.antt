@@ -9,10 +9,10 @@ returns-clause-taken c =
     let taken : List ℕ = c.split_at.result.0.now in
     let came : c.new-run.result.samples ≡ samples (packing_in c.args.self.now) taken =
     c.new-run.ensures.samples ∙ ap (λ p. samples p taken) c.format.ensures in
-    let told = rw came at c.feed.ensures.told in
+    let takes = rw came at c.feed.ensures.takes in
     let size : length taken ≡ c.fitting-count.result = c.split_at.ensures.front_len in
     let time =
-    c.feed.ensures.time
+    c.feed.ensures.takes.time
     ∙ ap (λ n. time_of c.args.self.now + n)
     (c.new-run.ensures.count ∙ ap (λ p. sample_count p taken) c.format.ensures) in
     record {
@@ -22,12 +22,10 @@ returns-clause-taken c =
       few = rw size c.fitting-count.ensures.short;
       most = λ left. rw (time, size) (c.fitting-count.ensures.most
           (omega (arith, left, size, c.split_at.ensures.back_len)));
-      emits = told;
+      takes = takes;
       alone = λ settings xs asked stands client first.
-          alone settings asked _ xs _ _ client first (told settings xs asked stands);
-      stands = rw came at c.feed.ensures.stands;
-      work = rw came at c.feed.ensures.work;
+          alone settings asked _ xs _ _ client first (takes.taken settings xs asked stands).told;
       time = time;
-      settings_same = c.feed.ensures.settings;
-      shares_same = c.feed.ensures.shares;
+      settings_same = c.feed.ensures.same.settings;
+      shares_same = c.feed.ensures.same.shares;
     }

@@ -5,23 +5,23 @@ ghost use Rattle.std.specs.Prelude.{◌≡◌, ◌≤◌, ◌↔◌, true, lengt
 /// Which bytes of a recording that comes in pieces are wanted: those after some bytes, and at most
 /// so many.
 #[derive(Clone, Copy, Debug, PartialEq, Eq)]
-pub struct Window {
+pub struct Stretch {
     /// How many bytes are still to come before the first that is wanted.
     skip: u64,
     /// How many bytes are still wanted at most.
     left: u64,
 }
 
-impl Window {
+impl Stretch {
     ghost use Rattle.std.specs.Prelude.{ℕ, List, [], ◌++◌};
-    ghost use Rattle.recordings.specs.Windows.{Shows, left_in};
+    ghost use Rattle.recordings.specs.Stretches.{Shows, left_in};
 
     /// The bytes after the first `skip` bytes, at most `most` of them, of a recording of which
     /// nothing came yet.
-    pub fn new(skip: u64, most: u64) -> Window
+    pub fn new(skip: u64, most: u64) -> Stretch
         ensures shows { Shows skip most [] [] result }
     {
-        Window { skip, left: most }
+        Stretch { skip, left: most }
     }
 
     /// What is wanted of the next piece.

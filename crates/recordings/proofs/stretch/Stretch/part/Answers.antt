@@ -1,6 +1,6 @@
 use Rattle.std.proofs.Common.{◌-◌}
-use Rattle.recordings.proofs.WindowLemmas.{next, IsNext, shown_of}
-use Rattle.recordings.proofs.window.Window.part.Goals as goal
+use Rattle.recordings.proofs.StretchLemmas.{next, IsNext, shown_of}
+use Rattle.recordings.proofs.stretch.Stretch.part.Goals as goal
 
 pub returns-clause-shows : goal.returns-clause-shows
 returns-clause-shows c skip most bytes shown stands =
