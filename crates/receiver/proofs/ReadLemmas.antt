@@ -82,7 +82,7 @@ taken-before session limit bytes packing time per used p t e whole u =
 -- ---- what was read, up to the limit
 
 -- from `old` to `new` all that reads gave came before the limit, and was taken
-pub record HasTaken (limit : ℕ) (first session : Session) (old new : Devices) : Type 0 where
+pub record HasRead (limit : ℕ) (first session : Session) (old new : Devices) : Type 0 where
   pub read : List ℕ
   pub consumed : Consumes old.remaining new.remaining read
   pub ended : EndedAs runs.unfinished old new
@@ -132,7 +132,7 @@ time-on before after limit read bytes past t same now beyond not =
 
 -- for each run that the session stands for
 module _ {limit : ℕ} {first session : Session} {old new : Devices}
-    (has : HasTaken limit first session old new) (settings : Settings) (clients : List Client)
+    (has : HasRead limit first session old new) (settings : Settings) (clients : List Client)
     (start : Option (List ℕ)) (at : IsWrittenTo settings clients start first old.contents []) where
   own : packing_in session ≡ settings.packing
   own =

@@ -3,7 +3,7 @@ use Rattle.std.specs.Prelude.{false}
 use Rattle.receiver.specs.Sessions.{packing_in, time_of, until_next}
 use Rattle.receiver.specs.Runs.{devices_once_sent}
 use Rattle.receiver.proofs.OutputLemmas.{Wrote}
-use Rattle.receiver.proofs.ReadLemmas.{HasTaken}
+use Rattle.receiver.proofs.ReadLemmas.{HasRead}
 use Rattle.receiver.proofs.reading.read_all.Given as goal
 
 abbrev pub invariant-loop-reader : goal.invariant-loop-reader
@@ -13,7 +13,7 @@ invariant-loop-reader g l = let source = g.R.Source in let sink = g.W.Sink in re
   asked_again : source.has_failed l.fn.reader ≡ false
       → source.was_asked_again l.reader ≡ source.was_asked_again l.fn.reader;
   wrote : Wrote sink l.fn.out l.out;
-  taken : HasTaken l.limit l.fn.session l.session
+  taken : HasRead l.limit l.fn.session l.session
       (devices_once_sent source sink l.fn.reader l.fn.out)
       (devices_once_sent source sink l.reader l.out);
 }
