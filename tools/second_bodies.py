@@ -125,12 +125,14 @@ def path_of_place(place, folder):
 
 def is_copied(place, folder):
     """Whether a function of a crate can have a second body: a trait's method can't, nor one of
-    which another proof names what the prover makes of it."""
-    path = path_of_place(place, folder)
+    which another proof names what the prover makes of it, nor one with a closure that has a proof
+    of its own, which the copy's closure would lack."""
+    path, name = path_of_place(place, folder), place[1].name
     if path is None:
         return False
-    home = os.path.join('proofs', *path, place[1].name, '')
-    return not any(home.replace(os.sep, '.') in text
+    home = os.path.join('proofs', *path, name, '')
+    closures = re.compile(rf'/fn/(?:.*/)?{name}/')
+    return not any(home.replace(os.sep, '.') in text or closures.search(file)
                    for file, text in files_with(folder, '.antt').items()
                    if not file.startswith(home))
 
