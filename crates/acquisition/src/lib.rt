@@ -24,8 +24,8 @@
 //!     let numbered = NumberedSamples::new(PackedSamples::new(settings.format(), &bytes), 0);
 //!     search.advance(plan.cells(), &numbered, &mut CodeBook::new());
 //!     if let Some(cell) = search.result().filter(|cell| cell.found) {
-//!         // Where the code of the signal is at the dwell's first sample.
-//!         let half = plan.signal(&cell).map(|signal| signal.half);
+//!         // The signal is followed from the dwell's first sample on at this shift and half chip.
+//!         let signal = plan.signal(&cell);
 //!     }
 #![tactic(auto)]
 
