@@ -124,7 +124,8 @@ class Sweep:
 
     def noted(self):
         """The outcomes that aren't wanted, with the least and the greatest limit of each."""
-        return [f'{min(spaces)} to {max(spaces)} KiB: {text}' for text, spaces in self.wrong.items()]
+        return [f'{min(spaces)} to {max(spaces)} KiB: {text}'
+                for text, spaces in self.wrong.items()]
 
 
 def address_space(programs, rows):

@@ -63,9 +63,9 @@ gaps : gap_from None 7 ∷ gap_from (Some 302) 302 ∷ gap_from (Some 302) 307 �
     ≡ None ∷ None ∷ Some 5 ∷ []
 gaps = refl
 
--- a second word that passes, of subframe 1 too, but doesn't end in the two bits before the first, 00.
--- A program apart has worked out its parity
-other_last_bits : is_candidate (false ∷ false ∷ bits_of_word 0x22C00012 ++ bits_of_word 0x00002157) 2
-    ≡ false
+-- a second word that passes, of subframe 1 too, but doesn't end in the two bits before the first,
+-- 00. A program apart has worked out its parity
+other_last_bits :
+    is_candidate (false ∷ false ∷ bits_of_word 0x22C00012 ++ bits_of_word 0x00002157) 2 ≡ false
 unfolding is_candidate checked_at checked_data passes holds data_of
 other_last_bits = refl

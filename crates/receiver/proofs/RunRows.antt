@@ -80,8 +80,8 @@ written = refl
 
 lines_are_right : LinesAreRight task.settings (clients_of task) (samples real2 bytes) text
 unfolding taken_samples sample samples_from
-lines_are_right = subst (LinesAreRight task.settings (clients_of task) (samples real2 bytes)) written
-    (lines-are-right task.settings (clients_of task) (samples real2 bytes) (omega arith))
+lines_are_right = subst (LinesAreRight task.settings (clients_of task) (samples real2 bytes))
+    written (lines-are-right task.settings (clients_of task) (samples real2 bytes) (omega arith))
 
 -- The run that reads all of this and writes all of that.
 run : IsRun task before (after [] (0x21 ∷ text) false false) (Ok 4)
@@ -138,8 +138,9 @@ failure_is_reported left held e = false-true (sym e.writer)
 
 -- The third line is that of a dump.
 third_line_is_a_dump : LinesAreRight task.settings (clients_of task) (samples real2 bytes) text
-    → (event : Event) × ((c : Counts) × (event ≡ count c)) × IsLineOf task.settings (clients_of task)
-    (samples real2 bytes) (codes "1 4 count 0 12 4 6 2 6 2") event
+    → (event : Event) × ((c : Counts) × (event ≡ count c))
+    × IsLineOf task.settings (clients_of task) (samples real2 bytes)
+        (codes "1 4 count 0 12 4 6 2 6 2") event
 unfolding as_bytes pieces_ended_by
 third_line_is_a_dump right =
     right.counts 2 (codes "1 4 count 0 12 4 6 2 6 2") (codes "count") refl refl refl
