@@ -14,8 +14,10 @@ use Rattle.devices.specs.declared.sink.Sink.{Ghosts as Sink}
 use Rattle.receiver.specs.declared.faults.RunFault.{RunFault}
 use Rattle.receiver.specs.declared.faults.RunFault.TheVariants.{NoMemory, Clients, Read, Write}
 use Rattle.receiver.specs.declared.faults.RunFault.TheVariants.{TooLong, Share}
+use Rattle.receiver.specs.declared.faults.Stop.{Stop}
+use Rattle.receiver.specs.declared.faults.Stop.TheVariants.{AtEnd, ReadFailed, PastLimit}
 use Rattle.receiver.specs.Clients.{four_each}
-use Rattle.receiver.specs.Runs.{IsRun, answer_of, task_of, task_in_fours}
+use Rattle.receiver.specs.Runs.{IsRun, answer_of, answer_after, task_of, task_in_fours}
 use Rattle.receiver.specs.WholeRuns.{RunsTask}
 use Rattle.receiver.proofs.TableLemmas.{AreWrong, no-fault, some-clients, right-shares}
 use Rattle.receiver.proofs.TableLemmas.{without-clients}
@@ -29,6 +31,14 @@ number_of (Err Read) = 3
 number_of (Err Write) = 4
 number_of (Err TooLong) = 5
 number_of (Ok n) = 6
+
+-- a run that came to reading answers none of the first three
+pub comes-to-reading : {E : Type 0} (n : ℕ) (ended : Result Stop E)
+    → nat_lt 2 (number_of (answer_after n ended)) ≡ true
+comes-to-reading n (Ok AtEnd) = refl
+comes-to-reading n (Ok ReadFailed) = refl
+comes-to-reading n (Ok PastLimit) = refl
+comes-to-reading n (Err fault) = refl
 
 -- there are one to eight scripts, or not
 few-of : (scripts : List (List ℕ)) → are_clients scripts ≡ true

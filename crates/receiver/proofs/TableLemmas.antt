@@ -1,7 +1,7 @@
 -- A run's parts, and the answer that the definitions' table has for them.
 use Rattle.std.proofs.Common.{◌≡◌, ◌≤◌, ◌<◌, ℕ, zero, suc, Bool, true, false, List, [], length}
 use Rattle.std.proofs.Common.{refl, sym, ap, ◌∙◌, subst, arith, ◌⊎◌, inl, inr}
-use Rattle.std.specs.Prelude.{◌↔◌, Result, Ok, Err, IfOk, if◌then◌else◌, map, nat_lt}
+use Rattle.std.specs.Prelude.{◌↔◌, Result, Ok, Err, IfOk, OnErr, if◌then◌else◌, map, nat_lt}
 use Rattle.std.specs.Prelude.{nat_le, nat_eq, ◌==◌}
 use Rattle.std.specs.List.{list_all}
 use Rattle.std.specs.Io.KnownBytes.{Consumes}
@@ -36,7 +36,8 @@ use Rattle.receiver.proofs.ShareLemmas.{clients-number}
 use Rattle.receiver.specs.Printed.{LinesAreRight}
 use Rattle.devices.specs.Moments.{Devices}
 use Rattle.receiver.specs.Runs.{IsOpen, IsRun, Ran, BrokeOff, StopsFor, EndedAs}
-use Rattle.receiver.specs.Runs.{WriterReports, answer_of, task_of, samples_read, text_for}
+use Rattle.receiver.specs.Runs.{WriterReports, answer_of, answer_after, fault_of, task_of}
+use Rattle.receiver.specs.Runs.{samples_read, text_for}
 
 -- ---- scripts and shares
 
@@ -252,6 +253,22 @@ module _ (settings : Settings) (shares : List ℕ) (scripts : List (List ℕ)) (
       r.completes.why.0 r.completes.write_failed
       (right, beyond settings limit r.read r.completes.why.1, refl) tt
 
+  -- a run of a session that was opened, however reading ended
+  pub ran-or-broke : {E : Type 0} (ended : Result Stop E) (n : ℕ) (session : Session)
+      (old new : Devices) → AreRight (task_of settings shares scripts limit) → n ≡ time_of session
+      → length (clients_of (task_of settings shares scripts limit)) ≤ 8
+      → IfOk ended (Ran settings (clients_of (task_of settings shares scripts limit)) limit session
+      old new)
+      → OnErr ended (BrokeOff (task_of settings shares scripts limit) old new)
+      → IsRun (task_of settings shares scripts limit) old new (answer_after n ended)
+  ran-or-broke (Ok AtEnd) n session old new right is few ran _ =
+      ran-to-end n session old new right ran is few
+  ran-or-broke (Ok ReadFailed) n session old new right is few ran _ =
+      ran-to-fault session old new right ran
+  ran-or-broke (Ok PastLimit) n session old new right is few ran _ =
+      ran-to-limit session old new right ran
+  ran-or-broke (Err fault) n session old new right is few _ broke = broke-off old new right broke
+
 -- ---- runs of scripts that are handed in
 
 -- a run that was refused before it read or wrote
@@ -403,7 +420,7 @@ module _ {A : Type 0} (text : A → List ℕ) (settings : Settings) (shares : Li
       (shares-without-memory opened (length handed) shares (some-of (length handed) some) few
       memory when)
 
-  pub refused-memory : {S : Type 0} (opened : Result S OpenFault) (old : Devices)
+  refused-memory : {S : Type 0} (opened : Result S OpenFault) (old : Devices)
       → opened ≡ Err Faults.NoMemory
       → (opened ≡ Err Faults.Share) ↔ ((0 < length handed) × (length handed ≤ 8)
       × (list_all is_share shares ≡ false))
@@ -412,8 +429,19 @@ module _ {A : Type 0} (text : A → List ℕ) (settings : Settings) (shares : Li
       without-memory settings shares (map text handed) limit old right-number
       (shares-are opened memory when)
 
-  pub refused-share : (old : Devices) → list_all is_share shares ≡ false
+  refused-share : (old : Devices) → list_all is_share shares ≡ false
       → IsRun (task_of settings shares (map text handed) limit) old old (Err Share)
   refused-share old wrong =
       without-shares settings shares (map text handed) limit old right-number
       (wrong-share shares (map text handed) wrong)
+
+  -- a run of a session that wasn't opened
+  pub refused-open : {S : Type 0} (opened : Result S OpenFault) (fault : OpenFault) (old : Devices)
+      → opened ≡ Err fault → (opened ≡ Err Faults.Clients) ↔ AreWrong (length handed)
+      → (opened ≡ Err Faults.Share) ↔ ((0 < length handed) × (length handed ≤ 8)
+      × (list_all is_share shares ≡ false))
+      → IsRun (task_of settings shares (map text handed) limit) old old (Err (fault_of fault))
+  refused-open opened Faults.NoMemory old is _ when = refused-memory opened old is when
+  refused-open opened Faults.Clients old is when _ =
+      absurd (no-fault (length handed) (some-of (length handed) some) few (when.0 is))
+  refused-open opened Faults.Share old is _ when = refused-share old (when.0 is).2

@@ -10,6 +10,8 @@ use Rattle.definitions.specs.Runs.{clients_of}
 use Rattle.definitions.specs.Runs as runs
 use Rattle.definitions.specs.Receiver.{body, full, body_lines}
 use Rattle.definitions.specs.Lines.{as_bytes}
+use Rattle.channel_slots.specs.declared.open_fault.OpenFault.{OpenFault}
+use Rattle.channel_slots.specs.declared.open_fault.OpenFault.TheVariants as Faults
 use Rattle.devices.specs.Moments.{Devices}
 use Rattle.receiver.specs.Clients.{four_each}
 use Rattle.receiver.specs.Printed.{LinesAreRight}
@@ -92,6 +94,19 @@ answer_of (Err Share) = runs.wrong_shares
 answer_of (Err Read) = runs.read_failed
 answer_of (Err Write) = runs.write_failed
 answer_of (Err TooLong) = runs.too_long
+
+-- what a run answers where no session was opened
+abbrev pub fault_of : OpenFault → RunFault
+fault_of Faults.NoMemory = NoMemory
+fault_of Faults.Clients = Clients
+fault_of Faults.Share = Share
+
+-- what a run answers after so many samples, by how reading them ended: a fault is the writer's
+abbrev pub answer_after : {E : Type 0} → ℕ → Result Stop E → Result ℕ RunFault
+answer_after samples (Ok AtEnd) = Ok samples
+answer_after samples (Ok ReadFailed) = Err Read
+answer_after samples (Ok PastLimit) = Err TooLong
+answer_after samples (Err fault) = Err Write
 
 -- the writer failed where the result says so, and nowhere else
 abbrev pub WriterReports : Result ℕ RunFault → Devices → Devices → Type 0

@@ -1,5 +1,7 @@
 //! How a run ends.
 
+use channel_slots::OpenFault;
+
 /// Why a run ended early, and what is written then.
 #[derive(Clone, Copy, Debug, PartialEq, Eq, thiserror::Error)]
 pub enum RunFault {
@@ -33,4 +35,19 @@ pub enum Stop {
     ReadFailed,
     /// More samples than the limit came.
     PastLimit,
+}
+
+impl From<OpenFault> for RunFault {
+    ghost use Rattle.std.specs.Prelude.{◌≡◌};
+    ghost use Rattle.receiver.specs.Runs.{fault_of};
+
+    ghost from_gives = { λ fault run_fault. run_fault ≡ fault_of fault };
+
+    fn from(fault: OpenFault) -> RunFault {
+        match fault {
+            OpenFault::NoMemory => RunFault::NoMemory,
+            OpenFault::Clients => RunFault::Clients,
+            OpenFault::Share => RunFault::Share,
+        }
+    }
 }

@@ -8,6 +8,7 @@ ghost use Rattle.definitions.specs.Runs.{clients_of};
 ghost use Rattle.devices.specs.Moments.{devices_at};
 ghost use Rattle.receiver.specs.WholeRuns.{RunsTask};
 ghost use Rattle.receiver.specs.Runs.{task_of, task_in_fours, IsOpen, Ran, BrokeOff};
+ghost use Rattle.receiver.specs.Runs.{answer_after};
 ghost use Rattle.receiver.specs.Sessions.{time_of};
 
 use crate::faults::{RunFault, Stop};
@@ -15,7 +16,7 @@ use crate::output::Output;
 use crate::reading::read_all;
 use crate::session::Session;
 use crate::writing::{finish, put_answers};
-use channel_slots::{MOST_CLIENTS, MOST_TIME, OpenFault};
+use channel_slots::{MOST_CLIENTS, MOST_TIME};
 use devices::{DeviceFault, Sink, Source};
 use oscillators::Settings;
 use std::alloc::Global;
@@ -123,15 +124,18 @@ pub fn run_shares<R: Source, W: Sink>(
         return Err(RunFault::Share);
     }
     // It is large, so it stays where it was opened.
-    let mut opened = Session::open(alloc, settings, scripts, shares);
-    let session = match &mut opened {
-        Ok(session) => session,
-        Err(OpenFault::NoMemory) => return Err(RunFault::NoMemory),
-        Err(OpenFault::Clients) => return Err(RunFault::Clients),
-        Err(OpenFault::Share) => return Err(RunFault::Share),
-    };
-    match run_session(session, limit, reader, writer) {
-        Ok(Stop::AtEnd) => Ok(session.time()),
+    match &mut Session::open(alloc, settings, scripts, shares) {
+        Ok(session) => answer(run_session(session, limit, reader, writer), session.time()),
+        Err(fault) => Err(RunFault::from(*fault)),
+    }
+}
+
+/// What a run answers after so many samples, by how reading them ended.
+fn answer(ended: Result<Stop, DeviceFault>, samples: u64) -> Result<u64, RunFault>
+    ensures { result ≡ answer_after samples ended }
+{
+    match ended {
+        Ok(Stop::AtEnd) => Ok(samples),
         Ok(Stop::ReadFailed) => Err(RunFault::Read),
         Ok(Stop::PastLimit) => Err(RunFault::TooLong),
         Err(DeviceFault) => Err(RunFault::Write),
