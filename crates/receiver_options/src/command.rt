@@ -118,26 +118,10 @@ fn command<'a>(alloc: Global) -> Result<Command<'a>, AllocError>
             "0",
             "Intermediate frequency in Hz, at most half the rate; see --minus",
         ))?
-        .arg(
-            Arg::new(alloc, "minus")
-                .long("minus")
-                .action(ArgAction::SetTrue)
-                .help("Makes the intermediate frequency of --offset negative"),
-        )?
+        .arg(minus(alloc))?
         .arg(format(alloc))?
-        .arg(
-            Arg::new(alloc, "shares")
-                .long("shares")
-                .value_name("DIGITS")
-                .action(ArgAction::Set)
-                .help("Slots of each script's client, a digit 1 to 8 for each; else 4 each"),
-        )?
-        .arg(
-            Arg::new(alloc, "script")
-                .value_name("SCRIPT")
-                .num_args(0..)
-                .help("Script files, one to eight, of 16 MiB at most; none is one empty script"),
-        )
+        .arg(shares(alloc))?
+        .arg(script(alloc))
 }
 
 /// An option that takes a number of Hz.
@@ -154,6 +138,17 @@ fn hertz<'a>(alloc: Global, name: &'a str, default: &'a str, help: &'a str) -> A
         .help(help)
 }
 
+/// The option that has the offset below zero.
+fn minus<'a>(alloc: Global) -> Arg<'a>
+    ensures rule { rule_of result ≡ line.minus }
+    ensures local { result.global ≡ false }
+{
+    Arg::new(alloc, "minus")
+        .long("minus")
+        .action(ArgAction::SetTrue)
+        .help("Makes the intermediate frequency of --offset negative")
+}
+
 /// The option of the samples' format.
 fn format<'a>(alloc: Global) -> Arg<'a>
     ensures rule { (names : ValueParser) × NamesFormats names
@@ -166,4 +161,27 @@ fn format<'a>(alloc: Global) -> Arg<'a>
         .value_parser(Format::names())
         .default_value("real1")
         .help("Real samples of one or two bits, or complex ones of one or two bits a part")
+}
+
+/// The option of the slots that each client has.
+fn shares<'a>(alloc: Global) -> Arg<'a>
+    ensures rule { rule_of result ≡ line.shares }
+    ensures local { result.global ≡ false }
+{
+    Arg::new(alloc, "shares")
+        .long("shares")
+        .value_name("DIGITS")
+        .action(ArgAction::Set)
+        .help("Slots of each script's client, a digit 1 to 8 for each; else 4 each")
+}
+
+/// The names of script files, which stand without an option.
+fn script<'a>(alloc: Global) -> Arg<'a>
+    ensures rule { rule_of result ≡ line.script }
+    ensures local { result.global ≡ false }
+{
+    Arg::new(alloc, "script")
+        .value_name("SCRIPT")
+        .num_args(0..)
+        .help("Script files, one to eight, of 16 MiB at most; none is one empty script")
 }
