@@ -4,8 +4,8 @@
 use assertions::assert_same;
 use seldomplough::units::{chips, from_65536ths, seconds, value};
 use seldomplough::{
-    Choice, ClockField, Doppler, Event, Field, Format, HalfChip, Kind, Packing, PackingFault, Plan,
-    Prn, Receiver, Refusal, Settings, Signal, SlotNo, SlotState, TooManySamples,
+    Choice, ClockField, Doppler, Event, Field, Format, HalfChip, Packing, PackingFault, Plan, Prn,
+    Receiver, Refusal, Settings, Signal, SlotNo, SlotState, TooManySamples, ValueKind,
 };
 use std::alloc::Global;
 use std::test::Fail;
@@ -74,7 +74,7 @@ fn commands_are_refused(rt: HostRuntime) -> Result<(), Fail> {
 }
 
 /// Packs by signs, about 0.
-fn packing(alloc: Global, kind: Kind) -> Result<Packing, Fail> {
+fn packing(alloc: Global, kind: ValueKind) -> Result<Packing, Fail> {
     let choice = Choice {
         kind,
         is_paired: false,
@@ -100,7 +100,7 @@ fn only_byte(packing: &Packing) -> Option<u8> {
 // A sign is 0 for what isn't below 0, the earliest in a byte's top bit.
 #[test]
 fn signed_bytes_become_signs(rt: HostRuntime) -> Result<(), Fail> {
-    let mut packing = packing(rt.alloc(), Kind::I8)?;
+    let mut packing = packing(rt.alloc(), ValueKind::I8)?;
     packing.take_i8(&[1, -1, 5, -128, 127, 0, -3])?;
     assert_same!(rt; packing.packed().len(), 0);
     packing.take_i8(&[-9, -1, -1])?;
@@ -112,7 +112,7 @@ fn signed_bytes_become_signs(rt: HostRuntime) -> Result<(), Fail> {
 
 #[test]
 fn floats_become_signs(rt: HostRuntime) -> Result<(), Fail> {
-    let mut packing = packing(rt.alloc(), Kind::F32)?;
+    let mut packing = packing(rt.alloc(), ValueKind::F32)?;
     packing.take_f32(&[0.5, -0.5, 1e30, -1e-30, 0.0, -2.0, -3.0, 4.0])?;
     assert_same!(rt; only_byte(&packing), Some(0b0101_0110));
     Ok(())
@@ -120,8 +120,8 @@ fn floats_become_signs(rt: HostRuntime) -> Result<(), Fail> {
 
 #[test]
 fn values_are_refused(rt: HostRuntime) -> Result<(), Fail> {
-    let mut signed = packing(rt.alloc(), Kind::I8)?;
-    let mut floats = packing(rt.alloc(), Kind::F32)?;
+    let mut signed = packing(rt.alloc(), ValueKind::I8)?;
+    let mut floats = packing(rt.alloc(), ValueKind::F32)?;
     let (other, none) = (PackingFault::OtherKind, PackingFault::NotANumber);
     assert_same!(rt; signed.take_f32(&[1.0]).err(), Some(other));
     assert_same!(rt; floats.take_i8(&[1]).err(), Some(other));

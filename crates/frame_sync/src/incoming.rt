@@ -2,8 +2,8 @@
 
 ghost use Rattle.std.specs.Prelude.{◌≡◌, ◌+◌, ◌<◌, ◌≤◌, SomeIff};
 
+use crate::last_bits::LastBits;
 use crate::subframe::Subframe;
-use crate::window::LastBits;
 
 /// The bits by which a start is recognised: words 1 and 2.
 pub const HEADER_BITS: u64 = 60;

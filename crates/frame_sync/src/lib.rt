@@ -17,9 +17,9 @@
 #![tactic(auto)]
 
 mod incoming;
+mod last_bits;
 mod subframe;
 mod sync;
-mod window;
 
 pub use subframe::{COUNT_LIMIT, HEADER_WORDS, LAST_ID, SUBFRAME_WORDS, Subframe};
 pub use sync::{Found, FrameSync, MOST_BITS};

@@ -7,8 +7,8 @@ ghost use Rattle.frame_sync.specs.declared.incoming.TheConstants.{HEADER_BITS, S
 ghost use Rattle.frame_sync.specs.declared.sync.TheConstants.{MOST_BITS};
 
 use crate::incoming::{Incoming, SUBFRAME_BITS};
+use crate::last_bits::LastBits;
 use crate::subframe::Subframe;
-use crate::window::LastBits;
 
 /// The most bits that are pushed to a search: those of more than 600 years.
 pub const MOST_BITS: u64 = 1 << 40;

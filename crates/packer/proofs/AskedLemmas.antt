@@ -6,7 +6,7 @@ use Rattle.clap.specs.declared.parser.matches.Found.{Found}
 use Rattle.clap.specs.Matches.{first_value}
 use Rattle.sample_planes.specs.declared.format.Format.{Format}
 use Rattle.recordings.specs.declared.choice.Choice.{Choice}
-use Rattle.recordings.specs.declared.kind.Kind.{Kind}
+use Rattle.recordings.specs.declared.value_kind.ValueKind.{ValueKind}
 use Rattle.recordings.specs.declared.recipe.Recipe.{Recipe}
 use Rattle.devices.specs.Moments.{Devices}
 use Rattle.packer.specs.Devices.{SaysWhich}
@@ -18,7 +18,7 @@ use Rattle.packer.specs.Endings.{CarriesOut}
 use Rattle.packer.specs.declared.failure.Failure.{Failure}
 
 -- without a threshold there is no choice
-pub no_threshold : (found : Found) (choice : Choice) (kind : Kind) (is_paired : Bool)
+pub no_threshold : (found : Found) (choice : Choice) (kind : ValueKind) (is_paired : Bool)
     (format : Format) → Asks found choice → kind ≡ kind_in (from_in found)
     → is_paired ≡ is_pairs_name (from_in found) → Some format ≡ format_in found is_paired
     → None ≡ threshold_in kind format (first_value found (codes "threshold")) → ⊥
@@ -30,7 +30,7 @@ no_threshold found choice kind is_paired format asks k p f none =
     (sym asks.format ∙ ap (λ (b : Bool). format_in found b) pairs ∙ sym f) in
     let there : threshold_in kind format text ≡ Some choice.threshold =
     subst (λ (g : Format). threshold_in kind g text ≡ Some choice.threshold) same
-    (subst (λ (j : Kind). threshold_in j choice.format text ≡ Some choice.threshold)
+    (subst (λ (j : ValueKind). threshold_in j choice.format text ≡ Some choice.threshold)
     (asks.kind ∙ sym k) asks.threshold) in
     let clash : None ≡ Some choice.threshold = none ∙ there in cc
 

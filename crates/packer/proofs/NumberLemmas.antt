@@ -11,10 +11,10 @@ use Rattle.recordings.specs.Readings.{AreNumbers, bits_of, has_nans, four_bytes}
 use Rattle.recordings.specs.Recordings.{group_of, parts_of}
 use Rattle.recordings.specs.Packers.{recipe_in, held_in}
 use Rattle.recordings.specs.Stretches.{Shows}
-use Rattle.recordings.specs.declared.kind.Kind.{Kind}
-use Rattle.recordings.specs.declared.kind.Kind.TheVariants.{U8, I8, I16, I16Be, F32}
-use Rattle.recordings.specs.declared.kind.Kind.TheVariants.{Bits2Low, SignSizeLow}
-use Rattle.recordings.specs.declared.kind.Kind.TheVariants.{Bits1Low, Bits1High}
+use Rattle.recordings.specs.declared.value_kind.ValueKind.{ValueKind}
+use Rattle.recordings.specs.declared.value_kind.ValueKind.TheVariants.{U8, I8, I16, I16Be, F32}
+use Rattle.recordings.specs.declared.value_kind.ValueKind.TheVariants.{Bits2Low, SignSizeLow}
+use Rattle.recordings.specs.declared.value_kind.ValueKind.TheVariants.{Bits1Low, Bits1High}
 use Rattle.recordings.specs.declared.recipe.Recipe.{Recipe}
 use Rattle.recordings.specs.declared.packer.Packer.{Packer}
 use Rattle.recordings.specs.declared.stretch.Stretch.{Stretch}
@@ -28,7 +28,7 @@ byte_inside a b c at i e h =
     rw e (get_or-append-add a (b ++ c) i 0 ∙ get_or_append_left b c 0 i h)
 
 -- bytes after whole floats have numbers where all have
-inside : (kind : Kind) (m : ℕ) (a b c : List ℕ) → length a ≡ 4 * m
+inside : (kind : ValueKind) (m : ℕ) (a b c : List ℕ) → length a ≡ 4 * m
     → AreNumbers kind (a ++ (b ++ c)) → AreNumbers kind b
 inside kind m a b c e all nans i h =
     let long : 4 * (m + i + 1) ≤ length (a ++ (b ++ c)) =
@@ -41,7 +41,7 @@ inside kind m a b c e all nans i h =
     rw (x, y, z, w) refl in
     rw is at (all nans (m + i) long)
 
-float_bits : (kind : Kind) → has_nans kind ≡ true → bits_of kind ≡ 32
+float_bits : (kind : ValueKind) → has_nans kind ≡ true → bits_of kind ≡ 32
 float_bits U8 e = cc
 float_bits I8 e = cc
 float_bits I16 e = cc

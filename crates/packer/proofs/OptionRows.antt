@@ -2,9 +2,9 @@
 use Rattle.std.proofs.Common.{◌≡◌, [], ◌∷◌, refl}
 use Rattle.std.specs.Prelude.{pos, neg_ℤ, true, false, map, Some, None, codes}
 use Rattle.sample_planes.specs.declared.format.Format.TheVariants.{Real1, Real2, Iq1, Iq2}
-use Rattle.recordings.specs.declared.kind.Kind.TheVariants.{U8, I8, I16, I16Be, F32}
-use Rattle.recordings.specs.declared.kind.Kind.TheVariants.{Bits2Low, SignSizeLow}
-use Rattle.recordings.specs.declared.kind.Kind.TheVariants.{Bits1Low, Bits1High}
+use Rattle.recordings.specs.declared.value_kind.ValueKind.TheVariants.{U8, I8, I16, I16Be, F32}
+use Rattle.recordings.specs.declared.value_kind.ValueKind.TheVariants.{Bits2Low, SignSizeLow}
+use Rattle.recordings.specs.declared.value_kind.ValueKind.TheVariants.{Bits1Low, Bits1High}
 use Rattle.sample_planes.specs.Names.{named_format}
 use Rattle.packer.specs.Options.{kind_in, is_pairs_name, halves_in, halves_or}
 use Rattle.packer.specs.Options.{usual_centre, threshold_in, is_second, twice_in, is_below_zero}

@@ -1,5 +1,6 @@
 -- What the options of a command line ask for.
-use Rattle.std.specs.Prelude.{◌≡◌, ◌⊎◌, ℕ, ◌+◌, ◌-◌, ◌*◌, ◌/◌, ◌%◌, ◌^◌, ◌==◌, ◌&&◌, ◌||◌, not, nat_lt, nat_le}
+use Rattle.std.specs.Prelude.{◌≡◌, ◌⊎◌, ℕ, ◌+◌, ◌-◌, ◌*◌, ◌/◌, ◌%◌, ◌^◌, ◌==◌, ◌&&◌, ◌||◌, not}
+use Rattle.std.specs.Prelude.{nat_lt, nat_le}
 use Rattle.std.specs.Prelude.{ℤ, pos, neg_ℤ, int_lt, unsigned_abs, Bool, true, false, List, [], ◌∷◌}
 use Rattle.std.specs.Prelude.{if◌then◌else◌, length, take, drop, Option, Some, None, option_map}
 use Rattle.std.specs.Prelude.{option_and_then, unwrap_or, is_some, codes, is_nan, to_bits}
@@ -18,10 +19,10 @@ use Rattle.sample_planes.specs.declared.format.Format.TheVariants.{Real1, Iq1}
 use Rattle.recordings.specs.Recordings.{sample_bits}
 use Rattle.recordings.specs.Choices.{Makes, LacksPairs, LacksSizes, AsksPart}
 use Rattle.recordings.specs.declared.choice.Choice.{Choice}
-use Rattle.recordings.specs.declared.kind.Kind.{Kind}
-use Rattle.recordings.specs.declared.kind.Kind.TheVariants.{U8, I8, I16, I16Be, F32}
-use Rattle.recordings.specs.declared.kind.Kind.TheVariants.{Bits2Low, SignSizeLow}
-use Rattle.recordings.specs.declared.kind.Kind.TheVariants.{Bits1Low, Bits1High}
+use Rattle.recordings.specs.declared.value_kind.ValueKind.{ValueKind}
+use Rattle.recordings.specs.declared.value_kind.ValueKind.TheVariants.{U8, I8, I16, I16Be, F32}
+use Rattle.recordings.specs.declared.value_kind.ValueKind.TheVariants.{Bits2Low, SignSizeLow}
+use Rattle.recordings.specs.declared.value_kind.ValueKind.TheVariants.{Bits1Low, Bits1High}
 use Rattle.recordings.specs.declared.recipe.Recipe.{Recipe}
 use Rattle.packer.specs.declared.halves.TheConstants.{MOST_WHOLE}
 
@@ -93,7 +94,7 @@ flag_in None = false
 flag_in (Some text) = bytes_eq text (codes "true")
 
 -- a kind by its name; any other is that of unsigned bytes
-abbrev pub named_kind : List ℕ → Kind
+abbrev pub named_kind : List ℕ → ValueKind
 named_kind name =
     if bytes_eq name (codes "i8") then I8
     else if bytes_eq name (codes "i16") then I16
@@ -108,7 +109,7 @@ named_kind name =
 abbrev pub is_pairs_name : List ℕ → Bool
 is_pairs_name name = bytes_eq (take 3 name) (codes "iq-")
 
-unfoldable pub kind_in : List ℕ → Kind
+unfoldable pub kind_in : List ℕ → ValueKind
 kind_in name = if is_pairs_name name then named_kind (drop 3 name) else named_kind name
 
 abbrev pub from_in : Found → List ℕ
@@ -134,7 +135,7 @@ format_in found is_paired =
     else option_and_then named_format (first_value found (codes "to"))
 
 -- the middle of unsigned bytes is 127.5
-abbrev pub usual_centre : Kind → ℤ
+abbrev pub usual_centre : ValueKind → ℤ
 usual_centre U8 = pos 255
 usual_centre _ = pos 0
 
@@ -147,7 +148,7 @@ abbrev pub at_least_zero : ℤ → Option ℕ
 at_least_zero z = if int_lt z (pos 0) then None else Some (unsigned_abs z)
 
 -- twice the threshold, or of floats its bits; a packing of one bit needs none
-abbrev pub threshold_in : Kind → Format → Option (List ℕ) → Option ℕ
+abbrev pub threshold_in : ValueKind → Format → Option (List ℕ) → Option ℕ
 threshold_in kind format None = if has_sizes (packing_of format) then None else Some 0
 threshold_in F32 format (Some text) = float_in text
 threshold_in _ format (Some text) = option_and_then at_least_zero (halves_in text)
@@ -157,7 +158,7 @@ is_second None = false
 is_second (Some part) = bytes_eq part (codes "q")
 
 -- twice the centres of both parts; floats have the centre 0
-pub record HasCentres (found : Found) (kind : Kind) (i q : ℤ) : Type 0 where
+pub record HasCentres (found : Found) (kind : ValueKind) (i q : ℤ) : Type 0 where
   pub in_phase : halves_or (usual_centre kind) (first_value found (codes "centre")) ≡ Some i
   pub quadrature : halves_or i (first_value found (codes "centre-q")) ≡ Some q
   pub about_zero : kind ≡ F32 → (i ≡ pos 0) × (q ≡ pos 0)

@@ -11,7 +11,7 @@ ghost use Rattle.packer.specs.Options.{format_in, says_how_to_pack};
 use crate::failure::Failure;
 use crate::options::{is_measured, is_set};
 use clap::ArgMatches;
-use recordings::Kind;
+use recordings::ValueKind;
 use sample_planes::Format;
 
 /// The kinds that `--from` takes.
@@ -37,7 +37,7 @@ pub static KINDS: [&str; 18] = [
 ];
 
 /// Whether the recording's values are pairs, and their kind.
-pub fn from(matches: &ArgMatches) -> (bool, Kind)
+pub fn from(matches: &ArgMatches) -> (bool, ValueKind)
     ensures pairs { result.0 ≡ is_pairs_name (from_in (found_of matches.now)) }
     ensures kind { result.1 ≡ kind_in (from_in (found_of matches.now)) }
 {
@@ -45,7 +45,7 @@ pub fn from(matches: &ArgMatches) -> (bool, Kind)
 }
 
 /// Whether the values are pairs, and their kind, by a name.
-fn kind(name: &str) -> (bool, Kind)
+fn kind(name: &str) -> (bool, ValueKind)
     ensures pairs { result.0 ≡ is_pairs_name name.now }
     ensures kind { result.1 ≡ kind_in name.now }
 {
@@ -56,19 +56,19 @@ fn kind(name: &str) -> (bool, Kind)
 }
 
 /// A kind by its name.
-fn named_kind(name: &str) -> Kind
+fn named_kind(name: &str) -> ValueKind
     ensures { result ≡ named_kind name.now }
 {
     match name {
-        "i8" => Kind::I8,
-        "i16" => Kind::I16,
-        "i16be" => Kind::I16Be,
-        "f32" => Kind::F32,
-        "bits2-low" => Kind::Bits2Low,
-        "bits2-sm-low" => Kind::SignSizeLow,
-        "bits1-low" => Kind::Bits1Low,
-        "bits1-high" => Kind::Bits1High,
-        _ => Kind::U8,
+        "i8" => ValueKind::I8,
+        "i16" => ValueKind::I16,
+        "i16be" => ValueKind::I16Be,
+        "f32" => ValueKind::F32,
+        "bits2-low" => ValueKind::Bits2Low,
+        "bits2-sm-low" => ValueKind::SignSizeLow,
+        "bits1-low" => ValueKind::Bits1Low,
+        "bits1-high" => ValueKind::Bits1High,
+        _ => ValueKind::U8,
     }
 }
 

@@ -11,7 +11,7 @@ use crate::floats::measure_floats;
 use crate::halves::MOST_HALVES;
 use crate::running::{read, zeros};
 use devices::Source;
-use recordings::{Kind, MOST_BYTES, MOST_PIECE, Measure, PartRecipe, Recipe, Stretch};
+use recordings::{MOST_BYTES, MOST_PIECE, Measure, PartRecipe, Recipe, Stretch, ValueKind};
 use std::alloc::{AllocGlobal, Global};
 use std::io::{self, Print};
 
@@ -26,7 +26,7 @@ pub fn measure<T: AllocGlobal + Print, R: Source>(
     ensures fault { IfErr result EndsMeasuring }
 {
     let bytes = gather(rt.alloc(), stretch, reader)?;
-    if recipe.kind == Kind::F32 {
+    if recipe.kind == ValueKind::F32 {
         return measure_floats(rt, recipe, &bytes);
     }
     let i = centred(recipe, &recipe.in_phase, &bytes);
@@ -63,7 +63,7 @@ fn tell<P: Print>(
 /// nothing of a radio that clips.
 fn tell_part<P: Print>(
     rt: &P,
-    kind: Kind,
+    kind: ValueKind,
     name: &str,
     part: &PartRecipe,
     measure: &Measure,

@@ -17,7 +17,7 @@ use crate::failure::Failure;
 use crate::formats::{format, from};
 use crate::halves::halves;
 use clap::ArgMatches;
-use recordings::{Choice, Kind, Recipe, Stretch};
+use recordings::{Choice, Recipe, Stretch, ValueKind};
 use sample_planes::Format;
 
 /// The recipe that the options ask for.
@@ -56,7 +56,7 @@ fn choice(matches: &ArgMatches) -> Result<Choice, Failure>
 }
 
 /// Twice the centres of both parts.
-fn centres(matches: &ArgMatches, kind: Kind) -> Result<(i32, i32), Failure>
+fn centres(matches: &ArgMatches, kind: ValueKind) -> Result<(i32, i32), Failure>
     ensures asked { IfOk result (λ centres.
         HasCentres (found_of matches.now) kind centres.0 centres.1) }
     ensures status { IfErr result (λ failure. status_of (Err failure) ≡ 2) }
@@ -65,17 +65,17 @@ fn centres(matches: &ArgMatches, kind: Kind) -> Result<(i32, i32), Failure>
     let centre = twice(matches, "centre", usual_centre(kind))?;
     let centre_q = twice(matches, "centre-q", centre)?;
     match kind {
-        Kind::F32 if centre != 0 || centre_q != 0 => Err(Failure::Centre),
+        ValueKind::F32 if centre != 0 || centre_q != 0 => Err(Failure::Centre),
         _ => Ok((centre, centre_q)),
     }
 }
 
 /// Twice the centre that a part has where none is given: unsigned bytes are around 127.5.
-fn usual_centre(kind: Kind) -> i32
+fn usual_centre(kind: ValueKind) -> i32
     ensures { result ≡ usual_centre kind }
 {
     match kind {
-        Kind::U8 => 255,
+        ValueKind::U8 => 255,
         _ => 0,
     }
 }
@@ -88,13 +88,13 @@ fn takes_quadrature(matches: &ArgMatches) -> bool
 }
 
 /// Twice the threshold, or of floats its bits. A packing of one bit needs none.
-fn threshold(matches: &ArgMatches, kind: Kind, format: Format) -> Result<u32, Failure>
+fn threshold(matches: &ArgMatches, kind: ValueKind, format: Format) -> Result<u32, Failure>
     ensures value { result_ok result
         ≡ threshold_in kind format (first_value (found_of matches.now) (codes "threshold")) }
     ensures status { IfErr result (λ failure. status_of (Err failure) ≡ 2) }
 {
     match matches.get_str("threshold") {
-        Some(text) if kind == Kind::F32 => float(text),
+        Some(text) if kind == ValueKind::F32 => float(text),
         Some(text) => match halves(text) {
             Some(number) if number >= 0 => Ok(number as u32),
             _ => Err(Failure::Number("threshold")),

@@ -1,11 +1,11 @@
 //! What is chosen for a recording that is packed.
 
-use recordings::{Choice, Kind, Recipe};
+use recordings::{Choice, Recipe, ValueKind};
 use sample_planes::Format;
 use std::test::Fail;
 
 /// Signs of values as they are, about 0.
-pub fn signs(kind: Kind, is_paired: bool, format: Format) -> Choice {
+pub fn signs(kind: ValueKind, is_paired: bool, format: Format) -> Choice {
     Choice {
         kind,
         is_paired,

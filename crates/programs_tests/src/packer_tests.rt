@@ -2,7 +2,7 @@
 
 use crate::choices::{recipe_of, signs};
 use packer::{Failure, Plain, run, status};
-use recordings::{Kind, Packer, Stretch};
+use recordings::{Packer, Stretch, ValueKind};
 use sample_planes::Format;
 use std::alloc::Global;
 use std::io::{self, Read, Write};
@@ -77,7 +77,7 @@ impl Write for Narrow {
 
 /// Signs of bytes.
 fn packer(alloc: Global) -> Result<Packer, Fail> {
-    let recipe = recipe_of(&signs(Kind::I8, false, Format::Real1))?;
+    let recipe = recipe_of(&signs(ValueKind::I8, false, Format::Real1))?;
     Ok(Packer::new(alloc, recipe)?)
 }
 

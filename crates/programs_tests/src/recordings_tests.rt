@@ -7,33 +7,33 @@ mod measures;
 
 use crate::choices::signs;
 use assertions::assert_same;
-use recordings::{Choice, Kind, MOST_PIECE, Packer, Recipe};
+use recordings::{Choice, MOST_PIECE, Packer, Recipe, ValueKind};
 use sample_planes::Format;
 use std::alloc::{AllocError, Global};
 use std::process::Abort;
 use std::test::Fail;
 
 /// Every kind.
-static KINDS: [Kind; 8] = [
-    Kind::U8,
-    Kind::I8,
-    Kind::I16,
-    Kind::I16Be,
-    Kind::Bits2Low,
-    Kind::SignSizeLow,
-    Kind::Bits1Low,
-    Kind::Bits1High,
+static KINDS: [ValueKind; 8] = [
+    ValueKind::U8,
+    ValueKind::I8,
+    ValueKind::I16,
+    ValueKind::I16Be,
+    ValueKind::Bits2Low,
+    ValueKind::SignSizeLow,
+    ValueKind::Bits1Low,
+    ValueKind::Bits1High,
 ];
 
 /// Every format.
 static FORMATS: [Format; 4] = [Format::Real1, Format::Real2, Format::Iq1, Format::Iq2];
 
 /// Signs of values as they are, about centre and threshold of their kind.
-fn choice(kind: Kind, is_paired: bool, format: Format) -> Choice {
+fn choice(kind: ValueKind, is_paired: bool, format: Format) -> Choice {
     let (centre, threshold) = match kind {
-        Kind::U8 => (255, 85),
-        Kind::I8 => (-9, 86),
-        Kind::I16 | Kind::I16Be => (1000, 21846),
+        ValueKind::U8 => (255, 85),
+        ValueKind::I8 => (-9, 86),
+        ValueKind::I16 | ValueKind::I16Be => (1000, 21846),
         _ => (0, 4),
     };
     Choice {
@@ -61,17 +61,17 @@ fn at(bytes: &[u8], i: usize) -> u8 {
 }
 
 /// Twice value `i`, as Rust reads it.
-fn twice(kind: Kind, bytes: &[u8], i: usize) -> i64
+fn twice(kind: ValueKind, bytes: &[u8], i: usize) -> i64
     requires { i < 1000000 }
 {
     let value = match kind {
-        Kind::U8 => i64::from(at(bytes, i)),
-        Kind::I8 => i64::from(i8::from_le_bytes([at(bytes, i)])),
-        Kind::I16 => i64::from(i16::from_le_bytes([at(bytes, 2 * i), at(bytes, 2 * i + 1)])),
-        Kind::I16Be => i64::from(i16::from_be_bytes([at(bytes, 2 * i), at(bytes, 2 * i + 1)])),
-        Kind::Bits2Low => [1, 3, -3, -1][usize::from(at(bytes, i / 4) >> (i % 4 * 2) & 3)],
-        Kind::SignSizeLow => [1, 3, -1, -3][usize::from(at(bytes, i / 4) >> (i % 4 * 2) & 3)],
-        Kind::Bits1Low => [1, -1][usize::from(at(bytes, i / 8) >> (i % 8) & 1)],
+        ValueKind::U8 => i64::from(at(bytes, i)),
+        ValueKind::I8 => i64::from(i8::from_le_bytes([at(bytes, i)])),
+        ValueKind::I16 => i64::from(i16::from_le_bytes([at(bytes, 2 * i), at(bytes, 2 * i + 1)])),
+        ValueKind::I16Be => i64::from(i16::from_be_bytes([at(bytes, 2 * i), at(bytes, 2 * i + 1)])),
+        ValueKind::Bits2Low => [1, 3, -3, -1][usize::from(at(bytes, i / 4) >> (i % 4 * 2) & 3)],
+        ValueKind::SignSizeLow => [1, 3, -1, -3][usize::from(at(bytes, i / 4) >> (i % 4 * 2) & 3)],
+        ValueKind::Bits1Low => [1, -1][usize::from(at(bytes, i / 8) >> (i % 8) & 1)],
         _ => [1, -1][usize::from(at(bytes, i / 8) >> (7 - i % 8) & 1)],
     };
     2 * value

@@ -7,15 +7,15 @@ use Rattle.recordings.specs.Choices.{Makes, LacksPairs, LacksSizes, AsksPart, Is
 use Rattle.recordings.specs.Choices.{IsOfOnePart}
 use Rattle.recordings.specs.Stretches.{Shows}
 use Rattle.recordings.specs.declared.choice.Choice.{Choice}
-use Rattle.recordings.specs.declared.kind.Kind.{Kind}
-use Rattle.recordings.specs.declared.kind.Kind.TheVariants.{I8, Bits1Low, Bits2Low}
+use Rattle.recordings.specs.declared.value_kind.ValueKind.{ValueKind}
+use Rattle.recordings.specs.declared.value_kind.ValueKind.TheVariants.{I8, Bits1Low, Bits2Low}
 use Rattle.recordings.specs.declared.part.PartRecipe.{PartRecipe}
 use Rattle.recordings.specs.declared.recipe.Recipe.{Recipe}
 use Rattle.recordings.specs.declared.stretch.Stretch.{Stretch}
 
 -- Of pairs or of real values a packing is asked, about the centres 1.5 in phase and 3.5 in
 -- quadrature. The pairs may be swapped or conjugate, and one part may be asked for.
-abbrev asked : Kind → Bool → Format → Bool → Bool → Bool → Choice
+abbrev asked : ValueKind → Bool → Format → Bool → Bool → Bool → Choice
 asked kind is_paired format is_swapped is_conjugate takes_quadrature = record {
   kind = kind;
   is_paired = is_paired;

@@ -8,9 +8,9 @@ use Rattle.sample_planes.specs.declared.format.Format.TheVariants.{Real1, Real2,
 use Rattle.recordings.specs.Readings.{bits_of, reading, signed}
 use Rattle.recordings.specs.Recordings.{sign_bit, size_bit, group_of, code_of, sample_of}
 use Rattle.recordings.specs.Recordings.{samples_of, IsPacked}
-use Rattle.recordings.specs.declared.kind.Kind.{Kind}
-use Rattle.recordings.specs.declared.kind.Kind.TheVariants.{U8, I8, I16, F32}
-use Rattle.recordings.specs.declared.kind.Kind.TheVariants.{Bits2Low, Bits1Low, Bits1High}
+use Rattle.recordings.specs.declared.value_kind.ValueKind.{ValueKind}
+use Rattle.recordings.specs.declared.value_kind.ValueKind.TheVariants.{U8, I8, I16, F32, Bits2Low}
+use Rattle.recordings.specs.declared.value_kind.ValueKind.TheVariants.{Bits1Low, Bits1High}
 use Rattle.recordings.specs.declared.part.PartRecipe.{PartRecipe}
 use Rattle.recordings.specs.declared.recipe.Recipe.{Recipe}
 use Rattle.definitions.specs.Samples.{samples_per_byte, samples_from, sample}
@@ -48,7 +48,7 @@ about_0 place turned =
     record { place = place; centre = pos 0; is_turned = turned; near = omega arith }
 
 -- samples of one value, and of two, with the threshold 20
-abbrev of_values : (kind : Kind) (format : Format)
+abbrev of_values : (kind : ValueKind) (format : Format)
     → samples_per_byte (packing_of format) * (1 * bits_of kind) % 8 ≡ 0 → Recipe
 of_values kind format whole = record {
   kind = kind;
@@ -62,7 +62,7 @@ of_values kind format whole = record {
   whole = whole;
 }
 
-abbrev of_pairs : (kind : Kind) (format : Format)
+abbrev of_pairs : (kind : ValueKind) (format : Format)
     → samples_per_byte (packing_of format) * (2 * bits_of kind) % 8 ≡ 0 → Recipe
 of_pairs kind format whole = record {
   kind = kind;

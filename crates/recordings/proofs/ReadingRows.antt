@@ -4,13 +4,13 @@ use Rattle.std.proofs.Common.{◌≡◌, ℕ, [], ◌∷◌, ◌++◌, refl, ari
 use Rattle.std.specs.Prelude.{pos, neg_ℤ, map, ℤ, List}
 use Rattle.std.specs.List.{range_with_len}
 use Rattle.recordings.specs.Readings.{reading, signed, sized, float_order, bits_of, IsNumber}
-use Rattle.recordings.specs.declared.kind.Kind.{Kind}
-use Rattle.recordings.specs.declared.kind.Kind.TheVariants.{U8, I8, I16, I16Be, F32}
-use Rattle.recordings.specs.declared.kind.Kind.TheVariants.{Bits2Low, SignSizeLow}
-use Rattle.recordings.specs.declared.kind.Kind.TheVariants.{Bits1Low, Bits1High}
+use Rattle.recordings.specs.declared.value_kind.ValueKind.{ValueKind}
+use Rattle.recordings.specs.declared.value_kind.ValueKind.TheVariants.{U8, I8, I16, I16Be, F32}
+use Rattle.recordings.specs.declared.value_kind.ValueKind.TheVariants.{Bits2Low, SignSizeLow}
+use Rattle.recordings.specs.declared.value_kind.ValueKind.TheVariants.{Bits1Low, Bits1High}
 
 -- the first count readings after some
-abbrev readings : Kind → List ℕ → ℕ → ℕ → List ℤ
+abbrev readings : ValueKind → List ℕ → ℕ → ℕ → List ℤ
 readings kind bytes from count = map (reading kind bytes) (range_with_len from count)
 
 -- 0, 127, 128 and 255

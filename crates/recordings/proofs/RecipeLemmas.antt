@@ -10,10 +10,10 @@ use Rattle.definitions.specs.Samples.{iq2, real, sign_of, sample, Sample}
 use Rattle.definitions.specs.Samples.{samples_per_byte, bit_in}
 use Rattle.sample_planes.specs.Packings.{width_of}
 use Rattle.recordings.specs.Readings.{bits_of}
-use Rattle.recordings.specs.declared.kind.Kind.{Kind}
-use Rattle.recordings.specs.declared.kind.Kind.TheVariants.{U8, I8, I16, I16Be, F32}
-use Rattle.recordings.specs.declared.kind.Kind.TheVariants.{Bits2Low, SignSizeLow}
-use Rattle.recordings.specs.declared.kind.Kind.TheVariants.{Bits1Low, Bits1High}
+use Rattle.recordings.specs.declared.value_kind.ValueKind.{ValueKind}
+use Rattle.recordings.specs.declared.value_kind.ValueKind.TheVariants.{U8, I8, I16, I16Be, F32}
+use Rattle.recordings.specs.declared.value_kind.ValueKind.TheVariants.{Bits2Low, SignSizeLow}
+use Rattle.recordings.specs.declared.value_kind.ValueKind.TheVariants.{Bits1Low, Bits1High}
 use Rattle.std.specs.Prelude.{◌-ℤ◌, unsigned_abs, int_lt, nat_lt}
 use Rattle.recordings.specs.Recordings.{sign_bit, size_bit, sign_in, size_in, code_in, code_of}
 use Rattle.recordings.specs.Recordings.{sample_in, sample_of, packing_in}
@@ -21,7 +21,7 @@ use Rattle.recordings.specs.declared.part.PartRecipe.{PartRecipe}
 use Rattle.recordings.specs.declared.recipe.Recipe.{Recipe}
 use Rattle.recordings.proofs.DigitLemmas.{HasDigits}
 
-pub some_bits : (kind : Kind) → 0 < bits_of kind
+pub some_bits : (kind : ValueKind) → 0 < bits_of kind
 some_bits U8 = omega arith
 some_bits I8 = omega arith
 some_bits I16 = omega arith

@@ -18,10 +18,10 @@ use Rattle.definitions.proofs.SampleLemmas.{samples-append, range-split}
 use Rattle.recordings.specs.Readings.{bits_of, reading, two_bytes}
 use Rattle.recordings.specs.Recordings.{sample_of, samples_of, sample_in, packing_in, parts_of}
 use Rattle.recordings.specs.Recordings.{sample_bits, group_of, IsPacked}
-use Rattle.recordings.specs.declared.kind.Kind.{Kind}
-use Rattle.recordings.specs.declared.kind.Kind.TheVariants.{U8, I8, I16, I16Be, F32}
-use Rattle.recordings.specs.declared.kind.Kind.TheVariants.{Bits2Low, SignSizeLow}
-use Rattle.recordings.specs.declared.kind.Kind.TheVariants.{Bits1Low, Bits1High}
+use Rattle.recordings.specs.declared.value_kind.ValueKind.{ValueKind}
+use Rattle.recordings.specs.declared.value_kind.ValueKind.TheVariants.{U8, I8, I16, I16Be, F32}
+use Rattle.recordings.specs.declared.value_kind.ValueKind.TheVariants.{Bits2Low, SignSizeLow}
+use Rattle.recordings.specs.declared.value_kind.ValueKind.TheVariants.{Bits1Low, Bits1High}
 use Rattle.recordings.specs.declared.recipe.Recipe.{Recipe}
 
 -- ---- values
@@ -38,7 +38,7 @@ four : ℕ → ℕ → ℕ → ℕ → ℕ
 four a b c d = two_bytes a b + 65536 * two_bytes c d
 
 -- a value that lies in the front of two lists
-reading-front : (kind : Kind) (front back : List ℕ) (i : ℕ)
+reading-front : (kind : ValueKind) (front back : List ℕ) (i : ℕ)
     → bits_of kind * (i + 1) ≤ 8 * length front
     → reading kind (front ++ back) i ≡ reading kind front i
 unfolding reading
@@ -69,7 +69,7 @@ reading-front Bits1High front back i h =
     let a = byte_front front back (i / 8) (omega arith) in rw a refl
 
 -- a value after the front, which has m values
-reading-back : (kind : Kind) (front back : List ℕ) (m i : ℕ)
+reading-back : (kind : ValueKind) (front back : List ℕ) (m i : ℕ)
     → bits_of kind * m ≡ 8 * length front
     → reading kind (front ++ back) (m + i) ≡ reading kind back i
 unfolding reading

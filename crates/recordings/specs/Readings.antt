@@ -4,13 +4,13 @@ use Rattle.std.specs.Prelude.{◌≡◌, ◌≤◌, Bool, true, false}
 use Rattle.std.specs.Prelude.{List, length, slice_index, nat_lt, if◌then◌else◌}
 use Rattle.std.specs.Int.{bit_at}
 use Rattle.definitions.specs.Samples.{sign_of, bit_in}
-use Rattle.recordings.specs.declared.kind.Kind.{Kind}
-use Rattle.recordings.specs.declared.kind.Kind.TheVariants.{U8, I8, I16, I16Be, F32}
-use Rattle.recordings.specs.declared.kind.Kind.TheVariants.{Bits2Low, SignSizeLow}
-use Rattle.recordings.specs.declared.kind.Kind.TheVariants.{Bits1Low, Bits1High}
+use Rattle.recordings.specs.declared.value_kind.ValueKind.{ValueKind}
+use Rattle.recordings.specs.declared.value_kind.ValueKind.TheVariants.{U8, I8, I16, I16Be, F32}
+use Rattle.recordings.specs.declared.value_kind.ValueKind.TheVariants.{Bits2Low, SignSizeLow}
+use Rattle.recordings.specs.declared.value_kind.ValueKind.TheVariants.{Bits1Low, Bits1High}
 
 -- how many bits a value has
-abbrev pub bits_of : Kind → ℕ
+abbrev pub bits_of : ValueKind → ℕ
 bits_of U8 = 8
 bits_of I8 = 8
 bits_of I16 = 16
@@ -44,7 +44,7 @@ float_order bits = if nat_lt bits (2 ^ 31) then pos bits else neg_ℤ (pos (bits
 
 -- Value number i of bytes as an integer: twice the value, so that the middle of unsigned bytes,
 -- 127.5, is one too. The value of a float is an integer that grows with it.
-unfoldable pub reading : Kind → List ℕ → ℕ → ℤ
+unfoldable pub reading : ValueKind → List ℕ → ℕ → ℤ
 reading U8 bytes i = pos (2 * slice_index bytes i)
 reading I8 bytes i = pos 2 *ℤ signed 128 (slice_index bytes i)
 reading I16 bytes i =
@@ -66,7 +66,7 @@ abbrev pub IsNumber : ℕ → Type 0
 IsNumber bits = bits % 2 ^ 31 ≤ 0x7f80_0000
 
 -- whether the values of a kind may be none
-abbrev pub has_nans : Kind → Bool
+abbrev pub has_nans : ValueKind → Bool
 has_nans U8 = false
 has_nans I8 = false
 has_nans I16 = false
@@ -78,7 +78,7 @@ has_nans Bits1Low = false
 has_nans Bits1High = false
 
 -- each whole float of bytes is a number
-abbrev pub AreNumbers : Kind → List ℕ → Type 0
+abbrev pub AreNumbers : ValueKind → List ℕ → Type 0
 AreNumbers kind bytes =
     has_nans kind ≡ true → (i : ℕ) → 4 * (i + 1) ≤ length bytes → IsNumber (four_bytes bytes (4 *
     i))

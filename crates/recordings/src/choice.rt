@@ -2,9 +2,9 @@
 
 ghost use Rattle.std.specs.Prelude.{◌≡◌, ◌<◌, ◌↔◌, Err, IfOk, true, false, if◌then◌else◌};
 
-use crate::kind::Kind;
 use crate::part::PartRecipe;
 use crate::recipe::Recipe;
+use crate::value_kind::ValueKind;
 use sample_planes::Format;
 use thiserror::Error;
 
@@ -13,7 +13,7 @@ use thiserror::Error;
 #[derive(Clone, Copy, Debug, PartialEq, Eq)]
 pub struct Choice {
     /// The kind of the recording's values.
-    pub kind: Kind,
+    pub kind: ValueKind,
     /// Whether the recording's values are pairs, in phase and in quadrature.
     pub is_paired: bool,
     /// The packing to write.

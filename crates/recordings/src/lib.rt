@@ -6,12 +6,12 @@
 //! says which bytes are wanted, and `Recipe::measure` shows what the values are like: of that only
 //! the number of samples is proved.
 //!
-//!     use recordings::{Choice, Kind, Packer, Stretch};
+//!     use recordings::{Choice, Packer, Stretch, ValueKind};
 //!     use sample_planes::Format;
 //!
 //!     // Bytes without a sign around 127.5, as two bits each: those farther off than 60 are large.
 //!     let choice = Choice {
-//!         kind: Kind::U8,
+//!         kind: ValueKind::U8,
 //!         is_paired: false,
 //!         format: Format::Real2,
 //!         threshold: 120,
@@ -30,20 +30,20 @@
 
 mod choice;
 mod fault;
-mod kind;
 mod measure;
 mod numbers;
 mod packer;
 mod part;
 mod recipe;
 mod stretch;
+mod value_kind;
 
 pub use choice::{Choice, ChoiceFault};
 pub use fault::PackFault;
-pub use kind::Kind;
 pub use measure::Measure;
 pub use numbers::READING_LIMIT;
 pub use packer::{MOST_PIECE, Packer};
 pub use part::PartRecipe;
 pub use recipe::{MOST_BYTES, MOST_GROUP, MOST_SAMPLE_BITS, Recipe};
 pub use stretch::Stretch;
+pub use value_kind::ValueKind;

@@ -4,8 +4,8 @@ ghost use Rattle.std.specs.Prelude.{◌≡◌, ◌<◌, ◌≤◌, ◌*◌, ◌/
 ghost use Rattle.recordings.specs.declared.recipe.TheConstants.{MOST_GROUP};
 
 use crate::fault::PackFault;
-use crate::kind::Kind;
 use crate::recipe::{MOST_GROUP, Recipe};
+use crate::value_kind::ValueKind;
 use std::alloc::{AllocError, Global};
 
 /// The most bytes of a piece.
@@ -37,7 +37,7 @@ impl Packer {
     }
 
     /// The kind of the recording's values.
-    pub fn kind(&self) -> Kind
+    pub fn kind(&self) -> ValueKind
         ensures { result ≡ (recipe_in self.now).kind }
     {
         self.recipe.kind

@@ -8,8 +8,8 @@ ghost use Rattle.recordings.specs.declared.numbers.TheConstants.{READING_LIMIT};
 ghost use Rattle.recordings.specs.declared.numbers.TheConstants.{SIGN_AND_SIZE_LIMIT};
 
 use crate::fault::PackFault;
-use crate::kind::Kind;
 use crate::part::PartRecipe;
+use crate::value_kind::ValueKind;
 use sample_planes::Format;
 use std::alloc::AllocError;
 
@@ -32,7 +32,7 @@ const LEAST_FOR_TABLE: usize = 2048;
 #[derive(Clone, Copy, Debug, PartialEq, Eq)]
 pub struct Recipe {
     /// The kind of the recording's values.
-    pub kind: Kind,
+    pub kind: ValueKind,
     /// Whether the recording's values are pairs.
     pub is_paired: bool,
     /// The packing to write.

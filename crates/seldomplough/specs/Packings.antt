@@ -7,7 +7,7 @@ use Rattle.recordings.specs.Packers as packers
 use Rattle.recordings.specs.declared.packer.TheConstants.{MOST_PIECE}
 use Rattle.recordings.specs.Readings.{AreNumbers}
 use Rattle.recordings.specs.declared.recipe.Recipe.{Recipe}
-use Rattle.recordings.specs.declared.kind.Kind.{Kind}
+use Rattle.recordings.specs.declared.value_kind.ValueKind.{ValueKind}
 use Rattle.recordings.specs.declared.fault.PackFault.{PackFault}
 use Rattle.recordings.specs.declared.fault.PackFault.TheVariants as pack_faults
 use Rattle.seldomplough.specs.declared.packing_fault.PackingFault.{PackingFault}
@@ -17,7 +17,7 @@ use Rattle.seldomplough.specs.declared.packing.Packing.{Packing}
 abbrev pub recipe_in : Packing → Recipe
 recipe_in p = packers.recipe_in p.packer
 
-abbrev pub kind_in : Packing → Kind
+abbrev pub kind_in : Packing → ValueKind
 kind_in p = (recipe_in p).kind
 
 -- the bytes of a recording that came so far, and what was packed of them

@@ -54,7 +54,7 @@ pub use oscillators::{Doppler, HalfChip, Settings, SettingsFault};
 pub use packing::Packing;
 pub use packing_fault::PackingFault;
 pub use receiver::Receiver;
-pub use recordings::{Choice, ChoiceFault, Kind, MOST_PIECE, Recipe};
+pub use recordings::{Choice, ChoiceFault, MOST_PIECE, Recipe, ValueKind};
 pub use sample_planes::{Format, MAX_SAMPLES, NumberedSamples, PackedSamples};
 pub use slot_protocol::{
     Answer, Command, Event, MOST_SLOTS, Phase, Refusal, SlotEvent, SlotNo, SlotState,

@@ -1,13 +1,13 @@
 //! Packed samples of a recording's values.
 
 ghost use Rattle.std.specs.Prelude.{◌≡◌, ◌≢◌, ◌↔◌, ◌⊎◌, [], IfOk, Err};
-ghost use Rattle.recordings.specs.declared.kind.Kind.TheVariants.{I8, F32};
+ghost use Rattle.recordings.specs.declared.value_kind.ValueKind.TheVariants.{I8, F32};
 ghost use Rattle.seldomplough.specs.declared.packing_fault.PackingFault.TheVariants.{NotANumber};
 ghost use Rattle.seldomplough.specs.declared.packing_fault.PackingFault.TheVariants.{OtherKind};
 
 use crate::packing_fault::PackingFault;
 use crate::values::{write_f32, write_i8};
-use recordings::{Kind, MOST_PIECE, Packer, Recipe};
+use recordings::{MOST_PIECE, Packer, Recipe, ValueKind};
 use std::alloc::{AllocError, Global};
 
 /// How many bytes a float of 32 bits has.
@@ -72,7 +72,7 @@ impl Packing {
         Ok(rest)
     }
 
-    /// Takes signed bytes as `take` does the bytes of a recording of kind `Kind::I8`.
+    /// Takes signed bytes as `take` does the bytes of a recording of kind `ValueKind::I8`.
     ///
     /// # Errors
     ///
@@ -84,7 +84,7 @@ impl Packing {
         ensures numbers { result ≢ Err NotANumber }
         ensures recipe { recipe_in self.new ≡ recipe_in self.old }
     {
-        if self.packer.kind() != Kind::I8 {
+        if self.packer.kind() != ValueKind::I8 {
             return Err(PackingFault::OtherKind);
         }
         let (front, rest) = values.split_at(values.len().min(MOST_PIECE));
@@ -93,7 +93,7 @@ impl Packing {
         Ok(rest)
     }
 
-    /// Takes floats as `take` does the bytes of a recording of kind `Kind::F32`.
+    /// Takes floats as `take` does the bytes of a recording of kind `ValueKind::F32`.
     ///
     /// # Errors
     ///
@@ -106,7 +106,7 @@ impl Packing {
             → HasNan values.now ⊎ FindsNoNumber bytes_of_f32 values.now self.old }
         ensures recipe { recipe_in self.new ≡ recipe_in self.old }
     {
-        if self.packer.kind() != Kind::F32 {
+        if self.packer.kind() != ValueKind::F32 {
             return Err(PackingFault::OtherKind);
         }
         let (front, rest) = values.split_at(values.len().min(MOST_PIECE / FLOAT_BYTES));

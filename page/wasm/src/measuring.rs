@@ -5,7 +5,7 @@ use crate::files::Recording;
 use crate::numbers::{self, Ending, PAIRED, SWAPPED};
 use crate::packing::{MOST_HALVES, ending_of};
 use receiver::Source;
-use recordings::{Choice, Kind, MOST_BYTES, Measure, PartRecipe, Recipe};
+use recordings::{Choice, MOST_BYTES, Measure, PartRecipe, Recipe, ValueKind};
 use sample_planes::Format;
 
 const FLOAT_BYTES: usize = size_of::<f32>();
@@ -31,7 +31,7 @@ pub fn measure(kind: u32, flags: u32) -> Result<Given, Ending> {
     };
     let recipe = choice.recipe().map_err(ending_of)?;
     let bytes = beginning()?;
-    if kind == Kind::F32 {
+    if kind == ValueKind::F32 {
         of_floats(&recipe, &bytes)
     } else {
         of_integers(&recipe, &bytes)

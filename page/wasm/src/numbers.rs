@@ -1,6 +1,6 @@
 //! The numbers that cross the border. `page/worker.js` names them too.
 
-use recordings::Kind;
+use recordings::ValueKind;
 use sample_planes::Format;
 
 /// How a run or a measurement ended.
@@ -44,16 +44,16 @@ pub enum Ending {
 
 /// The kinds of values. Number 0 is a recording that is packed already, and number k the kind k - 1
 /// of these.
-const KINDS: [Kind; 9] = [
-    Kind::U8,
-    Kind::I8,
-    Kind::I16,
-    Kind::I16Be,
-    Kind::F32,
-    Kind::Bits2Low,
-    Kind::SignSizeLow,
-    Kind::Bits1Low,
-    Kind::Bits1High,
+const KINDS: [ValueKind; 9] = [
+    ValueKind::U8,
+    ValueKind::I8,
+    ValueKind::I16,
+    ValueKind::I16Be,
+    ValueKind::F32,
+    ValueKind::Bits2Low,
+    ValueKind::SignSizeLow,
+    ValueKind::Bits1Low,
+    ValueKind::Bits1High,
 ];
 
 /// The number of a recording that is packed already.
@@ -72,7 +72,7 @@ pub const CONJUGATE: u32 = 4;
 pub const QUADRATURE: u32 = 8;
 
 /// The kind of values that a number stands for.
-pub fn kind(number: u32) -> Result<Kind, Ending> {
+pub fn kind(number: u32) -> Result<ValueKind, Ending> {
     let place = (number as usize).checked_sub(1).ok_or(Ending::Number)?;
     KINDS.get(place).copied().ok_or(Ending::Number)
 }

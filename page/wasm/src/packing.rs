@@ -5,7 +5,7 @@ use crate::numbers::{self, CONJUGATE, Ending, PACKED, PAIRED, QUADRATURE, SWAPPE
 use kit::alloc::Global;
 use kit::vec::Vec as Bytes;
 use receiver::{DeviceFault, Source};
-use recordings::{Choice, ChoiceFault, Kind, MOST_PIECE, PackFault, Packer};
+use recordings::{Choice, ChoiceFault, MOST_PIECE, PackFault, Packer, ValueKind};
 use sample_planes::Format;
 
 /// Twice the greatest threshold or centre but for floats, as `pack` takes it.
@@ -32,7 +32,7 @@ impl Asked {
     /// What is asked, in the terms of `recordings`.
     pub fn choice(&self) -> Result<Choice, Ending> {
         let kind = numbers::kind(self.kind)?;
-        let is_float = kind == Kind::F32;
+        let is_float = kind == ValueKind::F32;
         Ok(Choice {
             kind,
             format: numbers::format(self.format)?,

@@ -36,7 +36,7 @@ fn public_types_are_of_threads() {
         printed_lines: Line;
         receiver: RunFault;
         receiver_options: OptionFault, Stored<u8>, SystemCommandLine<u8>;
-        recordings: Choice, ChoiceFault, Kind, Measure, PackFault, Packer;
+        recordings: Choice, ChoiceFault, Measure, PackFault, Packer, ValueKind;
         recordings: PartRecipe, Recipe, Stretch;
         sample_history: SampleHistory;
         sample_planes: Format, NumberedSamples, PackedSamples, Planes;

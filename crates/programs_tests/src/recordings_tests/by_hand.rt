@@ -2,7 +2,7 @@
 
 use crate::recordings_tests::{choice, in_pieces};
 use assertions::assert_same;
-use recordings::{Choice, ChoiceFault, Kind, PackFault, Packer, Stretch};
+use recordings::{Choice, ChoiceFault, PackFault, Packer, Stretch, ValueKind};
 use sample_planes::Format;
 use std::alloc::Global;
 use std::process::Abort;
@@ -28,16 +28,16 @@ fn assert_packed(
 // near, 00 near and 01 far.
 #[test]
 fn ends_of_ranges(rt: HostRuntime) -> Result<(), Fail> {
-    let unsigned = choice(Kind::U8, false, Format::Real2);
+    let unsigned = choice(ValueKind::U8, false, Format::Real2);
     let near = [85, 84, 170, 171];
     assert_packed(&rt, rt.alloc(), &unsigned, &[0, 127, 128, 255], &[0xe1])?;
     assert_packed(&rt, rt.alloc(), &unsigned, &near, &[0xb1])?;
-    let signed = choice(Kind::I8, false, Format::Real2);
+    let signed = choice(ValueKind::I8, false, Format::Real2);
     assert_packed(&rt, rt.alloc(), &signed, &[0x80, 0xfb, 0xfc, 0x7f], &[0xe1])?;
-    let wide = choice(Kind::I16, false, Format::Real2);
+    let wide = choice(ValueKind::I16, false, Format::Real2);
     let ends = [0x00, 0x80, 0xf3, 0x01, 0xf4, 0x01, 0xff, 0x7f];
     assert_packed(&rt, rt.alloc(), &wide, &ends, &[0xe1])?;
-    let turned = choice(Kind::I16Be, false, Format::Real2);
+    let turned = choice(ValueKind::I16Be, false, Format::Real2);
     let ends = [0x80, 0x00, 0x01, 0xf3, 0x01, 0xf4, 0x7f, 0xff];
     assert_packed(&rt, rt.alloc(), &turned, &ends, &[0xe1])?;
     Ok(())
@@ -47,7 +47,7 @@ fn ends_of_ranges(rt: HostRuntime) -> Result<(), Fail> {
 #[test]
 fn parts_by_options(rt: HostRuntime) -> Result<(), Fail> {
     let pairs = [1, 0xfe, 0xfd, 4, 1, 0xfe, 0xfd, 4];
-    let mut asked = choice(Kind::I8, true, Format::Iq1);
+    let mut asked = choice(ValueKind::I8, true, Format::Iq1);
     (asked.centre, asked.centre_q) = (0, 0);
     assert_packed(&rt, rt.alloc(), &asked, &pairs, &[0x66])?;
     asked.is_conjugate = true;
@@ -57,7 +57,7 @@ fn parts_by_options(rt: HostRuntime) -> Result<(), Fail> {
     asked.is_conjugate = false;
     asked.centre = 9;
     assert_packed(&rt, rt.alloc(), &asked, &pairs, &[0xbb])?;
-    let mut part = choice(Kind::I8, true, Format::Real2);
+    let mut part = choice(ValueKind::I8, true, Format::Real2);
     (part.centre, part.centre_q, part.threshold) = (0, 0, 4);
     assert_packed(&rt, rt.alloc(), &part, &pairs, &[0x33])?;
     part.takes_quadrature = true;
@@ -72,14 +72,14 @@ fn assert_fault(rt: &impl Abort, choice: &Choice, expected: ChoiceFault) {
 
 #[test]
 fn what_cannot_be_had(rt: HostRuntime) {
-    let real = choice(Kind::I8, false, Format::Iq1);
+    let real = choice(ValueKind::I8, false, Format::Iq1);
     assert_fault(&rt, &real, ChoiceFault::Pairs);
-    let mut turned = choice(Kind::I8, false, Format::Real1);
+    let mut turned = choice(ValueKind::I8, false, Format::Real1);
     turned.is_conjugate = true;
     assert_fault(&rt, &turned, ChoiceFault::Pairs);
-    let signs = choice(Kind::Bits1Low, true, Format::Iq2);
+    let signs = choice(ValueKind::Bits1Low, true, Format::Iq2);
     assert_fault(&rt, &signs, ChoiceFault::Sizes);
-    let mut both = choice(Kind::I8, true, Format::Iq1);
+    let mut both = choice(ValueKind::I8, true, Format::Iq1);
     both.takes_quadrature = true;
     assert_fault(&rt, &both, ChoiceFault::Part);
 }
@@ -102,7 +102,7 @@ fn assert_part(rt: &impl Abort, stretch: &mut Stretch, piece: &[u8], expected: &
 
 #[test]
 fn what_is_left(rt: HostRuntime) -> Result<(), Fail> {
-    if let Ok(recipe) = choice(Kind::I16, true, Format::Iq1).recipe() {
+    if let Ok(recipe) = choice(ValueKind::I16, true, Format::Iq1).recipe() {
         let mut packer = Packer::new(rt.alloc(), recipe)?;
         let mut written = Vec::new(rt.alloc());
         packer.take(&[0; 25], &mut written)?;
@@ -132,7 +132,7 @@ fn floats(rt: HostRuntime) -> Result<(), Fail> {
     for word in &words {
         bytes.extend_from_slice(&word.to_le_bytes())?;
     }
-    let mut asked = choice(Kind::F32, false, Format::Real2);
+    let mut asked = choice(ValueKind::F32, false, Format::Real2);
     asked.threshold = 0x3f00_0000;
     assert_packed(&rt, rt.alloc(), &asked, &bytes, &[0xe1, 0x0e])?;
     Ok(())
@@ -140,7 +140,7 @@ fn floats(rt: HostRuntime) -> Result<(), Fail> {
 
 #[test]
 fn a_float_that_is_no_number(rt: HostRuntime) -> Result<(), Fail> {
-    if let Ok(recipe) = choice(Kind::F32, false, Format::Real1).recipe() {
+    if let Ok(recipe) = choice(ValueKind::F32, false, Format::Real1).recipe() {
         let mut packer = Packer::new(rt.alloc(), recipe)?;
         let mut written = Vec::new(rt.alloc());
         assert!(rt; packer.take(&[0, 0, 0x80, 0x7f, 1], &mut written).is_ok());

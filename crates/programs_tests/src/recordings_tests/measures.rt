@@ -2,12 +2,12 @@
 
 use crate::choices::{self, recipe_of};
 use assertions::assert_same;
-use recordings::{Choice, Kind, Measure, Recipe};
+use recordings::{Choice, Measure, Recipe, ValueKind};
 use sample_planes::Format;
 use std::test::Fail;
 
 /// The recipe of signs of values about centres, which are twice their values.
-fn signs(kind: Kind, is_paired: bool, centre: i32, centre_q: i32) -> Result<Recipe, Fail> {
+fn signs(kind: ValueKind, is_paired: bool, centre: i32, centre_q: i32) -> Result<Recipe, Fail> {
     let format = if is_paired {
         Format::Iq1
     } else {
@@ -28,7 +28,7 @@ fn signs(kind: Kind, is_paired: bool, centre: i32, centre_q: i32) -> Result<Reci
 // which are far; below it are 127, which is near, and 0, which is far.
 #[test]
 fn bytes_without_a_sign(rt: HostRuntime) -> Result<(), Fail> {
-    let recipe = signs(Kind::U8, false, 255, 255)?;
+    let recipe = signs(ValueKind::U8, false, 255, 255)?;
     let bytes = [0, 255, 130, 127, 255, 129, 128];
     let expected = Measure {
         count: 7,
@@ -55,7 +55,7 @@ fn bytes_without_a_sign(rt: HostRuntime) -> Result<(), Fail> {
 // and 2 are below, all near.
 #[test]
 fn pairs_with_a_common_threshold(rt: HostRuntime) -> Result<(), Fail> {
-    let recipe = signs(Kind::I16Be, true, -1, 5)?;
+    let recipe = signs(ValueKind::I16Be, true, -1, 5)?;
     let bytes = [
         0x00, 0x02, 0x00, 0x04, 0xff, 0xfe, 0x00, 0x01, 0xff, 0xff, 0x00, 0x02, 0x80, 0x00, 0x7f,
     ];
@@ -85,7 +85,7 @@ fn pairs_with_a_common_threshold(rt: HostRuntime) -> Result<(), Fail> {
 // 4 = 80. 3 and -3 are the ends of the range, and farther from 0 than 2.
 #[test]
 fn values_of_two_bits(rt: HostRuntime) -> Result<(), Fail> {
-    let recipe = signs(Kind::Bits2Low, false, 0, 0)?;
+    let recipe = signs(ValueKind::Bits2Low, false, 0, 0)?;
     let expected = Measure {
         count: 4,
         sum: 0,

@@ -1,7 +1,7 @@
 use Rattle.std.proofs.Common.{◌∙◌, sym, ap, subst}
 use Rattle.std.specs.Result.{result_ok}
 use Rattle.clap.specs.Matches.{found_of}
-use Rattle.recordings.specs.declared.kind.Kind.{Kind}
+use Rattle.recordings.specs.declared.value_kind.ValueKind.{ValueKind}
 use Rattle.packer.specs.Options.{HasCentres}
 use Rattle.packer.proofs.AskedLemmas.{no_threshold}
 use Rattle.packer.proofs.DeviceLemmas.{on_err}
@@ -11,7 +11,7 @@ pub returns-in_err-centre-clause-why : goal.returns-in_err-centre-clause-why
 returns-in_err-centre-clause-why c =
     on_err c.from_residual-in_err-centre.result _ (λ choice asks.
     c.in_err-centre.ensures.why choice.centre choice.centre_q
-    (subst (λ (k : Kind).
+    (subst (λ (k : ValueKind).
     HasCentres (found_of c.args.matches.now) k choice.centre choice.centre_q)
     (asks.kind ∙ sym c.from-is_paired.ensures.kind) asks.centres))
 

@@ -12,7 +12,7 @@ use crate::numbers::{
 
 /// The kind of the values of a recording.
 #[derive(Clone, Copy, Debug, PartialEq, Eq)]
-pub enum Kind {
+pub enum ValueKind {
     /// Bytes without a sign, 0 to 255.
     U8,
     /// Bytes of two's complement.
@@ -34,36 +34,36 @@ pub enum Kind {
     Bits1High,
 }
 
-impl Kind {
+impl ValueKind {
     /// How many bits a value has: 1, 2, 8, 16 or 32.
     pub fn bits(self) -> usize
         ensures { result ≡ bits_of self }
     {
         match self {
-            Kind::U8 => 8,
-            Kind::I8 => 8,
-            Kind::I16 => 16,
-            Kind::I16Be => 16,
-            Kind::F32 => 32,
-            Kind::Bits2Low => 2,
-            Kind::SignSizeLow => 2,
-            Kind::Bits1Low => 1,
-            Kind::Bits1High => 1,
+            ValueKind::U8 => 8,
+            ValueKind::I8 => 8,
+            ValueKind::I16 => 16,
+            ValueKind::I16Be => 16,
+            ValueKind::F32 => 32,
+            ValueKind::Bits2Low => 2,
+            ValueKind::SignSizeLow => 2,
+            ValueKind::Bits1Low => 1,
+            ValueKind::Bits1High => 1,
         }
     }
 
     /// The least and the greatest reading, but for floats.
     pub(crate) fn ends(self) -> (i64, i64) {
         match self {
-            Kind::U8 => (0, 510),
-            Kind::I8 => (-256, 254),
-            Kind::I16 => (-65536, 65534),
-            Kind::I16Be => (-65536, 65534),
-            Kind::F32 => (-0x7f80_0000, 0x7f80_0000),
-            Kind::Bits2Low => (-6, 6),
-            Kind::SignSizeLow => (-6, 6),
-            Kind::Bits1Low => (-2, 2),
-            Kind::Bits1High => (-2, 2),
+            ValueKind::U8 => (0, 510),
+            ValueKind::I8 => (-256, 254),
+            ValueKind::I16 => (-65536, 65534),
+            ValueKind::I16Be => (-65536, 65534),
+            ValueKind::F32 => (-0x7f80_0000, 0x7f80_0000),
+            ValueKind::Bits2Low => (-6, 6),
+            ValueKind::SignSizeLow => (-6, 6),
+            ValueKind::Bits1Low => (-2, 2),
+            ValueKind::Bits1High => (-2, 2),
         }
     }
 
@@ -73,7 +73,7 @@ impl Kind {
         ensures some { result ≡ false → ¬ AreNumbers self bytes.now }
     {
         match self {
-            Kind::F32 => are_numbers(bytes),
+            ValueKind::F32 => are_numbers(bytes),
             _ => true,
         }
     }
@@ -86,17 +86,21 @@ impl Kind {
         ensures small { unsigned_abs result < READING_LIMIT }
     {
         match self {
-            Kind::U8 => 2 * i64::from(bytes[i]),
-            Kind::I8 => 2 * signed(128, u32::from(bytes[i])),
-            Kind::I16 => 2 * signed(HALF_OF_16_BITS, two_bytes(bytes[2 * i], bytes[2 * i + 1])),
-            Kind::I16Be => 2 * signed(HALF_OF_16_BITS, two_bytes(bytes[2 * i + 1], bytes[2 * i])),
-            Kind::F32 => float_order(four_bytes(bytes, FLOAT_BYTES * i)),
-            Kind::Bits2Low => {
+            ValueKind::U8 => 2 * i64::from(bytes[i]),
+            ValueKind::I8 => 2 * signed(128, u32::from(bytes[i])),
+            ValueKind::I16 => {
+                2 * signed(HALF_OF_16_BITS, two_bytes(bytes[2 * i], bytes[2 * i + 1]))
+            }
+            ValueKind::I16Be => {
+                2 * signed(HALF_OF_16_BITS, two_bytes(bytes[2 * i + 1], bytes[2 * i]))
+            }
+            ValueKind::F32 => float_order(four_bytes(bytes, FLOAT_BYTES * i)),
+            ValueKind::Bits2Low => {
                 2 * (2 * signed(2, u32::from((bytes[i / 4] >> (2 * (i % 4))) % 4)) + 1)
             }
-            Kind::SignSizeLow => 2 * sized((bytes[i / 4] >> (2 * (i % 4))) % 4),
-            Kind::Bits1Low => 2 * sign_of((bytes[i / 8] >> (i % 8)) % 2),
-            Kind::Bits1High => 2 * sign_of((bytes[i / 8] >> (7 - i % 8)) % 2),
+            ValueKind::SignSizeLow => 2 * sized((bytes[i / 4] >> (2 * (i % 4))) % 4),
+            ValueKind::Bits1Low => 2 * sign_of((bytes[i / 8] >> (i % 8)) % 2),
+            ValueKind::Bits1High => 2 * sign_of((bytes[i / 8] >> (7 - i % 8)) % 2),
         }
     }
 }

@@ -3,7 +3,7 @@ use Rattle.std.specs.Prelude.{ℤ, pos, ◌*ℤ◌, ◌+ℤ◌, unsigned_abs}
 use Rattle.std.proofs.lemmas.Int.{ints}
 use Rattle.recordings.specs.Readings.{reading, signed, float_order}
 use Rattle.recordings.proofs.ReadingLemmas.{doubled, odd, kept}
-use Rattle.recordings.proofs.kind.Kind.reading.Goals as goal
+use Rattle.recordings.proofs.value_kind.ValueKind.reading.Goals as goal
 
 pub returns-in-U8-clause-value : goal.returns-in-U8-clause-value
 unfolding reading

@@ -5,7 +5,7 @@ ghost use Rattle.definitions.specs.Frames.{bit_number};
 ghost use Rattle.frame_sync.specs.Bits.{bits_in, word_in, is_framed_in, has_header_in};
 ghost use Rattle.frame_sync.specs.Bits.{header_words_in};
 ghost use Rattle.nav_parity.specs.declared.parity.TheConstants.{DATA_LIMIT};
-ghost use Rattle.frame_sync.specs.declared.window.TheConstants.{WINDOW_BITS, CHECKED_BITS};
+ghost use Rattle.frame_sync.specs.declared.last_bits.TheConstants.{WINDOW_BITS, CHECKED_BITS};
 
 use crate::subframe::{SUBFRAME_WORDS, Subframe};
 use nav_parity::check;
