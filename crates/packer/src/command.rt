@@ -49,56 +49,45 @@ Examples:
 
 /// Reads the words of a command line, the program's name first.
 pub fn matches<'a>(alloc: Global, words: &'a [String]) -> Result<ArgMatches<'a>, Error> {
-    let command = Command::new(alloc, "pack")
+    let options = Vec::from_array(alloc, options(alloc))?;
+    command(alloc).args(options)?.try_get_matches_from(words)
+}
+
+/// The command without its options.
+fn command<'a>(alloc: Global) -> Command<'a> {
+    Command::new(alloc, "pack")
         .version(VERSION)
         .about(ABOUT)
         .override_usage("pack --from <KIND> <--to <FORMAT>|--measure> [OPTIONS]")
-        .after_help(MORE);
-    let command = with_kinds(alloc, command)?;
-    with_stretch(alloc, with_parts(alloc, command)?)?.try_get_matches_from(words)
+        .after_help(MORE)
 }
 
-/// Adds what is read and written, and by which threshold and centres.
-fn with_kinds<'a>(alloc: Global, command: Command<'a>) -> Result<Command<'a>, AllocError> {
-    let kind = named(alloc, "from", "KIND", "The kind of the recording's values")
-        .value_parser(KINDS.as_slice())
-        .required(true);
-    let format = named(alloc, "to", "FORMAT", "The packing to write").value_parser(Format::names());
+/// The options, in the order that the help has.
+fn options<'a>(alloc: Global) -> [Arg<'a>; 11] {
+    let from = "The kind of the recording's values";
+    let to = "The packing to write";
     let threshold = "Size 3 begins farther than N from the centre";
     let centre = "The centre, 0 or N; 127.5 for unsigned bytes";
     let centre_q = "That of the part in quadrature, where it is another";
-    command
-        .arg(kind)?
-        .arg(format)?
-        .arg(number(alloc, "threshold", threshold))?
-        .arg(number(alloc, "centre", centre))?
-        .arg(number(alloc, "centre-q", centre_q))
-}
-
-/// Adds what is done with the parts of pairs.
-fn with_parts<'a>(alloc: Global, command: Command<'a>) -> Result<Command<'a>, AllocError> {
     let swap = "The part in quadrature stands first in each pair";
     let conjugate = "Turns the sign of the part in quadrature";
     let part = "The part that real samples are made of";
-    command
-        .arg(flag(alloc, "swap", swap))?
-        .arg(flag(alloc, "conjugate", conjugate))?
-        .arg(
-            named(alloc, "part", "PART", part)
-                .value_parser(PARTS.as_slice())
-                .default_value("i"),
-        )
-}
-
-/// Adds whether it is measured, and which stretch of it is taken.
-fn with_stretch<'a>(alloc: Global, command: Command<'a>) -> Result<Command<'a>, AllocError> {
     let measure = "Tells what the values are like, and suggests a centre and a threshold";
     let skip = "Leaves out so many samples at the beginning";
     let count = "Takes so many samples at most";
-    command
-        .arg(flag(alloc, "measure", measure))?
-        .arg(samples(alloc, "skip", "0", skip))?
-        .arg(samples(alloc, "count", "1099511627776", count))
+    [
+        one_of(alloc, "from", "KIND", &KINDS, from).required(true),
+        one_of(alloc, "to", "FORMAT", Format::names(), to),
+        number(alloc, "threshold", threshold),
+        number(alloc, "centre", centre),
+        number(alloc, "centre-q", centre_q),
+        flag(alloc, "swap", swap),
+        flag(alloc, "conjugate", conjugate),
+        one_of(alloc, "part", "PART", &PARTS, part).default_value("i"),
+        flag(alloc, "measure", measure),
+        samples(alloc, "skip", "0", skip),
+        samples(alloc, "count", "1099511627776", count),
+    ]
 }
 
 /// An option that takes a word.
@@ -110,25 +99,27 @@ fn named<'a>(alloc: Global, name: &'a str, value: &'a str, help: &'a str) -> Arg
         .help(help)
 }
 
+/// An option that takes one of these words.
+fn one_of<'a>(
+    alloc: Global,
+    name: &'a str,
+    value: &'a str,
+    words: &'a [&'a str],
+    help: &'a str,
+) -> Arg<'a> {
+    named(alloc, name, value, help).value_parser(words)
+}
+
 /// An option with a number, which may end with a half.
 fn number<'a>(alloc: Global, name: &'a str, help: &'a str) -> Arg<'a> {
-    Arg::new(alloc, name)
-        .long(name)
-        .value_name("N")
-        .action(ArgAction::Set)
-        .allow_hyphen_values(true)
-        .help(help)
+    named(alloc, name, "N", help).allow_hyphen_values(true)
 }
 
 /// An option with a number of samples.
 fn samples<'a>(alloc: Global, name: &'a str, default: &'a str, help: &'a str) -> Arg<'a> {
-    Arg::new(alloc, name)
-        .long(name)
-        .value_name("SAMPLES")
-        .action(ArgAction::Set)
+    named(alloc, name, "SAMPLES", help)
         .value_parser(value_parser!(u64))
         .default_value(default)
-        .help(help)
 }
 
 /// An option without a value.

@@ -13,14 +13,14 @@ pub enum ArgAction {
 
 /// Which values an argument takes.
 #[derive(Clone, Copy, Debug)]
-pub enum ValueParser {
+pub enum ValueParser<'a> {
     Any,
     Number(i128, i128),
-    OneOf(&'static [&'static str]),
+    OneOf(&'a [&'a str]),
 }
 
-impl From<&'static [&'static str]> for ValueParser {
-    fn from(texts: &'static [&'static str]) -> ValueParser {
+impl<'a> From<&'a [&'a str]> for ValueParser<'a> {
+    fn from(texts: &'a [&'a str]) -> ValueParser<'a> {
         ValueParser::OneOf(texts)
     }
 }
@@ -32,7 +32,7 @@ pub struct Arg<'a> {
     pub(crate) long: Option<&'a str>,
     pub(crate) value_name: Option<&'a str>,
     pub(crate) action: ArgAction,
-    pub(crate) parser: ValueParser,
+    pub(crate) parser: ValueParser<'a>,
     pub(crate) default: Option<&'a str>,
     pub(crate) is_required: bool,
     pub(crate) takes_hyphens: bool,
@@ -76,7 +76,7 @@ impl<'a> Arg<'a> {
         Arg { action, ..self }
     }
 
-    pub fn value_parser(self, parser: impl Into<ValueParser>) -> Arg<'a> {
+    pub fn value_parser(self, parser: impl Into<ValueParser<'a>>) -> Arg<'a> {
         Arg {
             parser: parser.into(),
             ..self

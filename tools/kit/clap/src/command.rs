@@ -58,6 +58,10 @@ impl<'a> Command<'a> {
         Ok(self)
     }
 
+    pub fn args(self, args: kit_std::vec::Vec<Arg<'a>>) -> Result<Command<'a>, AllocError> {
+        args.into_iter().try_fold(self, Command::arg)
+    }
+
     /// Reads the words of a command line, the program's name first.
     pub fn try_get_matches_from(
         self,
