@@ -3,7 +3,7 @@
 use crate::formats::KINDS;
 use clap::{Arg, ArgAction, ArgMatches, Command, Error, value_parser};
 use sample_planes::Format;
-use std::alloc::{AllocError, Global};
+use std::alloc::Global;
 use version::VERSION;
 
 const ABOUT: &str = "\

@@ -6,11 +6,11 @@ ghost use Rattle.channels.specs.Windows.{first_of, end_of};
 
 use super::{open_to, signal, sums};
 use assertions::{assert_same, assert_same_at};
-use ca_codes::{CodeBook, Prn};
+use ca_codes::CodeBook;
 use channels::{Followed, Window};
 use lane_correlator::Counts;
 use made_signals::{MadeSignal, PlainDump, PlainNews, PlainTracker, SampleStream};
-use oscillators::{Doppler, HalfChip, Settings};
+use oscillators::Settings;
 use sample_planes::Format;
 use std::process::Abort;
 use std::test::Fail;
