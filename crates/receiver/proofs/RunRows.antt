@@ -140,7 +140,7 @@ failure_is_reported left held e = false-true (sym e.writer)
 third_line_is_a_dump : LinesAreRight task.settings (clients_of task) (samples real2 bytes) text
     → (event : Event) × ((c : Counts) × (event ≡ count c))
     × IsLineOf task.settings (clients_of task) (samples real2 bytes)
-        (codes "1 4 count 0 12 4 6 2 6 2") event
+    (codes "1 4 count 0 12 4 6 2 6 2") event
 unfolding as_bytes pieces_ended_by
 third_line_is_a_dump right =
     right.counts 2 (codes "1 4 count 0 12 4 6 2 6 2") (codes "count") refl refl refl
