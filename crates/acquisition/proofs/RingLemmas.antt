@@ -2,10 +2,11 @@
 use Rattle.std.proofs.Common.{inl, inr, ◌≡◌, ℕ, ◌+◌, ◌-◌, ◌<◌, ◌≤◌, refl, ap, ◌∙◌, arith}
 use Rattle.std.proofs.Common.{to_z, of_z, w32, FitsSigned}
 use Rattle.std.specs.Prelude.{ℤ, pos, ◌+ℤ◌, ◌⊎◌, List, slice_index, unsigned_abs}
-use Rattle.std.specs.Prelude.{length, take, drop}
+use Rattle.std.specs.Prelude.{length, take, drop, slice_set}
 use Rattle.std.proofs.lemmas.Int.{to_z-of_z, fits_signed_from_abs}
 use Rattle.std.proofs.lemmas.List.{length-drop}
 use Rattle.std.proofs.lemmas.List.{get_or-take, get_or-drop, length-take-le}
+use Rattle.std.proofs.lemmas.List.{get_or-set_same, get_or-set_other}
 use Rattle.std.specs.Simd.Lanes.{chunk}
 use Rattle.std.proofs.lemmas.Bool.{cases_lt}
 use Rattle.std.proofs.lemmas.Simd.{get_or-chunk, length-chunk}
@@ -73,6 +74,17 @@ set_next n chip table old new below before is put others j h = elim (last_or_bef
   where
     last_or_before : (j k : ℕ) → j < k + 1 → (j ≡ k) ⊎ (j < k)
     last_or_before j k h = grind arith
+
+-- one more number is put in
+pub put_next : (chips : List ℕ) (i put : ℕ) (f : ℕ → ℕ) → i < length chips
+    → ((j : ℕ) → j < i → slice_index chips j ≡ f j) → put ≡ f i
+    → (j : ℕ) → j < i + 1 → slice_index (slice_set chips i put) j ≡ f j
+put_next chips i put f inside before is j h = elim (cases_lt j i) [
+  | inl earlier ↦ get_or-set_other chips i j put 0 (λ e. absurd (omega (arith, earlier, e)))
+      ∙ before j earlier
+  | inr later ↦ let here : j ≡ i = omega (arith, later, h) in
+      rw here (get_or-set_same chips i put 0 inside ∙ is)
+]
 
 -- and once all are, and the first ones again after the last
 pub ring_is : (table : List ℤ) (old new : List ℕ) → AreSet HALF_CHIPS table old

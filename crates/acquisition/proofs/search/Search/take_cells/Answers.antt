@@ -1,4 +1,6 @@
-use Rattle.std.proofs.Common.{◌≡◌, ◌≤◌, ◌<◌, ◌+◌, ◌*◌, ◌/◌, ◌∙◌, ℕ, List, ap, refl, arith}
+use Rattle.std.proofs.Common.{◌≡◌, ◌≤◌, ◌<◌, ◌+◌, ◌*◌, ◌/◌, ◌%◌, ◌∙◌, ℕ, List, ap, refl}
+use Rattle.std.proofs.Common.{arith}
+use Rattle.std.proofs.Math.Nat.{mul-le-mul_right, zero-mul}
 use Rattle.std.specs.Prelude.{get_or, slice_set}
 use Rattle.std.proofs.lemmas.List.{get_or-set_same}
 use Rattle.definitions.specs.Acquisition.{Plan, power_of, dwell_end}
@@ -87,3 +89,28 @@ returns-clause-stands g c settings plan start xs holds s = record {
   tally = tally g c settings plan start xs holds s;
   powers = powers g c settings plan start xs holds s;
 }
+
+pub advance-requires-clause-to : goal.advance-requires-clause-to
+advance-requires-clause-to g c =
+    let inside : c.args.self.now.done % BIN_CELLS + c.min-count.result
+    ≤ BIN_CELLS = omega (arith, c.min-count.ensures) in
+    mul-le-mul_right c.args.self.now.dwell.periods inside
+
+pub invariant_of-self-2-clause-work : goal.invariant_of-self-2-clause-work
+invariant_of-self-2-clause-work g c d = elim c.if-first-count-eq-HALF_CHIPS.branch [
+  | then-first-count-eq-HALF_CHIPS w ↦
+      let none : (c.args.self.now.done + c.min-count.result) % BIN_CELLS ≡ 0 = omega
+      (arith, w.if-first-count-eq-HALF_CHIPS.true) in
+      rw (w.self-is, written _ d, none, zero-mul c.args.self.now.dwell.periods)
+      w.clear.ensures.added
+  | else-first-count-eq-HALF_CHIPS w ↦
+      let inside : (c.args.self.now.done + c.min-count.result) % BIN_CELLS
+      ≡ c.args.self.now.done % BIN_CELLS + c.min-count.result = omega
+      (arith, c.min-count.ensures, w.if-first-count-eq-HALF_CHIPS.false) in
+      rw (w.self-is, written _ d, inside) c.advance.ensures.added
+]
+  where
+    written : (a d : BinPowers)
+        → get_or (slice_set c.args.self.now.room.powers.items 0 a) 0 d ≡ a
+    written a d = get_or-set_same c.args.self.now.room.powers.items 0 a d
+        (omega (arith, c.args.self.now.room.powers.ok.0, c.args.self.now.begun))
