@@ -1,10 +1,11 @@
 -- The ways of a code in 64 lanes, computed by the halves of its step.
-use Rattle.std.proofs.Common.{◌≡◌, ℕ, ◌+◌, ◌-◌, ◌*◌, ◌/◌, ◌%◌, ◌^◌, ◌<◌, ap, sym, ◌∙◌, refl}
+use Rattle.std.proofs.Common.{◌≡◌, ℕ, ◌+◌, ◌-◌, ◌*◌, ◌/◌, ◌%◌, ◌^◌, ◌<◌, ◌≤◌, ap, sym, ◌∙◌, refl}
 use Rattle.std.proofs.Common.{arith, List, length, get_or, inl, inr, zero, suc, [], ◌∷◌}
 use Rattle.std.specs.Prelude.{slice_set}
 use Rattle.std.proofs.lemmas.Bool.{cases_lt}
 use Rattle.std.proofs.lemmas.List.{get_or-set_other}
 use Rattle.std.proofs.lemmas.Grind.{get_or-set_at}
+use Rattle.std.proofs.Math.Nat.{mul-le-mul_right}
 use Rattle.oscillators.specs.Ways.{way_to, window_of, half_to, room_of}
 
 by_halves : (samples step : ℕ)
@@ -30,6 +31,12 @@ half_is k step way window h is there =
     there ∙ ap (λ (n : ℕ). n * step / 4294967296) first in
     let halves : way / 32768 ≡ way_to step k / 2 ^ 31 = rw is (omega arith) in
     rw (halves, same) refl
+
+pub window_within : (k step way window : ℕ) → way ≡ (63 - k) * step / 65536
+    → window ≡ (63 - k) / 16 * 16 * step / 4294967296 → 2 * window ≤ way / 32768
+window_within k step way window is there =
+    let fewer : (63 - k) / 16 * 16 ≤ 63 - k = omega arith in
+    omega (arith, is, there, mul-le-mul_right step fewer)
 
 pub high_room_is : (k step way : ℕ) → way ≡ (63 - k) * step / 65536
     → 32767 - way % 32768 ≡ room_of step k / 65536

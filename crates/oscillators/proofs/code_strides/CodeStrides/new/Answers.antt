@@ -6,7 +6,7 @@ use Rattle.oscillators.specs.Ways.{half_to, room_of}
 use Rattle.oscillators.proofs.OrderLemmas.{place_below}
 use Rattle.oscillators.proofs.CarryLemmas.{ordered_signed, half_fits, short_fits}
 use Rattle.oscillators.proofs.WayLemmas.{half_is, high_room_is, low_room_is, one_more}
-use Rattle.oscillators.proofs.WayLemmas.{windows_are}
+use Rattle.oscillators.proofs.WayLemmas.{windows_are, window_within}
 use Rattle.oscillators.proofs.ChipSetLemmas.{half_few, sets_are}
 use Rattle.oscillators.specs.ChipSets.{IsSetOf}
 use Rattle.oscillators.specs.declared.chip_set.ChipSet.{ChipSet}
@@ -63,3 +63,25 @@ returns c =
           ordered_signed c.loop-k.low k _ i.low_long h
           (i.low (place k) (all (place k) (place_below k h))) (half_fits _ (omega arith));
     }
+
+pub overflow_sub-half : goal.overflow_sub-half
+overflow_sub-half c = window_within c.loop-k.k c.args.step c.way-way.result c.window.result
+    c.way-way.ensures c.window.ensures
+
+pub overflow_mul-half : goal.overflow_mul-half
+overflow_mul-half c = omega (
+  arith,
+  window_within c.loop-k.k c.args.step c.way-way.result c.window.result c.way-way.ensures
+      c.window.ensures,
+  c.way-way.type_inv,
+)
+
+pub overflow_cast-half : goal.overflow_cast-half
+overflow_cast-half c =
+    let k : ℕ = c.loop-k.k in
+    let step : ℕ = c.args.step in
+    let here : c.way-way.result / 32768 - 2 * c.window.result ≡ half_to step k =
+    half_is k step c.way-way.result c.window.result c.loop-k-test.true c.way-way.ensures
+    c.window.ensures in
+    let short : step < 2 ^ 32 = search (rules, c.ranges) in
+    omega (arith, here, half_few step k c.loop-k-test.true short)
