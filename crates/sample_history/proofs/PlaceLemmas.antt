@@ -88,3 +88,22 @@ room_kept real1 taken len whole room old new is_whole is_old is_new = omega arit
 room_kept real2 taken len whole room old new is_whole is_old is_new = omega arith
 room_kept iq1 taken len whole room old new is_whole is_old is_new = omega arith
 room_kept iq2 taken len whole room old new is_whole is_old is_new = omega arith
+
+-- a run's bits, and those that fill its whole bytes up, are all there
+pub run_within : (packing : Packing) (per taken first len n : ℕ) → per ≡ samples_per_byte packing
+    → first + len ≤ samples_per_byte packing * n
+    → 8 / per * first + 8 * ((taken % per + len) / per) ≤ 8 * n + 8 / per * (taken % per)
+run_within real1 per taken first len n is h = rw is (omega (arith, h))
+run_within real2 per taken first len n is h = rw is (omega (arith, h))
+run_within iq1 per taken first len n is h = rw is (omega (arith, h))
+run_within iq2 per taken first len n is h = rw is (omega (arith, h))
+
+-- and so many bytes are held after it
+pub count_kept : (packing : Packing) (taken len whole room old new : ℕ)
+    → whole ≡ (taken % samples_per_byte packing + len) / samples_per_byte packing
+    → old ≡ min room (taken / samples_per_byte packing) → new ≡ min room (old + whole)
+    → new ≡ min room ((taken + len) / samples_per_byte packing)
+count_kept real1 taken len whole room old new is_whole is_old is_new = omega arith
+count_kept real2 taken len whole room old new is_whole is_old is_new = omega arith
+count_kept iq1 taken len whole room old new is_whole is_old is_new = omega arith
+count_kept iq2 taken len whole room old new is_whole is_old is_new = omega arith
