@@ -1,6 +1,5 @@
-use Rattle.std.proofs.Common.{rules, ◌≡◌, ◌≤◌, refl, arith, w32, ℤ, pos, ◌+ℤ◌, ◌*ℤ◌, true, false}
+use Rattle.std.proofs.Common.{rules, ◌≡◌, ◌≤◌, refl, w32, pos, ◌+ℤ◌, ◌*ℤ◌, true, false}
 use Rattle.std.proofs.Common.{FitsSigned, unsigned_abs}
-use Rattle.std.proofs.lemmas.Int.{to_z-of_z}
 use Rattle.acquisition.proofs.PlanLemmas.{cell-shift-small, cell-shift-fits}
 use Rattle.acquisition.proofs.plan.Plan.signal.Goals as goal
 
