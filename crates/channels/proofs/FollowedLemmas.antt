@@ -1,7 +1,9 @@
 -- A followed satellite, when it begins and when it takes samples.
 use Rattle.std.proofs.Common.{◌≡◌, ◌<◌, ℤ, ◌+◌, List, [], ◌∷◌, ◌++◌, length, refl, sym, ap}
 use Rattle.std.proofs.Common.{subst, ◌∙◌, arith, length-append}
-use Rattle.std.specs.Prelude.{Some, None}
+use Rattle.std.specs.Prelude.{Some, None, Option, ℕ, is_none}
+use Rattle.std.specs.Option.{ForSome}
+use Rattle.std.proofs.lemmas.Bool.{true≢false}
 use Rattle.std.proofs.lemmas.List.{map-append}
 use Rattle.definitions.specs.Samples.{Sample}
 use Rattle.definitions.specs.Oscillators.{Settings, code_step, carrier_step}
@@ -23,6 +25,17 @@ use Rattle.channels.specs.Trackings as trackings
 use Rattle.channels.specs.FollowedChannels.{Follows, Takes, Steers, IsSteady, HasLoops}
 use Rattle.channels.specs.FollowedChannels.{counts_so_far}
 use Rattle.channels.proofs.FollowingLemmas.{at-once, waits, waits_same, waits_inside}
+
+-- the loops that there are, if any, have had so many dumps
+pub none-counted : (steering : Option Tracking) (n : ℕ) → steering ≡ None
+    → ForSome steering (λ s. trackings.dump_count s ≡ n)
+none-counted steering n none s is = absurd (true≢false (ap is_none (sym none ∙ is)))
+
+pub some-counted : (s : Tracking) (n : ℕ) → trackings.dump_count s ≡ n
+    → ForSome (Some s) (λ s. trackings.dump_count s ≡ n)
+some-counted s n counted t is =
+    let same : s ≡ t = cc in
+    rw same at counted
 
 -- one that begins now, at a fixed shift or with the loops that steer its channel
 pub begins : (settings : Settings) (channel : Channel) (xs : List Sample) (f : Followed)

@@ -7,6 +7,7 @@ use Rattle.std.proofs.Common.{inl, inr, suc, ◌-◌, ◌∙◌}
 use Rattle.std.proofs.lemmas.Bool.{cases_lt}
 use Rattle.definitions.specs.Oscillators.{code_cycle}
 use Rattle.definitions.specs.Correlation.{Counts as DefinedCounts, sum_of_counts}
+use Rattle.definitions.specs.Correlation.{no_counts}
 use Rattle.lane_correlator.specs.declared.counts.Counts.{Counts}
 use Rattle.lane_correlator.specs.Counting.{counts_in, SumsFit, AreWithin}
 use Rattle.channels.specs.Sizes.{GrowWith}
@@ -37,6 +38,17 @@ sums_fit c d step phase n g moves low w short = record {
   qp = fits c.qp d.qp step phase n g.qp moves low w.qp short;
   il = fits c.il d.il step phase n g.il moves low w.il short;
   ql = fits c.ql d.ql step phase n g.ql moves low w.ql short;
+}
+
+-- before the first sample
+pub none-grow : (c : Counts) (step phase : ℕ) → counts_in c ≡ no_counts → GrowWith c step phase
+none-grow c step phase is = record {
+  ie = rw (ap (λ (s : DefinedCounts). s.ie) is) (omega arith);
+  qe = rw (ap (λ (s : DefinedCounts). s.qe) is) (omega arith);
+  ip = rw (ap (λ (s : DefinedCounts). s.ip) is) (omega arith);
+  qp = rw (ap (λ (s : DefinedCounts). s.qp) is) (omega arith);
+  il = rw (ap (λ (s : DefinedCounts). s.il) is) (omega arith);
+  ql = rw (ap (λ (s : DefinedCounts). s.ql) is) (omega arith);
 }
 
 -- at the end of a segment

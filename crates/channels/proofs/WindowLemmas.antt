@@ -1,9 +1,10 @@
 -- The samples that a window has unpacked, by their numbers.
 use Rattle.std.proofs.Common.{◌≡◌, ℕ, ◌+◌, ◌-◌, ◌*◌, ◌<◌, ◌≤◌, List, length, take, drop, refl}
-use Rattle.std.proofs.Common.{sym, ap, ◌∙◌, arith}
+use Rattle.std.proofs.Common.{sym, ap, ◌∙◌, arith, ◌++◌}
 use Rattle.std.specs.Prelude.{map, pos}
 use Rattle.std.specs.List.{range_with_len}
-use Rattle.std.proofs.lemmas.List.{length-drop, get_or-take, get_or-drop}
+use Rattle.std.proofs.lemmas.List.{length-drop, get_or-take, get_or-drop, take-append-le}
+use Rattle.std.proofs.lemmas.List.{drop-append-le}
 use Rattle.definitions.specs.Samples.{Sample, sample_at, real}
 use Rattle.definitions.specs.Oscillators.{carrier_phase_after}
 use Rattle.definitions.specs.Correlation.{Counts, replica_of, six_sums, sum_of_counts}
@@ -27,6 +28,15 @@ held-part xs held from to first samples early begun all =
     runs_agree held (λ k. sample_at xs (k - 0)) first (0 + first) (to - first)
     (λ i h. rw (at i) (samples (first + i) (omega (arith, early)) (omega (arith, h))))
     ∙ sym (part-numbered xs 0 first (to - first) (omega (arith, begun, all)))
+
+-- what is unpacked is the same part of more samples
+pub unpacked-on : (xs ys : List Sample) (first to : ℕ) → first ≤ to → to ≤ length xs
+    → take (to - first) (drop first xs) ≡ take (to - first) (drop first (xs ++ ys))
+unpacked-on xs ys first to begun within =
+    sym (ap (λ (zs : List Sample). take (to - first) zs)
+    (drop-append-le first xs ys (omega (arith, begun, within)))
+    ∙ take-append-le (to - first) (drop first xs) ys
+    (omega (arith, length-drop first xs, begun, within)))
 
 -- how many of the samples come after the first ones
 pub many : (xs : List Sample) (at to : ℕ) → length xs ≡ to → to - at ≡ length (drop at xs)

@@ -94,3 +94,20 @@ end-near phase step (suc w) some least =
     let each : 1 ≤ step = omega (arith, some) in
     let low : phase + w * step < code_cycle = least w (omega arith) in
     omega (arith, low, mul-le-mul_right w each)
+
+-- where it takes so many samples from here on: a segment that begins
+module _ (phase step at w : ℕ) (some : 0 < w)
+    (least : (k : ℕ) → k < w → phase + k * step < code_cycle) where
+  pub begins-low : phase < code_cycle
+  begins-low = omega (arith, least 0 some)
+
+  pub begins-before : phase + (at + w - at - 1) * step < code_cycle
+  begins-before =
+      let last : at + w - at - 1 ≡ w - 1 = omega arith in
+      rw last (least (w - 1) (omega (arith, some)))
+
+pub begins-through : (phase step at w : ℕ) → code_cycle ≤ phase + w * step
+    → code_cycle ≤ phase + (at + w - at) * step
+begins-through phase step at w through =
+    let all : at + w - at ≡ w = omega arith in
+    rw all through

@@ -1,10 +1,15 @@
-use Rattle.std.proofs.Common.{◌≡◌, ◌≤◌, ◌+◌, ◌++◌, refl, arith}
+use Rattle.std.proofs.Common.{◌≡◌, ◌≤◌, ◌++◌, refl, arith}
+use Rattle.std.proofs.lemmas.Bool.{true≢false, false≢true}
 use Rattle.channels.specs.FollowedChannels.{next_dump}
 use Rattle.channels.specs.Trackings.{dump_count}
 use Rattle.channels.proofs.FollowedLemmas.{takes-on, takes-plain, takes-steered}
+use Rattle.channels.proofs.FollowedLemmas.{none-counted, some-counted}
 use Rattle.channels.proofs.OverLemmas.{over-same}
 use Rattle.channels.proofs.ShiftLemmas.{as-number}
 use Rattle.channels.proofs.followed.Followed.take.Goals as goal
+
+pub invariant_of-self : goal.invariant_of-self
+invariant_of-self c = record { counted = c.args.self.now.counted }
 
 pub returns-in_default-clause-came : goal.returns-in_default-clause-came
 returns-in_default-clause-came c =
@@ -20,12 +25,24 @@ returns-in_default-clause-takes c settings channel xs ys now over s =
     (omega (arith, now, c.ends.ensures.value, c.min-to.ensures))
     (over-same (xs ++ ys) _ _ c.unpack.ensures.same over) s.follows)) refl refl
 
+pub returns-in_default-clause-chance : goal.returns-in_default-clause-chance
+returns-in_default-clause-chance c is = absurd (false≢true is)
+
+pub returns-in_default-clause-waits : goal.returns-in_default-clause-waits
+returns-in_default-clause-waits c is = (rw c.in_default.is at c.take.ensures.waits) refl
+
 pub overflow_add-self : goal.overflow_add-self
 overflow_add-self c =
     let came = (rw c.in-Some.is at c.take.ensures.came).0 refl in
     let far : next_dump c.args.self.now ≤ c.args.to =
     omega (arith, came, c.min-to.ensures, c.ends.ensures.value) in
     omega (arith, c.requires.few far)
+
+pub invariant_of-self-in-None : goal.invariant_of-self-in-None
+invariant_of-self-in-None c = record { counted = none-counted _ _ c.in-None.is }
+
+pub take-requires-in-Some-tracking-clause-small : goal.take-requires-in-Some-tracking-clause-small
+take-requires-in-Some-tracking-clause-small c = rw c.in-Some.is at c.take.ensures.small
 
 pub take-requires-in-Some-tracking-clause-few : goal.take-requires-in-Some-tracking-clause-few
 take-requires-in-Some-tracking-clause-few c =
@@ -36,16 +53,20 @@ take-requires-in-Some-tracking-clause-few c =
     omega (arith, came, c.min-to.ensures, c.ends.ensures.value) in
     omega (arith, counted, c.requires.few far)
 
+pub steer-requires-clause-shift : goal.steer-requires-clause-shift
+steer-requires-clause-shift c = rw (as-number c.v.result c.v.ensures.small) c.v.ensures.small
+
+pub steer-requires-clause-correction : goal.steer-requires-clause-correction
+steer-requires-clause-correction c =
+    rw (as-number c.w.result (omega (arith, c.w.ensures.small))) c.w.ensures.small
+
 pub invariant_of-self-in-Some-tracking : goal.invariant_of-self-in-Some-tracking
-invariant_of-self-in-Some-tracking c = record {
-  counted = λ s is.
-      let counted : dump_count c.in-Some-tracking.tracking ≡ c.args.self.now.dumps =
-      c.args.self.now.counted c.in-Some-tracking.tracking c.in-Some-tracking.is in
-      let more : dump_count c.take-in-Some-tracking.new.self ≡ c.args.self.now.dumps + 1 =
-      rw counted at c.take-in-Some-tracking.ensures.dumps in
-      let same : c.take-in-Some-tracking.new.self ≡ s = cc in
-      rw same at more;
-}
+invariant_of-self-in-Some-tracking c =
+    let counted : dump_count c.in-Some-tracking.tracking ≡ c.args.self.now.dumps =
+    c.args.self.now.counted c.in-Some-tracking.tracking c.in-Some-tracking.is in
+    record {
+      counted = some-counted _ _ (rw counted at c.take-in-Some-tracking.ensures.dumps);
+    }
 
 pub returns-in-None-clause-came : goal.returns-in-None-clause-came
 returns-in-None-clause-came c =
@@ -62,6 +83,12 @@ returns-in-None-clause-takes c settings channel xs ys now over s =
     (omega (arith, now, c.ends.ensures.value, c.min-to.ensures))
     (over-same (xs ++ ys) _ _ c.unpack.ensures.same over) s.follows))
     refl c.in-None.is c.in-None.is)
+
+pub returns-in-None-clause-chance : goal.returns-in-None-clause-chance
+returns-in-None-clause-chance c is = rw c.in-Some.is at c.take.ensures.chance
+
+pub returns-in-None-clause-waits : goal.returns-in-None-clause-waits
+returns-in-None-clause-waits c is = absurd (true≢false is)
 
 pub returns-in-None-clause-same : goal.returns-in-None-clause-same
 returns-in-None-clause-same c =
@@ -96,6 +123,13 @@ returns-in-Some-tracking-clause-takes c settings channel xs ys now over s =
     (rw (v, w, c.settings.ensures) at c.steer.ensures.follows)
     (rw (← took.ensures.counts) at took.ensures.stands)
     (rw (← took.ensures.counts) at took.ensures.tells) c.v.ensures.is c.w.ensures.is
+
+pub returns-in-Some-tracking-clause-chance : goal.returns-in-Some-tracking-clause-chance
+returns-in-Some-tracking-clause-chance c is =
+    rw c.steer.ensures.chance (rw c.in-Some.is at c.take.ensures.chance)
+
+pub returns-in-Some-tracking-clause-waits : goal.returns-in-Some-tracking-clause-waits
+returns-in-Some-tracking-clause-waits c is = absurd (true≢false is)
 
 pub returns-in-Some-tracking-clause-same : goal.returns-in-Some-tracking-clause-same
 returns-in-Some-tracking-clause-same c =

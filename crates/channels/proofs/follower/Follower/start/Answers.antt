@@ -1,10 +1,11 @@
-use Rattle.std.proofs.Common.{refl, sym, arith, pos, ap, ◌<◌, ◌*◌, ◌^◌, ◌∙◌, w64}
+use Rattle.std.proofs.Common.{◌≡◌, refl, sym, arith, pos, ap, ◌<◌, ◌*◌, ◌^◌, ◌∙◌, w64}
 use Rattle.std.proofs.lemmas.Int.{to_z-of_z, fits_signed_from_abs}
 use Rattle.definitions.specs.Oscillators.{code_step, carrier_step, code_phase_after}
 use Rattle.definitions.specs.Segments.{Shift}
 use Rattle.oscillators.specs.Views.{Oscillation}
 use Rattle.channels.proofs.FollowingLemmas.{started, at-once}
-use Rattle.channels.proofs.WrapLemmas.{end-near}
+use Rattle.channels.proofs.WrapLemmas.{end-near, begins-low, begins-before, begins-through}
+use Rattle.channels.proofs.SizeLemmas.{none-grow}
 use Rattle.channels.proofs.follower.Follower.start.Goals as goal
 
 pub overflow_add-result : goal.overflow_add-result
@@ -17,6 +18,25 @@ overflow_add-result c =
       end-near c.jump.new.self.phase c.jump.new.self.step c.to_wrap.result moves
           c.to_wrap.ensures.least,
     )
+
+pub invariant_of-result : goal.invariant_of-result
+invariant_of-result c =
+    let o = c.jump.new.self in
+    let w = c.to_wrap.result in
+    let wrap = c.to_wrap.ensures in
+    let step : o.step ≡ c.code_step.result =
+    ap (λ (o : Oscillation). o.step) c.jump.ensures
+    ∙ ap (λ (o : Oscillation). o.step) c.new-code.ensures in
+    record {
+      early = c.requires;
+      waits = omega (arith, wrap.at_least_one);
+      in_cycle = begins-low o.phase o.step c.args.time w wrap.at_least_one wrap.least;
+      moves = omega (arith, step, c.code_step.ensures.fast);
+      slow = omega (arith, step, c.code_step.ensures.slow);
+      small = none-grow _ o.step o.phase refl;
+      before = begins-before o.phase o.step c.args.time w wrap.at_least_one wrap.least;
+      through = begins-through o.phase o.step c.args.time w wrap.through;
+    }
 
 pub returns-clause-follows : goal.returns-clause-follows
 returns-clause-follows c channel xs many begins =

@@ -1,10 +1,12 @@
-use Rattle.std.proofs.Common.{◌<◌, ℤ, refl, ap, ap₂, ◌∙◌, sym, w64, arith}
+use Rattle.std.proofs.Common.{◌≡◌, ◌<◌, ℤ, refl, ap, ap₂, ◌∙◌, sym, w64, arith}
 use Rattle.std.proofs.lemmas.Int.{to_z-of_z, fits_signed_from_abs}
 use Rattle.definitions.specs.Oscillators.{code_step, carrier_step}
 use Rattle.definitions.specs.Segments.{Shift}
 use Rattle.oscillators.specs.Views.{Oscillation}
+use Rattle.channels.specs.Following.{phase_chance}
 use Rattle.channels.proofs.FollowingLemmas.{steered, at-once}
-use Rattle.channels.proofs.WrapLemmas.{end-near}
+use Rattle.channels.proofs.WrapLemmas.{end-near, begins-low, begins-before, begins-through}
+use Rattle.channels.proofs.SizeLemmas.{none-grow}
 use Rattle.channels.proofs.follower.Follower.steer.Goals as goal
 
 pub overflow_add-self : goal.overflow_add-self
@@ -17,6 +19,25 @@ overflow_add-self c =
       end-near c.set_step.new.self.phase c.set_step.new.self.step c.to_wrap.result moves
           c.to_wrap.ensures.least,
     )
+
+pub invariant_of-self : goal.invariant_of-self
+invariant_of-self c =
+    let f = c.args.self.now in
+    let o = c.set_step.new.self in
+    let w = c.to_wrap.result in
+    let wrap = c.to_wrap.ensures in
+    let step : o.step ≡ c.code_step.result =
+    ap (λ (o : Oscillation). o.step) c.set_step.ensures in
+    record {
+      early = f.early;
+      waits = omega (arith, wrap.at_least_one);
+      in_cycle = begins-low o.phase o.step f.at w wrap.at_least_one wrap.least;
+      moves = omega (arith, step, c.code_step.ensures.fast);
+      slow = omega (arith, step, c.code_step.ensures.slow);
+      small = none-grow _ o.step o.phase refl;
+      before = begins-before o.phase o.step f.at w wrap.at_least_one wrap.least;
+      through = begins-through o.phase o.step f.at w wrap.through;
+    }
 
 pub returns-clause-follows : goal.returns-clause-follows
 returns-clause-follows c channel xs s shift =
@@ -35,3 +56,6 @@ returns-clause-follows c channel xs s shift =
     (ap (λ (o : Oscillation). o.step) c.set_step-2.ensures ∙ c.carrier_step.ensures
     ∙ ap (λ (k : ℤ). carrier_step settings k) v
     ∙ ap (λ (d : Shift). carrier_step settings d.v) (sym shift)))
+
+pub returns-clause-chance : goal.returns-clause-chance
+returns-clause-chance c = ap (λ (o : Oscillation). phase_chance o.phase) c.set_step.ensures

@@ -1,5 +1,6 @@
 use Rattle.std.proofs.Common.{◌≡◌, ◌+◌, ◌-◌, ◌*◌, ◌<◌, ℕ, List, ◌++◌, length, take, drop}
 use Rattle.std.proofs.Common.{refl, ap, arith}
+use Rattle.std.proofs.lemmas.Bool.{true≢false}
 use Rattle.definitions.specs.Samples.{Sample}
 use Rattle.definitions.specs.Oscillators.{code_cycle}
 use Rattle.oscillators.specs.Views.{Oscillation}
@@ -9,9 +10,11 @@ use Rattle.channels.proofs.FollowingLemmas.{stays, closes, low-before}
 use Rattle.channels.proofs.FollowingLemmas.{stays_over, closes_over}
 use Rattle.channels.proofs.WindowLemmas.{many, moves_by}
 use Rattle.channels.proofs.WrapLemmas.{quiet, wraps, past_less, end-near}
-use Rattle.channels.proofs.WrapLemmas.{left-before, left-ends}
+use Rattle.channels.proofs.WrapLemmas.{left-before, left-ends, begins-low, begins-before}
+use Rattle.channels.proofs.WrapLemmas.{begins-through}
 use Rattle.channels.proofs.ChanceLemmas.{chance-less}
 use Rattle.channels.proofs.SizeLemmas.{sums_fit, sums_grow, sums_small, last-step}
+use Rattle.channels.proofs.SizeLemmas.{none-grow}
 use Rattle.channels.proofs.follower.Follower.take.Goals as goal
 
 pub add-sums-requires : goal.add-sums-requires
@@ -20,6 +23,11 @@ add-sums-requires c =
     let more = c.replica_sums-more in
     sums_fit f.sums (counts_in more.result) f.code.step f.code.phase (c.args.to - f.at) f.small
     f.moves f.in_cycle more.ensures.small more.ensures.few
+
+pub advance-requires-clause-within : goal.advance-requires-clause-within
+advance-requires-clause-within c =
+    let f = c.args.self.now in
+    low-before f (c.args.to - f.at - 1) (omega (arith, f.waits, c.requires.ends))
 
 pub invariant_of-self : goal.invariant_of-self
 invariant_of-self c =
@@ -69,6 +77,36 @@ returns-then-to-self-clause-goes c settings channel xs ys all over s =
     (ap (λ (o : Oscillation). o.step) c.advance.ensures)
     (ap (λ (o : Oscillation). o.step) c.advance-2.ensures) refl)
 
+pub overflow_add-self : goal.overflow_add-self
+overflow_add-self c =
+    let f = c.args.self.now in
+    let moves : 0 < c.advance.new.self.step =
+    rw c.advance.ensures (omega (arith, f.moves)) in
+    omega (
+      arith,
+      c.requires.early,
+      end-near c.advance.new.self.phase c.advance.new.self.step c.to_wrap.result moves
+          c.to_wrap.ensures.least,
+    )
+
+pub invariant_of-self-2 : goal.invariant_of-self-2
+invariant_of-self-2 c =
+    let f = c.args.self.now in
+    let o = c.advance.new.self in
+    let w = c.to_wrap.result in
+    let wrap = c.to_wrap.ensures in
+    let step : o.step ≡ f.code.step = ap (λ (o : Oscillation). o.step) c.advance.ensures in
+    record {
+      early = c.requires.early;
+      waits = omega (arith, wrap.at_least_one);
+      in_cycle = begins-low o.phase o.step c.args.to w wrap.at_least_one wrap.least;
+      moves = rw step f.moves;
+      slow = rw step f.slow;
+      small = none-grow _ o.step o.phase refl;
+      before = begins-before o.phase o.step c.args.to w wrap.at_least_one wrap.least;
+      through = begins-through o.phase o.step c.args.to w wrap.through;
+    }
+
 pub returns-clause-goes : goal.returns-clause-goes
 returns-clause-goes c settings channel xs ys all over s =
     let f = c.args.self.now in
@@ -96,6 +134,9 @@ returns-clause-goes c settings channel xs ys all over s =
     (omega (arith, s.now.at.taken, is, c.requires.begun)) refl (after.1) refl
     (ap (λ (o : Oscillation). o.step) c.advance.ensures)
     (ap (λ (o : Oscillation). o.step) c.advance-2.ensures) refl)
+
+pub returns-clause-waits : goal.returns-clause-waits
+returns-clause-waits c none = absurd (true≢false none)
 
 pub returns-clause-chance : goal.returns-clause-chance
 returns-clause-chance c =
@@ -127,15 +168,3 @@ returns-clause-small c =
     last-step f.code.phase n f.code.step some
     (low-before f (n - 1) (omega (arith, some, last))) in
     sums_small c.add-sums.result f.code.step total grown low f.moves
-
-pub overflow_add-self : goal.overflow_add-self
-overflow_add-self c =
-    let f = c.args.self.now in
-    let moves : 0 < c.advance.new.self.step =
-    rw c.advance.ensures (omega (arith, f.moves)) in
-    omega (
-      arith,
-      c.requires.early,
-      end-near c.advance.new.self.phase c.advance.new.self.step c.to_wrap.result moves
-          c.to_wrap.ensures.least,
-    )
