@@ -1,6 +1,6 @@
 -- A satellite that is searched for, when it begins and when it goes on.
 use Rattle.std.proofs.Common.{◌≡◌, ℕ, zero, suc, ◌+◌, ◌-◌, ◌*◌, ◌/◌, ◌<◌, ◌≤◌, List, ◌++◌}
-use Rattle.std.proofs.Common.{length, refl, sym, ap, ◌∙◌, arith, pos, length-append, inl, inr}
+use Rattle.std.proofs.Common.{length, refl, ◌%◌, sym, ap, ◌∙◌, arith, pos, length-append, inl, inr}
 use Rattle.std.specs.Prelude.{Option, Some, None, IsSome, IfSome, min, ◌↔◌}
 use Rattle.std.proofs.lemmas.Bool.{iff_false, cases_lt}
 use Rattle.definitions.specs.Samples.{Sample}
@@ -19,6 +19,10 @@ use Rattle.acquisition.proofs.StandingLemmas.{stands-begun, stands-longer}
 use Rattle.channels.specs.declared.searched.Searched.{Searched}
 use Rattle.channels.specs.Following.{BeginsAfter}
 use Rattle.channels.specs.Searching.{Searches, Takes, Answers, next_cell, due_of}
+
+-- fours, the last of which may be less
+pub quarters : (n : ℕ) → n / 4 + min 1 (n % 4) ≡ (n + 3) / 4
+quarters n = omega arith
 
 -- the cells that are done with `time` samples, or with `to` where the answer is due before: as many
 -- as are left, of four samples each, are missing

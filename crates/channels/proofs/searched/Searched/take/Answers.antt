@@ -1,5 +1,6 @@
-use Rattle.std.proofs.Common.{◌++◌, refl, arith}
-use Rattle.channels.proofs.SearchedLemmas.{stays, whole, searches-on, answers-with}
+use Rattle.std.proofs.Common.{◌++◌, ◌-◌, refl, arith}
+use Rattle.channels.specs.Searching.{due_of}
+use Rattle.channels.proofs.SearchedLemmas.{stays, whole, quarters, searches-on, answers-with}
 use Rattle.channels.proofs.searched.Searched.take.Goals as goal
 
 pub returns-then-to-next_cell-clause-takes : goal.returns-then-to-next_cell-clause-takes
@@ -16,15 +17,14 @@ returns-clause-takes g c settings plan begun xs ys now holds s =
     (λ n low high. holds n low (omega (arith, high, inside)))
     (stays settings plan begun xs old s ys) in
     let next = searches-on settings plan begun xs old s ys c.args.to now _ refl
-    (omega (
-      arith,
-      c.advance.ensures.done,
+    (rw (
       c.div_ceil.ensures,
       c.saturating_sub-left.ensures,
       c.due.ensures.value,
       c.cells.ensures,
       c.done.ensures.value,
-    )) stands in
+      quarters (due_of old - c.args.to),
+    ) at c.advance.ensures.done) stands in
     record {
       stands = next;
       answers = answers-with settings plan begun xs old s ys c.args.to now c.result.result _
