@@ -14,6 +14,7 @@ pub mod ReadyLemmas
 pub mod RestLemmas
 pub mod SearchLemmas
 pub mod SeatLemmas
+pub mod SettledLemmas
 pub mod ShareLemmas
 pub mod SlotLemmas
 pub mod SoundLemmas

@@ -1,10 +1,10 @@
 -- What is known of a stage at a time, by its test.
-use Rattle.std.proofs.Common.{◌≡◌, ◌≤◌, ◌<◌, ◌+◌, ℕ, refl, true, false}
+use Rattle.std.proofs.Common.{◌≡◌, ◌≤◌, ◌<◌, ◌+◌, ℕ, refl, true, false, arith}
 use Rattle.std.specs.Prelude.{Bool, nat_lt, nat_le, if◌then◌else◌}
 use Rattle.std.proofs.lemmas.Bool.{lt-ltb, ltb-true, le-leb, leb-true, and_parts}
 use Rattle.tracking_loops.specs.declared.news.News.{News}
 use Rattle.channels.specs.Dumps.{is_loss}
-use Rattle.channels.specs.Searching.{due_of, start_of}
+use Rattle.channels.specs.Searching.{due_of, start_of, IsLater}
 use Rattle.channels.specs.FollowedChannels.{dumps_of, at_of, next_dump}
 use Rattle.channels.specs.declared.searched.Searched.{Searched}
 use Rattle.channels.specs.declared.followed.Followed.{Followed}
@@ -38,6 +38,18 @@ due-tested first time reach s known =
       lt-ltb time (due_of s) known.early,
       le-leb (due_of s) (start_of s + reach) known.near,
     ) refl
+
+-- it still is one at a later time before it is due, wherever the open samples then begin
+pub still-due : (first time reach from to : ℕ) (s t : Searched)
+    → is_sound first time reach (Searching s) ≡ true → IsLater to s t → to < due_of s → from ≤ to
+    → is_sound from to reach (Searching t) ≡ true
+still-due first time reach from to s t test later early begun =
+    let soon = due-soon first time reach s test in
+    due-tested from to reach t (record {
+      begun = begun;
+      early = omega (arith, later.due, early);
+      near = omega (arith, later.due, later.start, soon.near);
+    })
 
 -- of a channel
 pub record IsInTime (first time : ℕ) (f : Followed) : Type 0 where

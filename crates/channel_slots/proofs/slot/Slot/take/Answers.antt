@@ -4,6 +4,8 @@ use Rattle.std.specs.Prelude.{Some, None}
 use Rattle.definitions.specs.Samples.{Sample}
 use Rattle.definitions.specs.Acquisition.{Plan}
 use Rattle.channels.specs.Windows.{first_of, dump_of}
+use Rattle.channels.specs.Searching.{next_cell}
+use Rattle.channels.specs.declared.searched.Searched.{Searched}
 use Rattle.channel_slots.specs.Stages.{is_idle}
 use Rattle.channel_slots.specs.declared.slot_news.SlotNews.TheVariants.{Dump}
 use Rattle.channel_slots.proofs.ChanceLemmas.{dump-chance}
@@ -13,7 +15,8 @@ use Rattle.channel_slots.proofs.SearchLemmas.{searches-on, settled}
 use Rattle.channel_slots.proofs.SlotLemmas.{idle-tells, tells, passes}
 use Rattle.channel_slots.proofs.StageLemmas.{followed-takes, still-followed}
 use Rattle.channel_slots.proofs.SoundLemmas.{in-time, time-tested, dump-tested, dump-held, IsInTime}
-use Rattle.channel_slots.proofs.SoundLemmas.{dump-later}
+use Rattle.channel_slots.proofs.SoundLemmas.{dump-later, due-soon, still-due}
+use Rattle.channel_slots.proofs.SettledLemmas.{settled-sound, settled-later, settled-chance}
 use Rattle.channel_slots.proofs.TakeLemmas.{dwell-over, not-due, not-come}
 use Rattle.channel_slots.proofs.slot.Slot.take.Goals as goal
 
@@ -200,3 +203,109 @@ returns-else-not-take-clause-goes_on c =
     (dump-later c.next_dump-time.result took.new.self _
     (omega (arith, come, due, c.requires.early))
     (omega (arith, took.ensures.at, come, due, took.new.self.follower.waits)))
+
+pub returns-in_ok-cell-in-Searching-clause-sound :
+    goal.returns-in_ok-cell-in-Searching-clause-sound
+returns-in_ok-cell-in-Searching-clause-sound c time reach sound =
+    let took = c.take in
+    let soon =
+    due-soon (first_of c.args.window.now) time reach c.in-Searching.searched
+    (rw c.in-Searching.is at sound.0) in
+    rw c.due-time.ensures.value
+    (settled-sound c.args.window.now reach c.in_ok-cell-in-Searching.cell took.new.self _
+    (c.settle.ensures.stage took.new.self refl)
+    (omega (arith, soon.begun, soon.early, took.ensures.later.due)))
+
+pub returns-in_ok-cell-in-Searching-clause-goes_on :
+    goal.returns-in_ok-cell-in-Searching-clause-goes_on
+returns-in_ok-cell-in-Searching-clause-goes_on c =
+    let took = c.take in
+    let some : took.result ≡ Some c.in_ok-cell-in-Searching.cell =
+    c.in_ok-cell-in-Searching.was in
+    let come = took.ensures.due.0 (rw some refl) in
+    rw c.due-time.ensures.value
+    (settled-later c.in_ok-cell-in-Searching.cell took.new.self _ (c.settle.ensures.stage took.new.self refl)
+    (omega (arith, come, took.ensures.later.due, c.requires.early)))
+
+pub returns-in_ok-cell-in-Searching-clause-chances :
+    goal.returns-in_ok-cell-in-Searching-clause-chances
+returns-in_ok-cell-in-Searching-clause-chances c =
+    rw c.in-Searching.is (omega (
+      arith,
+      settled-chance c.in_ok-cell-in-Searching.cell c.take.new.self _ (c.settle.ensures.stage c.take.new.self refl),
+    ))
+
+pub returns-in_err-cell-in-Searching-clause-sound :
+    goal.returns-in_err-cell-in-Searching-clause-sound
+returns-in_err-cell-in-Searching-clause-sound c time reach sound =
+    let took = c.take in
+    let first : ℕ = first_of c.args.window.now in
+    let early =
+    not-due took.result _ c.args.to took.ensures.due c.in_err-cell-in-Searching.was in
+    let known =
+    due-soon first c.requires.sound.0 c.requires.sound.1 c.in-Searching.searched
+    (rw c.in-Searching.is at c.requires.sound.3.0) in
+    rw c.from_residual.ensures (
+      still-due first time reach first c.args.to c.in-Searching.searched took.new.self
+      (rw c.in-Searching.is at sound.0) took.ensures.later (omega (arith, took.ensures.later.due, early))
+      (omega (arith, known.begun, c.requires.sound.2)),
+      rw took.ensures.later.start (rw c.in-Searching.is at sound.1),
+    )
+
+pub returns-in_err-cell-in-Searching-clause-all_taken :
+    goal.returns-in_err-cell-in-Searching-clause-all_taken
+returns-in_err-cell-in-Searching-clause-all_taken c time reach sound none =
+    let took = c.take in
+    let early =
+    not-due took.result _ c.args.to took.ensures.due c.in_err-cell-in-Searching.was in
+    still-due (first_of c.args.window.now) time reach c.args.to c.args.to c.in-Searching.searched
+    took.new.self (rw c.in-Searching.is at sound.0) took.ensures.later early (omega arith)
+
+pub returns-in_err-cell-in-Searching-clause-goes_on :
+    goal.returns-in_err-cell-in-Searching-clause-goes_on
+returns-in_err-cell-in-Searching-clause-goes_on c =
+    rw c.from_residual.ensures (c.take.ensures.later.next
+    (not-due c.take.result _ c.args.to c.take.ensures.due c.in_err-cell-in-Searching.was))
+
+pub returns-in_err-cell-in-Searching-clause-waits :
+    goal.returns-in_err-cell-in-Searching-clause-waits
+returns-in_err-cell-in-Searching-clause-waits c early =
+    rw c.in-Searching.is
+    (ap (λ (s : Searched). next_cell s)
+    (c.take.ensures.waits (rw c.in-Searching.is at early)))
+
+pub returns-in_ok-cell-in-Searching-clause-waits :
+    goal.returns-in_ok-cell-in-Searching-clause-waits
+returns-in_ok-cell-in-Searching-clause-waits c early =
+    let some : c.take.result ≡ Some c.in_ok-cell-in-Searching.cell =
+    c.in_ok-cell-in-Searching.was in
+    let come = c.take.ensures.due.0 (rw some refl) in
+    absurd (omega (arith, come, rw c.in-Searching.is at early))
+
+pub returns-then-not-take-clause-waits : goal.returns-then-not-take-clause-waits
+returns-then-not-take-clause-waits c early =
+    rw c.in-Following.is (c.take-in-Following.ensures.waits c.if-not-take.true)
+
+pub returns-else-not-take-clause-waits : goal.returns-else-not-take-clause-waits
+returns-else-not-take-clause-waits c early =
+    let come = c.take-in-Following.ensures.came.0 c.if-not-take.false in
+    absurd (omega (arith, come, rw c.in-Following.is at early))
+
+pub take-requires-in-Following-clause-begun : goal.take-requires-in-Following-clause-begun
+take-requires-in-Following-clause-begun c =
+    let known =
+    in-time (first_of c.args.window.now) c.requires.sound.0 c.requires.sound.1
+    c.in-Following.followed (rw c.in-Following.is at c.requires.sound.3.0) in
+    omega (arith, known.begun, c.requires.sound.2)
+
+pub take-requires-in-Following-clause-open : goal.take-requires-in-Following-clause-open
+take-requires-in-Following-clause-open c =
+    (in-time (first_of c.args.window.now) c.requires.sound.0 c.requires.sound.1
+    c.in-Following.followed (rw c.in-Following.is at c.requires.sound.3.0)).held
+
+pub take-requires-in-Following-clause-few : goal.take-requires-in-Following-clause-few
+take-requires-in-Following-clause-few c come =
+    let known =
+    in-time (first_of c.args.window.now) c.requires.sound.0 c.requires.sound.1
+    c.in-Following.followed (rw c.in-Following.is at c.requires.sound.3.0) in
+    omega (arith, known.few, c.requires.sound.2, c.requires.early)
