@@ -2,7 +2,7 @@
 use Rattle.std.proofs.Common.{◌≡◌, ℕ, ◌+◌, ◌-◌, ◌*◌, ◌/◌, ◌%◌, ◌<◌, ◌≤◌, List, [], ◌++◌, length}
 use Rattle.std.proofs.Common.{take, drop, refl, sym, ap, ap₂, ◌∙◌, arith, min, subst, inl, inr}
 use Rattle.std.proofs.Common.{take-append-drop, true≢false}
-use Rattle.std.proofs.lemmas.List.{take_all, take_min, length-take-le}
+use Rattle.std.proofs.lemmas.List.{take_all, take_min, length-take, length-take-le}
 use Rattle.std.proofs.Math.Seq.{take-append_seam, take-append-add}
 use Rattle.std.proofs.Math.Nat.{min-le_left, min-eq_right}
 use Rattle.std.specs.Prelude.{Bool, true, false, ◌||◌, ◌==◌, Option, Result, MatchResult, ◌↔◌}
@@ -79,7 +79,27 @@ taken-before session limit bytes packing time per used p t e whole u =
     ap (λ (q : Packing). samples q (take used bytes)) p
     ∙ front-taken own bytes left used whole room
 
+-- the time after those, where nothing stands between the limit and a whole byte
+pub time-before : (session : Session) (limit : ℕ) (bytes : List ℕ) → time_of session ≤ limit
+    → time_of session + length (samples_before limit session bytes)
+    ≡ min limit (time_of session + sample_count (packing_in session) bytes)
+time-before session limit bytes within =
+    let count : length (samples (packing_in session) bytes)
+    ≡ sample_count (packing_in session) bytes = samples-length (packing_in session) bytes in
+    let cut : length (samples_before limit session bytes)
+    ≡ min (limit - time_of session) (length (samples (packing_in session) bytes)) =
+    length-take (limit - time_of session) (samples (packing_in session) bytes) in
+    omega (arith, cut, count, within)
+
 -- ---- what was read, up to the limit
+
+-- up to a limit of whole bytes whole bytes are left
+pub whole-left : (packing : Packing) (read : List ℕ) (limit time : ℕ) → limit % 8 ≡ 0
+    → time ≡ sample_count packing read → (limit - time) % samples_per_byte packing ≡ 0
+whole-left real1 read limit time whole t = omega (arith, whole, t)
+whole-left real2 read limit time whole t = omega (arith, whole, t)
+whole-left iq1 read limit time whole t = omega (arith, whole, t)
+whole-left iq2 read limit time whole t = omega (arith, whole, t)
 
 -- from `old` to `new` all that reads gave came before the limit, and was taken
 pub record HasRead (limit : ℕ) (first session : Session) (old new : Devices) : Type 0 where

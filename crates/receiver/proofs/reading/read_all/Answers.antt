@@ -9,7 +9,8 @@ use Rattle.receiver.specs.Outputs.{promised}
 use Rattle.receiver.specs.Sessions.{packing_in}
 use Rattle.receiver.proofs.TextLemmas.{appended-part}
 use Rattle.receiver.proofs.ReadLemmas.{asked-once, beyond-limit, none_counted, none-given}
-use Rattle.receiver.proofs.ReadLemmas.{some-given, still-written, time-on, took-on, within-limit}
+use Rattle.receiver.proofs.ReadLemmas.{some-given, still-written, time-on, took-on, whole-left}
+use Rattle.receiver.proofs.ReadLemmas.{within-limit}
 use Rattle.receiver.proofs.RunLemmas.{none-read}
 use Rattle.receiver.proofs.OutputLemmas.{nothing-written, wrote-then, writes-broke, writes-ok}
 use Rattle.receiver.proofs.reading.read_all.Goals as goal
@@ -167,6 +168,26 @@ returns-then-branch-clause-reads g c settings clients start at =
           (promised s c.send.new.self) (promised s c.take_bytes.new.out) bytes (Ok 0)
           c.send.ensures.kept e.takes;
     }
+
+pub take_bytes-requires-clause-whole : goal.take_bytes-requires-clause-whole
+take_bytes-requires-clause-whole g c =
+    let was = c.loop-reader.invariant.taken in
+    whole-left (packing_in c.loop-reader.session) was.read c.args.limit _ c.requires.whole was.time
+
+pub returns-in_default-clause-once : goal.returns-in_default-clause-once
+returns-in_default-clause-once g c =
+    let i = c.loop-reader.invariant in
+    λ sound. asked-once (i.asked_again sound) (i.taken.ended.1 ∙ sound) c.in_default.ensures.again
+
+pub returns-then-count-eq0-clause-once : goal.returns-then-count-eq0-clause-once
+returns-then-count-eq0-clause-once g c =
+    let i = c.loop-reader.invariant in
+    λ sound. asked-once (i.asked_again sound) (i.taken.ended.1 ∙ sound) c.in-Ok.ensures.again
+
+pub returns-in_err-take_bytes-clause-once : goal.returns-in_err-take_bytes-clause-once
+returns-in_err-take_bytes-clause-once g c =
+    let i = c.loop-reader.invariant in
+    λ sound. asked-once (i.asked_again sound) (i.taken.ended.1 ∙ sound) c.in-Ok.ensures.again
 
 pub returns-then-branch-clause-once : goal.returns-then-branch-clause-once
 returns-then-branch-clause-once g c =
