@@ -1,5 +1,5 @@
 -- What is known of a slot's stage where its search has named a cell, at the due time.
-use Rattle.std.proofs.Common.{◌≡◌, ◌≤◌, ◌<◌, ℕ, refl, true, arith}
+use Rattle.std.proofs.Common.{◌≤◌, ◌<◌, ℕ, refl, arith}
 use Rattle.acquisition.specs.declared.cell.Cell.{Cell}
 use Rattle.channels.specs.Searching.{due_of}
 use Rattle.channels.specs.declared.searched.Searched.{Searched}

@@ -1,5 +1,4 @@
 use Rattle.std.proofs.Common.{◌≡◌, ◌∙◌, refl, sym}
-use Rattle.channels.specs.declared.searched.Searched.{Searched}
 use Rattle.channel_slots.specs.declared.stage.Stage.TheVariants.{Searching}
 use Rattle.channel_slots.proofs.slot.Slot.settle.Goals as goal
 

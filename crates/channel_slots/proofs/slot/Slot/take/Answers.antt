@@ -247,8 +247,8 @@ returns-in_err-cell-in-Searching-clause-sound c time reach sound =
     (rw c.in-Searching.is at c.requires.sound.3.0) in
     rw c.from_residual.ensures (
       still-due first time reach first c.args.to c.in-Searching.searched took.new.self
-      (rw c.in-Searching.is at sound.0) took.ensures.later (omega (arith, took.ensures.later.due, early))
-      (omega (arith, known.begun, c.requires.sound.2)),
+          (rw c.in-Searching.is at sound.0) took.ensures.later (omega (arith, took.ensures.later.due, early))
+          (omega (arith, known.begun, c.requires.sound.2)),
       rw took.ensures.later.start (rw c.in-Searching.is at sound.1),
     )
 
