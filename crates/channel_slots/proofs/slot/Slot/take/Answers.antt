@@ -224,7 +224,8 @@ returns-in_ok-cell-in-Searching-clause-goes_on c =
     c.in_ok-cell-in-Searching.was in
     let come = took.ensures.due.0 (rw some refl) in
     rw c.due-time.ensures.value
-    (settled-later c.in_ok-cell-in-Searching.cell took.new.self _ (c.settle.ensures.stage took.new.self refl)
+    (settled-later c.in_ok-cell-in-Searching.cell took.new.self _
+    (c.settle.ensures.stage took.new.self refl)
     (omega (arith, come, took.ensures.later.due, c.requires.early)))
 
 pub returns-in_ok-cell-in-Searching-clause-chances :
@@ -232,7 +233,8 @@ pub returns-in_ok-cell-in-Searching-clause-chances :
 returns-in_ok-cell-in-Searching-clause-chances c =
     rw c.in-Searching.is (omega (
       arith,
-      settled-chance c.in_ok-cell-in-Searching.cell c.take.new.self _ (c.settle.ensures.stage c.take.new.self refl),
+      settled-chance c.in_ok-cell-in-Searching.cell c.take.new.self _
+          (c.settle.ensures.stage c.take.new.self refl),
     ))
 
 pub returns-in_err-cell-in-Searching-clause-sound :
@@ -247,7 +249,8 @@ returns-in_err-cell-in-Searching-clause-sound c time reach sound =
     (rw c.in-Searching.is at c.requires.sound.3.0) in
     rw c.from_residual.ensures (
       still-due first time reach first c.args.to c.in-Searching.searched took.new.self
-          (rw c.in-Searching.is at sound.0) took.ensures.later (omega (arith, took.ensures.later.due, early))
+          (rw c.in-Searching.is at sound.0) took.ensures.later
+          (omega (arith, took.ensures.later.due, early))
           (omega (arith, known.begun, c.requires.sound.2)),
       rw took.ensures.later.start (rw c.in-Searching.is at sound.1),
     )
