@@ -1,12 +1,13 @@
 """Wrong bodies that stand beside the right ones: each is a copy of its function under a name of its
 own, with the same contract and the same proof. So many edits of a crate are tried in one check, no
 caller waits for a function with a wrong body, and nothing else of the crate is proved again. The
-function itself is proved in the same check. Its copy differs from it by its name alone, and no
-other proof names what the prover makes of it."""
+copy differs from its function by its name and the edit alone, and no other proof names what the
+prover makes of it."""
 import functools
 import os
 import re
 
+from bare_bodies import AUTO, head_of
 from wrong_bodies import Function, has_goal, is_at, path_of
 
 IMPL = re.compile(r'(?:unsafe )?impl\b')
@@ -64,7 +65,10 @@ def path_by(file, owner, folder):
 
 
 class Second:
-    """A second body of a function: as an edit turns it."""
+    """A second body of a function: as an edit turns it, or the right one where there is none."""
+
+    # Its attribute for the prover's tactics, where the function has none of its own.
+    tactic = AUTO
 
     def __init__(self, place, path, number, edit):
         (self.file, self.function), self.edit = place, edit
@@ -72,20 +76,26 @@ class Second:
         self.name = f'{self.function.name}_body{number}'
         self.place = place
 
-    def names(self):
-        """How the prover calls the function and its copy."""
-        return ['::'.join([*self.path, it]) for it in (self.function.name, self.name)]
+    def full_name(self):
+        """How the prover calls it."""
+        return '::'.join([*self.path, self.name])
 
     def copied(self, given):
-        """Its lines."""
-        lines = self.edit.texts(given)[self.file].split('\n')
+        """Its lines, after one with its attribute."""
+        text = self.edit.texts(given)[self.file] if self.edit else given(self.file)
+        lines = text.split('\n')
         at = named_at(self.function, lines)
         lines[at] = re.sub(rf'\bfn {self.function.name}\b', f'fn {self.name}', lines[at])
-        return lines[self.function.first - 1:self.function.last + 1]
+        taken = lines[self.function.first - 1:self.function.last + 1]
+        return self.with_tactic(taken, '#[tactic(' in head_of(self.function, lines))
+
+    def with_tactic(self, lines, has_own):
+        """Its lines after its attribute, or after an empty line where it has one of its own."""
+        return ['' if has_own else self.tactic, *lines]
 
     def stand(self, first):
         """Notes that it begins at a line of the made file."""
-        by = first - self.function.first
+        by = first + 1 - self.function.first
         self.place = self.file, Function(self.name, first, self.function.body + by,
                                          self.function.last + by)
 
@@ -104,9 +114,13 @@ class Second:
                     made.write(dotted.sub(now.replace(os.sep, '.'), text))
         return os.path.join(folder, now)
 
-    def has_proof(self, said):
-        """Whether the function itself is proved, by what the prover said."""
-        return bool(re.search(rf'^fn \w+::{re.escape(self.names()[0])}: proved$', said, re.M))
+    def right(self):
+        """The right body, tried as this one is."""
+        return type(self)((self.file, self.function), self.path, 'right', None)
+
+    def has_refusal(self, refused):
+        """Whether it is refused, at whatever goal."""
+        return any(is_at(line, self.place, self.path) for line in refused)
 
     def is_refused(self, refused):
         """Whether it is refused at the goal of its edit."""
@@ -135,12 +149,6 @@ def is_copied(place, folder):
     return not any(home.replace(os.sep, '.') in text or closures.search(file)
                    for file, text in files_with(folder, '.antt').items()
                    if not file.startswith(home))
-
-
-def seconds_of(places, folder):
-    """The second bodies of edits of a crate by their places."""
-    return [Second(place, path_of_place(place, folder), number, edit)
-            for number, (edit, place) in enumerate(places.items(), 1)]
 
 
 def with_seconds(seconds, given):

@@ -73,6 +73,16 @@ class Edit:
             made[file] = text.replace(old, new)
         return made
 
+    def functions(self, given):
+        """The names of the functions whose lines it changes."""
+        names = set()
+        for file, text in self.texts(given).items():
+            was, now = given(file).split('\n'), text.split('\n')
+            changed = [at for at, (a, b) in enumerate(zip(was, now), 1) if a != b]
+            names.update(it.name for it in functions(text)
+                         if any(it.first <= at <= it.last for at in changed))
+        return names
+
     def place(self, given):
         """The file and the function whose body has all that it changes; else nothing."""
         files = {file for file, _, _ in self.pairs}
