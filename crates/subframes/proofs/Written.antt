@@ -59,12 +59,10 @@ health_fields-written =
     (all_written 0 24 (omega arith))
 
 -- a line, and a place, that is found there by its name
-pub line : {self f : HealthField} {found : fields.Field} → self ≡ f
+pub line : (f : HealthField) (found : fields.Field)
     → found ≡ field_named written_fields (health_name f)
-    → found ≡ field_named health_fields (health_name self)
-line {self} {f} is e =
-    e ∙ ap (λ table. field_named table (health_name f)) (sym health_fields-written)
-    ∙ ap (λ of. field_named health_fields (health_name of)) (sym is)
+    → found ≡ field_named health_fields (health_name f)
+line f found e = e ∙ ap (λ table. field_named table (health_name f)) (sym health_fields-written)
 
 pub place : (f : HealthField) (found : ℕ)
     → found ≡ place_of (health_name f) written_fields

@@ -108,6 +108,7 @@ macro_rules! health_rows {
 
 impl HealthField {
     /// Where the field stands, and the power of two of its scale factor.
+    #[tactic(auto, using(crate::proofs::Written::line))]
     pub(crate) fn layout(self) -> Layout
         ensures name { result.name.now ≡ health_name self }
         ensures entry { layout_in result ≡ field_named health_fields (health_name self) }
