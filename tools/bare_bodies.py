@@ -1,13 +1,14 @@
-"""A crate of which some functions alone have their bodies. A proof of a function cites the contracts
-of those that it calls, and nothing of their bodies: so these need none where it alone is tried, and
-a check spends nothing on them. That they keep their contracts is proved by the crate's own check."""
+"""A crate of which some functions alone have their bodies. A proof of a function cites the
+contracts of those that it calls, and nothing of their bodies: so these need none where it alone is
+tried, and a check spends nothing on them. That they keep their contracts is proved by the crate's
+own check."""
 import os
 import re
 
 from wrong_bodies import functions
 
-# What each file of sources says that gives the prover's tactics; with `none` a goal that has no
-# answer stays open.
+# What a function's attribute has the prover do with a goal that has no answer: it searches for a
+# proof, or leaves the goal open.
 AUTO, NONE = '#[tactic(auto)]', '#[tactic(none)]'
 
 # The files of a function's own proof.
@@ -27,19 +28,19 @@ def needs_body(function, lines):
 
 def without_bodies(text, kept):
     """A source with the bodies of those functions alone that are to be kept. Its lines stay where
-    they are."""
+    they are. The goals of the others are left open."""
     lines = text.replace('#![tactic(auto)]', '#![tactic(none)]').split('\n')
     for function in functions(text):
         if function.name not in kept and not needs_body(function, lines):
             for at in range(function.first - 1, function.body - 1):
                 lines[at] = re.sub(r'#\[tactic\(.*\)\]', '', lines[at])
-            body = range(function.body - 1, function.last)
-            lines[body[0]:body[-1] + 1] = ['unreachable!()', *[''] * (len(body) - 1)]
+            first, last = function.body - 1, function.last
+            lines[first:last] = ['unreachable!()', *[''] * (last - first)][:last - first]
     return '\n'.join(lines)
 
 
 def with_tactics(text, kept):
-    """A source of which the functions that are to be kept have the attribute that it had for all."""
+    """A source whose functions that are to be kept have their goals searched for."""
     lines = text.split('\n')
     for function in reversed([it for it in functions(text) if it.name in kept]):
         if '#[tactic(' not in head_of(function, lines):

@@ -1,5 +1,5 @@
-"""Second bodies of which the goals alone are tried that an edit names. Where the proof of a function
-has answers to these, the second body has the same, and all other goals are left open."""
+"""Second bodies of which the goals alone are tried that an edit names: where the proof of its
+function has answers to these, the second body has the same, and all other goals are left open."""
 import os
 import re
 
@@ -49,8 +49,8 @@ class Lone(Second):
         super().__init__(place, path, number, edit)
         self.goals = goals
 
-    def right(self):
-        return Lone((self.file, self.function), self.path, 'right', None, self.goals)
+    def with_right_body(self):
+        return Lone((self.file, self.function), self.path, f'{self.number}_right', None, self.goals)
 
     def with_tactic(self, lines, has_own):
         return [self.tactic, *(re.sub(r'#\[tactic\(.*\)\]', '', it) for it in lines)]

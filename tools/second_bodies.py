@@ -72,7 +72,7 @@ class Second:
 
     def __init__(self, place, path, number, edit):
         (self.file, self.function), self.edit = place, edit
-        self.path = path
+        self.path, self.number = path, number
         self.name = f'{self.function.name}_body{number}'
         self.place = place
 
@@ -114,9 +114,9 @@ class Second:
                     made.write(dotted.sub(now.replace(os.sep, '.'), text))
         return os.path.join(folder, now)
 
-    def right(self):
+    def with_right_body(self):
         """The right body, tried as this one is."""
-        return type(self)((self.file, self.function), self.path, 'right', None)
+        return type(self)((self.file, self.function), self.path, f'{self.number}_right', None)
 
     def has_refusal(self, refused):
         """Whether it is refused, at whatever goal."""

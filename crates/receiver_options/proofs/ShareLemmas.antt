@@ -1,6 +1,6 @@
 -- The shares that digits write.
-use Rattle.std.proofs.Common.{rules, ◌≡◌, ℕ, Bool, nat_cmp, ◌-◌, ◌≤◌, true, false, List, length, map}
-use Rattle.std.proofs.Common.{take, refl}
+use Rattle.std.proofs.Common.{rules, ◌≡◌, ℕ, Bool, nat_cmp, ◌-◌, ◌≤◌, true, false, List, length}
+use Rattle.std.proofs.Common.{map, take, refl}
 use Rattle.std.proofs.lemmas.List.{take_all, length-map}
 use Rattle.std.specs.Prelude.{Some, None, ◌==◌, Result, Ok, Err, IfErr}
 use Rattle.std.specs.List.{list_all}
