@@ -37,10 +37,15 @@ def are_libraries_of_ci():
         return False
 
 
+def is_program(crate):
+    """Whether a crate is a program, of which there is no library."""
+    return os.path.exists(os.path.join(TOP, 'crates', crate, 'src', 'main.rt'))
+
+
 def is_made(crate):
-    """Whether `rt ci` made the library of a crate, of the sources as they are: it leaves no sum
-    beside it by which `rt` would know that."""
-    return os.path.isdir(library(crate)) and are_libraries_of_ci()
+    """Whether `rt ci` proved a crate, of the sources as they are, and made its library, if it is
+    one: it leaves no sum beside that by which `rt` would know."""
+    return are_libraries_of_ci() and (is_program(crate) or os.path.isdir(library(crate)))
 
 
 def library(crate):
@@ -109,8 +114,7 @@ def prove(crate, crates, jobs, nice=0):
     library. Gives whether it is proved, and what the prover said."""
     with new_folder('crate') as folder:
         room = Room(crate, crates, folder)
-        is_program = os.path.exists(os.path.join(room.folder, 'src', 'main.rt'))
         try:
-            return room.run('check' if is_program else 'lib', jobs, nice)
+            return room.run('check' if is_program(crate) else 'lib', jobs, nice)
         finally:
             room.bring_out()
