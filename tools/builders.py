@@ -73,14 +73,16 @@ def prove(crate, called, say):
     names = with_those_below([crate], crates)
     home = os.path.join(TOP, 'crates', crate)
     began = time.monotonic()
-    in_work, of_level = set(), level()
+    in_work, left, of_level = set(), set(names), level()
     # The kit's compiler takes no higher level, and none by the name of `any`.
     options = [] if of_level == ANY else ['--cpu', of_level]
 
     def build(name):
         in_work.add(name)
-        # One that the others wait for gets the processors that they leave.
-        jobs = max(2, job_count() // len(in_work))
+        # One that the longest chain of those that are left begins with gets all processors, even
+        # where others are still at work.
+        begins_chain = steps[name] == max(steps[it] for it in left)
+        jobs = job_count() if begins_chain else max(2, job_count() // len(in_work))
         try:
             if name == crate:
                 # The program says nothing to speak of where it is asked for its help.
@@ -92,6 +94,7 @@ def prove(crate, called, say):
                 raise Failed(said)
         finally:
             in_work.discard(name)
+            left.discard(name)
 
     say_how_long(crate, called, len(names), say)
     room_folders.clear()

@@ -64,6 +64,11 @@ class Lone(Second):
             file.write(Answers(text).of_goals(self.goals))
         return home
 
+    def has_refusal(self, refused):
+        """Whether one of its goals is refused, or is left open as the others are."""
+        own = [line for line in refused if is_at(line, self.place, self.path)]
+        return any(f'`{it}`' in line for it in self.goals for line in own)
+
     def is_refused(self, refused):
         own = [line for line in refused if '/Answers.antt:' in line
                and is_at(line, self.place, self.path)]
