@@ -9,6 +9,10 @@ from wrong_bodies import is_at
 
 ANSWER = re.compile(r'^pub (\S+) :')
 
+# What the prover says of a declaration, and of those that cite one that it rejected.
+ERROR = re.compile(r': error: `([^`]+)`: ')
+DEPENDS = re.compile(r' depends? on `([^`]+)`, which was rejected, (?:was|were) not checked: (.*)')
+
 
 class Answers:
     """A file of answers: the answers by their names, and what stands before and between them."""
@@ -70,9 +74,15 @@ class Lone(Second):
         return any(f'`{it}`' in line for it in self.goals for line in own)
 
     def is_refused(self, refused):
+        """Whether the answer to one of its goals is refused, or what stands beside that and is
+        cited there."""
         own = [line for line in refused if '/Answers.antt:' in line
                and is_at(line, self.place, self.path)]
-        return any(f'error: `{it}`: ' in line for it in self.goals for line in own)
+        rejected = {found[1] for found in map(ERROR.search, own) if found}
+        for found in filter(None, map(DEPENDS.search, own)):
+            if found[1] in rejected:
+                rejected.update(found[2].split(', '))
+        return not rejected.isdisjoint(self.goals)
 
 
 def bodies_of(places, folder):
