@@ -24,7 +24,7 @@ class Answers:
             found = ANSWER.match(line)
             if found:
                 name = found[1]
-            elif line and line[0] not in ' })' and not line.startswith(('unfolding', f'{name} ')):
+            elif line and line[0] not in ' })]' and not line.startswith(('unfolding', f'{name} ')):
                 name = None
             lines = self.others if name is None else self.answers.setdefault(name, [])
             lines.append(line)
