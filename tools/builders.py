@@ -23,7 +23,7 @@ NICE = {1: 19, 2: 10}
 
 # The minutes that a proof from nothing takes, on a quick day and on a slow one: those that no
 # further processor saves, and those that the processors share.
-MINUTES = {'receiver_cli': ((4, 23), (8.5, 31)), 'packer_cli': ((2.5, 3), (4, 4.5))}
+MINUTES = {'receiver_cli': ((3, 23.5), (8.5, 31)), 'packer_cli': ((2.5, 3), (4, 4.5))}
 
 
 class Failed(Exception):
