@@ -65,18 +65,19 @@ front-taken packing bytes left used whole u =
 
 -- the same of what take_bytes computes
 pub taken-before : (session : Session) (limit : ℕ) (bytes : List ℕ) (packing : Packing)
-    (time per used : ℕ) → packing ≡ packing_in session → time ≡ time_of session
+    (time per used : ℕ) {run : List Sample} → run ≡ samples packing (take used bytes)
+    → packing ≡ packing_in session → time ≡ time_of session
     → per ≡ samples_per_byte packing
     → (limit - time_of session) % samples_per_byte (packing_in session) ≡ 0
     → used ≡ min (length bytes) ((limit - time) / per)
-    → samples packing (take used bytes) ≡ samples_before limit session bytes
-taken-before session limit bytes packing time per used p t e whole u =
+    → run ≡ samples_before limit session bytes
+taken-before session limit bytes packing time per used is p t e whole u =
     let own : Packing = packing_in session in
     let left : ℕ = limit - time_of session in
     let room : used ≡ min (length bytes) (left / samples_per_byte own) =
     u ∙ ap (λ k. min (length bytes) ((limit - k) / per)) t
     ∙ ap (λ k. min (length bytes) (left / k)) (e ∙ ap (λ (q : Packing). samples_per_byte q) p) in
-    ap (λ (q : Packing). samples q (take used bytes)) p
+    is ∙ ap (λ (q : Packing). samples q (take used bytes)) p
     ∙ front-taken own bytes left used whole room
 
 -- the time after those, where nothing stands between the limit and a whole byte

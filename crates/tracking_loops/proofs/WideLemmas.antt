@@ -17,10 +17,10 @@ module _ (x y : ℤ) (x_in : unsigned_abs x ≤ 2 ^ 38) (y_in : unsigned_abs y �
   difference_plain_fits : FitsSigned w64 (x -ℤ y)
   difference_plain_fits = fits_signed_from_abs w64 (x -ℤ y) (omega (arith, ints))
 
-  pub sum_fits : FitsSigned w64 (to_z w64 (of_z w64 x) +ℤ to_z w64 (of_z w64 y))
+  sum_fits : FitsSigned w64 (to_z w64 (of_z w64 x) +ℤ to_z w64 (of_z w64 y))
   sum_fits = rw (to_z-of_z w64 x x_fits, to_z-of_z w64 y y_fits) sum_plain_fits
 
-  pub sum_is : to_z w64 (of_z w64 (to_z w64 (of_z w64 x) +ℤ to_z w64 (of_z w64 y))) ≡ x +ℤ y
+  sum_is : to_z w64 (of_z w64 (to_z w64 (of_z w64 x) +ℤ to_z w64 (of_z w64 y))) ≡ x +ℤ y
   sum_is = rw (to_z-of_z w64 x x_fits, to_z-of_z w64 y y_fits)
       (to_z-of_z w64 (x +ℤ y) sum_plain_fits)
 
@@ -35,7 +35,7 @@ module _ (x y : ℤ) (x_in : unsigned_abs x ≤ 2 ^ 38) (y_in : unsigned_abs y �
       → unsigned_abs (to_z w64 (of_z w64 (to_z w64 (of_z w64 x) -ℤ to_z w64 (of_z w64 y)))) ≤ n
   difference_small n h = rw difference_is (omega (arith, ints))
 
-  pub sum_small : (n : ℕ) → unsigned_abs x + unsigned_abs y ≤ n
+  sum_small : (n : ℕ) → unsigned_abs x + unsigned_abs y ≤ n
       → unsigned_abs (to_z w64 (of_z w64 (to_z w64 (of_z w64 x) +ℤ to_z w64 (of_z w64 y)))) ≤ n
   sum_small n h = rw sum_is (omega (arith, ints))
 
@@ -58,3 +58,16 @@ module _ (a b x y : ℤ) (a_in : unsigned_abs a ≤ 2 ^ 18) (b_in : unsigned_abs
     pub product_small : unsigned_abs
         (to_z w64 (of_z w64 (to_z w64 (of_z w64 x) *ℤ to_z w64 (of_z w64 y)))) ≤ 2 ^ 36
     product_small = rw product_is product_size
+
+-- the sum of two products
+module _ (x y : ℤ) (x_in : unsigned_abs x ≤ 2 ^ 36) (y_in : unsigned_abs y ≤ 2 ^ 36) where
+  pub products_fit : FitsSigned w64 (to_z w64 (of_z w64 x) +ℤ to_z w64 (of_z w64 y))
+  products_fit = sum_fits x y (omega arith) (omega arith)
+
+  pub products_are : to_z w64 (of_z w64 (to_z w64 (of_z w64 x) +ℤ to_z w64 (of_z w64 y)))
+      ≡ x +ℤ y
+  products_are = sum_is x y (omega arith) (omega arith)
+
+  pub products_small : unsigned_abs
+      (to_z w64 (of_z w64 (to_z w64 (of_z w64 x) +ℤ to_z w64 (of_z w64 y)))) ≤ 2 ^ 37
+  products_small = sum_small x y (omega arith) (omega arith) (2 ^ 37) (omega arith)

@@ -1,9 +1,9 @@
-use Rattle.std.proofs.Common.{◌≡◌, ◌∙◌, ◌++◌, ◌+◌, List, length, ap, subst}
+use Rattle.std.proofs.Common.{◌∙◌, ◌++◌, ◌+◌, List, length, ap, subst}
 use Rattle.std.proofs.lemmas.Result.{MatchResult-from_err}
 use Rattle.definitions.specs.Samples.{Sample}
 use Rattle.definitions.specs.Receiver.{body}
 use Rattle.receiver.specs.Outputs.{promised}
-use Rattle.receiver.specs.Runs.{IsWrittenTo, samples_before}
+use Rattle.receiver.specs.Runs.{IsWrittenTo}
 use Rattle.receiver.specs.Texts.{AppendsPart}
 use Rattle.receiver.specs.Sessions.{time_of}
 use Rattle.receiver.proofs.ReadLemmas.{taken-before, time-before}
@@ -11,12 +11,10 @@ use Rattle.receiver.proofs.reading.take_bytes.Goals as goal
 
 pub returns-in_err-take_piece-clause-takes : goal.returns-in_err-take_piece-clause-takes
 returns-in_err-take_piece-clause-takes g c settings clients start xs at =
-    let before : c.new-piece.result.samples
-    ≡ samples_before c.args.limit c.args.session.now c.args.bytes.now =
-    c.new-piece.ensures.samples
-    ∙ taken-before c.args.session.now c.args.limit c.args.bytes.now _ c.time.result
-    c.per_byte.result c.min-used.result c.format-format.ensures c.time.ensures
-    c.per_byte.ensures c.requires.whole c.min-used.ensures in
+    let before =
+    taken-before c.args.session.now c.args.limit c.args.bytes.now _ c.time.result
+    c.per_byte.result c.min-used.result c.new-piece.ensures.samples c.format-format.ensures
+    c.time.ensures c.per_byte.ensures c.requires.whole c.min-used.ensures in
     MatchResult-from_err c.from_residual.result _ _ c.from_residual.ensures.0 (λ _.
     subst (λ (run : List Sample). AppendsPart start (promised g.W.Sink c.take_piece.new.out)
     (body settings (xs ++ run) clients)) before
@@ -24,12 +22,10 @@ returns-in_err-take_piece-clause-takes g c settings clients start xs at =
 
 pub returns-clause-takes : goal.returns-clause-takes
 returns-clause-takes g c settings clients start xs at =
-    let before : c.new-piece.result.samples
-    ≡ samples_before c.args.limit c.args.session.now c.args.bytes.now =
-    c.new-piece.ensures.samples
-    ∙ taken-before c.args.session.now c.args.limit c.args.bytes.now _ c.time.result
-    c.per_byte.result c.min-used.result c.format-format.ensures c.time.ensures
-    c.per_byte.ensures c.requires.whole c.min-used.ensures in
+    let before =
+    taken-before c.args.session.now c.args.limit c.args.bytes.now _ c.time.result
+    c.per_byte.result c.min-used.result c.new-piece.ensures.samples c.format-format.ensures
+    c.time.ensures c.per_byte.ensures c.requires.whole c.min-used.ensures in
     subst (λ (run : List Sample). IsWrittenTo settings clients start c.take_piece.new.session
     (promised g.W.Sink c.take_piece.new.out) (xs ++ run)) before
     (c.in_ok-take_piece.ensures.takes settings clients start xs at)
@@ -48,12 +44,10 @@ returns-in_err-take_piece-clause-past g c =
 
 pub returns-clause-time : goal.returns-clause-time
 returns-clause-time g c =
-    let before : c.new-piece.result.samples
-    ≡ samples_before c.args.limit c.args.session.now c.args.bytes.now =
-    c.new-piece.ensures.samples
-    ∙ taken-before c.args.session.now c.args.limit c.args.bytes.now _ c.time.result
-    c.per_byte.result c.min-used.result c.format-format.ensures c.time.ensures
-    c.per_byte.ensures c.requires.whole c.min-used.ensures in
+    let before =
+    taken-before c.args.session.now c.args.limit c.args.bytes.now _ c.time.result
+    c.per_byte.result c.min-used.result c.new-piece.ensures.samples c.format-format.ensures
+    c.time.ensures c.per_byte.ensures c.requires.whole c.min-used.ensures in
     c.in_ok-take_piece.ensures.time
     ∙ ap (λ (run : List Sample). time_of c.args.session.now + length run) before
     ∙ time-before c.args.session.now c.args.limit c.args.bytes.now c.requires.within

@@ -1,24 +1,23 @@
-use Rattle.std.proofs.Common.{◌^◌, ◌∙◌, arith, w32}
+use Rattle.std.proofs.Common.{◌∙◌, w32}
 use Rattle.std.proofs.lemmas.Int.{to_z-of_z}
 use Rattle.std.specs.Prelude.{ℤ, ◌+ℤ◌}
 use Rattle.std.proofs.Math.Path.{ap₂}
-use Rattle.tracking_loops.proofs.WideLemmas.{sum_fits, sum_is, sum_small}
+use Rattle.tracking_loops.proofs.WideLemmas.{products_fit, products_are, products_small}
 use Rattle.tracking_loops.proofs.discriminators.power.Goals as goal
 
 pub overflow_add-result : goal.overflow_add-result
-overflow_add-result c = sum_fits c.product.result c.product-2.result
-    (omega (arith, c.product.ensures.small)) (omega (arith, c.product-2.ensures.small))
+overflow_add-result c = products_fit c.product.result c.product-2.result
+    c.product.ensures.small c.product-2.ensures.small
 
 pub returns-clause-is : goal.returns-clause-is
 returns-clause-is c =
     let first = rw (to_z-of_z w32 c.args.in_phase c.ranges.in_phase) at c.product.ensures.is in
     let second =
     rw (to_z-of_z w32 c.args.quadrature c.ranges.quadrature) at c.product-2.ensures.is in
-    sum_is c.product.result c.product-2.result (omega (arith, c.product.ensures.small))
-    (omega (arith, c.product-2.ensures.small))
+    products_are c.product.result c.product-2.result c.product.ensures.small
+    c.product-2.ensures.small
     ∙ ap₂ (λ (x y : ℤ). x +ℤ y) first second
 
 pub returns-clause-small : goal.returns-clause-small
-returns-clause-small c = sum_small c.product.result c.product-2.result
-    (omega (arith, c.product.ensures.small)) (omega (arith, c.product-2.ensures.small)) (2 ^ 37)
-    (omega (arith, c.product.ensures.small, c.product-2.ensures.small))
+returns-clause-small c = products_small c.product.result c.product-2.result
+    c.product.ensures.small c.product-2.ensures.small
