@@ -1,5 +1,6 @@
 //! Tests of the crates of the signal: bits, samples, codes, replicas, sums, a search, and made
-//! signals. The tests of a crate stand in a module named after it, over what the crate makes public.
+//! signals. The tests of a crate stand in a module named after it, over what the crate makes
+//! public.
 #![tactic(auto)]
 
 #[cfg(test)]
