@@ -4,7 +4,7 @@
 //! It is written from the formulas alone and calls no other crate, so that a test compares two
 //! things that were written apart. It is proved to be safe and to end, that values are at most 3 in
 //! size and that `fill` stays in its buffer, and no more: that the signals are those of their
-//! formulas is only tested.
+//! formulas is only tested, in the crate `signal_tests`, for which some of its parts are public.
 //!
 //!     use made_signals::{MadeSignal, PlainTracker, SampleStream};
 //!
@@ -16,17 +16,15 @@
 //!     }
 #![tactic(auto)]
 
-mod chip_signs;
-mod lock;
-mod loops;
+pub mod chip_signs;
+pub mod lock;
+pub mod loops;
 mod news;
-mod noise;
+pub mod noise;
 mod recording;
 mod signal;
 mod steps;
 mod stream;
-#[cfg(test)]
-mod tests;
 mod tracker;
 
 pub use news::PlainNews;

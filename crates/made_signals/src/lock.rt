@@ -13,6 +13,7 @@ pub struct PlainLock {
 }
 
 impl PlainLock {
+    /// The lock before the first dump.
     pub fn new() -> Self {
         PlainLock {
             dumps: 0,

@@ -3,19 +3,22 @@
 /// The most that a shift may be in size, in 1/65536 Hz.
 const MOST_SHIFT: i64 = 1 << 30;
 
-/// The number of dumps, the prompt sums of the last, the slow part of the shift, the shift in
-/// 1/65536 Hz, and the correction of the code in 1/65536 chip a second.
+/// The number of dumps, the prompt sums of the last, the slow part of the shift, the shift, and the
+/// correction of the code.
 #[derive(Clone, Copy)]
 pub struct PlainLoops {
     dumps: u64,
     ip: i32,
     qp: i32,
     u: i64,
+    /// The shift, in 1/65536 Hz.
     pub v: i64,
+    /// The correction of the code, in 1/65536 chip a second.
     pub w: i64,
 }
 
 impl PlainLoops {
+    /// The loops before the first dump, at a shift in 1/65536 Hz.
     pub fn start(v: i64) -> Self {
         PlainLoops {
             dumps: 0,

@@ -9,6 +9,7 @@ pub struct Noise {
 }
 
 impl Noise {
+    /// Noise from its first value on.
     pub fn new() -> Self {
         Noise {
             register: 0x2545_f491,

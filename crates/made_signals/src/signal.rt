@@ -52,7 +52,7 @@ impl<'a> MadeSignal<'a> {
     ///
     /// Its sign is that of the cosine times that of the chip, turned where the data bit is 1. Its
     /// size is 3 where that of the cosine is 2.
-    pub(crate) fn value(&self, signs: &ChipSigns, number: u64) -> i32
+    pub fn value(&self, signs: &ChipSigns, number: u64) -> i32
         ensures { unsigned_abs result ≤ 3 }
     {
         let v = self.shift();

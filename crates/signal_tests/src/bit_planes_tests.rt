@@ -29,9 +29,17 @@ fn lane_0_is_the_last_place_of_a_word(rt: HostRuntime) {
     bytes[62] = 0xdf;
     bytes[63] = 0x40;
     let bytes = u8x64::from_array(bytes);
-    assert_same!(rt; bit_of_each(bytes, 6), 0xc000_0000_0000_0001);
-    assert_same!(rt; bit_of_each(bytes, 5), 0x3fff_ffff_ffff_ffff);
-    assert_same!(rt; bit_of_each(bytes, 4), 0x4000_0000_0000_0000);
+    let words = [
+        bit_of_each(bytes, 6),
+        bit_of_each(bytes, 5),
+        bit_of_each(bytes, 4),
+    ];
+    let expected = [
+        0xc000_0000_0000_0001,
+        0x3fff_ffff_ffff_ffff,
+        0x4000_0000_0000_0000,
+    ];
+    assert_same!(rt; words, expected);
 }
 
 #[test]

@@ -1,11 +1,12 @@
 //! The code table's octal column, and the ends of a code.
 
+use crate::parts::satellite;
 use assertions::{assert_same, assert_same_at};
 use ca_codes::{CodeBook, Prn, PrnFault};
 
 /// The first ten chips of satellites 1 to 32 in octal, as the standard lists them (IS-GPS-200,
 /// table 3-Ia): the first digit stands for one chip, the other three for three chips each.
-const FIRST_CHIPS: [u32; 32] = [
+static FIRST_CHIPS: [u32; 32] = [
     0o1440, 0o1620, 0o1710, 0o1744, 0o1133, 0o1455, 0o1131, 0o1454, 0o1626, 0o1504, 0o1642, 0o1750,
     0o1764, 0o1772, 0o1775, 0o1776, 0o1156, 0o1467, 0o1633, 0o1715, 0o1746, 0o1763, 0o1063, 0o1706,
     0o1743, 0o1761, 0o1770, 0o1774, 0o1127, 0o1453, 0o1625, 0o1712,
@@ -23,58 +24,61 @@ fn first_ten_chips(book: &mut CodeBook, prn: Prn, first: u32) -> u32 {
 #[test]
 fn each_code_begins_as_listed(rt: HostRuntime) {
     let mut book = CodeBook::new();
-    for (number, want) in (1u8..=32).zip(FIRST_CHIPS) {
-        let prn = Prn::new(number).expect(&rt, "a satellite");
-        assert_same_at!(rt; number, first_ten_chips(&mut book, prn, 0), want);
+    for place in 0..32 {
+        let number = place as u8 + 1;
+        let chips = first_ten_chips(&mut book, satellite(&rt, number), 0);
+        assert_same_at!(rt; number, chips, FIRST_CHIPS[place]);
     }
 }
 
 #[test]
 fn a_code_repeats_after_1023_chips(rt: HostRuntime) {
     let mut book = CodeBook::new();
-    let prn = Prn::new(1).expect(&rt, "a satellite");
-    assert_same!(rt; [book.chip(prn, 1021), book.chip(prn, 1022)], [false, false]);
+    let prn = satellite(&rt, 1);
     assert_same!(rt; first_ten_chips(&mut book, prn, 1023), 0o1440);
     // 4,294,967,295 is 4,198,404 times 1,023 and 3 more.
-    for (n, want) in [
-        (u32::MAX - 2, true),
-        (u32::MAX - 1, false),
-        (u32::MAX, false),
-    ] {
-        assert_same_at!(rt; n, book.chip(prn, n), want);
-    }
+    let chips = [
+        book.chip(prn, 1021),
+        book.chip(prn, 1022),
+        book.chip(prn, u32::MAX - 2),
+        book.chip(prn, u32::MAX - 1),
+        book.chip(prn, u32::MAX),
+    ];
+    assert_same!(rt; chips, [false, false, true, false, false]);
 }
 
 #[test]
 fn satellites_are_1_to_32(rt: HostRuntime) {
-    assert_same!(rt; Prn::new(0), None);
-    assert_same!(rt; Prn::new(33), None);
-    let last = Prn::new(32).expect(&rt, "a satellite");
+    let last = satellite(&rt, 32);
     assert_same!(rt; last.get(), 32);
-    assert_same!(rt; Prn::try_from(32), Ok(last));
-    assert_same!(rt; Prn::try_from(33), Err(PrnFault));
+    assert_same!(rt; [Prn::new(0), Prn::new(33)], [None, None]);
+    assert_same!(rt; [Prn::try_from(32), Prn::try_from(33)], [Ok(last), Err(PrnFault)]);
     assert!(rt; Prn::new(31) < Some(last));
 }
 
 #[test]
 fn window_wraps(rt: HostRuntime) {
     let mut book = CodeBook::new();
-    let prn = Prn::new(1).expect(&rt, "a satellite");
+    let prn = satellite(&rt, 1);
     // Chips 1021 and 1022 are 0, and the code begins with 1100100000.
-    assert_same!(rt; book.window(prn, 1021) >> 52, 0x320);
-    assert_same!(rt; book.window(prn, 2 * 1023 + 1021) >> 52, 0x320);
+    let begun = [
+        book.window(prn, 1021) >> 52,
+        book.window(prn, 2 * 1023 + 1021) >> 52,
+    ];
+    assert_same!(rt; begun, [0x320, 0x320]);
+}
+
+/// The first ten chips of two satellites, which a book is asked for in this order.
+fn first_chips_of(book: &mut CodeBook, first: Prn, second: Prn) -> (u64, u64) {
+    (book.window(first, 0) >> 54, book.window(second, 0) >> 54)
 }
 
 #[test]
 fn either_order_fills_the_book(rt: HostRuntime) {
-    let first = Prn::new(3).expect(&rt, "a satellite");
-    let second = Prn::new(19).expect(&rt, "a satellite");
-    let mut upward = CodeBook::new();
-    let mut downward = CodeBook::default();
+    let (low, high) = (satellite(&rt, 3), satellite(&rt, 19));
     // The first ten chips of both are those of the standard's table, whichever of them the book was
     // asked for first.
-    assert_same!(rt; upward.window(first, 0) >> 54, 0o1710);
-    assert_same!(rt; upward.window(second, 0) >> 54, 0o1633);
-    assert_same!(rt; downward.window(second, 0) >> 54, 0o1633);
-    assert_same!(rt; downward.window(first, 0) >> 54, 0o1710);
+    let upward = first_chips_of(&mut CodeBook::new(), low, high);
+    let downward = first_chips_of(&mut CodeBook::default(), high, low);
+    assert_same!(rt; (upward, downward), ((0o1710, 0o1633), (0o1633, 0o1710)));
 }

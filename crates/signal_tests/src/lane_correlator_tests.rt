@@ -8,12 +8,13 @@ ghost use Rattle.sample_planes.specs.declared.planes.TheConstants.{MAX_SAMPLES};
 mod products;
 
 use crate::noise::noise_bytes;
+use crate::parts::{half_chip, satellite};
 use assertions::assert_same;
-use ca_codes::{CodeBook, Prn};
+use ca_codes::CodeBook;
 use lane_correlator::{Counts, replica_sums};
-use oscillators::{CarrierOsc, CarrierPlanes, CodeOsc, CodePlanes, HalfChip};
+use oscillators::{CarrierOsc, CarrierPlanes, CodeOsc, CodePlanes};
 use sample_planes::{Format, Planes, unpack};
-use std::test::Fail;
+use std::process::Abort;
 
 /// The sums with one more sample, whose parts in phase and in quadrature are `sample`.
 fn with_sample(
@@ -80,24 +81,24 @@ fn between(earlier: &Counts, later: &Counts) -> Counts {
 
 /// For how many ranges of a run of `len` samples, which begin at sample `lowest` or after it, the
 /// sums are those of a plain loop.
-fn agreeing(format: Format, lowest: usize, len: usize) -> Result<u32, Fail>
+fn agreeing(rt: &impl Abort, format: Format, lowest: usize, len: usize) -> u32
     requires { len ≤ MAX_SAMPLES }
 {
-    let bytes = noise_bytes();
-    let prn = Prn::new(7).ok_or("a satellite")?;
+    let prn = satellite(rt, 7);
     let mut book = CodeBook::new();
-    let carrier_osc = CarrierOsc::new(0x2345_6789);
-    let code_osc = CodeOsc::new(HalfChip::new(2_030).ok_or("a half chip")?, 0x6000_0001);
-    let samples = unpack(format, &bytes, 3, len);
-    let carrier = carrier_osc.planes(samples.len());
-    let code = code_osc.planes(samples.len(), &mut book, prn);
-    let plain = plain_sums(&samples, &carrier, &code);
+    let carrier = CarrierOsc::new(0x2345_6789);
+    let code = CodeOsc::new(half_chip(rt, 2_030), 0x6000_0001);
+    let samples = unpack(format, &noise_bytes(), 3, len);
+    let plain = plain_sums(
+        &samples,
+        &carrier.planes(samples.len()),
+        &code.planes(samples.len(), &mut book, prn),
+    );
     let mut agreeing = 0u32;
     for from in lowest..=samples.len() {
         let mut carrier_there = CarrierOsc::new(0x2345_6789);
         carrier_there.advance(from as u64);
-        let half_chip = HalfChip::new(2_030).ok_or("a half chip")?;
-        let mut code_there = CodeOsc::new(half_chip, 0x6000_0001);
+        let mut code_there = CodeOsc::new(half_chip(rt, 2_030), 0x6000_0001);
         code_there.jump(from as u64);
         for to in from..=samples.len() {
             let sums = replica_sums(
@@ -114,7 +115,7 @@ fn agreeing(format: Format, lowest: usize, len: usize) -> Result<u32, Fail>
             }
         }
     }
-    Ok(agreeing)
+    agreeing
 }
 
 /// As many ranges as there are from <= to <= 200, and 954 <= from <= to <= 1,024.
@@ -122,57 +123,61 @@ const SHORT_RANGES: u32 = 202 * 201 / 2;
 
 const LATE_RANGES: u32 = 72 * 71 / 2;
 
-#[test]
-fn sums_of_one_bit_samples(rt: HostRuntime) -> Result<(), Fail> {
-    assert_same!(rt; agreeing(Format::Real1, 0, 200)?, SHORT_RANGES);
-    assert_same!(rt; agreeing(Format::Real1, 954, 1024)?, LATE_RANGES);
-    Ok(())
+/// Asserts that the sums over all of these ranges are those of a plain loop.
+fn assert_agreeing(rt: &impl Abort, format: Format) {
+    let ranges = (
+        agreeing(rt, format, 0, 200),
+        agreeing(rt, format, 954, 1024),
+    );
+    assert_same!(rt; ranges, (SHORT_RANGES, LATE_RANGES));
 }
 
 #[test]
-fn sums_of_two_bit_samples(rt: HostRuntime) -> Result<(), Fail> {
-    assert_same!(rt; agreeing(Format::Real2, 0, 200)?, SHORT_RANGES);
-    assert_same!(rt; agreeing(Format::Real2, 954, 1024)?, LATE_RANGES);
-    Ok(())
+fn sums_of_one_bit_samples(rt: HostRuntime) {
+    assert_agreeing(&rt, Format::Real1);
 }
 
 #[test]
-fn sums_of_complex_samples(rt: HostRuntime) -> Result<(), Fail> {
-    assert_same!(rt; agreeing(Format::Iq1, 0, 200)?, SHORT_RANGES);
-    assert_same!(rt; agreeing(Format::Iq1, 954, 1024)?, LATE_RANGES);
-    Ok(())
+fn sums_of_two_bit_samples(rt: HostRuntime) {
+    assert_agreeing(&rt, Format::Real2);
 }
 
 #[test]
-fn sums_of_complex_two_bit_samples(rt: HostRuntime) -> Result<(), Fail> {
-    assert_same!(rt; agreeing(Format::Iq2, 0, 200)?, SHORT_RANGES);
-    assert_same!(rt; agreeing(Format::Iq2, 954, 1024)?, LATE_RANGES);
-    Ok(())
+fn sums_of_complex_samples(rt: HostRuntime) {
+    assert_agreeing(&rt, Format::Iq1);
 }
 
-/// Four samples at a quarter of a cycle and a quarter of a chip a sample, the code of satellite 1
-/// beginning with its last chip.
-fn four_samples(format: Format, bytes: &[u8]) -> Result<Counts, Fail>
+#[test]
+fn sums_of_complex_two_bit_samples(rt: HostRuntime) {
+    assert_agreeing(&rt, Format::Iq2);
+}
+
+/// Asserts the sums of four samples at a quarter of a cycle and a quarter of a chip a sample, the
+/// code of satellite 1 beginning with its last chip.
+fn assert_four_samples(rt: &impl Abort, format: Format, bytes: &[u8], expected: Counts)
     requires { 4 ≤ sample_count (packing_of format) bytes.now }
 {
-    let prn = Prn::new(1).ok_or("a satellite")?;
-    let code = CodeOsc::new(HalfChip::new(2_044).ok_or("a half chip")?, 1 << 30);
     let samples = unpack(format, bytes, 0, 4);
-    let carrier = CarrierOsc::new(1 << 30);
-    Ok(replica_sums(
-        &samples,
+    let code = CodeOsc::new(half_chip(rt, 2_044), 1 << 30);
+    assert_same!(rt; sums_of_quarters(rt, &samples, &code), expected);
+}
+
+/// The sums over samples at a quarter of a cycle a sample, with the code of satellite 1.
+fn sums_of_quarters(rt: &impl Abort, samples: &Planes, code: &CodeOsc) -> Counts {
+    replica_sums(
+        samples,
         0,
         samples.len(),
-        &carrier,
-        &code,
+        &CarrierOsc::new(1 << 30),
+        code,
         &mut CodeBook::new(),
-        prn,
-    ))
+        satellite(rt, 1),
+    )
 }
 
 #[test]
-fn two_bit_byte(rt: HostRuntime) -> Result<(), Fail> {
-    let want = Counts {
+fn two_bit_byte(rt: HostRuntime) {
+    let expected = Counts {
         ie: 12,
         qe: 4,
         ip: 6,
@@ -180,13 +185,12 @@ fn two_bit_byte(rt: HostRuntime) -> Result<(), Fail> {
         il: 6,
         ql: 2,
     };
-    assert_same!(rt; four_samples(Format::Real2, &[0x72])?, want);
-    Ok(())
+    assert_four_samples(&rt, Format::Real2, &[0x72], expected);
 }
 
 #[test]
-fn complex_byte(rt: HostRuntime) -> Result<(), Fail> {
-    let want = Counts {
+fn complex_byte(rt: HostRuntime) {
+    let expected = Counts {
         ie: -2,
         qe: 6,
         ip: 2,
@@ -194,13 +198,12 @@ fn complex_byte(rt: HostRuntime) -> Result<(), Fail> {
         il: 2,
         ql: -6,
     };
-    assert_same!(rt; four_samples(Format::Iq1, &[0x1b])?, want);
-    Ok(())
+    assert_four_samples(&rt, Format::Iq1, &[0x1b], expected);
 }
 
 #[test]
-fn complex_bytes(rt: HostRuntime) -> Result<(), Fail> {
-    let want = Counts {
+fn complex_bytes(rt: HostRuntime) {
+    let expected = Counts {
         ie: 12,
         qe: 4,
         ip: -8,
@@ -208,39 +211,29 @@ fn complex_bytes(rt: HostRuntime) -> Result<(), Fail> {
         il: -8,
         ql: 4,
     };
-    assert_same!(rt; four_samples(Format::Iq2, &[0x4b, 0x2d])?, want);
-    Ok(())
+    assert_four_samples(&rt, Format::Iq2, &[0x4b, 0x2d], expected);
 }
 
 /// The prompt sums over samples of +1, at a quarter of a cycle a sample, with chip 2 of satellite
 /// 1, which is 0.
-fn quarter_cycles(count: usize) -> Result<(i32, i32), Fail>
+fn quarter_cycles(rt: &impl Abort, count: usize) -> (i32, i32)
     requires { count ≤ 4 }
 {
-    let prn = Prn::new(1).ok_or("a satellite")?;
     let samples = unpack(Format::Real1, &[0], 0, count);
-    let carrier = CarrierOsc::new(1 << 30);
-    let code = CodeOsc::new(HalfChip::new(4).ok_or("a half chip")?, 0);
-    let sums = replica_sums(
-        &samples,
-        0,
-        samples.len(),
-        &carrier,
-        &code,
-        &mut CodeBook::new(),
-        prn,
-    );
-    Ok((sums.ip, sums.qp))
+    let sums = sums_of_quarters(rt, &samples, &CodeOsc::new(half_chip(rt, 4), 0));
+    (sums.ip, sums.qp)
 }
 
 #[test]
-fn a_quarter_cycle_a_sample(rt: HostRuntime) -> Result<(), Fail> {
+fn a_quarter_cycle_a_sample(rt: HostRuntime) {
     // Cosines 2, -1, -2, 1 and sines 1, 2, -1, -2.
-    assert_same!(rt; quarter_cycles(0)?, (0, 0));
-    assert_same!(rt; quarter_cycles(1)?, (2, -1));
-    assert_same!(rt; quarter_cycles(3)?, (-1, -2));
-    assert_same!(rt; quarter_cycles(4)?, (0, 0));
-    Ok(())
+    let sums = [
+        quarter_cycles(&rt, 0),
+        quarter_cycles(&rt, 1),
+        quarter_cycles(&rt, 3),
+        quarter_cycles(&rt, 4),
+    ];
+    assert_same!(rt; sums, [(0, 0), (2, -1), (-1, -2), (0, 0)]);
 }
 
 #[test]
@@ -269,6 +262,5 @@ fn counts_add_place_by_place(rt: HostRuntime) {
         il: 55,
         ql: -54,
     };
-    assert_same!(rt; ones.add(&more), sum);
-    assert_same!(rt; ones.add(&Counts::NONE), ones);
+    assert_same!(rt; [ones.add(&more), ones.add(&Counts::NONE)], [sum, ones]);
 }

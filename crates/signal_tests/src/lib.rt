@@ -1,5 +1,6 @@
-//! Tests of the crates of the signal: bits, samples, codes, replicas, sums, and a search. The tests
-//! of a crate stand in a module named after it, over what the crate makes public.
+//! Tests of the crates of the signal: bits, samples, codes, replicas, sums, a search, and made
+//! signals. The tests of a crate stand in a module named after it, over what the crate makes
+//! public.
 #![tactic(auto)]
 
 #[cfg(test)]
@@ -11,9 +12,13 @@ mod ca_codes_tests;
 #[cfg(test)]
 mod lane_correlator_tests;
 #[cfg(test)]
+mod made_signals_tests;
+#[cfg(test)]
 mod noise;
 #[cfg(test)]
 mod oscillators_tests;
+#[cfg(test)]
+mod parts;
 #[cfg(test)]
 mod sample_history_tests;
 #[cfg(test)]

@@ -1,15 +1,17 @@
 //! Steps worked out by hand, the ends of all ranges, and planes at extreme steps.
 
+ghost use Rattle.std.specs.Prelude.{◌≤◌};
+
+use crate::parts::{half_chip, satellite};
 use assertions::{assert_same, assert_same_at};
 use ca_codes::{CodeBook, Prn};
 use oscillators::*;
 use sample_planes::Format;
 use std::process::Abort;
-use std::test::Fail;
 
 /// Steps with no phase gained, with the greatest phase gained, with the chip or the sign turned at
 /// each sample, and on both sides of the greatest step with which chips have windows.
-const EXTREME_STEPS: [u32; 6] = [
+static EXTREME_STEPS: [u32; 6] = [
     0,
     1,
     1 << 31,
@@ -22,165 +24,179 @@ const EXTREME_STEPS: [u32; 6] = [
 const CYCLE: u128 = 4_393_751_543_808;
 
 #[test]
-fn floor_steps(rt: HostRuntime) -> Result<(), Fail> {
-    let settings = Settings::new(4_092_000, 0, Format::Real1)?;
+fn floor_steps(rt: HostRuntime) {
+    let settings = Settings::new(4_092_000, 0, Format::Real1).expect(&rt, "settings");
     let steps = (
         settings.carrier_step(-65_536),
         settings.code_step(1540 * 65_536, 0),
     );
     assert_same!(rt; steps, (4_294_966_246, 1_073_742_873));
-    Ok(())
 }
 
 // -1/1540 is rounded down to -1, so the rate is 1,023,000 * 65,536 - 1 in 1/65536 chip a second.
 // Times 65,536 and over 2,046,000 that is 2^31 - 65,536/2,046,000, a little less than 2^31, and
 // rounded down 2^31 - 1. With -1/1540 rounded to 0 it would be 2^31.
 #[test]
-fn code_step_below_zero(rt: HostRuntime) -> Result<(), Fail> {
-    let settings = Settings::new(2_046_000, 0, Format::Real1)?;
+fn code_step_below_zero(rt: HostRuntime) {
+    let settings = Settings::new(2_046_000, 0, Format::Real1).expect(&rt, "settings");
     let steps = (settings.code_step(-1, 0), settings.code_step(0, 0));
     assert_same!(rt; steps, (2_147_483_647, 2_147_483_648));
-    Ok(())
 }
+
+/// Rates and offsets at the ends of their ranges, and what is wrong with them.
+static LIMITS: [(u32, i64, Option<SettingsFault>); 10] = [
+    (2_045_999, 0, Some(SettingsFault::Rate)),
+    (2_046_000, 0, None),
+    (20_000_000, 0, None),
+    (20_000_001, 0, Some(SettingsFault::Rate)),
+    (2_046_000, 1_023_001, Some(SettingsFault::Offset)),
+    (2_046_000, -1_023_001, Some(SettingsFault::Offset)),
+    (2_046_000, 1_023_000, None),
+    (2_046_000, -1_023_000, None),
+    (2_046_000, i64::MIN, Some(SettingsFault::Offset)),
+    (2_045_999, 1_023_001, Some(SettingsFault::Rate)),
+];
 
 #[test]
 fn stated_limits(rt: HostRuntime) {
-    for (rate, offset, fault) in [
-        (2_045_999, 0, Some(SettingsFault::Rate)),
-        (2_046_000, 0, None),
-        (20_000_000, 0, None),
-        (20_000_001, 0, Some(SettingsFault::Rate)),
-        (2_046_000, 1_023_001, Some(SettingsFault::Offset)),
-        (2_046_000, -1_023_001, Some(SettingsFault::Offset)),
-        (2_046_000, 1_023_000, None),
-        (2_046_000, -1_023_000, None),
-        (2_046_000, i64::MIN, Some(SettingsFault::Offset)),
-        (2_045_999, 1_023_001, Some(SettingsFault::Rate)),
-    ] {
-        assert_same_at!(
-            rt;
-            (rate, offset),
-            Settings::new(rate, offset, Format::Real2).err(),
-            fault
-        );
+    for &(rate, offset, fault) in &LIMITS {
+        let found = Settings::new(rate, offset, Format::Real2).err();
+        assert_same_at!(rt; (rate, offset), found, fault);
     }
 }
 
 #[test]
 fn limits_of_shifts(rt: HostRuntime) {
-    for (hz, valid) in [
-        (-16_001, false),
-        (-16_000, true),
-        (16_000, true),
-        (16_001, false),
-    ] {
-        assert_same_at!(rt; hz, Doppler::new(hz).is_some(), valid);
-    }
+    let valid = [
+        Doppler::new(-16_001).is_some(),
+        Doppler::new(-16_000).is_some(),
+        Doppler::new(16_000).is_some(),
+        Doppler::new(16_001).is_some(),
+    ];
+    assert_same!(rt; valid, [false, true, true, false]);
 }
 
 #[test]
 fn limits_of_half_chips(rt: HostRuntime) {
-    for (half_chips, valid) in [(0, true), (2_045, true), (2_046, false)] {
-        assert_same_at!(rt; half_chips, HalfChip::new(half_chips).is_some(), valid);
+    let valid = [
+        HalfChip::new(0).is_some(),
+        HalfChip::new(2_045).is_some(),
+        HalfChip::new(2_046).is_some(),
+    ];
+    assert_same!(rt; valid, [true, true, false]);
+}
+
+/// What the faults say.
+static TEXTS: [(SettingsFault, &str); 2] = [
+    (
+        SettingsFault::Rate,
+        "the rate is from 2046000 to 20000000 samples a second",
+    ),
+    (
+        SettingsFault::Offset,
+        "the offset is at most half the rate in size",
+    ),
+];
+
+#[test]
+fn fault_texts(rt: HostRuntime) {
+    for &(fault, text) in &TEXTS {
+        let printed = format!(in rt.alloc(); "{fault}").expect(&rt, "memory");
+        assert_same!(rt; printed.as_str(), text);
     }
 }
 
 #[test]
-fn fault_texts(rt: HostRuntime) -> Result<(), Fail> {
-    for (fault, text) in [
-        (
-            SettingsFault::Rate,
-            "the rate is from 2046000 to 20000000 samples a second",
-        ),
-        (
-            SettingsFault::Offset,
-            "the offset is at most half the rate in size",
-        ),
-    ] {
-        assert_same!(rt; format!(in rt.alloc(); "{fault}")?.as_str(), text);
-    }
-    Ok(())
-}
-
-#[test]
-fn settings_are_kept(rt: HostRuntime) -> Result<(), Fail> {
-    let settings = Settings::new(2_047_999, 500_000, Format::Real2)?;
-    let doppler = Doppler::new(-1_000).ok_or("a shift")?;
-    let half = HalfChip::new(2_045).ok_or("a half chip")?;
-    assert_same!(rt; (settings.per_ms(), settings.format()), (2_047, Format::Real2));
-    assert_same!(rt; (doppler.get(), half.get()), (-1_000, 2_045));
-    Ok(())
+fn settings_are_kept(rt: HostRuntime) {
+    let settings = Settings::new(2_047_999, 500_000, Format::Real2).expect(&rt, "settings");
+    let doppler = Doppler::new(-1_000).expect(&rt, "a shift");
+    let kept = (
+        settings.per_ms(),
+        settings.format(),
+        doppler.get(),
+        half_chip(&rt, 2_045).get(),
+    );
+    assert_same!(rt; kept, (2_047, Format::Real2, -1_000, 2_045));
 }
 
 #[test]
 fn shifts_and_half_chips_have_ranges_and_an_order(rt: HostRuntime) {
-    assert_same!(rt; Doppler::new(-16_000).map(Doppler::get), Some(-16_000));
-    assert_same!(rt; Doppler::new(-16_001), None);
-    assert_same!(rt; HalfChip::new(2_045).map(HalfChip::get), Some(2_045));
-    assert_same!(rt; HalfChip::new(2_046), None);
+    let doppler = Doppler::new(-16_000).expect(&rt, "a shift");
+    let ends = (doppler.get(), half_chip(&rt, 2_045).get());
+    assert_same!(rt; ends, (-16_000, 2_045));
+    assert_same!(rt; (Doppler::new(-16_001), HalfChip::new(2_046)), (None, None));
     assert!(rt; Doppler::new(-1) < Doppler::new(0));
     assert!(rt; HalfChip::new(2_044) < HalfChip::new(2_045));
 }
 
 #[test]
-fn settings_tell_their_parts(rt: HostRuntime) -> Result<(), Fail> {
-    let settings = Settings::new(4_092_000, -511_500, Format::Real2)?;
+fn settings_tell_their_parts(rt: HostRuntime) {
+    let settings = Settings::new(4_092_000, -511_500, Format::Real2).expect(&rt, "settings");
     let copy = settings;
-    let told = (settings.rate(), settings.offset(), settings.format());
-    assert_same!(rt; told, (4_092_000, -511_500, Format::Real2));
-    assert_same!(rt; copy, settings);
-    Ok(())
+    let told = (settings.rate(), settings.offset(), settings.format(), copy);
+    assert_same!(rt; told, (4_092_000, -511_500, Format::Real2, settings));
+}
+
+/// Cosine and sine, by the eighth of the cycle.
+static VALUES: [(i8, i8); 8] = [
+    (2, 1),
+    (1, 2),
+    (-1, 2),
+    (-2, 1),
+    (-2, -1),
+    (-1, -2),
+    (1, -2),
+    (2, -1),
+];
+
+/// A carrier at the phase 0xb000_0003, with this step.
+fn carrier(step: u32) -> CarrierOsc {
+    let mut osc = CarrierOsc::new(0x9000_0001);
+    osc.advance(3);
+    osc.set_step(step);
+    osc
+}
+
+/// Asserts the values of a carrier with this step.
+fn assert_carrier(rt: &impl Abort, step: u32) {
+    let planes = carrier(step).planes(130);
+    assert_same!(rt; planes.len(), 130);
+    for i in 0..130 {
+        let phase = (3 * 0x9000_0001 + i as u128 * step as u128) % 0x1_0000_0000;
+        let expected = VALUES[(phase / 0x2000_0000) as usize];
+        assert_same_at!(rt; (i, step), (planes.cos(i), planes.sin(i)), expected);
+    }
 }
 
 #[test]
 fn carrier_views_at_extreme_steps(rt: HostRuntime) {
-    // Cosine and sine, by the eighth of the cycle.
-    let values = [
-        (2, 1),
-        (1, 2),
-        (-1, 2),
-        (-2, 1),
-        (-2, -1),
-        (-1, -2),
-        (1, -2),
-        (2, -1),
-    ];
-    for step in EXTREME_STEPS {
-        let mut osc = CarrierOsc::new(0x9000_0001);
-        osc.advance(3);
-        osc.set_step(step);
-        let planes = osc.planes(130);
-        assert_same!(rt; planes.len(), 130);
-        for i in 0..130 {
-            let phase = (3 * 0x9000_0001 + i as u128 * step as u128) % 0x1_0000_0000;
-            let (cos, sin) = values[(phase / 0x2000_0000) as usize];
-            assert_same_at!(rt; (i, step), (planes.cos(i), planes.sin(i)), (cos, sin));
+    for &step in &EXTREME_STEPS {
+        assert_carrier(&rt, step);
+    }
+}
+
+/// Asserts the eighths of two words of a carrier, of which the first has so many samples before the
+/// carrier's own.
+fn assert_eighths(rt: &impl Abort, step: u32, before: u32) {
+    let osc = carrier(step);
+    let mut words = osc.words(before);
+    for w in 0..2u32 {
+        let lanes = words.next_eighths().to_array();
+        for j in 0..64u32 {
+            let way = (64 * w + j).wrapping_sub(before);
+            // Phases are modulo 2^32.
+            let phase = 0xb000_0003u32.wrapping_add(way.wrapping_mul(step));
+            let found = lanes[63 - j as usize] as u32;
+            assert_same_at!(rt; (w, j, step, before), found, phase / 0x2000_0000);
         }
     }
 }
 
 #[test]
 fn eighths_at_extreme_steps(rt: HostRuntime) {
-    for step in EXTREME_STEPS {
-        let mut osc = CarrierOsc::new(0x9000_0001);
-        osc.advance(3);
-        osc.set_step(step);
-        for before in [0u32, 1, 63] {
-            let mut words = osc.words(before);
-            for w in 0..2u32 {
-                let lanes = words.next_eighths().to_array();
-                for j in 0..64u32 {
-                    let way = (64 * w + j).wrapping_sub(before);
-                    // Phases are modulo 2^32.
-                    let phase = 0xb000_0003u32.wrapping_add(way.wrapping_mul(step));
-                    assert_same_at!(
-                        rt;
-                        (w, j, step, before),
-                        lanes[63 - j as usize] as u32,
-                        phase / 0x2000_0000
-                    );
-                }
-            }
+    for &step in &EXTREME_STEPS {
+        for before in [0, 1, 63] {
+            assert_eighths(&rt, step, before);
         }
     }
 }
@@ -204,27 +220,30 @@ fn signs(book: &mut CodeBook, prn: Prn, phase: u128) -> (i8, i8, i8) {
     )
 }
 
+/// Asserts the signs of 130 samples of satellite 19, at a half chip and with a step.
+fn assert_code(rt: &impl Abort, book: &mut CodeBook, half_chips: u16, step: u32) {
+    let prn = satellite(rt, 19);
+    let planes = CodeOsc::new(half_chip(rt, half_chips), step).planes(130, book, prn);
+    assert_same!(rt; planes.len(), 130);
+    for i in 0..130 {
+        let phase = half_chips as u128 * 0x8000_0000 + i as u128 * step as u128;
+        assert_same_at!(
+            rt;
+            (i, half_chips, step),
+            (planes.early(i), planes.prompt(i), planes.late(i)),
+            signs(book, prn, phase)
+        );
+    }
+}
+
 #[test]
-fn code_views_at_every_half_chip_and_extreme_steps(rt: HostRuntime) -> Result<(), Fail> {
-    let prn = Prn::new(19).ok_or("a satellite")?;
+fn code_views_at_every_half_chip_and_extreme_steps(rt: HostRuntime) {
     let mut book = CodeBook::new();
     for half_chips in 0..2_046u16 {
-        for step in EXTREME_STEPS {
-            let osc = CodeOsc::new(HalfChip::new(half_chips).ok_or("a half chip")?, step);
-            let planes = osc.planes(130, &mut book, prn);
-            assert_same!(rt; planes.len(), 130);
-            for i in 0..130 {
-                let phase = half_chips as u128 * 0x8000_0000 + i as u128 * step as u128;
-                assert_same_at!(
-                    rt;
-                    (i, half_chips, step),
-                    (planes.early(i), planes.prompt(i), planes.late(i)),
-                    signs(&mut book, prn, phase)
-                );
-            }
+        for &step in &EXTREME_STEPS {
+            assert_code(&rt, &mut book, half_chips, step);
         }
     }
-    Ok(())
 }
 
 /// The masks of those chips.
@@ -238,59 +257,61 @@ fn mask(sign: i8) -> u8 {
     if sign < 0 { 255 } else { 0 }
 }
 
-#[test]
-fn chip_masks_at_extreme_steps(rt: HostRuntime) -> Result<(), Fail> {
-    let prn = Prn::new(19).ok_or("a satellite")?;
-    let mut book = CodeBook::new();
-    for half_chips in [0u16, 1, 1_023, 2_045] {
-        for step in EXTREME_STEPS {
-            let osc = CodeOsc::new(HalfChip::new(half_chips).ok_or("a half chip")?, step);
-            for before in [0u32, 1, 63] {
-                let mut words = osc.words(before);
-                for w in 0..2u32 {
-                    let lanes = words.next_lanes(book.table(prn));
-                    // A whole number of cycles more, so that no phase is below 0.
-                    let first = (half_chips as u128 * 0x8000_0000
-                        + 64 * (w as u128 + CYCLE) * step as u128).wrapping_sub(
-                        before as u128 * step as u128,
-                    );
-                    assert_masks(&rt, &mut book, &lanes, first, step);
-                }
-            }
-        }
+/// Asserts the masks of two words of satellite 19, of which the first has so many samples before
+/// those of the code.
+fn assert_mask_words(rt: &impl Abort, book: &mut CodeBook, half_chips: u16, step: u32, before: u32)
+    requires { before ≤ 63 }
+{
+    let prn = satellite(rt, 19);
+    let osc = CodeOsc::new(half_chip(rt, half_chips), step);
+    let mut words = osc.words(before);
+    for w in 0..2u32 {
+        let lanes = words.next_lanes(book.table(prn));
+        // A whole number of cycles more, so that no phase is below 0.
+        let first = (half_chips as u128 * 0x8000_0000
+            + 64 * (w as u128 + CYCLE) * step as u128).wrapping_sub(before as u128 * step as u128);
+        assert_masks(rt, book, &lanes, first, step);
     }
-    Ok(())
 }
 
 #[test]
-fn chip_masks_by_windows(rt: HostRuntime) -> Result<(), Fail> {
-    let prn = Prn::new(19).ok_or("a satellite")?;
+fn chip_masks_at_extreme_steps(rt: HostRuntime) {
     let mut book = CodeBook::new();
-    for half_chips in [0u16, 1, 1_023, 2_045] {
-        for step in EXTREME_STEPS {
-            let osc = CodeOsc::new(HalfChip::new(half_chips).ok_or("a half chip")?, step);
-            let mut words = osc.words(0);
-            assert_same_at!(rt; step, words.has_windows(), step <= 0xe666_6666);
-            if words.has_windows() {
-                let lanes = words.next_lanes_by_windows(book.table(prn));
-                assert_masks(
-                    &rt,
-                    &mut book,
-                    &lanes,
-                    half_chips as u128 * 0x8000_0000,
-                    step,
-                );
+    for half_chips in [0, 1, 1_023, 2_045] {
+        for &step in &EXTREME_STEPS {
+            for before in [0, 1, 63] {
+                assert_mask_words(&rt, &mut book, half_chips, step, before);
             }
         }
     }
-    Ok(())
+}
+
+/// Asserts whether the chips have windows, and the masks that they give.
+fn assert_windows(rt: &impl Abort, book: &mut CodeBook, half_chips: u16, step: u32) {
+    let prn = satellite(rt, 19);
+    let osc = CodeOsc::new(half_chip(rt, half_chips), step);
+    let mut words = osc.words(0);
+    assert_same_at!(rt; step, words.has_windows(), step <= 0xe666_6666);
+    if words.has_windows() {
+        let lanes = words.next_lanes_by_windows(book.table(prn));
+        let first = half_chips as u128 * 0x8000_0000;
+        assert_masks(rt, book, &lanes, first, step);
+    }
+}
+
+#[test]
+fn chip_masks_by_windows(rt: HostRuntime) {
+    let mut book = CodeBook::new();
+    for half_chips in [0, 1, 1_023, 2_045] {
+        for &step in &EXTREME_STEPS {
+            assert_windows(&rt, &mut book, half_chips, step);
+        }
+    }
 }
 
 /// The masks of 64 samples of satellite 19, the first of them at a phase, are those of its chips.
 fn assert_masks(rt: &impl Abort, book: &mut CodeBook, lanes: &ChipLanes, first: u128, step: u32) {
-    let Some(prn) = Prn::new(19) else {
-        return;
-    };
+    let prn = satellite(rt, 19);
     let early = lanes.early.to_array();
     let prompt = lanes.prompt.to_array();
     let late = lanes.late.to_array();
@@ -306,8 +327,8 @@ fn assert_masks(rt: &impl Abort, book: &mut CodeBook, lanes: &ChipLanes, first: 
 }
 
 #[test]
-fn code_goes_round(rt: HostRuntime) -> Result<(), Fail> {
-    let mut osc = CodeOsc::new(HalfChip::new(2_045).ok_or("a half chip")?, 0x7fff_ffff);
+fn code_goes_round(rt: HostRuntime) {
+    let mut osc = CodeOsc::new(half_chip(&rt, 2_045), 0x7fff_ffff);
     // Half a chip is left, and a step is 2^-32 chip less, so it takes two.
     assert_same!(rt; (osc.phase(), osc.to_wrap()), (2_045 * 0x8000_0000, 2));
     osc.advance(2);
@@ -320,7 +341,6 @@ fn code_goes_round(rt: HostRuntime) -> Result<(), Fail> {
     osc.jump(u64::MAX);
     let jump = 0xffff_ffff_ffff_ffff * 0xffff_ffff;
     assert_phase(&rt, &osc, (u128::from(last) + jump) % CYCLE);
-    Ok(())
 }
 
 /// Asserts the phase, in 2^-32 chip.

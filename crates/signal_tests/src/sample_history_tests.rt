@@ -1,9 +1,12 @@
 //! Streams whose bits are computed place by place, taken in pieces of many kinds.
 
-use assertions::assert_same;
+ghost use Rattle.std.specs.Prelude.{◌≤◌, length};
+
+use assertions::{assert_same, assert_same_at};
 use sample_history::{MOST_TAKEN, SampleHistory};
 use sample_planes::{Format, PackedSamples, SampleSource};
-use std::alloc::AllocError;
+use std::alloc::{Alloc, Global};
+use std::process::Abort;
 
 const FORMATS: [Format; 4] = [Format::Real1, Format::Real2, Format::Iq1, Format::Iq2];
 
@@ -73,141 +76,161 @@ fn stream_bytes(format: Format, from: u64, first: usize) -> [u8; 520] {
     bytes
 }
 
-/// The history takes `len` samples of some bytes from sample `first` on. It answers whether it
-/// could.
-fn take_part(history: &mut SampleHistory, bytes: &[u8], first: usize, len: usize) -> bool {
-    if 520 < bytes.len() || 1024 < len || MOST_TAKEN - 1024 < history.end() {
-        return false;
-    }
+/// A history of samples in this packing, which holds at least the last `room` of them.
+fn open(rt: &(impl Abort + Alloc<A = Global>), format: Format, room: usize) -> SampleHistory {
+    SampleHistory::open(rt.alloc(), format, room).expect(rt, "memory for a history")
+}
+
+/// The history takes `len` samples of some bytes from sample `first` on.
+fn take_part(rt: &impl Abort, history: &mut SampleHistory, bytes: &[u8], first: usize, len: usize)
+    requires { length bytes.now ≤ 520 }
+{
+    assert!(rt; len <= 1024);
+    assert!(rt; history.end() <= MOST_TAKEN - 1024);
     let run = PackedSamples::new(history.format(), bytes);
-    if run.len() < first || run.len() - first < len {
-        return false;
-    }
+    assert!(rt; first <= run.len());
+    assert!(rt; len <= run.len() - first);
     history.take(&run.part(first, len));
-    true
 }
 
 /// The history takes the next `len` samples of the stream, which begin at place `first` of a byte.
-/// Gives whether it could.
-fn take_next(history: &mut SampleHistory, first: usize, len: usize) -> bool {
+fn take_next(rt: &impl Abort, history: &mut SampleHistory, first: usize, len: usize) {
     let bytes = stream_bytes(history.format(), history.end(), first);
-    take_part(history, &bytes, first, len)
+    take_part(rt, history, &bytes, first, len);
 }
 
-/// Whether the history reads `len` samples from sample `n` on as those of the stream.
-fn agrees(history: &SampleHistory, n: u64, len: usize) -> bool {
-    if 1024 < len || n < history.first() || history.end() < n {
-        return false;
-    }
-    if history.end() - n < len as u64 {
-        return false;
-    }
+/// Asserts that the history reads `len` samples from sample `n` on as those of the stream.
+fn assert_reads(rt: &impl Abort, history: &SampleHistory, n: u64, len: usize) {
+    assert!(rt; len <= 1024);
+    assert!(rt; history.first() <= n);
+    assert!(rt; n <= history.end());
+    assert!(rt; len as u64 <= history.end() - n);
     let planes = history.planes(n, len);
+    assert_same!(rt; planes.len(), len);
     for i in 0..planes.len() {
-        let wanted = sample(history.format(), n.wrapping_add(i as u64));
-        if (planes.value(i), planes.value_q(i)) != wanted {
-            return false;
-        }
+        let expected = sample(history.format(), n.wrapping_add(i as u64));
+        assert_same_at!(rt; (n, i), (planes.value(i), planes.value_q(i)), expected);
     }
-    planes.len() == len
 }
 
-/// Whether it does so for all samples that it holds, 50 at a time.
-fn all_agree(history: &SampleHistory) -> bool {
+/// Asserts that it does so for all samples that it holds, 50 at a time.
+fn assert_reads_all(rt: &impl Abort, history: &SampleHistory) {
     let mut n = history.first();
     for _ in 0..200 {
         let len = history.end().saturating_sub(n).min(50);
-        if !agrees(history, n, len as usize) {
-            return false;
-        }
+        assert_reads(rt, history, n, len as usize);
         n = n.saturating_add(len);
     }
-    n == history.end()
+    assert_same!(rt; n, history.end());
 }
 
-// Sample 5 of 00000101 is -1, then come +1 and -1; the next three are the first ones of 01100000.
-#[test]
-fn two_runs_share_a_byte(rt: HostRuntime) -> Result<(), AllocError> {
-    let mut history = SampleHistory::open(rt.alloc(), Format::Real1, 16)?;
-    assert!(rt; take_part(&mut history, &[0x05], 5, 3));
-    assert!(rt; take_part(&mut history, &[0x60], 0, 3));
-    // The next call has its premise from this comparison.
-    assert_eq!(rt; (history.first(), history.end()), (0, 6));
+/// Asserts which samples the history holds: from which on, and up to which one, and that it reads
+/// them as those of the stream.
+fn assert_holds(rt: &impl Abort, history: &SampleHistory, first: u64, end: u64) {
+    assert_same!(rt; (history.first(), history.end()), (first, end));
+    assert_reads_all(rt, history);
+}
+
+/// The first six values in phase of a history that has so many.
+fn first_six(rt: &impl Abort, history: &SampleHistory) -> [i8; 6] {
+    assert!(rt; history.first() == 0);
+    assert!(rt; history.end() == 6);
     let planes = history.planes(0, 6);
     let mut values = [0; 6];
     for i in 0..planes.len().min(6) {
         values[i] = planes.value(i);
     }
-    assert_same!(rt; values, [-1, 1, -1, 1, -1, -1]);
-    Ok(())
+    values
+}
+
+// Sample 5 of 00000101 is -1, then come +1 and -1; the next three are the first ones of 01100000.
+#[test]
+fn two_runs_share_a_byte(rt: HostRuntime) {
+    let mut history = open(&rt, Format::Real1, 16);
+    take_part(&rt, &mut history, &[0x05], 5, 3);
+    take_part(&rt, &mut history, &[0x60], 0, 3);
+    assert_same!(rt; first_six(&rt, &history), [-1, 1, -1, 1, -1, -1]);
+}
+
+/// A history takes so many runs of `len` samples each, from place `first` of a byte on.
+fn assert_runs(
+    rt: &(impl Abort + Alloc<A = Global>),
+    format: Format,
+    first: usize,
+    len: usize,
+    runs: usize,
+) {
+    let mut history = open(rt, format, 2_500);
+    for _ in 0..runs {
+        take_next(rt, &mut history, first, len);
+    }
+    assert_reads_all(rt, &history);
 }
 
 #[test]
-fn runs_of_any_length_at_any_place(rt: HostRuntime) -> Result<(), AllocError> {
+fn runs_of_any_length_at_any_place(rt: HostRuntime) {
     for format in FORMATS {
         for first in 0..format.per_byte() {
             for (len, runs) in [(1, 40), (3, 40), (1024, 4)] {
-                let mut history = SampleHistory::open(rt.alloc(), format, 2_500)?;
-                for _ in 0..runs {
-                    assert!(rt; take_next(&mut history, first, len));
-                }
-                assert!(rt; all_agree(&history));
+                assert_runs(&rt, format, first, len, runs);
             }
         }
     }
-    Ok(())
 }
 
 // The ring has 4 bytes of 4 samples. After 21 samples 5 bytes were full, so the first is gone.
 #[test]
-fn the_oldest_byte_goes_first(rt: HostRuntime) -> Result<(), AllocError> {
-    let mut history = SampleHistory::open(rt.alloc(), Format::Real2, 10)?;
+fn the_oldest_byte_goes_first(rt: HostRuntime) {
+    let mut history = open(&rt, Format::Real2, 10);
     for len in [13, 0, 6, 2] {
-        assert!(rt; take_next(&mut history, 1, len));
+        take_next(&rt, &mut history, 1, len);
     }
-    assert_same!(rt; (history.first(), history.end()), (4, 21));
-    assert!(rt; all_agree(&history));
-    Ok(())
+    assert_holds(&rt, &history, 4, 21);
+}
+
+/// A history of at least 10 samples takes 300 runs of up to 23.
+fn assert_turns(rt: &(impl Abort + Alloc<A = Global>), format: Format) {
+    let mut history = open(rt, format, 10);
+    for turn in 0..300usize {
+        take_next(rt, &mut history, turn % format.per_byte(), 1 + turn % 23);
+        assert_reads_all(rt, &history);
+        assert!(rt; history.first() <= history.end().saturating_sub(10));
+    }
 }
 
 #[test]
-fn a_small_ring_goes_round_many_times(rt: HostRuntime) -> Result<(), AllocError> {
+fn a_small_ring_goes_round_many_times(rt: HostRuntime) {
     for format in FORMATS {
-        let mut history = SampleHistory::open(rt.alloc(), format, 10)?;
-        for turn in 0..300usize {
-            assert!(rt; take_next(&mut history, turn % format.per_byte(), 1 + turn % 23));
-            assert!(rt; all_agree(&history));
-            assert!(rt; history.first() <= history.end().saturating_sub(10));
+        assert_turns(&rt, format);
+    }
+}
+
+/// A history of at least 30 samples reads every part of them.
+fn assert_parts(rt: &(impl Abort + Alloc<A = Global>), format: Format) {
+    let mut history = open(rt, format, 30);
+    for _ in 0..9 {
+        take_next(rt, &mut history, 1, 11);
+    }
+    for n in history.first()..history.end() {
+        for len in 0..(history.end() - n) as usize {
+            assert_reads(rt, &history, n, len + 1);
         }
     }
-    Ok(())
 }
 
 #[test]
-fn reads_of_every_length_at_every_place(rt: HostRuntime) -> Result<(), AllocError> {
+fn reads_of_every_length_at_every_place(rt: HostRuntime) {
     for format in FORMATS {
-        let mut history = SampleHistory::open(rt.alloc(), format, 30)?;
-        for _ in 0..9 {
-            assert!(rt; take_next(&mut history, 1, 11));
-        }
-        for n in history.first()..history.end() {
-            for len in 0..(history.end() - n) as usize {
-                assert!(rt; agrees(&history, n, len + 1));
-            }
-        }
+        assert_parts(&rt, format);
     }
-    Ok(())
 }
 
+// One byte of two samples, and the one that was begun.
 #[test]
-fn a_history_of_no_room_holds_the_last_samples(rt: HostRuntime) -> Result<(), AllocError> {
-    let mut history = SampleHistory::open(rt.alloc(), Format::Iq2, 0)?;
-    for _ in 0..3 {
-        assert!(rt; take_next(&mut history, 1, 1024));
+fn a_history_of_no_room_holds_the_last_samples(rt: HostRuntime) {
+    let mut history = open(&rt, Format::Iq2, 0);
+    for (first, len) in [(1, 1024), (1, 1024), (1, 1024), (0, 1)] {
+        take_next(&rt, &mut history, first, len);
     }
-    assert!(rt; take_next(&mut history, 0, 1));
-    // One byte of two samples, and the one that was begun.
-    assert_same!(rt; (history.first(), history.end()), (3070, 3073));
-    assert!(rt; all_agree(&history));
-    Ok(())
+    assert_holds(&rt, &history, 3070, 3073);
 }

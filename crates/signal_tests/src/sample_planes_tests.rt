@@ -61,8 +61,8 @@ fn complex_bytes(rt: HostRuntime) {
 /// Asserts how many samples there are, and their parts in phase.
 fn assert_samples(rt: &impl Abort, planes: &Planes, expected: &[i8]) {
     assert_same!(rt; planes.len(), expected.len());
-    for i in 0..planes.len() {
-        assert_same_at!(rt; i, Some(&planes.value(i)), expected.get(i));
+    for i in 0..planes.len().min(expected.len()) {
+        assert_same_at!(rt; i, planes.value(i), expected[i]);
     }
 }
 
@@ -110,10 +110,10 @@ fn codes_of_complex_samples(rt: HostRuntime) {
 fn codes_of_the_second_word(rt: HostRuntime) {
     // Of 72 samples the last eight are a6, in the second 64.
     let planes = unpack(Format::Real1, &[0, 0, 0, 0, 0, 0, 0, 0, 0xa6], 0, 72);
-    assert_same!(rt; planes.codes(0).to_array(), [0; 64]);
     let codes = planes.codes(1).to_array();
+    let last = [codes[59], codes[58], codes[57], codes[56]];
+    assert_same!(rt; (planes.codes(0).to_array(), last), ([0; 64], [0, 4, 4, 0]));
     assert_codes(&rt, codes, [4, 0, 4, 0]);
-    assert_same!(rt; [codes[59], codes[58], codes[57], codes[56]], [0, 4, 4, 0]);
 }
 
 /// Asserts two bytes.
@@ -175,7 +175,7 @@ fn a_run_in_parts(rt: HostRuntime) {
     let (front, back) = run.split_at(5);
     let behind = run.split_at(8).1;
     let lens = [run.len(), front.len(), back.len(), behind.len()];
-    assert_eq!(rt; lens, [8, 5, 3, 0]);
+    assert_same!(rt; lens, [8, 5, 3, 0]);
     assert_samples(&rt, &front.unpack(), &[-1, -3, 1, -3, 3]);
     assert_samples(&rt, &back.unpack(), &[-3, 1, 3]);
     // Within a part, samples are counted from its first one.
@@ -184,8 +184,9 @@ fn a_run_in_parts(rt: HostRuntime) {
 
 /// Asserts the parts in quadrature of samples.
 fn assert_quadrature(rt: &impl Abort, planes: &Planes, expected: &[i8]) {
-    for i in 0..planes.len() {
-        assert_same_at!(rt; i, Some(&planes.value_q(i)), expected.get(i));
+    assert_same!(rt; planes.len(), expected.len());
+    for i in 0..planes.len().min(expected.len()) {
+        assert_same_at!(rt; i, planes.value_q(i), expected[i]);
     }
 }
 

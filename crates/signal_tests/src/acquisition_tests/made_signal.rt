@@ -3,14 +3,13 @@
 
 ghost use Rattle.std.specs.Prelude.{◌<◌};
 
-use super::search_in_steps;
+use super::{found_cell, named_by_search};
 use crate::noise::next_bit;
-use acquisition::{Cell, Plan, Search, SearchRoom};
+use crate::parts::satellite;
+use acquisition::{Cell, Plan};
 use assertions::assert_same;
-use ca_codes::Prn;
-use oscillators::{HalfChip, Settings};
+use oscillators::Settings;
 use sample_planes::{Format, NumberedSamples, PackedSamples};
-use std::test::Fail;
 
 /// The code's cycle of 1,023 chips, in 2^-32 chip.
 const CYCLE: u64 = 1023 << 32;
@@ -136,18 +135,14 @@ fn power(values: &[i32; SAMPLES], signs: &[i32; 1023], steps: (u64, u64), half_c
     power
 }
 
-// The same program that worked out the steps made this signal and its powers, and gives 20,935,272
-// at bin 1, half chip 777, and a total of 714,649,408: the power is some 180 times the mean.
-#[test]
-fn made_signal_is_found(rt: HostRuntime) -> Result<(), Fail> {
-    let signs = signs(0, 7);
-    let values = values(&signs);
+/// The bin and the half chip of the cell with the greatest power, that power, and the total.
+fn greatest_power(values: &[i32; SAMPLES], signs: &[i32; 1023]) -> (usize, u64, u64, u64) {
     let mut best = 0;
     let mut cell = (0, 0);
     let mut total = 0u64;
     for bin in 0..3 {
         for half in 0..2046 {
-            let power = power(&values, &signs, STEPS[bin], half);
+            let power = power(values, signs, STEPS[bin], half);
             total = total.wrapping_add(power);
             if power > best {
                 best = power;
@@ -155,18 +150,24 @@ fn made_signal_is_found(rt: HostRuntime) -> Result<(), Fail> {
             }
         }
     }
-    assert_same!(rt; (cell.0, cell.1, best, total), (2, 777, 20_935_272, 714_649_408));
+    (cell.0, cell.1, best, total)
+}
+
+// The same program that worked out the steps made this signal and its powers, and gives 20,935,272
+// at bin 1, half chip 777, and a total of 714,649,408: the power is some 180 times the mean.
+#[test]
+fn made_signal_is_found(rt: HostRuntime) {
+    let signs = signs(0, 7);
+    let values = values(&signs);
+    assert_same!(rt; greatest_power(&values, &signs), (2, 777, 20_935_272, 714_649_408));
     let bytes = two_bit_samples(&values);
-    let settings = Settings::new(2_046_000, 511_500, Format::Real2)?;
-    let plan = Plan::new(Prn::new(7).ok_or("a satellite")?, 250, 1, 2, 1_000)?;
+    let settings = Settings::new(2_046_000, 511_500, Format::Real2).expect(&rt, "settings");
+    let plan = Plan::new(satellite(&rt, 7), 250, 1, 2, 1_000).expect(&rt, "a plan");
     let source = NumberedSamples::new(PackedSamples::new(Format::Real2, &bytes), 64);
     let named = Cell {
         bin: 1,
-        half: HalfChip::new(777).ok_or("a half chip")?,
-        power: best,
-        found: true,
+        ..found_cell(&rt, 777, 20_935_272)
     };
-    let search = Search::new(plan, &settings, 100, SearchRoom::new(rt.alloc())?);
-    assert_same!(rt; search_in_steps(search, &source, 1_000), Some(named));
-    Ok(())
+    let found = named_by_search(&rt, plan, &settings, 100, &source, 1_000);
+    assert_same!(rt; found, Some(named));
 }

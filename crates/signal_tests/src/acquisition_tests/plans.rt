@@ -1,95 +1,107 @@
 //! Plans at the ends of their ranges, and the shifts of their cells.
 
-use acquisition::{Cell, Plan, PlanFault};
+use crate::parts::{half_chip, satellite};
+use acquisition::{Cell, Plan, PlanFault, Signal};
 use assertions::{assert_same, assert_same_at};
 use ca_codes::Prn;
 use oscillators::HalfChip;
-use std::test::Fail;
+
+/// Centres, bins, dwells and thresholds at the ends of their ranges, and what is wrong with them.
+static LIMITS: [(i32, u32, u32, u32, Option<PlanFault>); 13] = [
+    (-6_001, 0, 1, 1, Some(PlanFault::Centre)),
+    (-6_000, 0, 1, 1, None),
+    (6_000, 40, 10, 1_000, None),
+    (6_001, 40, 10, 1_000, Some(PlanFault::Centre)),
+    (i32::MIN, 0, 1, 1, Some(PlanFault::Centre)),
+    (i32::MAX, 0, 1, 1, Some(PlanFault::Centre)),
+    (0, 41, 1, 1, Some(PlanFault::Bins)),
+    (0, u32::MAX, 0, 0, Some(PlanFault::Bins)),
+    (0, 0, 0, 1, Some(PlanFault::Dwell)),
+    (0, 0, 11, 1_001, Some(PlanFault::Dwell)),
+    (0, 0, 1, 0, Some(PlanFault::Threshold)),
+    (0, 0, 1, 1_001, Some(PlanFault::Threshold)),
+    (6_001, 41, 11, 1_001, Some(PlanFault::Centre)),
+];
 
 #[test]
-fn stated_limits(rt: HostRuntime) -> Result<(), Fail> {
-    let prn = Prn::new(32).ok_or("a satellite")?;
-    for (centre, bins, dwell, threshold, fault) in [
-        (-6_001, 0, 1, 1, Some(PlanFault::Centre)),
-        (-6_000, 0, 1, 1, None),
-        (6_000, 40, 10, 1_000, None),
-        (6_001, 40, 10, 1_000, Some(PlanFault::Centre)),
-        (i32::MIN, 0, 1, 1, Some(PlanFault::Centre)),
-        (i32::MAX, 0, 1, 1, Some(PlanFault::Centre)),
-        (0, 41, 1, 1, Some(PlanFault::Bins)),
-        (0, u32::MAX, 0, 0, Some(PlanFault::Bins)),
-        (0, 0, 0, 1, Some(PlanFault::Dwell)),
-        (0, 0, 11, 1_001, Some(PlanFault::Dwell)),
-        (0, 0, 1, 0, Some(PlanFault::Threshold)),
-        (0, 0, 1, 1_001, Some(PlanFault::Threshold)),
-        (6_001, 41, 11, 1_001, Some(PlanFault::Centre)),
-    ] {
-        assert_same_at!(
-            rt;
-            (centre, bins, dwell, threshold),
-            Plan::new(prn, centre, bins, dwell, threshold).err(),
-            fault
-        );
+fn stated_limits(rt: HostRuntime) {
+    let prn = satellite(&rt, 32);
+    for &(centre, bins, dwell, threshold, fault) in &LIMITS {
+        let found = Plan::new(prn, centre, bins, dwell, threshold).err();
+        assert_same_at!(rt; (centre, bins, dwell, threshold), found, fault);
     }
-    Ok(())
+}
+
+/// What the faults say.
+static TEXTS: [(PlanFault, &str); 4] = [
+    (PlanFault::Centre, "the centre is from -6000 to 6000 Hz"),
+    (PlanFault::Bins, "there are at most 40 bins to each side"),
+    (
+        PlanFault::Dwell,
+        "the dwell is from 1 to 10 periods of the code",
+    ),
+    (
+        PlanFault::Threshold,
+        "the threshold is from 1 to 1000 tenths of the mean power",
+    ),
+];
+
+#[test]
+fn faults_are_named(rt: HostRuntime) {
+    for &(fault, text) in &TEXTS {
+        let printed = format!(in rt.alloc(); "{fault}").expect(&rt, "memory");
+        assert_same!(rt; printed.as_str(), text);
+    }
 }
 
 #[test]
-fn faults_are_named(rt: HostRuntime) -> Result<(), Fail> {
-    for (fault, text) in [
-        (PlanFault::Centre, "the centre is from -6000 to 6000 Hz"),
-        (PlanFault::Bins, "there are at most 40 bins to each side"),
-        (
-            PlanFault::Dwell,
-            "the dwell is from 1 to 10 periods of the code",
-        ),
-        (
-            PlanFault::Threshold,
-            "the threshold is from 1 to 1000 tenths of the mean power",
-        ),
-    ] {
-        assert_same!(rt; format!(in rt.alloc(); "{fault}")?.as_str(), text);
-    }
-    Ok(())
-}
-
-#[test]
-fn plans_tell_their_parts(rt: HostRuntime) -> Result<(), Fail> {
-    let prn = Prn::new(9).ok_or("a satellite")?;
+fn plans_tell_their_parts(rt: HostRuntime) {
+    let prn = satellite(&rt, 9);
     for (bins, cells) in [(0, 2_046), (1, 6_138), (40, 165_726)] {
-        let plan = Plan::new(prn, -5_999, bins, 3, 25)?;
-        let told = (plan.prn(), plan.centre(), plan.cells());
-        assert_same_at!(rt; bins, told, (prn, -5_999, cells));
-        assert_same!(rt; (plan.bins(), plan.dwell(), plan.threshold()), (bins, 3, 25));
+        let plan = Plan::new(prn, -5_999, bins, 3, 25).expect(&rt, "a plan");
+        let signal = (plan.prn(), plan.centre(), plan.bins());
+        let told = (signal, plan.cells(), plan.dwell(), plan.threshold());
+        assert_same!(rt; told, ((prn, -5_999, bins), cells, 3, 25));
     }
-    Ok(())
+}
+
+/// Centres, bins to each side, and the bin of a cell, with the shift that it has.
+static SHIFTS: [(i32, u32, i32, Option<i32>); 8] = [
+    (6_000, 40, 40, Some(16_000)),
+    (-6_000, 40, -40, Some(-16_000)),
+    (-5_999, 3, 2, Some(-5_499)),
+    (-5_999, 3, -3, Some(-6_749)),
+    (-5_999, 3, 4, None),
+    (-5_999, 3, -4, None),
+    (0, 40, i32::MIN, None),
+    (0, 40, i32::MAX, None),
+];
+
+/// The satellite, the shift and the half chip of a signal.
+fn parts(signal: Option<Signal>) -> Option<(Prn, i32, HalfChip)> {
+    match signal {
+        Some(signal) => Some((signal.prn, signal.doppler.get(), signal.half)),
+        None => None,
+    }
 }
 
 // Bins are 250 Hz wide.
 #[test]
-fn signals_of_cells(rt: HostRuntime) -> Result<(), Fail> {
-    let prn = Prn::new(9).ok_or("a satellite")?;
-    let half = HalfChip::new(2_045).ok_or("a half chip")?;
-    for (centre, bins, bin, shift) in [
-        (6_000, 40, 40, Some(16_000)),
-        (-6_000, 40, -40, Some(-16_000)),
-        (-5_999, 3, 2, Some(-5_499)),
-        (-5_999, 3, -3, Some(-6_749)),
-        (-5_999, 3, 4, None),
-        (-5_999, 3, -4, None),
-        (0, 40, i32::MIN, None),
-        (0, 40, i32::MAX, None),
-    ] {
-        let plan = Plan::new(prn, centre, bins, 1, 10)?;
+fn signals_of_cells(rt: HostRuntime) {
+    let prn = satellite(&rt, 9);
+    let half = half_chip(&rt, 2_045);
+    for &(centre, bins, bin, shift) in &SHIFTS {
+        let plan = Plan::new(prn, centre, bins, 1, 10).expect(&rt, "a plan");
         let cell = Cell {
             bin,
             half,
             power: 0,
             found: false,
         };
-        let signal = plan.signal(&cell);
-        let told = signal.map(|signal| (signal.prn, signal.doppler.get(), signal.half));
-        assert_same_at!(rt; (centre, bins, bin), told, shift.map(|hz| (prn, hz, half)));
+        let expected = match shift {
+            Some(hz) => Some((prn, hz, half)),
+            None => None,
+        };
+        assert_same_at!(rt; (centre, bins, bin), parts(plan.signal(&cell)), expected);
     }
-    Ok(())
 }

@@ -10,7 +10,6 @@ use assertions::assert_same;
 use lane_correlator::{MOST_AT_ONCE, Products};
 use oscillators::{CarrierOsc, CarrierPlanes};
 use sample_planes::{Format, Planes, unpack};
-use std::test::Fail;
 
 /// How many sums of a run of `len` samples with a carrier are as they are worked out by the parts
 /// of each sample and by those of the carrier: all sums over 1 to `MOST_AT_ONCE` samples of a word.
@@ -95,10 +94,12 @@ fn right_from(
 /// The sums of a word of 64 samples: fourteen from each of its first 51 samples on, and then
 /// thirteen, and so on down to one.
 #[test]
-fn sums_of_every_packing(rt: HostRuntime) -> Result<(), Fail> {
-    assert_same!(rt; right_sums(Format::Real1, 1000), 15 * 805 + 469);
-    assert_same!(rt; right_sums(Format::Real2, 1024), 16 * 805);
-    assert_same!(rt; right_sums(Format::Iq1, 63), 791);
-    assert_same!(rt; right_sums(Format::Iq2, 1000), 15 * 805 + 469);
-    Ok(())
+fn sums_of_every_packing(rt: HostRuntime) {
+    let right = [
+        right_sums(Format::Real1, 1000),
+        right_sums(Format::Real2, 1024),
+        right_sums(Format::Iq1, 63),
+        right_sums(Format::Iq2, 1000),
+    ];
+    assert_same!(rt; right, [15 * 805 + 469, 16 * 805, 791, 15 * 805 + 469]);
 }
