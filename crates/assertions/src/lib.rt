@@ -11,17 +11,17 @@ use std::fmt::Debug;
 
 /// Two values that differ.
 #[derive(Debug)]
-pub struct Difference<'a, T> {
-    pub found: &'a T,
-    pub expected: &'a T,
+pub struct Difference<T> {
+    pub found: T,
+    pub expected: T,
 }
 
 /// Two values that differ, and the one of several places at which they do.
 #[derive(Debug)]
-pub struct DifferenceAt<'a, P, T> {
-    pub place: &'a P,
-    pub found: &'a T,
-    pub expected: &'a T,
+pub struct DifferenceAt<P, T> {
+    pub place: P,
+    pub found: T,
+    pub expected: T,
 }
 
 /// Compares two values.
@@ -29,10 +29,10 @@ pub struct DifferenceAt<'a, P, T> {
 /// # Errors
 ///
 /// Both values, where they differ.
-pub fn same<'a, T: PartialEq>(found: &'a T, expected: &'a T) -> Result<(), Difference<'a, T>>
-    ensures { IsOk result ↔ (T.eq found.now expected.now ≡ true) }
+pub fn same<T: PartialEq + Drop>(found: T, expected: T) -> Result<(), Difference<T>>
+    ensures { IsOk result ↔ (T.eq found expected ≡ true) }
 {
-    if *found == *expected {
+    if found == expected {
         Ok(())
     } else {
         Err(Difference { found, expected })
@@ -44,14 +44,14 @@ pub fn same<'a, T: PartialEq>(found: &'a T, expected: &'a T) -> Result<(), Diffe
 /// # Errors
 ///
 /// The place and both values, where these differ.
-pub fn same_at<'a, P, T: PartialEq>(
-    place: &'a P,
-    found: &'a T,
-    expected: &'a T,
-) -> Result<(), DifferenceAt<'a, P, T>>
-    ensures { IsOk result ↔ (T.eq found.now expected.now ≡ true) }
+pub fn same_at<P: Drop, T: PartialEq + Drop>(
+    place: P,
+    found: T,
+    expected: T,
+) -> Result<(), DifferenceAt<P, T>>
+    ensures { IsOk result ↔ (T.eq found expected ≡ true) }
 {
-    if *found == *expected {
+    if found == expected {
         Ok(())
     } else {
         Err(DifferenceAt {
@@ -66,7 +66,7 @@ pub fn same_at<'a, P, T: PartialEq>(
 #[macro_export]
 macro_rules! assert_same {
     ($rt:expr; $found:expr, $expected:expr) => {
-        $crate::same(&$found, &$expected).expect(&$rt, "not the same")
+        $crate::same($found, $expected).expect(&$rt, "not the same")
     };
 }
 
@@ -74,6 +74,6 @@ macro_rules! assert_same {
 #[macro_export]
 macro_rules! assert_same_at {
     ($rt:expr; $place:expr, $found:expr, $expected:expr) => {
-        $crate::same_at(&$place, &$found, &$expected).expect(&$rt, "not the same")
+        $crate::same_at($place, $found, $expected).expect(&$rt, "not the same")
     };
 }

@@ -2,7 +2,7 @@
 //! has when they have something to do, `banks` those of all clients together, `searches` what a
 //! bank searches for, and `waits` what clients ask for while samples wait.
 
-ghost use Rattle.std.specs.Prelude.{◌≡◌, ◌≤◌, ℕ, true, IfOk, IsNone};
+ghost use Rattle.std.specs.Prelude.{◌≡◌, ◌≤◌, ℕ, true, IsNone};
 ghost use Rattle.definitions.specs.Samples.{real1};
 ghost use Rattle.channel_slots.specs.Slots.{is_sound};
 ghost use Rattle.channels.specs.Windows.{first_of, end_of};
@@ -17,9 +17,8 @@ use channels::Window;
 use lane_correlator::Counts;
 use oscillators::Settings;
 use sample_planes::{Format, PackedSamples, SampleSource};
-use std::alloc::Global;
+use std::alloc::{Alloc, Global};
 use std::process::Abort;
-use std::test::Fail;
 
 mod banks;
 mod events;
@@ -27,45 +26,54 @@ mod searches;
 mod waits;
 
 /// A recording of one-bit samples at two samples a chip, with the carrier at 0 Hz.
-fn plain_settings() -> Result<Settings, Fail>
-    ensures packing { IfOk result (λ settings. settings.packing ≡ real1) }
+fn plain_settings(rt: &impl Abort) -> Settings
+    ensures packing { result.packing ≡ real1 }
 {
-    Ok(Settings::new(2_046_000, 0, Format::Real1)?)
+    Settings::new(2_046_000, 0, Format::Real1).expect(rt, "no such recording")
 }
 
-fn slot_zero() -> Result<SlotNo, Fail>
-    ensures { IfOk result (λ slot. slot ≡ 0) }
+fn slot_zero(rt: &impl Abort) -> SlotNo
+    ensures { result ≡ 0 }
 {
-    Ok(SlotNo::new(0).ok_or("a slot")?)
+    SlotNo::new(0).expect(rt, "no such slot")
 }
 
 /// A track in the first slot, which begins half a chip before the end of the code.
-fn track(prn: u8, doppler: i32) -> Result<Command, Fail>
-    ensures { IfOk result (λ command. slot_of command ≡ 0) }
+fn track(rt: &impl Abort, prn: u8, doppler: i32) -> Command
+    ensures { slot_of result ≡ 0 }
 {
-    Ok(commands::track(0, prn, doppler, 2_045).ok_or("a track")?)
+    commands::track(0, prn, doppler, 2_045).expect(rt, "no such track")
 }
 
 /// A hold in the first slot, which begins half a chip before the end of the code.
-fn hold(prn: u8, doppler: i32) -> Result<Command, Fail>
-    ensures { IfOk result (λ command. slot_of command ≡ 0) }
+fn hold(rt: &impl Abort, prn: u8, doppler: i32) -> Command
+    ensures { slot_of result ≡ 0 }
 {
-    Ok(commands::hold(0, prn, doppler, 2_045).ok_or("a hold")?)
+    commands::hold(0, prn, doppler, 2_045).expect(rt, "no such hold")
 }
 
 /// A slot that was never asked for anything.
-fn new_slot(alloc: Global) -> Result<Slot, Fail>
-    ensures { IfOk result (λ slot. (first time reach : ℕ)
-        → is_sound first time reach slot ≡ true) }
+fn new_slot(rt: &(impl Abort + Alloc<A = Global>)) -> Slot
+    ensures { (first time reach : ℕ) → is_sound first time reach result ≡ true }
 {
-    Ok(Slot::new(SearchRoom::new(alloc)?))
+    Slot::new(SearchRoom::new(rt.alloc()).expect(rt, "no memory"))
 }
 
 /// A search for a satellite at 0 Hz, over one period of its code.
-fn acquire(prn: u8, threshold: u32) -> Result<Command, Fail>
-    ensures { IfOk result (λ command. slot_of command ≡ 0) }
+fn acquire(rt: &impl Abort, prn: u8, threshold: u32) -> Command
+    ensures { slot_of result ≡ 0 }
 {
-    Ok(commands::acquire(0, prn, 0, 0, 1, threshold).ok_or("a search")?)
+    commands::acquire(0, prn, 0, 0, 1, threshold).expect(rt, "no such search")
+}
+
+/// A bank with these shares.
+fn new_bank(rt: &(impl Abort + Alloc<A = Global>), settings: Settings, shares: &[u8]) -> Bank {
+    Bank::open(rt.alloc(), settings, shares).expect(rt, "no bank")
+}
+
+/// The room for the events of a run.
+fn new_timeline(rt: &(impl Abort + Alloc<A = Global>)) -> Timeline {
+    Timeline::new(rt.alloc()).expect(rt, "no memory")
 }
 
 /// What a slot that follows nothing answers to what needs one that does.
@@ -77,13 +85,13 @@ const BUSY: Answer = Answer::Refused(Refusal::Busy);
 /// Sees that a slot answers so to commands at time 0.
 fn answers(rt: &impl Abort, slot: &mut Slot, settings: &Settings, rows: &[(Command, Answer)]) {
     for &(command, answer) in rows {
-        assert_same!(rt; slot.command(settings, 0, command), answer);
+        assert_same!(*rt; slot.command(settings, 0, command), answer);
     }
 }
 
 /// Sees that a slot follows nothing, and what it refuses then.
-fn is_idle(rt: &impl Abort, held: &mut Slot, settings: &Settings) -> Result<(), Fail> {
-    let slot = slot_zero()?;
+fn is_idle(rt: &impl Abort, held: &mut Slot, settings: &Settings) {
+    let slot = slot_zero(rt);
     let counts = Command::Counts { slot, n: 3 };
     let stop = Command::Stop { slot };
     let state = Command::State { slot };
@@ -93,7 +101,6 @@ fn is_idle(rt: &impl Abort, held: &mut Slot, settings: &Settings) -> Result<(), 
         (state, Answer::State(SlotState::Idle)),
     ];
     answers(rt, held, settings, &rows);
-    Ok(())
 }
 
 /// Sees that an idle slot takes a command, then refuses what would begin with a satellite, shows
@@ -105,68 +112,58 @@ fn is_busy(
     begin: Command,
     prn: u8,
     shown: SlotState,
-) -> Result<(), Fail> {
-    let slot = slot_zero()?;
+) {
+    let slot = slot_zero(rt);
     let counts = Command::Counts { slot, n: 3 };
     let stop = Command::Stop { slot };
     let state = Command::State { slot };
     let rows = [
         (begin, Answer::Accepted),
-        (hold(prn, 0)?, BUSY),
-        (track(prn, 0)?, BUSY),
-        (acquire(prn, 10)?, BUSY),
+        (hold(rt, prn, 0), BUSY),
+        (track(rt, prn, 0), BUSY),
+        (acquire(rt, prn, 10), BUSY),
         (counts, Answer::Accepted),
         (state, Answer::State(shown)),
         (stop, Answer::Accepted),
     ];
     answers(rt, held, settings, &rows);
-    is_idle(rt, held, settings)
+    is_idle(rt, held, settings);
 }
 
 /// The state of a slot that tracks satellite 3 from -1,000 Hz, before its first dump.
-fn tracks_three() -> Result<SlotState, Fail> {
-    Ok(SlotState::Track {
-        prn: Prn::new(3).ok_or("a satellite")?,
+fn tracks_three(rt: &impl Abort) -> SlotState {
+    SlotState::Track {
+        prn: Prn::new(3).expect(rt, "no such satellite"),
         dumps: 0,
         v: -65_536_000,
         w: 0,
         phase: Phase::Unlocked,
-    })
+    }
 }
 
 /// The state of a slot that searches for satellite 4 over one bin, before its first cell.
-fn acquires_four() -> Result<SlotState, Fail> {
-    Ok(SlotState::Acquire {
-        prn: Prn::new(4).ok_or("a satellite")?,
+fn acquires_four(rt: &impl Abort) -> SlotState {
+    SlotState::Acquire {
+        prn: Prn::new(4).expect(rt, "no such satellite"),
         done: 0,
         cells: 2_046,
-    })
+    }
 }
 
 #[test]
-fn idle_and_busy_slots_answer(rt: HostRuntime) -> Result<(), Fail> {
-    let settings = plain_settings()?;
-    let mut slot = new_slot(rt.alloc())?;
-    is_idle(&rt, &mut slot, &settings)?;
-    let prn = Prn::new(1).ok_or("a satellite")?;
-    let state = SlotState::Hold { prn, dumps: 0 };
-    is_busy(&rt, &mut slot, &settings, hold(1, 0)?, 2, state)?;
-    is_busy(
-        &rt,
-        &mut slot,
-        &settings,
-        track(3, -1_000)?,
-        1,
-        tracks_three()?,
-    )?;
-    is_busy(
-        &rt,
-        &mut slot,
-        &settings,
-        acquire(4, 10)?,
-        4,
-        acquires_four()?,
-    )
+fn idle_and_busy_slots_answer(rt: HostRuntime) {
+    let settings = plain_settings(&rt);
+    let mut slot = new_slot(&rt);
+    is_idle(&rt, &mut slot, &settings);
+    let prn = Prn::new(1).expect(&rt, "no such satellite");
+    let rows = [
+        (hold(&rt, 1, 0), 2, SlotState::Hold { prn, dumps: 0 }),
+        (track(&rt, 3, -1_000), 1, tracks_three(&rt)),
+        (acquire(&rt, 4, 10), 4, acquires_four(&rt)),
+    ];
+    for (begin, prn, shown) in rows {
+        is_busy(&rt, &mut slot, &settings, begin, prn, shown);
+    }
 }
 
 /// Sums in the order of a line of counts.
@@ -182,67 +179,65 @@ fn sums([ie, qe, ip, qp, il, ql]: [i32; 6]) -> Counts {
 }
 
 /// The first slot is to show one dump.
-fn one_count() -> Result<Command, Fail>
-    ensures { IfOk result (λ command. slot_of command ≡ 0) }
+fn one_count(rt: &impl Abort) -> Command
+    ensures { slot_of result ≡ 0 }
 {
-    Ok(commands::counts(0, 1).ok_or("a number of dumps")?)
+    commands::counts(0, 1).expect(rt, "no such number of dumps")
 }
 
 /// A slot that began to hold before the first sample, with counts asked for.
-fn held(alloc: Global, settings: &Settings, prn: u8, doppler: i32) -> Result<Slot, Fail>
-    ensures { IfOk result (λ slot. (reach : ℕ) × (is_sound 0 0 reach slot ≡ true)) }
+fn held(rt: &(impl Abort + Alloc<A = Global>), settings: &Settings, prn: u8, doppler: i32) -> Slot
+    ensures { (reach : ℕ) × (is_sound 0 0 reach result ≡ true) }
 {
-    let mut slot = new_slot(alloc)?;
-    slot.command(settings, 0, hold(prn, doppler)?);
-    slot.command(settings, 0, one_count()?);
-    Ok(slot)
+    let mut slot = new_slot(rt);
+    slot.command(settings, 0, hold(rt, prn, doppler));
+    slot.command(settings, 0, one_count(rt));
+    slot
 }
 
 /// A window of eight samples of value 1.
-fn eight_ones(alloc: Global) -> Result<Window, Fail>
-    ensures first { IfOk result (λ window. first_of window ≡ 0) }
-    ensures end { IfOk result (λ window. end_of window ≡ 8) }
+fn eight_ones(rt: &(impl Abort + Alloc<A = Global>)) -> Window
+    ensures first { first_of result ≡ 0 }
+    ensures end { end_of result ≡ 8 }
 {
-    let mut window = Window::new(alloc, Format::Real1, 1_024)?;
+    let mut window = Window::new(rt.alloc(), Format::Real1, 1_024).expect(rt, "no memory");
     window.take(&PackedSamples::new(Format::Real1, &[0]));
-    Ok(window)
+    window
 }
 
 /// What comes with the samples of a window up to number `to`, or with the first of them with which
 /// something does. The window holds all samples so far.
-fn next(slot: &mut Slot, window: &mut Window, to: u64) -> Result<Option<SlotNews>, Fail>
+fn next(rt: &impl Abort, slot: &mut Slot, window: &mut Window, to: u64) -> Option<SlotNews>
     requires sound { (time reach : ℕ) × (time ≤ to)
         × (is_sound (first_of window.old) time reach slot.old ≡ true) }
-    ensures sound { IfOk result (λ _. (time reach : ℕ) × (time ≤ to)
-        × (is_sound (first_of window.new) time reach slot.new ≡ true)) }
-    ensures taken { IfOk result (λ news. IsNone news
-        → (reach : ℕ) × (is_sound to to reach slot.new ≡ true)) }
+    ensures sound { (time reach : ℕ) × (time ≤ to)
+        × (is_sound (first_of window.new) time reach slot.new ≡ true) }
+    ensures taken { IsNone result → (reach : ℕ) × (is_sound to to reach slot.new ≡ true) }
     ensures first { first_of window.new ≡ first_of window.old }
     ensures end { end_of window.new ≡ end_of window.old }
 {
-    if window.history().first() != 0 || window.end() < to || 20_000 < to {
-        return Err(Fail::new("samples are missing"));
+    if window.history().first() != 0 {
+        panic!(rt; "the first samples are gone");
     }
-    Ok(slot.take(to, window, &mut CodeBook::new()))
+    assert!(rt; to <= window.end());
+    assert!(rt; to <= 20_000);
+    slot.take(to, window, &mut CodeBook::new())
 }
 
 /// A dump: when it comes, whether it is to be printed, and its sums.
 type Timed = (u64, bool, Counts);
 
 /// The dump that `next` gives.
-fn next_dump(slot: &mut Slot, window: &mut Window, to: u64) -> Result<Option<Timed>, Fail>
+fn next_dump(rt: &impl Abort, slot: &mut Slot, window: &mut Window, to: u64) -> Option<Timed>
     requires sound { (time reach : ℕ) × (time ≤ to)
         × (is_sound (first_of window.old) time reach slot.old ≡ true) }
-    ensures sound { IfOk result (λ _. (time reach : ℕ) × (time ≤ to)
-        × (is_sound (first_of window.new) time reach slot.new ≡ true)) }
+    ensures sound { (time reach : ℕ) × (time ≤ to)
+        × (is_sound (first_of window.new) time reach slot.new ≡ true) }
     ensures first { first_of window.new ≡ first_of window.old }
 {
-    match next(slot, window, to)? {
-        Some(SlotNews::Dump { time, is_shown }) => {
-            Ok(Some((time, is_shown, window.dump().counts)))
-        }
-        Some(SlotNews::Acquired { .. }) => Err(Fail::new("a cell was named")),
-        None => Ok(None),
+    match next(rt, slot, window, to)? {
+        SlotNews::Dump { time, is_shown } => Some((time, is_shown, window.dump().counts)),
+        SlotNews::Acquired { .. } => panic!(rt; "a cell was named"),
     }
 }
 
@@ -254,68 +249,45 @@ fn tells(
     to: u64,
     wanted: Option<Timed>,
     next_event: u64,
-) -> Result<(), Fail>
+)
     requires sound { (time reach : ℕ) × (time ≤ to)
         × (is_sound (first_of window.old) time reach slot.old ≡ true) }
-    ensures sound { IfOk result (λ _. (time reach : ℕ) × (time ≤ to)
-        × (is_sound (first_of window.new) time reach slot.new ≡ true)) }
+    ensures sound { (time reach : ℕ) × (time ≤ to)
+        × (is_sound (first_of window.new) time reach slot.new ≡ true) }
     ensures first { first_of window.new ≡ first_of window.old }
 {
-    let found = (next_dump(slot, window, to)?, slot.next_event());
-    assert_same!(rt; found, (wanted, next_event));
-    Ok(())
+    let found = (next_dump(rt, slot, window, to), slot.next_event());
+    assert_same!(*rt; found, (wanted, next_event));
 }
 
 // At two samples a chip the code begins half a chip before its end, so one sample ends the segment.
 // Chip 0 of satellite 1 is 1 and chip 1022 is 0, and the carrier's first pair is 2, 1: the early
 // chip, of the next period, has the sign -1, the others +1.
 #[test]
-fn early_wraps(rt: HostRuntime) -> Result<(), Fail> {
-    let settings = plain_settings()?;
-    let mut slot = held(rt.alloc(), &settings, 1, 0)?;
-    let mut window = eight_ones(rt.alloc())?;
+fn early_wraps(rt: HostRuntime) {
+    let mut slot = held(&rt, &plain_settings(&rt), 1, 0);
+    let mut window = eight_ones(&rt);
     assert_same!(rt; slot.next_event(), 1);
-    let counts = sums([-2, 1, 2, -1, 2, -1]);
-    tells(
-        &rt,
-        &mut slot,
-        &mut window,
-        8,
-        Some((1, true, counts)),
-        2_047,
-    )
+    let dump = (1, true, sums([-2, 1, 2, -1, 2, -1]));
+    tells(&rt, &mut slot, &mut window, 8, Some(dump), 2_047);
 }
 
 // A little slower than half a chip a sample, so the second sample ends the segment. Chip 0 of
 // satellite 7 is 1 and chip 1022 is 0. The carrier has turned a little less than a whole cycle back
 // at the second sample, where its pair is 2, -1: the signs of the quadrature cancel.
 #[test]
-fn sums_do_not_depend_on_the_cut(rt: HostRuntime) -> Result<(), Fail> {
-    let settings = plain_settings()?;
-    let counts = sums([-4, 0, 4, 0, 4, 0]);
-    let mut whole = held(rt.alloc(), &settings, 7, -1_000)?;
-    let mut window = eight_ones(rt.alloc())?;
-    tells(
-        &rt,
-        &mut whole,
-        &mut window,
-        8,
-        Some((2, true, counts)),
-        2_048,
-    )?;
-    let mut cut = held(rt.alloc(), &settings, 7, -1_000)?;
+fn sums_do_not_depend_on_the_cut(rt: HostRuntime) {
+    let settings = plain_settings(&rt);
+    let dump = (2, true, sums([-4, 0, 4, 0, 4, 0]));
+    let mut whole = held(&rt, &settings, 7, -1_000);
+    let mut window = eight_ones(&rt);
+    tells(&rt, &mut whole, &mut window, 8, Some(dump), 2_048);
+    let mut cut = held(&rt, &settings, 7, -1_000);
     assert_same!(rt; cut.next_event(), 2);
-    tells(&rt, &mut cut, &mut window, 1, None, 2)?;
-    tells(
-        &rt,
-        &mut cut,
-        &mut window,
-        8,
-        Some((2, true, counts)),
-        2_048,
-    )?;
+    tells(&rt, &mut cut, &mut window, 1, None, 2);
+    tells(&rt, &mut cut, &mut window, 8, Some(dump), 2_048);
     // One dump was to be printed, and no other comes with these samples.
-    tells(&rt, &mut cut, &mut window, 8, None, 2_048)
+    tells(&rt, &mut cut, &mut window, 8, None, 2_048);
 }
 
 #[test]

@@ -45,7 +45,7 @@ fn answers_with(share: u8, text: &[u8]) -> [Option<Answer>; 3]
 
 /// Asserts the first three entries of the script of a client with four slots.
 fn assert_answers(rt: &impl Abort, text: &[u8], expected: [Option<Answer>; 3]) {
-    assert_same_at!(rt; text.escape_ascii(), answers(text), expected);
+    assert_same_at!(*rt; &text.escape_ascii(), &answers(text), &expected);
 }
 
 /// A command at its time.
@@ -81,7 +81,7 @@ fn slots_are_those_of_the_share(rt: HostRuntime) {
         (8, "0 stop -1", refused(0, 8)),
     ] {
         let answers = answers_with(share, text.as_bytes());
-        assert_same_at!(rt; text, answers, [answer, None, None]);
+        assert_same_at!(rt; text, &answers, &[answer, None, None]);
     }
 }
 

@@ -10,5 +10,3 @@ mod client_commands_tests;
 mod commands;
 #[cfg(test)]
 mod printed_lines_tests;
-#[cfg(test)]
-mod seldomplough_tests;

@@ -1,6 +1,6 @@
 //! Words whose data are known from outside, and the words near one of them.
 
-ghost use Rattle.std.specs.Prelude.{◌≡◌, ◌<◌, Some, IfSome};
+ghost use Rattle.std.specs.Prelude.{◌≡◌, ◌<◌, ◌≤◌, Some, IfSome};
 ghost use Rattle.nav_parity.specs.declared.parity.TheConstants.{WORD_LIMIT, DATA_LIMIT};
 ghost use Rattle.nav_parity.specs.declared.parity.TheConstants.{PRIOR_LIMIT};
 
@@ -24,23 +24,17 @@ fn inverted_parity(rt: HostRuntime) {
 
 #[test]
 fn three_bit_law(rt: HostRuntime) {
-    let mut after_one = 0u32;
+    let after_one = refused(0, 30);
     let mut after_two = 0u32;
     let mut after_three = 0u32;
     for first in 0..30u32 {
         let one = 1 << first;
-        after_one = after_one.wrapping_add(refused(one));
+        after_two = after_two.wrapping_add(refused(one, first));
         for second in 0..first {
-            let two = one | (1 << second);
-            after_two = after_two.wrapping_add(refused(two));
-            for third in 0..second {
-                after_three = after_three.wrapping_add(refused(two | (1 << third)));
-            }
+            after_three = after_three.wrapping_add(refused(one | (1 << second), second));
         }
     }
-    assert_same!(rt; after_one, 30);
-    assert_same!(rt; after_two, 435);
-    assert_same!(rt; after_three, 4_060);
+    assert_same!(rt; (after_one, after_two, after_three), (30, 435, 4_060));
 }
 
 #[test]
@@ -50,9 +44,16 @@ fn there_and_back(rt: HostRuntime) {
     assert_same!(rt; recoded_word(TELEMETRY, 1), None);
 }
 
-/// 1 where the telemetry word with these bits changed gives no data, else 0.
-fn refused(bits: u32) -> u32 {
-    u32::from(check(changed(bits), 0).is_none())
+/// For how many places below one the telemetry word with these bits and that changed gives no data.
+fn refused(bits: u32, below: u32) -> u32
+    requires { below ≤ 30 }
+{
+    let mut count = 0u32;
+    for place in 0..below {
+        let word = changed(bits | (1 << place));
+        count = count.wrapping_add(u32::from(check(word, 0).is_none()));
+    }
+    count
 }
 
 /// The telemetry word with these bits changed.

@@ -1,5 +1,7 @@
 //! Fields and pages of subframes whose bits are known.
 
+ghost use Rattle.std.specs.Prelude.{◌<◌};
+
 use crate::sent::subframe_from;
 use assertions::{assert_same, assert_same_at};
 use frame_sync::Subframe;
@@ -14,35 +16,47 @@ mod tables;
 use tables::{ALMANAC, CLOCK, EPH2, EPH3, Entry, HEALTH, UTC};
 
 /// The handover words of subframes 1 to 5 at one time count.
-const HANDOVERS: [u32; 5] = [0x84, 0x88, 0x8c, 0x90, 0x94];
+static HANDOVERS: [u32; 5] = [0x84, 0x88, 0x8c, 0x90, 0x94];
+
+/// In words 3 and 4 of this almanac the data ID is 1, the SV ID 5 and the time of applicability 7.
+/// In word 10 stand both parts of af0: the sign bit, and the highest of the low three bits.
+const WORDS: [u32; 8] = [0x45_0000, 0x07_0000, 0, 0, 0, 0, 0, 0x80_0004];
+
+/// Its numbers, in the order of the table.
+const VALUES: [i64; 13] = [1, 5, 0, 7, 0, 0, 0, 0, 0, 0, 0, -1_023, 0];
+
+const EPHEMERIS: [u32; 8] = [0, 0x80, 0, 0xff, 0xff_ffff, 0, 0, 0];
+
+/// The words of subframes from word 2 on, and what they have at a field.
+static SIGNED: [(u32, [u32; 8], Field, i64); 5] = [
+    (
+        0x84,
+        [0, 0, 0, 0, 0x80, 0, 0, 0],
+        Field::Clock(ClockField::Tgd),
+        -128,
+    ),
+    (0x88, EPHEMERIS, Field::Eph2(Eph2Field::M0), -2_147_483_648),
+    (0x88, EPHEMERIS, Field::Eph2(Eph2Field::E), 4_294_967_295),
+    (
+        0x94,
+        [0, 0, 0, 0, 0, 0, 0, 0x80_0004],
+        Field::Almanac(AlmanacField::Af0),
+        -1_023,
+    ),
+    (
+        0x94,
+        [0, 0, 0, 0, 0, 0, 0, 0x80_0004],
+        Field::Almanac(AlmanacField::Af1),
+        0,
+    ),
+];
 
 #[test]
 fn signed_fields(rt: HostRuntime) {
-    let clock = subframe(&rt, 0x84, [0, 0, 0, 0, 0x80, 0, 0, 0]);
-    assert_field(&rt, &clock, Field::Clock(ClockField::Tgd), Some(-128));
-
-    let ephemeris = subframe(&rt, 0x88, [0, 0x80, 0, 0xff, 0xff_ffff, 0, 0, 0]);
-    assert_field(
-        &rt,
-        &ephemeris,
-        Field::Eph2(Eph2Field::M0),
-        Some(-2_147_483_648),
-    );
-    assert_field(
-        &rt,
-        &ephemeris,
-        Field::Eph2(Eph2Field::E),
-        Some(4_294_967_295),
-    );
-
-    let almanac = subframe(&rt, 0x94, [0, 0, 0, 0, 0, 0, 0, 0x80_0004]);
-    assert_field(
-        &rt,
-        &almanac,
-        Field::Almanac(AlmanacField::Af0),
-        Some(-1_023),
-    );
-    assert_field(&rt, &almanac, Field::Almanac(AlmanacField::Af1), Some(0));
+    for (handover, words, named, expected) in &SIGNED {
+        let subframe = subframe(&rt, *handover, *words);
+        assert_field(&rt, &subframe, *named, Some(*expected));
+    }
 }
 
 #[test]
@@ -53,7 +67,7 @@ fn each_field_alone(rt: HostRuntime) {
     assert_fields(&rt, Kind::Almanac, &ALMANAC);
     assert_fields(&rt, Kind::Utc, &UTC);
     assert_fields(&rt, Kind::Health, &HEALTH);
-    assert_same!(rt; Kind::Message.fields().len(), 0);
+    assert!(rt; Kind::Message.fields().is_empty());
 }
 
 #[test]
@@ -61,7 +75,7 @@ fn incomplete_page(rt: HostRuntime) {
     let zero = Some(0);
     let words = [zero, zero, None, zero, zero, zero, zero, zero];
     let incomplete = subframe_from(&rt, 0x84, words);
-    assert_same!(rt; Page::read(&incomplete), None);
+    assert!(rt; Page::read(&incomplete).is_none());
     assert_field(&rt, &incomplete, Field::Clock(ClockField::Tgd), Some(0));
     // m0 has parts in words 4 and 5.
     assert_field(&rt, &incomplete, Field::Eph2(Eph2Field::M0), None);
@@ -70,16 +84,11 @@ fn incomplete_page(rt: HostRuntime) {
 
 #[test]
 fn kinds_of_pages(rt: HostRuntime) {
-    let kinds = [Some(Kind::Clock), Some(Kind::Eph2), Some(Kind::Eph3)];
-    for (handover, expected) in HANDOVERS.iter().zip(kinds) {
-        assert_kind(&rt, *handover, 0xff_0000, expected);
-    }
+    assert_kind(&rt, 0x84, 0xff_0000, Some(Kind::Clock));
+    assert_kind(&rt, 0x88, 0xff_0000, Some(Kind::Eph2));
+    assert_kind(&rt, 0x8c, 0xff_0000, Some(Kind::Eph3));
     for sv in 0..64u32 {
-        let [fourth, fifth] = kinds_by_sv(sv);
-        for id in [0x00_0000, 0x40_0000, 0x80_0000, 0xc0_0000] {
-            assert_kind(&rt, 0x90, id | (sv << 16), fourth);
-            assert_kind(&rt, 0x94, id | (sv << 16), fifth);
-        }
+        assert_kinds(&rt, sv, kinds_by_sv(sv));
     }
 }
 
@@ -94,125 +103,143 @@ fn kinds_by_sv(sv: u32) -> [Option<Kind>; 2] {
     }
 }
 
+static DATA_IDS: [u32; 4] = [0x00_0000, 0x40_0000, 0x80_0000, 0xc0_0000];
+
+/// Asserts the kinds of the pages of an SV ID in subframe 4 and in subframe 5.
+fn assert_kinds(rt: &impl Abort, sv: u32, [fourth, fifth]: [Option<Kind>; 2]) {
+    for id in &DATA_IDS {
+        assert_kind(rt, 0x90, *id | (sv << 16), fourth);
+        assert_kind(rt, 0x94, *id | (sv << 16), fifth);
+    }
+}
+
 /// Asserts the kind of the page that begins with this word 3.
 fn assert_kind(rt: &impl Abort, handover: u32, begun: u32, expected: Option<Kind>) {
     let found = kind(rt, handover, begun);
-    assert_same_at!(rt; (handover, begun), found, expected);
+    assert_same_at!(*rt; (handover, begun), found, expected);
 }
 
 #[test]
 fn values_in_table_order(rt: HostRuntime) {
-    let almanac = subframe(&rt, 0x94, [0x45_0000, 0x07_0000, 0, 0, 0, 0, 0, 0x80_0004]);
-    let values = [1, 5, 0, 7, 0, 0, 0, 0, 0, 0, 0, -1_023, 0];
-    assert_same!(rt; Page::read(&almanac), Some(Page::Almanac(values)));
+    let page = Page::read(&subframe(&rt, 0x94, WORDS));
+    assert_same!(rt; page, Some(Page::Almanac(VALUES)));
 }
 
-// In words 3 and 4 of the almanac the data ID is 1, the SV ID 5 and the time of applicability 7. In
-// word 10 stand both parts of af0: the sign bit, and the highest of the low three bits.
+static BY_NAME: [(Field, Option<i64>); 9] = [
+    (Field::Almanac(AlmanacField::Data), Some(1)),
+    (Field::Almanac(AlmanacField::Sv), Some(5)),
+    (Field::Almanac(AlmanacField::E), Some(0)),
+    (Field::Almanac(AlmanacField::Toa), Some(7)),
+    (Field::Almanac(AlmanacField::Af0), Some(-1_023)),
+    (Field::Almanac(AlmanacField::Af1), Some(0)),
+    // fields of these names, but of other tables
+    (Field::Health(HealthField::Toa), None),
+    (Field::Clock(ClockField::Af0), None),
+    (Field::Utc(UtcField::Sv), None),
+];
+
 #[test]
 fn values_by_name(rt: HostRuntime) {
-    let words = [0x45_0000, 0x07_0000, 0, 0, 0, 0, 0, 0x80_0004];
-    let page = Page::read(&subframe(&rt, 0x94, words)).expect(&rt, "a page");
-    for (field, expected) in [
-        (Field::Almanac(AlmanacField::Data), Some(1)),
-        (Field::Almanac(AlmanacField::Sv), Some(5)),
-        (Field::Almanac(AlmanacField::E), Some(0)),
-        (Field::Almanac(AlmanacField::Toa), Some(7)),
-        (Field::Almanac(AlmanacField::Af0), Some(-1_023)),
-        (Field::Almanac(AlmanacField::Af1), Some(0)),
-        // fields of these names, but of other tables
-        (Field::Health(HealthField::Toa), None),
-        (Field::Clock(ClockField::Af0), None),
-        (Field::Utc(UtcField::Sv), None),
-    ] {
-        assert_value(&rt, &page, field, expected);
+    let page = Page::read(&subframe(&rt, 0x94, WORDS)).expect(&rt, "a page");
+    for (field, expected) in &BY_NAME {
+        assert_value(&rt, &page, *field, *expected);
     }
-    let all = [1, 5, 0, 7, 0, 0, 0, 0, 0, 0, 0, -1_023, 0];
-    assert_same!(rt; page.values(), all.as_slice());
+    let values = VALUES;
+    assert_same!(rt; page.values(), values.as_slice());
 }
+
+static COUNTS: [Page; 6] = [
+    Page::Clock([1, 2, 3, 4, 5, 6, 7, 8, 9, 10, 11]),
+    Page::Eph2([1, 2, 3, 4, 5, 6, 7, 8, 9, 10, 11]),
+    Page::Eph3([1, 2, 3, 4, 5, 6, 7, 8, 9]),
+    Page::Almanac([1, 2, 3, 4, 5, 6, 7, 8, 9, 10, 11, 12, 13]),
+    Page::Utc([
+        1, 2, 3, 4, 5, 6, 7, 8, 9, 10, 11, 12, 13, 14, 15, 16, 17, 18,
+    ]),
+    Page::Health([
+        1, 2, 3, 4, 5, 6, 7, 8, 9, 10, 11, 12, 13, 14, 15, 16, 17, 18, 19, 20, 21, 22, 23, 24, 25,
+        26, 27, 28,
+    ]),
+];
 
 // The value of each field of a page that has a number of its own in each place.
 #[test]
 fn each_value_by_name(rt: HostRuntime) {
-    for page in [
-        Page::Clock([1, 2, 3, 4, 5, 6, 7, 8, 9, 10, 11]),
-        Page::Eph2([1, 2, 3, 4, 5, 6, 7, 8, 9, 10, 11]),
-        Page::Eph3([1, 2, 3, 4, 5, 6, 7, 8, 9]),
-        Page::Almanac([1, 2, 3, 4, 5, 6, 7, 8, 9, 10, 11, 12, 13]),
-        Page::Utc([
-            1, 2, 3, 4, 5, 6, 7, 8, 9, 10, 11, 12, 13, 14, 15, 16, 17, 18,
-        ]),
-        Page::Health([
-            1, 2, 3, 4, 5, 6, 7, 8, 9, 10, 11, 12, 13, 14, 15, 16, 17, 18, 19, 20, 21, 22, 23, 24,
-            25, 26, 27, 28,
-        ]),
-    ] {
-        assert_counts_up(&rt, &page);
+    for page in &COUNTS {
+        assert_counts_up(&rt, page);
     }
 }
 
 /// Asserts that each field of a page has the number of its place, from 1.
 fn assert_counts_up(rt: &impl Abort, page: &Page) {
-    let fields = page.kind().fields();
-    for (field, expected) in fields.iter().zip(1i64..) {
+    let mut expected = 0i64;
+    for field in page.kind().fields() {
+        expected = expected.wrapping_add(1);
         assert_value(rt, page, *field, Some(expected));
     }
-    assert_same!(rt; page.values().len(), fields.len());
+    assert!(rt; page.values().len() == page.kind().fields().len());
 }
 
 /// Asserts the value that a page has by a field's name.
 fn assert_value(rt: &impl Abort, page: &Page, field: Field, expected: Option<i64>) {
-    assert_same_at!(rt; field.name(), page.value(field), expected);
+    assert_same_at!(*rt; field.name(), page.value(field), expected);
 }
 
 // The 31 names in the order of the lines: subframe 1, 2 and 3, each as its table has it.
 #[test]
 fn names_of_an_ephemeris(rt: HostRuntime) {
     let fields = ephemeris_fields();
-    assert_same!(rt; fields.len(), 31);
+    assert!(rt; fields.len() == 31);
     assert_names(&rt, &fields[..11], &CLOCK);
     assert_names(&rt, &fields[11..22], &EPH2);
     assert_names(&rt, &fields[22..], &EPH3);
 }
 
-/// Asserts that fields have the names of these entries.
+/// Asserts that fields have the names and the exponents of these entries.
 fn assert_names(rt: &impl Abort, fields: &[Field], entries: &[Entry]) {
-    assert_same!(rt; fields.len(), entries.len());
-    for (field, entry) in fields.iter().zip(entries) {
-        assert_same!(rt; field.name(), entry.name);
+    assert!(rt; fields.len() == entries.len());
+    for k in 0..fields.len() {
+        assert_name(rt, fields[k], &entries[k]);
     }
+}
+
+fn assert_name(rt: &impl Abort, field: Field, entry: &Entry) {
+    assert_same!(*rt; (field.name(), field.exponent()), (entry.name, entry.exponent));
 }
 
 #[test]
 fn message_characters(rt: HostRuntime) {
-    let text = *b"GPS L1 C/A TEST, 22 CH";
     let words = [
         0x77_4750, 0x53_204c, 0x31_2043, 0x2f_4120, 0x54_4553, 0x54_2c20, 0x32_3220, 0x43_4800,
     ];
-    let message = subframe(&rt, 0x90, words);
-    assert_same!(rt; Page::read(&message), Some(Page::Message(text)));
-    assert_same!(rt; Page::Message(text).values().len(), 0);
-    assert_same!(rt; Page::Message(text).value(Field::Utc(UtcField::Sv)), None);
+    let text = Page::Message(*b"GPS L1 C/A TEST, 22 CH");
+    assert_same!(rt; Page::read(&subframe(&rt, 0x90, words)), Some(text));
+    assert!(rt; text.values().is_empty());
+    assert_value(&rt, &text, Field::Utc(UtcField::Sv), None);
 }
 
 /// Asserts that each field of a kind is as its table has it, in its order.
 fn assert_fields(rt: &impl Abort, kind: Kind, entries: &[Entry]) {
     let fields = kind.fields();
     assert_names(rt, fields, entries);
-    for (named, entry) in fields.iter().zip(entries) {
-        assert_same_at!(rt; entry.name, named.exponent(), entry.exponent);
-        for handover in HANDOVERS {
-            let ones = with_bits(rt, handover, entry.parts, true);
-            assert_field(rt, &ones, *named, Some(all_ones(entry)));
-            let zeros = with_bits(rt, handover, entry.parts, false);
-            assert_field(rt, &zeros, *named, Some(0));
+    for k in 0..fields.len().min(entries.len()) {
+        for handover in &HANDOVERS {
+            assert_bits(rt, *handover, fields[k], &entries[k]);
         }
     }
 }
 
+/// Asserts what a subframe has at a field whose bits alone are 1, or alone are 0.
+fn assert_bits(rt: &impl Abort, handover: u32, field: Field, entry: &Entry) {
+    let ones = with_bits(rt, handover, &entry.parts, true);
+    assert_field(rt, &ones, field, Some(all_ones(entry)));
+    let zeros = with_bits(rt, handover, &entry.parts, false);
+    assert_field(rt, &zeros, field, Some(0));
+}
+
 /// Asserts what a subframe has at a field.
 fn assert_field(rt: &impl Abort, subframe: &Subframe, named: Field, expected: Option<i64>) {
-    assert_same_at!(rt; named.name(), field(subframe, named), expected);
+    assert_same_at!(*rt; named.name(), field(subframe, named), expected);
 }
 
 /// What a field with all its bits 1 is.
@@ -221,8 +248,8 @@ fn all_ones(entry: &Entry) -> i64 {
         return -1;
     }
     let mut number = 0i64;
-    for (first, last) in entry.parts {
-        for _ in first..=last {
+    for (first, last) in &entry.parts {
+        for _ in *first..=*last {
             number = number.wrapping_mul(2).wrapping_add(1);
         }
     }
@@ -231,19 +258,34 @@ fn all_ones(entry: &Entry) -> i64 {
 
 /// The subframe whose bits in these parts are 1 and all others of words 3 to 10 are 0, or the
 /// reverse.
-fn with_bits(rt: &impl Abort, handover: u32, parts: [(usize, usize); 2], inside: bool) -> Subframe {
+fn with_bits(
+    rt: &impl Abort,
+    handover: u32,
+    parts: &[(usize, usize); 2],
+    inside: bool,
+) -> Subframe {
     let mut words = [0; 8];
-    for (i, word) in words.iter_mut().enumerate() {
-        for bit in 1..=24 {
-            let place = 30 * (i + 2) + bit;
-            let is_inside = parts
-                .iter()
-                .any(|(first, last)| *first <= place && place <= *last);
-            *word = (*word << 1) | u32::from(is_inside == inside);
-        }
-        *word &= 0xff_ffff;
+    for i in 0..8usize {
+        words[i] = word_with_bits(i + 2, parts, inside);
     }
     subframe(rt, handover, words)
+}
+
+/// The data of the word after so many whose bits in these parts are 1 and all others are 0, or the
+/// reverse.
+fn word_with_bits(before: usize, parts: &[(usize, usize); 2], inside: bool) -> u32
+    requires { before < 10 }
+{
+    let mut word = 0u32;
+    for bit in 1..=24usize {
+        let is_one = is_in(parts, 30 * before + bit) == inside;
+        word = word << 1 | u32::from(is_one);
+    }
+    word & 0xff_ffff
+}
+
+fn is_in([(first, last), (next, end)]: &[(usize, usize); 2], place: usize) -> bool {
+    (*first <= place && place <= *last) || (*next <= place && place <= *end)
 }
 
 /// The kind of the page that begins with this word 3.

@@ -2,7 +2,7 @@
 
 use recordings::{Choice, Recipe, ValueKind};
 use sample_planes::Format;
-use std::test::Fail;
+use std::process::Abort;
 
 /// Signs of values as they are, about 0.
 pub fn signs(kind: ValueKind, is_paired: bool, format: Format) -> Choice {
@@ -20,9 +20,6 @@ pub fn signs(kind: ValueKind, is_paired: bool, format: Format) -> Choice {
 }
 
 /// The recipe of a choice that isn't refused.
-pub fn recipe_of(choice: &Choice) -> Result<Recipe, Fail> {
-    match choice.recipe() {
-        Ok(recipe) => Ok(recipe),
-        Err(_) => Err(Fail::new("a choice was refused")),
-    }
+pub fn recipe_of(rt: &impl Abort, choice: &Choice) -> Recipe {
+    choice.recipe().expect(rt, "no such choice")
 }

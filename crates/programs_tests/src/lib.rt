@@ -1,5 +1,6 @@
-//! Tests of the crates of both programs: runs of the receiver, and recordings that are packed. The
-//! tests of a crate stand in a module named after it, over what the crate makes public.
+//! Tests of the crates of both programs, runs of the receiver and recordings that are packed, and
+//! of the crate that Rust programs begin with. The tests of a crate stand in a module named after
+//! it, over what the crate makes public.
 #![tactic(auto)]
 
 #[cfg(test)]
@@ -10,3 +11,5 @@ mod packer_tests;
 mod receiver_tests;
 #[cfg(test)]
 mod recordings_tests;
+#[cfg(test)]
+mod seldomplough_tests;

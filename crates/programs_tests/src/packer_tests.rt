@@ -1,12 +1,13 @@
 //! Runs over devices that fail.
 
 use crate::choices::{recipe_of, signs};
+use assertions::assert_same;
 use packer::{Failure, Plain, run, status};
 use recordings::{Packer, Stretch, ValueKind};
 use sample_planes::Format;
-use std::alloc::Global;
+use std::alloc::{Alloc, Global};
 use std::io::{self, Read, Write};
-use std::test::Fail;
+use std::process::Abort;
 
 /// Gives one piece, and then fails.
 #[derive(Drop)]
@@ -76,14 +77,14 @@ impl Write for Narrow {
 }
 
 /// Signs of bytes.
-fn packer(alloc: Global) -> Result<Packer, Fail> {
-    let recipe = recipe_of(&signs(ValueKind::I8, false, Format::Real1))?;
-    Ok(Packer::new(alloc, recipe)?)
+fn packer(rt: &(impl Abort + Alloc<A = Global>)) -> Packer {
+    let recipe = recipe_of(rt, &signs(ValueKind::I8, false, Format::Real1));
+    Packer::new(rt.alloc(), recipe).expect(rt, "no memory")
 }
 
 #[test]
-fn a_reader_that_fails(rt: HostRuntime) -> Result<(), Fail> {
-    let (mut packer, mut stretch) = (packer(rt.alloc())?, Stretch::new(0, 100));
+fn a_reader_that_fails(rt: HostRuntime) {
+    let (mut packer, mut stretch) = (packer(&rt), Stretch::new(0, 100));
     let mut writer = Plain::new(Vec::new(rt.alloc()));
     let ended = run(
         rt.alloc(),
@@ -92,38 +93,44 @@ fn a_reader_that_fails(rt: HostRuntime) -> Result<(), Fail> {
         &mut Plain::new(Breaking { is_broken: false }),
         &mut writer,
     );
-    assert_eq!(rt; ended, Err(Failure::Input));
-    assert_eq!(rt; writer.inner.as_slice(), [0].as_slice());
-    Ok(())
+    assert_same!(rt; ended, Err(Failure::Input));
+    assert_same!(rt; writer.inner.as_slice(), [0].as_slice());
 }
 
-/// How a run over 24 zeros ends.
-fn zeros_into<W: Write + Drop>(
-    alloc: Global,
+/// Asserts how a run over 24 zeros ends.
+fn assert_ended<W: Write + Drop>(
+    rt: &(impl Abort + Alloc<A = Global>),
     writer: &mut Plain<W>,
-) -> Result<Result<(), Failure>, Fail> {
-    let (mut packer, mut stretch) = (packer(alloc)?, Stretch::new(0, 100));
+    expected: Result<(), Failure>,
+) {
+    let (mut packer, mut stretch) = (packer(rt), Stretch::new(0, 100));
     let mut reader = Plain::new(&[0; 24][..]);
-    Ok(run(alloc, &mut packer, &mut stretch, &mut reader, writer))
+    let ended = run(rt.alloc(), &mut packer, &mut stretch, &mut reader, writer);
+    assert_same!(*rt; ended, expected);
 }
 
 #[test]
-fn writers_that_fail(rt: HostRuntime) -> Result<(), Fail> {
-    let output = Err(Failure::Output);
-    assert_eq!(rt; zeros_into(rt.alloc(), &mut Plain::new(Full))?, output);
-    assert_eq!(rt; zeros_into(rt.alloc(), &mut Plain::new(Clogged))?, output);
+fn writers_that_fail(rt: HostRuntime) {
+    assert_ended(&rt, &mut Plain::new(Full), Err(Failure::Output));
+    assert_ended(&rt, &mut Plain::new(Clogged), Err(Failure::Output));
+}
+
+#[test]
+fn a_narrow_writer(rt: HostRuntime) {
     let mut narrow = Plain::new(Narrow {
         bytes: Vec::new(rt.alloc()),
         room: 2,
     });
-    assert_eq!(rt; zeros_into(rt.alloc(), &mut narrow)?, output);
-    assert_eq!(rt; narrow.inner.bytes.as_slice(), [0, 0].as_slice());
+    assert_ended(&rt, &mut narrow, Err(Failure::Output));
+    assert_same!(rt; narrow.inner.bytes.as_slice(), [0, 0].as_slice());
     narrow.inner.room = 5;
-    assert_eq!(rt; zeros_into(rt.alloc(), &mut narrow)?, Ok(()));
-    assert_eq!(rt; narrow.inner.bytes.as_slice(), [0; 5].as_slice());
-    assert_eq!(rt;
-        (status(output), status(Err(Failure::Centre)), status(Ok(()))),
-        (1, 2, 0)
-    );
-    Ok(())
+    assert_ended(&rt, &mut narrow, Ok(()));
+    assert_same!(rt; narrow.inner.bytes.as_slice(), [0; 5].as_slice());
+}
+
+#[test]
+fn statuses(rt: HostRuntime) {
+    let output = status(Err(Failure::Output));
+    let told = (output, status(Err(Failure::Centre)), status(Ok(())));
+    assert_same!(rt; told, (1, 2, 0));
 }

@@ -15,8 +15,8 @@ use crate::receiver_tests::fakes::{Giving, Holding};
 use oscillators::Settings;
 use receiver::{RunFault, run, run_to};
 use sample_planes::Format;
-use std::alloc::Global;
-use std::test::Fail;
+use std::alloc::{Alloc, Global};
+use std::process::Abort;
 
 /// Holds satellite 1 from the first sample on, and asks for one dump.
 const FIRST_COUNT: &[u8] = b"0 hold 0 1 0 0\n0 counts 0 1\n";
@@ -33,31 +33,31 @@ const FIRST_COUNT_LINES: &str = "1 0 ok\n\
     1 2048 end\n";
 
 /// One-bit samples at two samples a chip, with the carrier at 0 Hz.
-fn plain_settings() -> Result<Settings, Fail> {
-    Ok(Settings::new(2_046_000, 0, Format::Real1)?)
+fn plain_settings(rt: &impl Abort) -> Settings {
+    Settings::new(2_046_000, 0, Format::Real1).expect(rt, "no such recording")
 }
 
 /// A run of scripts over plain settings.
 fn run_plain(
-    alloc: Global,
+    rt: &(impl Abort + Alloc<A = Global>),
     scripts: &[&[u8]],
     reader: &mut Giving,
     writer: &mut Holding,
-) -> Result<Result<u64, RunFault>, Fail> {
-    Ok(run(alloc, plain_settings()?, scripts, reader, writer))
+) -> Result<u64, RunFault> {
+    run(rt.alloc(), plain_settings(rt), scripts, reader, writer)
 }
 
 /// A run of one script over plain settings and at most `limit` samples.
 fn run_one(
-    alloc: Global,
+    rt: &(impl Abort + Alloc<A = Global>),
     script: &[u8],
     limit: u64,
     reader: &mut Giving,
     writer: &mut Holding,
-) -> Result<Result<u64, RunFault>, Fail>
+) -> Result<u64, RunFault>
     requires limit { limit ≤ 2 ^ 40 }
     requires whole { limit % 8 ≡ 0 }
 {
-    let settings = plain_settings()?;
-    Ok(run_to(alloc, settings, &[script], limit, reader, writer))
+    let settings = plain_settings(rt);
+    run_to(rt.alloc(), settings, &[script], limit, reader, writer)
 }

@@ -9,9 +9,8 @@ use crate::choices::signs;
 use assertions::assert_same;
 use recordings::{Choice, MOST_PIECE, Packer, Recipe, ValueKind};
 use sample_planes::Format;
-use std::alloc::{AllocError, Global};
+use std::alloc::{Alloc, Global};
 use std::process::Abort;
-use std::test::Fail;
 
 /// Every kind.
 static KINDS: [ValueKind; 8] = [
@@ -45,14 +44,14 @@ fn choice(kind: ValueKind, is_paired: bool, format: Format) -> Choice {
 }
 
 /// Bytes that look like chance: the top bytes of a congruential generator of 32 bits.
-fn noise(alloc: Global, count: usize) -> Result<Vec<u8>, AllocError> {
-    let mut bytes = Vec::new(alloc);
+fn noise(rt: &(impl Abort + Alloc<A = Global>), count: usize) -> Vec<u8> {
+    let mut bytes = Vec::new(rt.alloc());
     let mut state: u32 = 12345;
     for _ in 0..count {
         state = state.wrapping_mul(1_664_525).wrapping_add(1_013_904_223);
-        bytes.push((state >> 24) as u8)?;
+        bytes.push((state >> 24) as u8).expect(rt, "no memory");
     }
-    Ok(bytes)
+    bytes
 }
 
 /// Byte `i`, or 0.
@@ -86,30 +85,28 @@ struct Bits {
 }
 
 impl Bits {
-    fn push(&mut self, bit: bool) -> Result<(), Fail> {
+    fn push(&mut self, rt: &impl Abort, bit: bool) {
         self.last = self.last << 1 | u8::from(bit);
         self.count = self.count.wrapping_add(1);
         if self.count % 8 == 0 {
-            self.bytes.push(self.last)?;
+            self.bytes.push(self.last).expect(rt, "no memory");
         }
-        Ok(())
     }
 
     /// The bits of a value.
-    fn put(&mut self, choice: &Choice, value: i64) -> Result<(), Fail> {
-        self.push(value < i64::from(choice.centre))?;
+    fn put(&mut self, rt: &impl Abort, choice: &Choice, value: i64) {
+        self.push(rt, value < i64::from(choice.centre));
         let distance = value.wrapping_sub(i64::from(choice.centre)).unsigned_abs();
         if matches!(choice.format, Format::Real2 | Format::Iq2) {
-            self.push(distance > u64::from(choice.threshold))?;
+            self.push(rt, distance > u64::from(choice.threshold));
         }
-        Ok(())
     }
 }
 
 /// Packs value by value and bit by bit.
-fn plainly(alloc: Global, choice: &Choice, bytes: &[u8]) -> Result<Vec<u8>, Fail> {
+fn plainly(rt: &(impl Abort + Alloc<A = Global>), choice: &Choice, bytes: &[u8]) -> Vec<u8> {
     let mut bits = Bits {
-        bytes: Vec::new(alloc),
+        bytes: Vec::new(rt.alloc()),
         last: 0,
         count: 0,
     };
@@ -117,70 +114,71 @@ fn plainly(alloc: Global, choice: &Choice, bytes: &[u8]) -> Result<Vec<u8>, Fail
     let count = bytes.len().min(100_000) * 8 / choice.kind.bits();
     for i in 0..count {
         if i < 1_000_000 && (!choice.is_paired || is_complex || i % 2 == 0) {
-            bits.put(choice, twice(choice.kind, bytes, i))?;
+            bits.put(rt, choice, twice(choice.kind, bytes, i));
         }
     }
-    Ok(bits.bytes)
+    bits.bytes
 }
 
 /// Packs in pieces of a size.
-fn in_pieces(alloc: Global, recipe: Recipe, bytes: &[u8], size: usize) -> Result<Vec<u8>, Fail>
+fn in_pieces(
+    rt: &(impl Abort + Alloc<A = Global>),
+    recipe: Recipe,
+    bytes: &[u8],
+    size: usize,
+) -> Vec<u8>
     requires { size ≤ 65536 }
 {
-    let mut packer = Packer::new(alloc, recipe)?;
-    let (mut all, mut written) = (Vec::new(alloc), Vec::new(alloc));
+    let mut packer = Packer::new(rt.alloc(), recipe).expect(rt, "no memory");
+    let (mut all, mut written) = (Vec::new(rt.alloc()), Vec::new(rt.alloc()));
     let mut rest = bytes;
     for _ in 0..bytes.len() {
         let (piece, behind) = rest.split_at(rest.len().min(size));
-        packer.take(piece, &mut written)?;
-        all.extend_from_slice(&written)?;
+        packer.take(piece, &mut written).expect(rt, "no number");
+        all.extend_from_slice(&written).expect(rt, "no memory");
         rest = behind;
     }
-    Ok(all)
+    all
 }
 
 /// Asserts that a recording packed in pieces of a size is as it is packed value by value, where a
 /// choice can be had.
 fn assert_packed_plainly(
-    rt: &impl Abort,
-    alloc: Global,
+    rt: &(impl Abort + Alloc<A = Global>),
     choice: &Choice,
     bytes: &[u8],
     size: usize,
-) -> Result<(), Fail>
+)
     requires { size ≤ 65536 }
 {
     if let Ok(recipe) = choice.recipe() {
-        let written = in_pieces(alloc, recipe, bytes, size)?;
-        let wanted = plainly(alloc, choice, bytes)?;
-        assert_same!(rt; written.as_slice(), wanted.as_slice());
+        let written = in_pieces(rt, recipe, bytes, size);
+        let wanted = plainly(rt, choice, bytes);
+        assert_same!(*rt; written.as_slice(), wanted.as_slice());
     }
-    Ok(())
 }
 
 // A hundred thousand values of each kind of bytes, and more of those of bits.
 #[test]
-fn every_kind_and_cut(rt: HostRuntime) -> Result<(), Fail> {
-    let bytes = noise(rt.alloc(), 100_000)?;
+fn every_kind_and_cut(rt: HostRuntime) {
+    let bytes = noise(&rt, 100_000);
     for kind in &KINDS {
         for format in &FORMATS {
             for is_paired in [false, true] {
                 let choice = choice(*kind, is_paired, *format);
-                assert_packed_plainly(&rt, rt.alloc(), &choice, &bytes, MOST_PIECE)?;
+                assert_packed_plainly(&rt, &choice, &bytes, MOST_PIECE);
             }
         }
     }
-    Ok(())
 }
 
 #[test]
-fn pieces_of_every_size(rt: HostRuntime) -> Result<(), Fail> {
-    let bytes = noise(rt.alloc(), 3001)?;
+fn pieces_of_every_size(rt: HostRuntime) {
+    let bytes = noise(&rt, 3001);
     for kind in &KINDS {
         let choice = choice(*kind, true, Format::Iq1);
         for size in [1, 7, 64, 1000, MOST_PIECE] {
-            assert_packed_plainly(&rt, rt.alloc(), &choice, &bytes, size)?;
+            assert_packed_plainly(&rt, &choice, &bytes, size);
         }
     }
-    Ok(())
 }

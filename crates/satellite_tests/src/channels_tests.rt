@@ -1,7 +1,7 @@
 //! The beginning of a recording, and the dumps that two references apart from this project give for
 //! it.
 
-ghost use Rattle.std.specs.Prelude.{◌≡◌, ◌≤◌, IfOk};
+ghost use Rattle.std.specs.Prelude.{◌≡◌, ◌≤◌};
 ghost use Rattle.channels.specs.FollowedChannels.{dumps_of, at_of};
 ghost use Rattle.channels.specs.Windows.{first_of, end_of};
 
@@ -19,8 +19,8 @@ use lane_correlator::Counts;
 use made_signals::RECORDING;
 use oscillators::{Doppler, HalfChip, Settings};
 use sample_planes::{Format, PackedSamples};
+use std::alloc::{Alloc, Global};
 use std::process::Abort;
-use std::test::Fail;
 
 /// Sums in the order of a line of counts.
 fn sums([ie, qe, ip, qp, il, ql]: [i32; 6]) -> Counts {
@@ -35,65 +35,72 @@ fn sums([ie, qe, ip, qp, il, ql]: [i32; 6]) -> Counts {
 }
 
 /// The signal of a satellite by its numbers: the shift in Hz, and the half chip of its code.
-fn signal(prn: u8, hz: i32, half: u16) -> Result<Signal, Fail> {
-    Ok(Signal {
-        prn: Prn::new(prn).ok_or("a satellite")?,
-        doppler: Doppler::new(hz).ok_or("a shift")?,
-        half: HalfChip::new(half).ok_or("a half chip")?,
-    })
+fn signal(rt: &impl Abort, prn: u8, hz: i32, half: u16) -> Signal {
+    Signal {
+        prn: Prn::new(prn).expect(rt, "no such satellite"),
+        doppler: Doppler::new(hz).expect(rt, "no such shift"),
+        half: HalfChip::new(half).expect(rt, "no such half chip"),
+    }
+}
+
+/// The settings of a recording at this rate, with the carrier at an offset in Hz.
+fn settings(rt: &impl Abort, rate: u32, offset: i64, format: Format) -> Settings {
+    Settings::new(rate, offset, format).expect(rt, "no such recording")
 }
 
 /// Satellite 5, held before the first sample of the recording.
-fn held() -> Result<Followed, Fail>
-    ensures few { IfOk result (λ held. dumps_of held ≡ 0) }
-    ensures at { IfOk result (λ held. at_of held ≡ 0) }
+fn held(rt: &impl Abort) -> Followed
+    ensures few { dumps_of result ≡ 0 }
+    ensures at { at_of result ≡ 0 }
 {
-    let settings = Settings::new(2_046_000, 511_500, Format::Real1)?;
-    Ok(Followed::hold(&settings, signal(5, 1_250, 700)?, 0))
+    let settings = settings(rt, 2_046_000, 511_500, Format::Real1);
+    Followed::hold(&settings, signal(rt, 5, 1_250, 700), 0)
+}
+
+/// A window of no sample, with a history of 1,024.
+fn new_window(rt: &(impl Abort + Alloc<A = Global>), format: Format) -> Window
+    ensures first { first_of result ≡ 0 }
+    ensures end { end_of result ≡ 0 }
+{
+    Window::new(rt.alloc(), format, 1_024).expect(rt, "no memory")
 }
 
 /// The most samples of the recording that these tests take.
 const RECORDED: u64 = 9_600;
 
 /// Opens the samples of some bytes up to number `end`. There has to be room for them.
-fn open_to(window: &mut Window, bytes: &[u8], end: u64) -> Result<(), Fail>
-    ensures first { IfOk result (λ _. first_of window.new ≡ first_of window.old) }
-    ensures end { IfOk result (λ _. end_of window.new ≡ end) }
-    ensures more { IfOk result (λ _. end_of window.old ≤ end) }
+fn open_to(rt: &impl Abort, window: &mut Window, bytes: &[u8], end: u64)
+    ensures first { first_of window.new ≡ first_of window.old }
+    ensures end { end_of window.new ≡ end }
+    ensures more { end_of window.old ≤ end }
 {
-    if bytes.len() > 1_000_000 {
-        return Err(Fail::new("there are too many bytes"));
-    }
+    assert!(rt; bytes.len() <= 1_000_000);
     let all = PackedSamples::new(window.history().format(), bytes);
     let from = window.end();
-    if end < from || (all.len() as u64) < end {
-        return Err(Fail::new("samples are missing"));
-    }
+    assert!(rt; from <= end);
+    assert!(rt; end <= all.len() as u64);
     let len = (end - from) as usize;
-    if !window.has_room(len) {
-        return Err(Fail::new("the window is full"));
-    }
+    assert!(rt; window.has_room(len));
     window.take(&all.part(from as usize, len));
-    Ok(())
 }
 
 /// Takes the samples of a window up to number `to`, or to the next dump, and gives the number of
 /// samples by then, and the dump.
-fn next(held: &mut Followed, window: &mut Window, to: u64) -> Result<(u64, Option<Counts>), Fail>
+fn next(rt: &impl Abort, held: &mut Followed, window: &mut Window, to: u64) -> (u64, Option<Counts>)
     requires begun { at_of held.old ≤ to }
     requires open { first_of window.old ≤ at_of held.old }
-    ensures at { IfOk result (λ next. at_of held.new ≡ next.0) }
-    ensures within { IfOk result (λ next. next.0 ≤ to) }
-    ensures later { IfOk result (λ next. at_of held.old ≤ next.0) }
+    ensures at { at_of held.new ≡ result.0 }
+    ensures within { result.0 ≤ to }
+    ensures later { at_of held.old ≤ result.0 }
     ensures first { first_of window.new ≡ first_of window.old }
     ensures end { end_of window.new ≡ end_of window.old }
 {
-    if 8 <= held.dumps() || window.end() < to || RECORDED < to {
-        return Err(Fail::new("the samples can't be taken"));
-    }
+    assert!(rt; held.dumps() < 8);
+    assert!(rt; to <= window.end());
+    assert!(rt; to <= RECORDED);
     let time = to.min(held.next_dump());
     let is_dump = held.take(to, window, &mut CodeBook::new());
-    Ok((time, is_dump.then_some(window.dump().counts)))
+    (time, is_dump.then_some(window.dump().counts))
 }
 
 /// Asserts what `next` gives.
@@ -103,21 +110,24 @@ fn assert_next(
     window: &mut Window,
     to: u64,
     expected: (u64, Option<Counts>),
-) -> Result<(), Fail>
+)
     requires begun { at_of held.old ≤ to }
     requires open { first_of window.old ≤ at_of held.old }
-    ensures at { IfOk result (λ _. at_of held.new ≡ expected.0) }
+    ensures at { at_of held.new ≡ expected.0 }
     ensures first { first_of window.new ≡ first_of window.old }
     ensures end { end_of window.new ≡ end_of window.old }
 {
     // What is promised comes from this comparison.
-    assert_eq!(rt; next(held, window, to)?, expected);
-    Ok(())
+    assert_eq!(rt; next(rt, held, window, to), expected);
 }
 
 /// Asserts how many dumps there were, and with how many samples the next one comes.
-fn assert_stands(rt: &impl Abort, held: &Followed, dumps: u64, next_dump: u64) {
-    assert_same!(rt; (held.dumps(), held.next_dump()), (dumps, next_dump));
+fn assert_stands(rt: &impl Abort, held: &Followed, dumps: u64, next_dump: u64)
+    ensures { dumps_of held.now ≡ dumps }
+{
+    assert_same!(*rt; (held.dumps(), held.next_dump()), (dumps, next_dump));
+    // What is promised comes from this comparison.
+    assert!(rt; held.dumps() == dumps);
 }
 
 /// The counts of the first segment, which ends with sample 1,345, and of the second, which ends
@@ -133,69 +143,67 @@ fn first_and_second() -> [Option<Counts>; 2] {
 // samples at most. The second is the next 2,046 samples, in three. So is the third, of which the
 // code's shift makes none shorter yet.
 #[test]
-fn first_counts_of_a_recording(rt: HostRuntime) -> Result<(), Fail> {
+fn first_counts_of_a_recording(rt: HostRuntime) {
     let [first, second] = first_and_second();
-    let mut held = held()?;
-    let mut window = Window::new(rt.alloc(), Format::Real1, 1_024)?;
+    let mut held = held(&rt);
+    let mut window = new_window(&rt, Format::Real1);
     assert_same!(rt; held.prn().get(), 5);
     assert_stands(&rt, &held, 0, 1_346);
-    open_to(&mut window, &RECORDING, 1_000)?;
-    assert_next(&rt, &mut held, &mut window, 1_000, (1_000, None))?;
+    open_to(&rt, &mut window, &RECORDING, 1_000);
+    assert_next(&rt, &mut held, &mut window, 1_000, (1_000, None));
     window.close();
-    open_to(&mut window, &RECORDING, 2_000)?;
-    assert_next(&rt, &mut held, &mut window, 2_000, (1_346, first))?;
+    open_to(&rt, &mut window, &RECORDING, 2_000);
+    assert_next(&rt, &mut held, &mut window, 2_000, (1_346, first));
     assert_stands(&rt, &held, 1, 3_392);
-    assert_next(&rt, &mut held, &mut window, 2_000, (2_000, None))?;
+    assert_next(&rt, &mut held, &mut window, 2_000, (2_000, None));
     window.close();
-    open_to(&mut window, &RECORDING, 3_000)?;
-    assert_next(&rt, &mut held, &mut window, 3_000, (3_000, None))?;
+    open_to(&rt, &mut window, &RECORDING, 3_000);
+    assert_next(&rt, &mut held, &mut window, 3_000, (3_000, None));
     window.close();
-    open_to(&mut window, &RECORDING, 4_000)?;
-    assert_next(&rt, &mut held, &mut window, 4_000, (3_392, second))?;
+    open_to(&rt, &mut window, &RECORDING, 4_000);
+    assert_next(&rt, &mut held, &mut window, 4_000, (3_392, second));
     assert_stands(&rt, &held, 2, 5_438);
-    Ok(())
 }
 
 // The same dumps where samples wait: as many as are open, from wherever a window begins, and never
 // the one that ends a segment, which is sample 1,345 and then sample 3,391.
 #[test]
-fn samples_wait(rt: HostRuntime) -> Result<(), Fail> {
+fn samples_wait(rt: HostRuntime) {
     let [first, second] = first_and_second();
-    let mut held = held()?;
-    let mut window = Window::new(rt.alloc(), Format::Real1, 1_024)?;
-    open_to(&mut window, &RECORDING, 512)?;
-    open_to(&mut window, &RECORDING, 1_024)?;
-    assert_next(&rt, &mut held, &mut window, 1_024, (1_024, None))?;
+    let mut held = held(&rt);
+    let mut window = new_window(&rt, Format::Real1);
+    open_to(&rt, &mut window, &RECORDING, 512);
+    open_to(&rt, &mut window, &RECORDING, 1_024);
+    assert_next(&rt, &mut held, &mut window, 1_024, (1_024, None));
     window.close();
-    open_to(&mut window, &RECORDING, 1_858)?;
-    assert_next(&rt, &mut held, &mut window, 1_858, (1_346, first))?;
-    open_to(&mut window, &RECORDING, 2_048)?;
-    assert_next(&rt, &mut held, &mut window, 2_048, (2_048, None))?;
+    open_to(&rt, &mut window, &RECORDING, 1_858);
+    assert_next(&rt, &mut held, &mut window, 1_858, (1_346, first));
+    open_to(&rt, &mut window, &RECORDING, 2_048);
+    assert_next(&rt, &mut held, &mut window, 2_048, (2_048, None));
     window.close();
-    open_to(&mut window, &RECORDING, 3_072)?;
-    assert_next(&rt, &mut held, &mut window, 3_072, (3_072, None))?;
+    open_to(&rt, &mut window, &RECORDING, 3_072);
+    assert_next(&rt, &mut held, &mut window, 3_072, (3_072, None));
     window.close();
-    open_to(&mut window, &RECORDING, 3_392)?;
-    assert_next(&rt, &mut held, &mut window, 3_392, (3_392, second))
+    open_to(&rt, &mut window, &RECORDING, 3_392);
+    assert_next(&rt, &mut held, &mut window, 3_392, (3_392, second));
 }
 
 // A dump comes with the last sample of its segment and not before, also where nothing waits.
 #[test]
-fn the_last_sample_of_a_segment_does_not_wait(rt: HostRuntime) -> Result<(), Fail> {
+fn the_last_sample_of_a_segment_does_not_wait(rt: HostRuntime) {
     let [first, _] = first_and_second();
-    let mut held = held()?;
-    let mut window = Window::new(rt.alloc(), Format::Real1, 1_024)?;
-    open_to(&mut window, &RECORDING, 1_000)?;
-    assert_next(&rt, &mut held, &mut window, 1_000, (1_000, None))?;
-    assert_next(&rt, &mut held, &mut window, 1_000, (1_000, None))?;
+    let mut held = held(&rt);
+    let mut window = new_window(&rt, Format::Real1);
+    open_to(&rt, &mut window, &RECORDING, 1_000);
+    assert_next(&rt, &mut held, &mut window, 1_000, (1_000, None));
+    assert_next(&rt, &mut held, &mut window, 1_000, (1_000, None));
     window.close();
-    open_to(&mut window, &RECORDING, 1_346)?;
-    assert_next(&rt, &mut held, &mut window, 1_345, (1_345, None))?;
+    open_to(&rt, &mut window, &RECORDING, 1_346);
+    assert_next(&rt, &mut held, &mut window, 1_345, (1_345, None));
     assert_stands(&rt, &held, 0, 1_346);
-    assert_next(&rt, &mut held, &mut window, 1_345, (1_345, None))?;
-    assert_next(&rt, &mut held, &mut window, 1_346, (1_346, first))?;
+    assert_next(&rt, &mut held, &mut window, 1_345, (1_345, None));
+    assert_next(&rt, &mut held, &mut window, 1_346, (1_346, first));
     assert_stands(&rt, &held, 1, 3_392);
-    assert_next(&rt, &mut held, &mut window, 1_346, (1_346, None))?;
+    assert_next(&rt, &mut held, &mut window, 1_346, (1_346, None));
     assert_stands(&rt, &held, 1, 3_392);
-    Ok(())
 }

@@ -52,17 +52,17 @@ fn loop_steps(rt: HostRuntime) {
 
 /// Asserts the shift, the correction and the number of dumps.
 fn assert_stand(rt: &impl Abort, loops: &Loops, expected: (i64, i64, u64)) {
-    assert_same!(rt; (loops.v(), loops.w(), loops.dumps()), expected);
+    assert_same!(*rt; (loops.v(), loops.w(), loops.dumps()), expected);
 }
 
 /// Asserts the news of a dump, and whether the loops are locked after it.
 fn assert_news(rt: &impl Abort, loops: &Loops, dump: u64, news: News, expected: (News, bool)) {
-    assert_same_at!(rt; dump, (news, loops.locked()), expected);
+    assert_same_at!(*rt; dump, (news, loops.locked()), expected);
 }
 
 /// Asserts the shift.
 fn assert_shift(rt: &impl Abort, loops: &Loops, expected: i64) {
-    assert_same!(rt; loops.v(), expected);
+    assert_same!(*rt; loops.v(), expected);
 }
 
 /// The shift after a dump, where a phase of 45 degrees is an error of 2048 and nothing turns: v is

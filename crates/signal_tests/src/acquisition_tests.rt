@@ -95,10 +95,9 @@ fn acquire_code_file(rt: HostRuntime) {
     let settings = real_settings(&rt, 2_046_000, Format::Real1);
     let plan = short_plan(&rt, 1, 10);
     let source = NumberedSamples::new(PackedSamples::new(Format::Real1, &bytes), 0);
-    let named = Some(cell_of_code_file(&rt));
     for cells in [1, 7, u64::MAX] {
         let found = named_by_search(&rt, plan, &settings, 2, &source, cells);
-        assert_same_at!(rt; cells, found, named);
+        assert_same_at!(rt; cells, found, Some(cell_of_code_file(&rt)));
     }
 }
 
@@ -188,5 +187,5 @@ fn advance_to(
 /// due after 2,046 samples of the dwell, from sample 7 on, and 4 for each cell.
 fn assert_stands(rt: &impl Abort, search: &Search, done: u64) {
     let told = (search.due(), search.done(), search.result().is_some());
-    assert_same!(rt; told, (10_237, done, done == 2_046));
+    assert_same!(*rt; told, (10_237, done, done == 2_046));
 }

@@ -129,7 +129,7 @@ fn assert_agreeing(rt: &impl Abort, format: Format) {
         agreeing(rt, format, 0, 200),
         agreeing(rt, format, 954, 1024),
     );
-    assert_same!(rt; ranges, (SHORT_RANGES, LATE_RANGES));
+    assert_same!(*rt; ranges, (SHORT_RANGES, LATE_RANGES));
 }
 
 #[test]
@@ -159,7 +159,7 @@ fn assert_four_samples(rt: &impl Abort, format: Format, bytes: &[u8], expected: 
 {
     let samples = unpack(format, bytes, 0, 4);
     let code = CodeOsc::new(half_chip(rt, 2_044), 1 << 30);
-    assert_same!(rt; sums_of_quarters(rt, &samples, &code), expected);
+    assert_same!(*rt; sums_of_quarters(rt, &samples, &code), expected);
 }
 
 /// The sums over samples at a quarter of a cycle a sample, with the code of satellite 1.

@@ -160,11 +160,11 @@ fn carrier(step: u32) -> CarrierOsc {
 /// Asserts the values of a carrier with this step.
 fn assert_carrier(rt: &impl Abort, step: u32) {
     let planes = carrier(step).planes(130);
-    assert_same!(rt; planes.len(), 130);
+    assert_same!(*rt; planes.len(), 130);
     for i in 0..130 {
         let phase = (3 * 0x9000_0001 + i as u128 * step as u128) % 0x1_0000_0000;
         let expected = VALUES[(phase / 0x2000_0000) as usize];
-        assert_same_at!(rt; (i, step), (planes.cos(i), planes.sin(i)), expected);
+        assert_same_at!(*rt; (i, step), (planes.cos(i), planes.sin(i)), expected);
     }
 }
 
@@ -187,7 +187,7 @@ fn assert_eighths(rt: &impl Abort, step: u32, before: u32) {
             // Phases are modulo 2^32.
             let phase = 0xb000_0003u32.wrapping_add(way.wrapping_mul(step));
             let found = lanes[63 - j as usize] as u32;
-            assert_same_at!(rt; (w, j, step, before), found, phase / 0x2000_0000);
+            assert_same_at!(*rt; (w, j, step, before), found, phase / 0x2000_0000);
         }
     }
 }
@@ -224,7 +224,7 @@ fn signs(book: &mut CodeBook, prn: Prn, phase: u128) -> (i8, i8, i8) {
 fn assert_code(rt: &impl Abort, book: &mut CodeBook, half_chips: u16, step: u32) {
     let prn = satellite(rt, 19);
     let planes = CodeOsc::new(half_chip(rt, half_chips), step).planes(130, book, prn);
-    assert_same!(rt; planes.len(), 130);
+    assert_same!(*rt; planes.len(), 130);
     for i in 0..130 {
         let phase = half_chips as u128 * 0x8000_0000 + i as u128 * step as u128;
         assert_same_at!(
@@ -291,7 +291,7 @@ fn assert_windows(rt: &impl Abort, book: &mut CodeBook, half_chips: u16, step: u
     let prn = satellite(rt, 19);
     let osc = CodeOsc::new(half_chip(rt, half_chips), step);
     let mut words = osc.words(0);
-    assert_same_at!(rt; step, words.has_windows(), step <= 0xe666_6666);
+    assert_same_at!(*rt; step, words.has_windows(), step <= 0xe666_6666);
     if words.has_windows() {
         let lanes = words.next_lanes_by_windows(book.table(prn));
         let first = half_chips as u128 * 0x8000_0000;
@@ -345,5 +345,5 @@ fn code_goes_round(rt: HostRuntime) {
 
 /// Asserts the phase, in 2^-32 chip.
 fn assert_phase(rt: &impl Abort, osc: &CodeOsc, expected: u128) {
-    assert_same!(rt; osc.phase() as u128, expected);
+    assert_same!(*rt; osc.phase() as u128, expected);
 }

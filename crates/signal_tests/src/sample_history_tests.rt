@@ -106,10 +106,10 @@ fn assert_reads(rt: &impl Abort, history: &SampleHistory, n: u64, len: usize) {
     assert!(rt; n <= history.end());
     assert!(rt; len as u64 <= history.end() - n);
     let planes = history.planes(n, len);
-    assert_same!(rt; planes.len(), len);
+    assert_same!(*rt; planes.len(), len);
     for i in 0..planes.len() {
         let expected = sample(history.format(), n.wrapping_add(i as u64));
-        assert_same_at!(rt; (n, i), (planes.value(i), planes.value_q(i)), expected);
+        assert_same_at!(*rt; (n, i), (planes.value(i), planes.value_q(i)), expected);
     }
 }
 
@@ -121,13 +121,13 @@ fn assert_reads_all(rt: &impl Abort, history: &SampleHistory) {
         assert_reads(rt, history, n, len as usize);
         n = n.saturating_add(len);
     }
-    assert_same!(rt; n, history.end());
+    assert_same!(*rt; n, history.end());
 }
 
 /// Asserts which samples the history holds: from which on, and up to which one, and that it reads
 /// them as those of the stream.
 fn assert_holds(rt: &impl Abort, history: &SampleHistory, first: u64, end: u64) {
-    assert_same!(rt; (history.first(), history.end()), (first, end));
+    assert_same!(*rt; (history.first(), history.end()), (first, end));
     assert_reads_all(rt, history);
 }
 

@@ -28,7 +28,7 @@ fn values(format: Format, bytes: &[u8]) -> ([i8; 8], [i8; 8])
 fn assert_values(rt: &impl Abort, format: Format, bytes: &[u8], expected: ([i8; 8], [i8; 8]))
     requires { length bytes.now ≤ 2 }
 {
-    assert_same!(rt; values(format, bytes), expected);
+    assert_same!(*rt; values(format, bytes), expected);
 }
 
 #[test]
@@ -60,9 +60,9 @@ fn complex_bytes(rt: HostRuntime) {
 
 /// Asserts how many samples there are, and their parts in phase.
 fn assert_samples(rt: &impl Abort, planes: &Planes, expected: &[i8]) {
-    assert_same!(rt; planes.len(), expected.len());
+    assert_same!(*rt; planes.len(), expected.len());
     for i in 0..planes.len().min(expected.len()) {
-        assert_same_at!(rt; i, planes.value(i), expected[i]);
+        assert_same_at!(*rt; i, planes.value(i), expected[i]);
     }
 }
 
@@ -84,7 +84,7 @@ fn parts_of_two_bits_can_be_3_in_size(rt: HostRuntime) {
 
 /// Asserts the codes in the last four lanes, the last first.
 fn assert_codes(rt: &impl Abort, codes: [u8; 64], expected: [u8; 4]) {
-    assert_same!(rt; [codes[63], codes[62], codes[61], codes[60]], expected);
+    assert_same!(*rt; [codes[63], codes[62], codes[61], codes[60]], expected);
 }
 
 #[test]
@@ -118,7 +118,7 @@ fn codes_of_the_second_word(rt: HostRuntime) {
 
 /// Asserts two bytes.
 fn assert_bytes(rt: &impl Abort, found: [u8; 2], expected: [u8; 2]) {
-    assert_same!(rt; found, expected);
+    assert_same!(*rt; found, expected);
 }
 
 #[test]
@@ -184,9 +184,9 @@ fn a_run_in_parts(rt: HostRuntime) {
 
 /// Asserts the parts in quadrature of samples.
 fn assert_quadrature(rt: &impl Abort, planes: &Planes, expected: &[i8]) {
-    assert_same!(rt; planes.len(), expected.len());
+    assert_same!(*rt; planes.len(), expected.len());
     for i in 0..planes.len().min(expected.len()) {
-        assert_same_at!(rt; i, planes.value_q(i), expected[i]);
+        assert_same_at!(*rt; i, planes.value_q(i), expected[i]);
     }
 }
 
@@ -219,8 +219,8 @@ fn a_run_tells_where_it_lies(rt: HostRuntime) {
 /// Asserts the bytes in which a run lies, and the place of its first sample.
 fn assert_place(rt: &impl Abort, run: &PackedSamples, bytes: &[u8], first: usize) {
     let place = run.place();
-    assert_same!(rt; place.0, bytes);
-    assert_same!(rt; place.1, first);
+    assert_same!(*rt; place.0, bytes);
+    assert_same!(*rt; place.1, first);
 }
 
 // The same samples, the first of them being number 1,000.
@@ -276,7 +276,7 @@ fn assert_read(rt: &impl Abort, format: Format, bytes: &[u8; 600], first: usize,
     requires first { first ≤ 16 }
     requires len { len ≤ MAX_SAMPLES }
 {
-    assert_same_at!(rt; (first, len), differing(format, bytes, first, len), 0);
+    assert_same_at!(*rt; (first, len), differing(format, bytes, first, len), 0);
 }
 
 #[test]

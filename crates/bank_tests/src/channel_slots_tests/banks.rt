@@ -1,7 +1,7 @@
 //! The slots of several clients over one stream.
 
 use super::searches::feed_to;
-use super::{IDLE, hold, one_count, plain_settings, sums};
+use super::{IDLE, hold, new_bank, new_timeline, one_count, plain_settings, sums};
 use crate::commands;
 use assertions::{assert_same, assert_same_at};
 use channel_slots::{
@@ -15,20 +15,20 @@ use std::process::Abort;
 use std::test::Fail;
 
 /// A bank of which one slot is to hold satellite 1, and to show its first dump.
-fn bank_that_holds(alloc: Global) -> Result<Bank, Fail> {
-    let mut bank = Bank::open(alloc, plain_settings()?, &[4])?;
-    bank.command(1, hold(1, 0)?);
-    bank.command(1, one_count()?);
-    Ok(bank)
+fn bank_that_holds(rt: &(impl Abort + Alloc<A = Global>)) -> Bank {
+    let mut bank = new_bank(rt, plain_settings(rt), &[4]);
+    bank.command(1, hold(rt, 1, 0));
+    bank.command(1, one_count(rt));
+    bank
 }
 
 // Samples from the ninth of two bytes on are those of the second byte.
 #[test]
-fn a_feed_begins_anywhere(rt: HostRuntime) -> Result<(), Fail> {
-    let mut bank = bank_that_holds(rt.alloc())?;
-    let mut timeline = Timeline::new(rt.alloc())?;
+fn a_feed_begins_anywhere(rt: HostRuntime) {
+    let mut bank = bank_that_holds(&rt);
+    let mut timeline = new_timeline(&rt);
     let run = PackedSamples::new(Format::Real1, &[255, 127]).part(8, 1);
-    bank.try_feed(&run, &mut timeline)?;
+    assert_same!(rt; bank.try_feed(&run, &mut timeline), Ok(()));
     let told = [SlotEvent {
         client: 1,
         slot: 0,
@@ -36,7 +36,6 @@ fn a_feed_begins_anywhere(rt: HostRuntime) -> Result<(), Fail> {
         event: Event::Count(sums([-2, 1, 2, -1, 2, -1])),
     }];
     assert_same!(rt; timeline.events(), told.as_slice());
-    Ok(())
 }
 
 /// The dump of a client's slot.
@@ -56,10 +55,23 @@ const SEGMENTS: [[i32; 6]; 2] = [
     [-623, -73, -1_079, 11, -483, 143],
 ];
 
+/// A bank of which a slot of either client holds satellite 5, and shows two dumps.
+fn two_that_hold(rt: &(impl Abort + Alloc<A = Global>), settings: Settings) -> Bank {
+    let mut bank = new_bank(rt, settings, &[1, 2]);
+    for (client, slot) in [(1, 0), (2, 1)] {
+        let hold = commands::hold(slot, 5, 1_250, 700).expect(rt, "no such hold");
+        bank.command(client, hold);
+        let counts = commands::counts(slot, 2).expect(rt, "no such number of dumps");
+        bank.command(client, counts);
+    }
+    bank
+}
+
 // Two slots that hold the same satellite emit its dumps when they come, the first client's first,
 // however many samples a run has: also where most runs bring nothing, so that their samples wait.
 #[test]
 fn dumps_do_not_depend_on_the_runs(rt: HostRuntime) -> Result<(), Fail> {
+    let settings = Settings::new(2_046_000, 511_500, Format::Real1)?;
     let [first, second] = SEGMENTS;
     let wanted = [
         count_at(1_346, 1, 0, first),
@@ -69,16 +81,8 @@ fn dumps_do_not_depend_on_the_runs(rt: HostRuntime) -> Result<(), Fail> {
     ];
     let recording = PackedSamples::new(Format::Real1, &RECORDING);
     for piece in [1, 7, 64, 513, 1_000, 1_024] {
-        let settings = Settings::new(2_046_000, 511_500, Format::Real1)?;
-        let mut bank = Bank::open(rt.alloc(), settings, &[1, 2])?;
-        for (client, slot) in [(1, 0), (2, 1)] {
-            bank.command(client, commands::hold(slot, 5, 1_250, 700).ok_or("a hold")?);
-            bank.command(
-                client,
-                commands::counts(slot, 2).ok_or("a number of dumps")?,
-            );
-        }
-        let told = feed_to(rt.alloc(), &mut bank, &recording, piece, 4_000)?;
+        let mut bank = two_that_hold(&rt, settings);
+        let told = feed_to(&rt, &mut bank, &recording, piece, 4_000);
         assert_same_at!(rt; piece, told.as_slice(), wanted.as_slice());
         assert_same_at!(rt; piece, bank.time(), 4_000);
     }
@@ -96,9 +100,9 @@ static RUNS: [(Format, usize, Result<u64, FeedFault>); 6] = [
 ];
 
 #[test]
-fn runs_that_do_not_fit_are_refused(rt: HostRuntime) -> Result<(), Fail> {
-    let mut bank = Bank::open(rt.alloc(), plain_settings()?, &[1])?;
-    let mut timeline = Timeline::new(rt.alloc())?;
+fn runs_that_do_not_fit_are_refused(rt: HostRuntime) {
+    let mut bank = new_bank(&rt, plain_settings(&rt), &[1]);
+    let mut timeline = new_timeline(&rt);
     let zeros = [0; 129];
     for &(format, bytes, time) in &RUNS {
         let before = bank.time();
@@ -108,19 +112,14 @@ fn runs_that_do_not_fit_are_refused(rt: HostRuntime) -> Result<(), Fail> {
             assert_same!(rt; bank.time(), before);
         }
     }
-    Ok(())
 }
 
 /// Sees that a bank with each of these shares opens at time 0, or how it fails to.
-fn open(
-    rt: &(impl Abort + Alloc<A = Global>),
-    rows: &[(&[u8], Result<u64, OpenFault>)],
-) -> Result<(), Fail> {
+fn open(rt: &(impl Abort + Alloc<A = Global>), rows: &[(&[u8], Result<u64, OpenFault>)]) {
     for &(shares, time) in rows {
-        let opened = Bank::open(rt.alloc(), plain_settings()?, shares);
-        assert_same!(rt; opened.map(|bank| bank.time()), time);
+        let opened = Bank::open(rt.alloc(), plain_settings(rt), shares);
+        assert_same!(*rt; opened.map(|bank| bank.time()), time);
     }
-    Ok(())
 }
 
 static CLIENTS: [(&[u8], Result<u64, OpenFault>); 7] = [
@@ -134,8 +133,8 @@ static CLIENTS: [(&[u8], Result<u64, OpenFault>); 7] = [
 ];
 
 #[test]
-fn one_to_eight_clients(rt: HostRuntime) -> Result<(), Fail> {
-    open(&rt, &CLIENTS)
+fn one_to_eight_clients(rt: HostRuntime) {
+    open(&rt, &CLIENTS);
 }
 
 static REFUSED_SHARES: [(&[u8], Result<u64, OpenFault>); 5] = [
@@ -147,8 +146,8 @@ static REFUSED_SHARES: [(&[u8], Result<u64, OpenFault>); 5] = [
 ];
 
 #[test]
-fn one_to_eight_slots(rt: HostRuntime) -> Result<(), Fail> {
-    open(&rt, &REFUSED_SHARES)
+fn one_to_eight_slots(rt: HostRuntime) {
+    open(&rt, &REFUSED_SHARES);
 }
 
 // The clients have four slots and two.
@@ -164,27 +163,24 @@ static STOPS: [(u8, u8, Refusal); 8] = [
 ];
 
 #[test]
-fn slots_of_nobody_and_of_others_are_refused(rt: HostRuntime) -> Result<(), Fail> {
-    let mut bank = Bank::open(rt.alloc(), plain_settings()?, &[4, 2])?;
+fn slots_of_nobody_and_of_others_are_refused(rt: HostRuntime) {
+    let mut bank = new_bank(&rt, plain_settings(&rt), &[4, 2]);
     for &(client, number, refusal) in &STOPS {
-        let slot = SlotNo::new(number).ok_or("a slot")?;
+        let slot = SlotNo::new(number).expect(&rt, "no such slot");
         let answer = bank.command(client, Command::Stop { slot });
-        assert_same_at!(rt; (client, number), answer, Answer::Refused(refusal));
+        assert_same_at!(rt; (client, number), &answer, &Answer::Refused(refusal));
     }
-    Ok(())
 }
 
 // The slot after a client's last one is the next client's first, by the list of all slots.
 #[test]
-fn a_slot_of_another_client_stays_idle(rt: HostRuntime) -> Result<(), Fail> {
-    let mut bank = Bank::open(rt.alloc(), plain_settings()?, &[4, 2])?;
-    let hold = commands::hold(5, 1, 0, 2_045).ok_or("a hold")?;
-    assert_same!(rt; bank.command(1, hold), Answer::Refused(Refusal::NoSuchSlot));
-    let stop = Command::Stop {
-        slot: SlotNo::new(1).ok_or("a slot")?,
-    };
-    assert_same!(rt; bank.command(2, stop), IDLE);
-    Ok(())
+fn a_slot_of_another_client_stays_idle(rt: HostRuntime) {
+    let mut bank = new_bank(&rt, plain_settings(&rt), &[4, 2]);
+    let hold = commands::hold(5, 1, 0, 2_045).expect(&rt, "no such hold");
+    let refused = Answer::Refused(Refusal::NoSuchSlot);
+    assert_same!(rt; &bank.command(1, hold), &refused);
+    let stop = commands::stop(1).expect(&rt, "no such slot");
+    assert_same!(rt; &bank.command(2, stop), &IDLE);
 }
 
 static TEXTS: [(OpenFault, &str); 3] = [

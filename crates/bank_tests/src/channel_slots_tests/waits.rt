@@ -1,6 +1,7 @@
 //! Commands while samples wait: what a slot answers and emits is what it would be if all slots had
 //! taken them.
 
+use super::new_bank;
 use super::searches::{MOST_TOLD, feed_to};
 use crate::commands;
 use arrayvec::ArrayVec;
@@ -12,21 +13,20 @@ use oscillators::Settings;
 use sample_planes::{Format, PackedSamples};
 use std::alloc::{Alloc, Global};
 use std::process::Abort;
-use std::test::Fail;
 
 /// One of two slots is to hold satellite 5 from half chip 700 on, and to show all its dumps.
-fn begin(bank: &mut Bank, slot: u8) -> Result<(), Fail> {
-    bank.command(1, commands::hold(slot, 5, 1_250, 700).ok_or("a hold")?);
-    bank.command(1, commands::counts(slot, 9).ok_or("a number of dumps")?);
-    Ok(())
+fn begin(rt: &impl Abort, bank: &mut Bank, slot: u8) {
+    let hold = commands::hold(slot, 5, 1_250, 700);
+    bank.command(1, hold.expect(rt, "no such hold"));
+    let counts = commands::counts(slot, 9);
+    bank.command(1, counts.expect(rt, "no such number of dumps"));
 }
 
 /// Sees that a slot holds satellite 5, and how many dumps it has had.
-fn has_had(rt: &impl Abort, bank: &mut Bank, slot: u8, dumps: u64) -> Result<(), Fail> {
-    let state = commands::state(slot).ok_or("a question")?;
-    let prn = Prn::new(5).ok_or("a satellite")?;
-    assert_same!(rt; bank.command(1, state), Answer::State(SlotState::Hold { prn, dumps }));
-    Ok(())
+fn has_had(rt: &impl Abort, bank: &mut Bank, slot: u8, dumps: u64) {
+    let state = commands::state(slot).expect(rt, "no such slot");
+    let prn = Prn::new(5).expect(rt, "no such satellite");
+    assert_same!(*rt; bank.command(1, state), Answer::State(SlotState::Hold { prn, dumps }));
 }
 
 /// What comes in 4,000 samples that are fed so many at a time. Slot 0 holds from sample 0 on, and
@@ -35,39 +35,28 @@ fn has_had(rt: &impl Abort, bank: &mut Bank, slot: u8, dumps: u64) -> Result<(),
 fn feed_with_commands(
     rt: &(impl Abort + Alloc<A = Global>),
     piece: usize,
-) -> Result<ArrayVec<SlotEvent, MOST_TOLD>, Fail> {
+) -> ArrayVec<SlotEvent, MOST_TOLD> {
     let recording = PackedSamples::new(Format::Real1, &RECORDING);
-    let settings = Settings::new(2_046_000, 511_500, Format::Real1)?;
-    let mut bank = Bank::open(rt.alloc(), settings, &[2])?;
-    begin(&mut bank, 0)?;
-    feed_to(rt.alloc(), &mut bank, &recording, piece, 500)?;
-    begin(&mut bank, 1)?;
-    feed_to(rt.alloc(), &mut bank, &recording, piece, 600)?;
-    has_had(rt, &mut bank, 0, 0)?;
-    bank.command(1, commands::stop(1).ok_or("a stop")?);
-    feed_to(rt.alloc(), &mut bank, &recording, piece, 700)?;
-    begin(&mut bank, 1)?;
-    let mut told = feed_to(rt.alloc(), &mut bank, &recording, piece, 2_045)?;
-    has_had(rt, &mut bank, 0, 1)?;
-    has_had(rt, &mut bank, 1, 0)?;
-    told.try_extend_from_slice(feed_to(
-        rt.alloc(),
-        &mut bank,
-        &recording,
-        piece,
-        2_046,
-    )?.as_slice())?;
-    has_had(rt, &mut bank, 1, 1)?;
-    told.try_extend_from_slice(feed_to(
-        rt.alloc(),
-        &mut bank,
-        &recording,
-        piece,
-        4_000,
-    )?.as_slice())?;
-    has_had(rt, &mut bank, 0, 2)?;
-    has_had(rt, &mut bank, 1, 1)?;
-    Ok(told)
+    let settings = Settings::new(2_046_000, 511_500, Format::Real1);
+    let mut bank = new_bank(rt, settings.expect(rt, "no such recording"), &[2]);
+    begin(rt, &mut bank, 0);
+    feed_to(rt, &mut bank, &recording, piece, 500);
+    begin(rt, &mut bank, 1);
+    feed_to(rt, &mut bank, &recording, piece, 600);
+    has_had(rt, &mut bank, 0, 0);
+    bank.command(1, commands::stop(1).expect(rt, "no such slot"));
+    feed_to(rt, &mut bank, &recording, piece, 700);
+    begin(rt, &mut bank, 1);
+    let mut told = feed_to(rt, &mut bank, &recording, piece, 2_045);
+    has_had(rt, &mut bank, 0, 1);
+    has_had(rt, &mut bank, 1, 0);
+    for (until, slot, dumps) in [(2_046, 1, 1), (4_000, 0, 2), (4_000, 1, 1)] {
+        let more = feed_to(rt, &mut bank, &recording, piece, until);
+        told.try_extend_from_slice(more.as_slice())
+            .expect(rt, "too many events");
+        has_had(rt, &mut bank, slot, dumps);
+    }
+    told
 }
 
 /// When dumps come, and of which slot: the first 1,346 samples after a slot began, and then 2,046
@@ -77,15 +66,14 @@ static DUMPS: [(u64, u8); 3] = [(1_346, 0), (2_046, 1), (3_392, 0)];
 // A slot begins with the sample after those so far, also where these wait for others. Its dumps are
 // the same however many samples a run has.
 #[test]
-fn slots_begin_while_samples_wait(rt: HostRuntime) -> Result<(), Fail> {
-    let one_by_one = feed_with_commands(&rt, 1)?;
+fn slots_begin_while_samples_wait(rt: HostRuntime) {
+    let one_by_one = feed_with_commands(&rt, 1);
     for piece in [1, 7, 64, 513, 1_000, 1_024] {
-        let told = feed_with_commands(&rt, piece)?;
+        let told = feed_with_commands(&rt, piece);
         assert_same_at!(rt; piece, told.len(), DUMPS.len());
         for (event, dump) in told.iter().zip(&DUMPS) {
             assert_same_at!(rt; piece, (event.time, event.slot), *dump);
         }
         assert_same_at!(rt; piece, told.as_slice(), one_by_one.as_slice());
     }
-    Ok(())
 }

@@ -1,12 +1,12 @@
 //! A made stream of bits: whole subframes, cut ones, damaged ones, bare and false headers, inverted
 //! parts and noise, as a shift register chooses them.
 
-ghost use Rattle.std.specs.Prelude.{◌+◌, ◌^◌, ◌<◌};
+ghost use Rattle.std.specs.Prelude.{◌+◌, ◌^◌, ◌<◌, ◌≤◌};
 
-use super::fixture::add_bits;
 use crate::sent::{TELEMETRY, ended};
 use nav_parity::encode;
-use std::alloc::{AllocError, Global};
+use std::alloc::{Alloc, Global};
+use std::process::Abort;
 
 /// What is done to a subframe: the places, from its first bit, from where on it is inverted, that
 /// is changed, and where it is cut.
@@ -32,14 +32,14 @@ pub struct Mixture {
 
 impl Mixture {
     /// The first `len` bits of a mixture.
-    pub fn of_length(alloc: Global, len: usize) -> Result<Vec<bool>, AllocError> {
+    pub fn of_length(rt: &(impl Abort + Alloc<A = Global>), len: usize) -> Vec<bool> {
         let mut mixture = Mixture {
             register: 0x9e37_79b9_7f4a_7c15,
-            bits: Vec::new(alloc),
+            bits: Vec::new(rt.alloc()),
         };
         for _ in 0..len {
             if mixture.bits.len() < len {
-                mixture.add_piece()?;
+                mixture.add_piece(rt);
             }
         }
         let Mixture {
@@ -47,7 +47,7 @@ impl Mixture {
             register: _,
         } = mixture;
         bits.truncate(len);
-        Ok(bits)
+        bits
     }
 
     /// The next choice below a number.
@@ -61,86 +61,91 @@ impl Mixture {
         (self.register % u64::from(limit)) as u32
     }
 
-    fn add_piece(&mut self) -> Result<(), AllocError> {
+    fn add_piece(&mut self, rt: &impl Abort) {
         let kind = self.below(12);
         let id = 1 + self.below(5);
         match kind {
-            0 => self.add_subframe(id, Some(false), NONE),
-            1 => self.add_subframe(id, Some(true), Damage { tail: 0, ..NONE }),
-            2 => self.add_subframe(id, Some(false), Damage { tail: 150, ..NONE }),
-            3 => {
-                let bit = self.below(300);
-                self.add_subframe(id, Some(false), Damage { bit, ..NONE })
-            }
-            4 => {
-                let len = self.below(300);
-                self.add_subframe(id, Some(false), Damage { len, ..NONE })
-            }
+            7 => self.add_bare_preamble(rt),
+            11 => self.add_noise(rt, 300),
+            _ => self.add_damaged(rt, kind, id),
+        }
+    }
+
+    /// A subframe after two bits that the kind has, with its damage.
+    fn add_damaged(&mut self, rt: &impl Abort, kind: u32, id: u32)
+        requires { id < 8 }
+    {
+        match kind {
+            10 => {}
+            1 | 5 | 9 => self.add_bits(rt, 3, 2),
+            _ => self.add_bits(rt, 0, 2),
+        }
+        let damage = self.damage(kind);
+        let id = if kind == 8 {
+            [0, 6, 7][self.below(3) as usize]
+        } else {
+            id
+        };
+        self.add_subframe(rt, id, damage);
+        if kind == 6 {
+            self.add_noise(rt, 200);
+        }
+    }
+
+    /// What is done to a subframe of a kind.
+    fn damage(&mut self, kind: u32) -> Damage {
+        let mut damage = NONE;
+        match kind {
+            1 => damage.tail = 0,
+            2 => damage.tail = 150,
+            3 => damage.bit = self.below(300),
+            4 => damage.len = self.below(300),
             5 => {
-                let len = self.below(300);
-                self.add_subframe(
-                    id,
-                    Some(true),
-                    Damage {
-                        tail: 0,
-                        len,
-                        ..NONE
-                    },
-                )
+                damage.tail = 0;
+                damage.len = self.below(300);
             }
-            6 => {
-                self.add_subframe(id, Some(false), Damage { len: 60, ..NONE })?;
-                self.add_noise(200)
-            }
-            7 => self.add_bare_preamble(),
-            8 => {
-                let id = [0, 6, 7][self.below(3) as usize];
-                self.add_subframe(id, Some(false), NONE)
-            }
-            9 => self.add_subframe(id, Some(true), NONE),
-            10 => self.add_subframe(id, None, NONE),
-            _ => self.add_noise(300),
+            6 => damage.len = 60,
+            _ => {}
+        }
+        damage
+    }
+
+    /// Adds the low bits of a number, the highest of them first.
+    fn add_bits(&mut self, rt: &impl Abort, number: u32, count: u32)
+        requires { count ≤ 32 }
+    {
+        for behind in (0..count).rev() {
+            let bit = number >> behind & 1 == 1;
+            self.bits.push(bit).expect(rt, "no memory");
         }
     }
 
     /// Up to so many bits at random.
-    fn add_noise(&mut self, limit: u32) -> Result<(), AllocError>
+    fn add_noise(&mut self, rt: &impl Abort, limit: u32)
         requires { 0 < limit }
     {
         for _ in 0..self.below(limit) {
             let bit = self.below(2);
-            add_bits(&mut self.bits, bit, 1)?;
+            self.add_bits(rt, bit, 1);
         }
-        Ok(())
     }
 
-    fn add_bare_preamble(&mut self) -> Result<(), AllocError> {
-        add_bits(&mut self.bits, 0b00_1000_1011, 10)?;
-        add_bits(&mut self.bits, 0, 26)?;
-        add_bits(&mut self.bits, 0, 26)
+    fn add_bare_preamble(&mut self, rt: &impl Abort) {
+        self.add_bits(rt, 0b00_1000_1011, 10);
+        self.add_bits(rt, 0, 26);
+        self.add_bits(rt, 0, 26);
     }
 
-    /// A subframe of data at random, after two bits of this kind.
-    fn add_subframe(
-        &mut self,
-        id: u32,
-        lead: Option<bool>,
-        damage: Damage,
-    ) -> Result<(), AllocError>
+    /// A subframe of data at random, damaged so.
+    fn add_subframe(&mut self, rt: &impl Abort, id: u32, damage: Damage)
         requires { id < 8 }
     {
-        if let Some(bit) = lead {
-            add_bits(&mut self.bits, if bit { 3 } else { 0 }, 2)?;
-        }
         let words = self.words(id);
-        for place in 0..300u32 {
-            if place < damage.len {
-                let sent = words[(place / 30) as usize] >> (29 - place % 30) & 1 == 1;
-                let bit = sent ^ (place >= damage.tail) ^ (place == damage.bit);
-                add_bits(&mut self.bits, u32::from(bit), 1)?;
-            }
+        for place in 0..damage.len.min(300) {
+            let sent = words[(place / 30) as usize] >> (29 - place % 30) & 1 == 1;
+            let bit = sent ^ (place >= damage.tail) ^ (place == damage.bit);
+            self.add_bits(rt, u32::from(bit), 1);
         }
-        Ok(())
     }
 
     /// The words of a subframe, of which words 2 and 10 end in 0, 0 (IS-GPS-200, section 20.3.3.2).

@@ -3,62 +3,64 @@
 
 ghost use Rattle.std.specs.Prelude.{◌≡◌, ◌+◌, ◌^◌, ◌<◌, ◌≤◌, length};
 
-use super::fixture::assert_all_found;
+use super::fixture::{NEVER, Pushed, Row};
 use super::mixture::Mixture;
+use crate::sent::subframe;
 use assertions::assert_same;
-use frame_sync::{Found, Subframe};
 use nav_parity::check;
-use std::alloc::{AllocError, Global};
+use std::alloc::{Alloc, Global};
 use std::process::Abort;
 
 const LENGTH: usize = 100_000;
 
 #[test]
-fn least_candidates(rt: HostRuntime) -> Result<(), AllocError> {
-    let bits = Mixture::of_length(rt.alloc(), LENGTH)?;
+fn least_candidates(rt: HostRuntime) {
+    let bits = Mixture::of_length(&rt, LENGTH);
     assert!(rt; bits.len() == LENGTH);
-    let expected = candidates(&rt, rt.alloc(), &bits)?;
+    let rows = candidates(&rt, &bits);
     // As a search in another language, over the same stream, has them.
-    assert_same!(rt; kinds(&expected), (191, 70, 7));
-    assert_all_found(&rt, rt.alloc(), &bits, &expected)
+    assert_same!(rt; kinds(&rt, &rows), (191, 70, 7));
+    let mut pushed = Pushed::new(&rows, NEVER);
+    for bit in &bits {
+        pushed.push(&rt, *bit);
+    }
+    pushed.assert_all(&rt);
 }
 
 /// The least candidates among bits, each with the number of its last bit, from 1.
-fn candidates(
-    rt: &impl Abort,
-    alloc: Global,
-    bits: &[bool],
-) -> Result<Vec<(u64, Found)>, AllocError>
+fn candidates(rt: &(impl Abort + Alloc<A = Global>), bits: &[bool]) -> Vec<Row>
     requires { length bits.now ≡ 100000 }
 {
-    let mut expected = Vec::new(alloc);
+    let mut rows = Vec::new(rt.alloc());
     let mut from = 0;
     for place in 2..LENGTH - 299 {
-        if place < from || !is_candidate(bits, place) {
-            continue;
+        if from <= place && is_candidate(bits, place) {
+            let gap = if rows.is_empty() || place == from {
+                None
+            } else {
+                Some((place - from) as u64)
+            };
+            from = place + 300;
+            let row = (from as u64, words_at(bits, place), gap);
+            rows.push(row).expect(rt, "no memory");
         }
-        let subframe = subframe_at(bits, place).expect(rt, "a header");
-        let is_awaited = expected.is_empty() || place == from;
-        let gap = if is_awaited {
-            None
-        } else {
-            Some((place - from) as u64)
-        };
-        from = place + 300;
-        expected.push((from as u64, Found { subframe, gap }))?;
     }
-    Ok(expected)
+    rows
 }
 
 /// How many subframes were found, how many of them are complete, and how many come at once.
-fn kinds(all: &[(u64, Found)]) -> (usize, usize, usize) {
-    let whole = all.iter().filter(|it| it.1.subframe.complete()).count();
-    let at_once = all.iter().filter(|it| it.1.gap.is_none()).count();
-    (all.len(), whole, at_once)
+fn kinds(rt: &impl Abort, rows: &[Row]) -> (usize, usize, usize) {
+    let mut whole = 0usize;
+    let mut at_once = 0usize;
+    for (_, words, gap) in rows {
+        whole = whole.wrapping_add(usize::from(subframe(rt, *words).complete()));
+        at_once = at_once.wrapping_add(usize::from(gap.is_none()));
+    }
+    (rows.len(), whole, at_once)
 }
 
 /// The ten words from a place on, each where it passes with the two bits before it.
-fn subframe_at(bits: &[bool], place: usize) -> Option<Subframe>
+fn words_at(bits: &[bool], place: usize) -> [Option<u32>; 10]
     requires second { 2 ≤ place }
     requires within { place + 300 ≤ length bits.now }
 {
@@ -66,7 +68,7 @@ fn subframe_at(bits: &[bool], place: usize) -> Option<Subframe>
     for i in 0..10 {
         words[i] = word_at(bits, place + 30 * i);
     }
-    Subframe::from_words(words)
+    words
 }
 
 /// Whether two words at a place are a header.

@@ -1,7 +1,5 @@
 //! The words of a subframe, and those that are none.
 
-ghost use Rattle.std.specs.Prelude.{◌<◌};
-
 use super::{DATA, without_word};
 use crate::sent::subframe;
 use assertions::{assert_same, assert_same_at};
@@ -14,19 +12,21 @@ fn words_of_a_subframe(rt: HostRuntime) {
     assert_words(&rt, without_word(9), false);
 }
 
+static NO_SUBFRAME: [(usize, Option<u32>); 8] = [
+    (0, None),
+    (1, None),
+    (9, Some(1 << 24)),
+    (0, Some(0x8a_ffff)),
+    (0, Some(0x8c_0000)),
+    (1, Some(0)),
+    (1, Some(6 << 2)),
+    (1, Some(7 << 2)),
+];
+
 #[test]
 fn words_of_no_subframe(rt: HostRuntime) {
-    for (place, word) in [
-        (0, None),
-        (1, None),
-        (9, Some(1 << 24)),
-        (0, Some(0x8a_ffff)),
-        (0, Some(0x8c_0000)),
-        (1, Some(0)),
-        (1, Some(6 << 2)),
-        (1, Some(7 << 2)),
-    ] {
-        assert_none(&rt, place, word);
+    for (place, word) in &NO_SUBFRAME {
+        assert_none(&rt, *place, *word);
     }
 }
 
@@ -34,17 +34,16 @@ fn words_of_no_subframe(rt: HostRuntime) {
 fn assert_words(rt: &impl Abort, words: [Option<u32>; 10], is_complete: bool) {
     let subframe = subframe(rt, words);
     let told = (subframe.id(), subframe.tow(), subframe.complete());
-    assert_same!(rt; told, (1, 1, is_complete));
-    for (place, word) in words.iter().enumerate() {
-        assert_same_at!(rt; place, subframe.word(place + 1), *word);
+    assert_same!(*rt; told, (1, 1, is_complete));
+    for place in 0..10usize {
+        assert_same_at!(*rt; place, subframe.word(place + 1), words[place]);
     }
 }
 
 /// Asserts that those of `DATA` with this one at a place are none.
-fn assert_none(rt: &impl Abort, place: usize, word: Option<u32>)
-    requires { place < 10 }
-{
+fn assert_none(rt: &impl Abort, place: usize, word: Option<u32>) {
+    assert!(rt; place < 10);
     let mut words = DATA;
     words[place] = word;
-    assert_same_at!(rt; (word, place), Subframe::from_words(words), None);
+    assert_same_at!(*rt; (word, place), Subframe::from_words(words), None);
 }

@@ -54,7 +54,7 @@ fn assert_reports(rt: &impl Abort, pushed: &mut Pushed, almanac: Almanac, set: O
         _ => panic!(rt; "no subframe"),
     };
     let page = Some(almanac.report());
-    assert_same_at!(rt; almanac.satellite, told, Reports { page, set });
+    assert_same_at!(*rt; almanac.satellite, told, Reports { page, set });
 }
 
 // The set comes with the last of the 32, where all are for one time, and again where a value of it

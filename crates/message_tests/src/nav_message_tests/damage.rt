@@ -4,6 +4,8 @@
 use super::fixture::Pushed;
 use super::{DATA, HANDOVERS, assert_zeros, told, zero_data, zeros_behind};
 use crate::sent::TELEMETRY;
+use nav_message::MessageNews;
+use std::process::Abort;
 
 // From word 6 on all bits are inverted. Word 6 has the two bits 0 before it and doesn't pass. The
 // words after it have two bits 1 before them, and pass with the data that were sent.
@@ -56,11 +58,21 @@ fn changed_bits_of_a_word(rt: HostRuntime) {
     let mut words = zero_data(DATA[1]);
     words[4] = None;
     let expected = told(&rt, words, None, None);
-    for (changed, places) in [(0b1, 28u32), (0b11, 27), (0b111, 26)] {
-        for place in 0..places {
-            let mut sent = zeros_behind(HANDOVERS[0]);
-            sent[4] = changed << (place + 2);
-            pushed.assert_words(&rt, &sent, &expected);
-        }
+    for place in 2..30u32 {
+        assert_changed(&rt, &mut pushed, 0b1 << place, &expected);
     }
+    for place in 2..29u32 {
+        assert_changed(&rt, &mut pushed, 0b11 << place, &expected);
+    }
+    for place in 2..28u32 {
+        assert_changed(&rt, &mut pushed, 0b111 << place, &expected);
+    }
+}
+
+/// Pushes a subframe of zeros with these bits of word 5 changed, and asserts what it makes
+/// reported.
+fn assert_changed(rt: &impl Abort, pushed: &mut Pushed, bits: u32, expected: &MessageNews) {
+    let mut sent = zeros_behind(HANDOVERS[0]);
+    sent[4] = bits;
+    pushed.assert_words(rt, &sent, expected);
 }

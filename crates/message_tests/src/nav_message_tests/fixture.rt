@@ -3,7 +3,7 @@
 ghost use Rattle.std.specs.Prelude.{◌≤◌};
 ghost use Rattle.nav_message.specs.Standing.{bit_count};
 
-use assertions::{assert_same, assert_same_at};
+use assertions::assert_same_at;
 use nav_message::{MOST_BITS, Message, MessageNews};
 use std::process::Abort;
 
@@ -38,27 +38,28 @@ impl Pushed {
     /// Pushes sum k of 20 times +1, 20 times -1 and so on, to a message that has those before it.
     /// Push 320 reports the edge, and no other reports anything.
     pub fn push_alternating(&mut self, rt: &impl Abort, k: u32) {
-        let has_edge = self.message.has_edge();
+        assert!(rt; self.message.has_edge() == (k > 320));
         let news = self.push(rt, k / 20 % 2 == 1);
         let expected = if k == 320 {
             MessageNews::Edge
         } else {
             MessageNews::Nothing
         };
-        assert_same_at!(rt; k, (has_edge, news), (k > 320, expected));
+        self.assert_news(rt, &news, &expected);
     }
 
     /// Pushes bits 0, which report nothing.
     pub fn push_zeros(&mut self, rt: &impl Abort, count: u32) {
-        for k in 0..count {
-            assert_same_at!(rt; k, self.push_bit(rt, false), MessageNews::Nothing);
+        for _ in 0..count {
+            let news = self.push_bit(rt, false);
+            self.assert_news(rt, &news, &MessageNews::Nothing);
         }
     }
 
     /// Pushes words, and asserts what the last of their bits makes reported.
     pub fn assert_words(&mut self, rt: &impl Abort, words: &[u32; 10], expected: &MessageNews) {
         let news = self.push_words(rt, words);
-        assert_same_at!(rt; self.pushes, news, *expected);
+        self.assert_news(rt, &news, expected);
     }
 
     /// Pushes the bits of words of 30, the highest first. Only the last of them may make something
@@ -66,7 +67,7 @@ impl Pushed {
     pub fn push_words(&mut self, rt: &impl Abort, words: &[u32; 10]) -> MessageNews {
         let mut last = MessageNews::Nothing;
         for k in 0..300usize {
-            assert_same_at!(rt; k, last, MessageNews::Nothing);
+            self.assert_news(rt, &last, &MessageNews::Nothing);
             last = self.push_bit(rt, words[k / 30] >> (29 - k % 30) & 1 == 1);
         }
         last
@@ -75,9 +76,15 @@ impl Pushed {
     /// Pushes the 20 sums of a bit, of which only the last may make something reported.
     fn push_bit(&mut self, rt: &impl Abort, bit: bool) -> MessageNews {
         for _ in 0..19 {
-            assert_same!(rt; self.push(rt, bit), MessageNews::Nothing);
+            let news = self.push(rt, bit);
+            self.assert_news(rt, &news, &MessageNews::Nothing);
         }
         self.push(rt, bit)
+    }
+
+    /// Asserts what the last sum made reported.
+    fn assert_news(&self, rt: &impl Abort, news: &MessageNews, expected: &MessageNews) {
+        assert_same_at!(*rt; self.pushes, news, expected);
     }
 
     /// Pushes +1, or -1.

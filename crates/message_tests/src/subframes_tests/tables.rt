@@ -2,7 +2,6 @@
 //! complement, and its scale factor's power of two (IS-GPS-200, sections 20.3.3.3 to 20.3.3.5).
 
 /// A field as a table has it. One in a single part has no bits in its second.
-#[derive(Clone, Copy)]
 pub(super) struct Entry {
     pub(super) name: &'static str,
     pub(super) parts: [(usize, usize); 2],

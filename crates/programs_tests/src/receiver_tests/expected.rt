@@ -9,7 +9,6 @@ use channel_slots::{Bank, OpenFault};
 use receiver::RunFault;
 use std::alloc::{Alloc, Global};
 use std::process::Abort;
-use std::test::Fail;
 
 /// Sees that a run answered and wrote this.
 pub fn has_told(
@@ -18,14 +17,13 @@ pub fn has_told(
     writer: &Holding,
     answer: Result<u64, RunFault>,
     text: &str,
-) -> Result<(), Fail> {
-    assert_same!(rt; (answered, writer.text()?), (answer, text));
-    Ok(())
+) {
+    assert_same!(*rt; (answered, writer.text(rt)), (answer, text));
 }
 
 /// Sees what a run answered.
 pub fn answers(rt: &impl Abort, answered: Result<u64, RunFault>, answer: Result<u64, RunFault>) {
-    assert_same!(rt; answered, answer);
+    assert_same!(*rt; answered, answer);
 }
 
 /// Sees how often a run read, wrote and flushed.
@@ -38,7 +36,7 @@ pub fn asks(
     flushes: u64,
 ) {
     let asked = (reader.reads, writer.writes, writer.flushes);
-    assert_same!(rt; asked, (reads, writes, flushes));
+    assert_same!(*rt; asked, (reads, writes, flushes));
 }
 
 /// Sees that a run flushed what it wrote.
@@ -48,7 +46,7 @@ pub fn is_flushed(rt: &impl Abort, writer: &Holding) {
 
 /// Sees how often a run read, and that it flushed what it wrote.
 pub fn reads_and_flushes(rt: &impl Abort, asked: u64, writer: &Holding, reads: u64) {
-    assert_same!(rt; (asked, writer.is_flushed), (reads, true));
+    assert_same!(*rt; (asked, writer.is_flushed), (reads, true));
 }
 
 /// Sees that a run of scripts over plain settings answers and writes this.
@@ -59,9 +57,9 @@ pub fn tells(
     writer: &mut Holding,
     answer: Result<u64, RunFault>,
     text: &str,
-) -> Result<(), Fail> {
-    let answered = run_plain(rt.alloc(), scripts, reader, writer)?;
-    has_told(rt, answered, writer, answer, text)
+) {
+    let answered = run_plain(rt, scripts, reader, writer);
+    has_told(rt, answered, writer, answer, text);
 }
 
 /// Sees that a run of one script over at most so many samples answers and writes this, and flushes
@@ -73,24 +71,19 @@ pub fn tells_within(
     reader: &mut Giving,
     answer: Result<u64, RunFault>,
     text: &str,
-) -> Result<u64, Fail>
+) -> u64
     requires limit { limit ≤ 2 ^ 40 }
     requires whole { limit % 8 ≡ 0 }
 {
     let mut writer = Holding::whole();
-    let answered = run_one(rt.alloc(), script, limit, reader, &mut writer)?;
-    has_told(rt, answered, &writer, answer, text)?;
+    let answered = run_one(rt, script, limit, reader, &mut writer);
+    has_told(rt, answered, &writer, answer, text);
     is_flushed(rt, &writer);
-    Ok(reader.reads)
+    reader.reads
 }
 
 /// Sees that a bank with these shares fails so to open.
-pub fn refuses_to_open(
-    rt: &(impl Abort + Alloc<A = Global>),
-    shares: &[u8],
-    fault: OpenFault,
-) -> Result<(), Fail> {
-    let bank = Bank::open(rt.alloc(), plain_settings()?, shares);
-    assert_same!(rt; bank.err(), Some(fault));
-    Ok(())
+pub fn refuses_to_open(rt: &(impl Abort + Alloc<A = Global>), shares: &[u8], fault: OpenFault) {
+    let bank = Bank::open(rt.alloc(), plain_settings(rt), shares);
+    assert_same!(*rt; bank.err(), Some(fault));
 }

@@ -4,7 +4,7 @@ ghost use Rattle.std.specs.Prelude.{Some, None, false};
 
 use arrayvec::ArrayVec;
 use receiver::{DeviceFault, Sink, Source};
-use std::test::Fail;
+use std::process::Abort;
 
 /// The most bytes that a `Holding` has room for.
 const ROOM: usize = 16_384;
@@ -152,8 +152,8 @@ impl Holding {
     }
 
     /// What was written.
-    pub fn text(&self) -> Result<&str, Fail> {
-        Ok(std::str::from_utf8(self.bytes.as_slice())?)
+    pub fn text(&self, rt: &impl Abort) -> &str {
+        std::str::from_utf8(self.bytes.as_slice()).expect(rt, "no text")
     }
 }
 

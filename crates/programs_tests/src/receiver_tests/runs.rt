@@ -8,7 +8,6 @@ use made_signals::code_file;
 use receiver::{DeviceFault, RunFault};
 use std::alloc::{Alloc, Global};
 use std::process::Abort;
-use std::test::Fail;
 
 /// Sees that a run of a script, over a reader that gives at most so many bytes and a writer that
 /// takes at most so many at once, comes to its end after so many reads.
@@ -20,15 +19,14 @@ fn reads_and_writes(
     reads: u64,
     samples: u64,
     text: &str,
-) -> Result<(), Fail> {
+) {
     let mut writer = Holding::faulty(bytes_a_write, usize::MAX);
-    tells(rt, &[script], reader, &mut writer, Ok(samples), text)?;
+    tells(rt, &[script], reader, &mut writer, Ok(samples), text);
     reads_and_flushes(rt, reader.reads, &writer, reads);
-    Ok(())
 }
 
 #[test]
-fn empty_run(rt: HostRuntime) -> Result<(), Fail> {
+fn empty_run(rt: HostRuntime) {
     reads_and_writes(
         &rt,
         b"",
@@ -37,11 +35,11 @@ fn empty_run(rt: HostRuntime) -> Result<(), Fail> {
         1,
         0,
         "1 0 end\n",
-    )
+    );
 }
 
 #[test]
-fn first_count(rt: HostRuntime) -> Result<(), Fail> {
+fn first_count(rt: HostRuntime) {
     let code = code_file();
     let text = FIRST_COUNT_LINES;
     // The last read is the one that gives nothing.
@@ -56,16 +54,15 @@ fn first_count(rt: HostRuntime) -> Result<(), Fail> {
                 reads,
                 2_048,
                 text,
-            )?;
+            );
         }
     }
-    Ok(())
 }
 
 // Three lines come before the first read, three with the last of 256 bytes, and the end after the
 // read that gives none.
 #[test]
-fn lines_are_written_before_the_next_read(rt: HostRuntime) -> Result<(), Fail> {
+fn lines_are_written_before_the_next_read(rt: HostRuntime) {
     let code = code_file();
     let mut reader = Giving::pieces(&code, 1);
     let mut writer = Holding::whole();
@@ -77,9 +74,8 @@ fn lines_are_written_before_the_next_read(rt: HostRuntime) -> Result<(), Fail> {
         1 2046 state 0 hold 1 1\n\
         1 2047 err 10\n\
         1 2048 end\n";
-    tells(&rt, &[script], &mut reader, &mut writer, Ok(2_048), text)?;
+    tells(&rt, &[script], &mut reader, &mut writer, Ok(2_048), text);
     asks(&rt, &reader, &writer, 257, 3, 1);
-    Ok(())
 }
 
 /// What a run says of each fault.
@@ -92,16 +88,21 @@ static TEXTS: [(RunFault, &str); 6] = [
     (RunFault::Share, "each script has a share from 1 to 8 slots"),
 ];
 
-#[test]
-fn faults_have_texts(rt: HostRuntime) -> Result<(), Fail> {
-    for &(fault, text) in &TEXTS {
-        assert_same!(rt; fault.to_string(rt.alloc())?.as_str(), text);
-    }
-    Ok(())
+/// Sees the text of a fault.
+fn assert_text(rt: &(impl Abort + Alloc<A = Global>), fault: RunFault, text: &str) {
+    let shown = fault.to_string(rt.alloc()).expect(rt, "no memory");
+    assert_same!(*rt; shown.as_str(), text);
 }
 
 #[test]
-fn device_fault_has_a_text(rt: HostRuntime) -> Result<(), Fail> {
-    assert_same!(rt; DeviceFault.to_string(rt.alloc())?.as_str(), "the device failed");
-    Ok(())
+fn faults_have_texts(rt: HostRuntime) {
+    for &(fault, text) in &TEXTS {
+        assert_text(&rt, fault, text);
+    }
+}
+
+#[test]
+fn device_fault_has_a_text(rt: HostRuntime) {
+    let text = DeviceFault.to_string(rt.alloc()).expect(&rt, "no memory");
+    assert_same!(rt; text.as_str(), "the device failed");
 }

@@ -7,18 +7,12 @@ use channel_slots::{MOST_TIME, OpenFault};
 use receiver::{RunFault, run_shares};
 use std::alloc::{Alloc, Global};
 use std::process::Abort;
-use std::test::Fail;
 
 /// Sees that a run of so many scripts with these shares is refused so, before it reads or writes.
-fn refuses(
-    rt: &(impl Abort + Alloc<A = Global>),
-    clients: usize,
-    shares: &[u8],
-    fault: RunFault,
-) -> Result<(), Fail> {
+fn refuses(rt: &(impl Abort + Alloc<A = Global>), clients: usize, shares: &[u8], fault: RunFault) {
     let mut reader = Giving::whole(&[0]);
     let mut writer = Holding::whole();
-    let settings = plain_settings()?;
+    let settings = plain_settings(rt);
     let scripts = &[FIRST_COUNT; 9][..clients.min(9)];
     let alloc = rt.alloc();
     let answer = run_shares(
@@ -32,7 +26,6 @@ fn refuses(
     );
     answers(rt, answer, Err(fault));
     asks(rt, &reader, &writer, 0, 0, 0);
-    Ok(())
 }
 
 /// Numbers of scripts, shares, and how a run of them is refused.
@@ -49,9 +42,9 @@ static REFUSED: [(usize, &[u8], RunFault); 8] = [
 
 // The scripts are checked before the shares, and both before anything is read or written.
 #[test]
-fn share_faults(rt: HostRuntime) -> Result<(), Fail> {
+fn share_faults(rt: HostRuntime) {
     for &(clients, shares, fault) in &REFUSED {
-        refuses(&rt, clients, shares, fault)?;
+        refuses(&rt, clients, shares, fault);
     }
-    refuses_to_open(&rt, &[4, 9], OpenFault::Share)
+    refuses_to_open(&rt, &[4, 9], OpenFault::Share);
 }

@@ -9,7 +9,6 @@ use receiver::{Plain, RunFault, Sink, Source, run};
 use std::alloc::{Alloc, Global};
 use std::io::{self, Read, Write};
 use std::process::Abort;
-use std::test::Fail;
 
 /// Is interrupted at its first read, and at its end with the second.
 #[derive(Drop)]
@@ -87,43 +86,41 @@ impl Write for IdleWriter {
 
 /// A run of one script over plain settings.
 fn run_over<R: Source, W: Sink>(
-    alloc: Global,
+    rt: &(impl Abort + Alloc<A = Global>),
     script: &[u8],
     reader: &mut R,
     writer: &mut W,
-) -> Result<Result<u64, RunFault>, Fail> {
-    Ok(run(alloc, plain_settings()?, &[script], reader, writer))
+) -> Result<u64, RunFault> {
+    run(rt.alloc(), plain_settings(rt), &[script], reader, writer)
 }
 
 /// A run of the first count over slices.
-fn run_into(alloc: Global, room: &mut [u8]) -> Result<Result<u64, RunFault>, Fail> {
+fn run_into(rt: &(impl Abort + Alloc<A = Global>), room: &mut [u8]) -> Result<u64, RunFault> {
     let code = code_file();
     let mut bytes = code.as_slice();
     let mut reader = Plain::new(&mut bytes);
     let mut writer = Plain::new(room);
-    run_over(alloc, FIRST_COUNT, &mut reader, &mut writer)
+    run_over(rt, FIRST_COUNT, &mut reader, &mut writer)
 }
 
 #[test]
-fn std_devices_run(rt: HostRuntime) -> Result<(), Fail> {
+fn std_devices_run(rt: HostRuntime) {
     let mut room = [0u8; 100];
-    answers(&rt, run_into(rt.alloc(), &mut room)?, Ok(2048));
+    answers(&rt, run_into(&rt, &mut room), Ok(2048));
     let text = FIRST_COUNT_LINES.as_bytes();
     let written = (room.get(..text.len()), room.get(text.len()));
     assert_same!(rt; written, (Some(text), Some(&0)));
-    Ok(())
 }
 
 #[test]
-fn interrupted_reader(rt: HostRuntime) -> Result<(), Fail> {
+fn interrupted_reader(rt: HostRuntime) {
     let mut inner = InterruptedReader { reads: 0 };
     let mut reader = Plain::new(&mut inner);
     let mut writer = Holding::whole();
-    let answer = run_over(rt.alloc(), b"0 state 0", &mut reader, &mut writer)?;
+    let answer = run_over(&rt, b"0 state 0", &mut reader, &mut writer);
     let text = "1 0 state 0 idle\n";
-    has_told(&rt, answer, &writer, Err(RunFault::Read), text)?;
+    has_told(&rt, answer, &writer, Err(RunFault::Read), text);
     assert_same!(rt; inner.reads, 1);
-    Ok(())
 }
 
 /// Sees that a run whose writer is interrupted fails after so many writes and flushes.
@@ -132,41 +129,38 @@ fn fails_interrupted(
     inner: &mut InterruptedWriter,
     writes: u64,
     flushes: u64,
-) -> Result<(), Fail> {
+) {
     let mut reader = Giving::whole(&[0]);
     let mut writer = Plain::new(&mut *inner);
-    let answer = run_over(rt.alloc(), b"0 state 0", &mut reader, &mut writer)?;
+    let answer = run_over(rt, b"0 state 0", &mut reader, &mut writer);
     let seen = (answer, inner.writes, inner.flushes);
-    assert_same!(rt; seen, (Err(RunFault::Write), writes, flushes));
-    Ok(())
+    assert_same!(*rt; seen, (Err(RunFault::Write), writes, flushes));
 }
 
 // The script has one line, and the reader gives a byte and then none: the lines are `1 0 state 0
 // idle` and `1 8 end`.
 #[test]
-fn interrupted_writer(rt: HostRuntime) -> Result<(), Fail> {
-    fails_interrupted(&rt, &mut InterruptedWriter::new(true, false), 1, 0)?;
-    fails_interrupted(&rt, &mut InterruptedWriter::new(false, true), 2, 1)
+fn interrupted_writer(rt: HostRuntime) {
+    fails_interrupted(&rt, &mut InterruptedWriter::new(true, false), 1, 0);
+    fails_interrupted(&rt, &mut InterruptedWriter::new(false, true), 2, 1);
 }
 
 // The reader fails after 100 bytes. But the first line is written before the first read, and the
 // writer doesn't take it.
 #[test]
-fn writer_takes_nothing(rt: HostRuntime) -> Result<(), Fail> {
+fn writer_takes_nothing(rt: HostRuntime) {
     let code = code_file();
     let mut reader = Giving::faulty(&code, usize::MAX, 100);
     let mut inner = IdleWriter { writes: 0 };
     let mut writer = Plain::new(&mut inner);
-    let answer = run_over(rt.alloc(), FIRST_COUNT, &mut reader, &mut writer)?;
+    let answer = run_over(&rt, FIRST_COUNT, &mut reader, &mut writer);
     assert_same!(rt; (answer, inner.writes), (Err(RunFault::Write), 1));
-    Ok(())
 }
 
 // A slice that is full takes nothing, either.
 #[test]
-fn full_slice_takes_nothing(rt: HostRuntime) -> Result<(), Fail> {
+fn full_slice_takes_nothing(rt: HostRuntime) {
     let mut room = [b'?'; 4];
-    let answer = run_into(rt.alloc(), &mut room[..0])?;
+    let answer = run_into(&rt, &mut room[..0]);
     assert_same!(rt; (answer, room), (Err(RunFault::Write), [b'?'; 4]));
-    Ok(())
 }

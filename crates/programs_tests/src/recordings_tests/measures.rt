@@ -4,21 +4,22 @@ use crate::choices::{self, recipe_of};
 use assertions::assert_same;
 use recordings::{Choice, Measure, Recipe, ValueKind};
 use sample_planes::Format;
-use std::test::Fail;
+use std::process::Abort;
 
 /// The recipe of signs of values about centres, which are twice their values.
-fn signs(kind: ValueKind, is_paired: bool, centre: i32, centre_q: i32) -> Result<Recipe, Fail> {
+fn signs(rt: &impl Abort, kind: ValueKind, is_paired: bool, centre: i32, centre_q: i32) -> Recipe {
     let format = if is_paired {
         Format::Iq1
     } else {
         Format::Real1
     };
-    recipe_of(&Choice {
+    let choice = Choice {
         centre,
         centre_q,
         is_conjugate: is_paired,
         ..choices::signs(kind, is_paired, format)
-    })
+    };
+    recipe_of(rt, &choice)
 }
 
 // Bytes without a sign about 127.5, the threshold 60, so 255 and 120 in readings. The readings are
@@ -27,8 +28,8 @@ fn signs(kind: ValueKind, is_paired: bool, centre: i32, centre_q: i32) -> Result
 // are 0 and both 255. Not below the centre are 130, 129 and 128, which are near, and both 255,
 // which are far; below it are 127, which is near, and 0, which is far.
 #[test]
-fn bytes_without_a_sign(rt: HostRuntime) -> Result<(), Fail> {
-    let recipe = signs(ValueKind::U8, false, 255, 255)?;
+fn bytes_without_a_sign(rt: HostRuntime) {
+    let recipe = signs(&rt, ValueKind::U8, false, 255, 255);
     let bytes = [0, 255, 130, 127, 255, 129, 128];
     let expected = Measure {
         count: 7,
@@ -38,7 +39,6 @@ fn bytes_without_a_sign(rt: HostRuntime) -> Result<(), Fail> {
         shares: [3, 2, 1, 1],
     };
     assert_same!(rt; recipe.measure(&recipe.in_phase, 120, &bytes), expected);
-    Ok(())
 }
 
 // Three pairs of 16 bits, the high byte first, and three bytes of a fourth: (2, 4), (-2, 1) and
@@ -54,8 +54,8 @@ fn bytes_without_a_sign(rt: HostRuntime) -> Result<(), Fail> {
 // threshold: by the threshold 2 it is far. In quadrature the sign is turned: 4 is above 2.5, and 1
 // and 2 are below, all near.
 #[test]
-fn pairs_with_a_common_threshold(rt: HostRuntime) -> Result<(), Fail> {
-    let recipe = signs(ValueKind::I16Be, true, -1, 5)?;
+fn pairs_with_a_common_threshold(rt: HostRuntime) {
+    let recipe = signs(&rt, ValueKind::I16Be, true, -1, 5);
     let bytes = [
         0x00, 0x02, 0x00, 0x04, 0xff, 0xfe, 0x00, 0x01, 0xff, 0xff, 0x00, 0x02, 0x80, 0x00, 0x7f,
     ];
@@ -77,15 +77,14 @@ fn pairs_with_a_common_threshold(rt: HostRuntime) -> Result<(), Fail> {
     assert_same!(rt; recipe.measure(of_i, 3, &bytes), i);
     assert_same!(rt; recipe.measure(of_q, 3, &bytes), q);
     assert_same!(rt; recipe.measure(of_i, 2, &bytes).shares, [0, 1, 1, 1]);
-    Ok(())
 }
 
 // One byte of four values of two bits, the earliest in its low bits: 00 is 1, 01 is 3, 10 is -3 and
 // 11 is -1. So the readings are 2, 6, -6 and -2, which add up to 0, with the squares 4 + 36 + 36 +
 // 4 = 80. 3 and -3 are the ends of the range, and farther from 0 than 2.
 #[test]
-fn values_of_two_bits(rt: HostRuntime) -> Result<(), Fail> {
-    let recipe = signs(ValueKind::Bits2Low, false, 0, 0)?;
+fn values_of_two_bits(rt: HostRuntime) {
+    let recipe = signs(&rt, ValueKind::Bits2Low, false, 0, 0);
     let expected = Measure {
         count: 4,
         sum: 0,
@@ -94,5 +93,4 @@ fn values_of_two_bits(rt: HostRuntime) -> Result<(), Fail> {
         shares: [1, 1, 1, 1],
     };
     assert_same!(rt; recipe.measure(&recipe.in_phase, 4, &[0xe4]), expected);
-    Ok(())
 }

@@ -52,7 +52,7 @@ impl Reading {
 
     /// Takes such a dump, which brings no news.
     fn take_nothing(&mut self, rt: &impl Abort, is_negative: bool, is_locked: bool) {
-        assert_same!(rt; self.take(rt, is_negative, is_locked), MessageNews::Nothing);
+        assert_same!(*rt; self.take(rt, is_negative, is_locked), MessageNews::Nothing);
     }
 
     /// Takes the dump of a lock and 360 after it. Their bits alternate up to the edge, which is
@@ -62,7 +62,7 @@ impl Reading {
         for k in 0..360u32 {
             let news = self.take(rt, k < 340 && k / 20 % 2 == 1, true);
             let edge = (news == MessageNews::Edge, self.message.has_edge());
-            assert_same_at!(rt; k, edge, (k == 320, 320 <= k));
+            assert_same_at!(*rt; k, edge, (k == 320, 320 <= k));
         }
     }
 
@@ -76,7 +76,7 @@ impl Reading {
     fn take_word(&mut self, rt: &impl Abort, word: u32) -> MessageNews {
         let mut news = MessageNews::Nothing;
         for k in 0..600u32 {
-            assert_same_at!(rt; k, news, MessageNews::Nothing);
+            assert_same_at!(*rt; k, news, MessageNews::Nothing);
             news = self.take(rt, word >> (29 - k / 20) & 1 == 1, true);
         }
         news
@@ -84,7 +84,7 @@ impl Reading {
 
     /// Takes a word that brings no news.
     fn take_bare_word(&mut self, rt: &impl Abort, word: u32) {
-        assert_same!(rt; self.take_word(rt, word), MessageNews::Nothing);
+        assert_same!(*rt; self.take_word(rt, word), MessageNews::Nothing);
     }
 
     /// Takes the subframe of a satellite's almanac, and sees that it is reported. Gives the set
@@ -92,14 +92,14 @@ impl Reading {
     fn take_almanac(&mut self, rt: &impl Abort, satellite: u8) -> Option<AlmanacSet> {
         let mut news = MessageNews::Nothing;
         for word in almanac_words(satellite) {
-            assert_same!(rt; news, MessageNews::Nothing);
+            assert_same!(*rt; news, MessageNews::Nothing);
             news = self.take_word(rt, word);
         }
         let MessageNews::Frame { reports, .. } = news else {
             panic!(rt; "no subframe");
         };
         let page = Report::Alm([1, satellite.into(), 0, 5, 0, 0, 0, 0, 0, 0, 0, 0, 0]);
-        assert_same!(rt; reports.page, Some(page));
+        assert_same!(*rt; reports.page, Some(page));
         reports.set
     }
 
@@ -113,7 +113,7 @@ impl Reading {
     /// Takes the almanac of a satellite, and sees which set it completes.
     fn take_set(&mut self, rt: &impl Abort, satellite: u8, expected: Option<AlmanacSet>) {
         let set = self.take_almanac(rt, satellite);
-        assert_same_at!(rt; satellite, set, expected);
+        assert_same_at!(*rt; satellite, set, expected);
     }
 }
 

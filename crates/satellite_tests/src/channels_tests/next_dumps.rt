@@ -1,18 +1,16 @@
 //! With how many samples dumps come, by the rate of the code.
 
-ghost use Rattle.std.specs.Prelude.{◌≡◌, ◌+◌, ◌≤◌, IfOk};
+ghost use Rattle.std.specs.Prelude.{◌≡◌, ◌≤◌};
 ghost use Rattle.channels.specs.FollowedChannels.{at_of};
 ghost use Rattle.channels.specs.Windows.{first_of, end_of};
 
-use super::{open_to, signal};
+use super::{new_window, open_to, settings, signal};
 use assertions::{assert_same, assert_same_at};
 use ca_codes::CodeBook;
 use channels::{Followed, Window};
-use oscillators::Settings;
 use sample_planes::Format;
 use std::alloc::{Alloc, Global};
 use std::process::Abort;
-use std::test::Fail;
 
 /// A satellite that is held: the rate of the samples, the shift, half chip and sample from which on
 /// it is held, and with how many samples its first three dumps come. A code has 1,023 chips, and
@@ -34,33 +32,37 @@ static ROWS: [(u32, i32, u16, u64, [u64; 3]); 10] = [
 ];
 
 /// Opens the next samples, all of which are 1, in place of those that are open.
-fn open_next(window: &mut Window, end: u64) -> Result<(), Fail>
-    ensures first { IfOk result (λ _. first_of window.new ≡ end_of window.old) }
-    ensures end { IfOk result (λ _. end_of window.new ≡ end) }
+fn open_next(rt: &impl Abort, window: &mut Window, end: u64)
+    ensures first { first_of window.new ≡ end_of window.old }
+    ensures end { end_of window.new ≡ end }
 {
     window.close();
-    open_to(window, &[0; 7_680], end)
+    open_to(rt, window, &[0; 7_680], end);
 }
 
 /// Takes samples as far as the next dump, at most 1,000 at a time, and gives its time.
-fn next_dump(held: &mut Followed, window: &mut Window, book: &mut CodeBook) -> Result<u64, Fail>
+fn next_dump(
+    rt: &impl Abort,
+    held: &mut Followed,
+    window: &mut Window,
+    book: &mut CodeBook,
+) -> Option<u64>
     requires begun { at_of held.old ≤ end_of window.old }
     requires open { first_of window.old ≤ at_of held.old }
-    ensures begun { IfOk result (λ _. at_of held.new ≤ end_of window.new) }
-    ensures open { IfOk result (λ _. first_of window.new ≤ at_of held.new) }
+    ensures begun { at_of held.new ≤ end_of window.new }
+    ensures open { first_of window.new ≤ at_of held.new }
 {
     for _ in 0..100 {
         let end = window.end();
-        if 61_440 < end || 8 <= held.dumps() {
-            return Err(Fail::new("the samples can't be taken"));
-        }
+        assert!(rt; end <= 61_440);
+        assert!(rt; held.dumps() < 8);
         let time = held.next_dump();
         if held.take(end, window, book) {
-            return Ok(time);
+            return Some(time);
         }
-        open_next(window, end + 1_000)?;
+        open_next(rt, window, end + 1_000);
     }
-    Err(Fail::new("no dump comes"))
+    None
 }
 
 /// Asserts when the first three dumps of a satellite come, and that it says so before.
@@ -69,54 +71,47 @@ fn assert_dumps(
     mut held: Followed,
     time: u64,
     dumps: [u64; 3],
-) -> Result<(), Fail>
+)
     requires at { at_of held ≡ time }
 {
-    let mut window = Window::new(rt.alloc(), Format::Real1, 1_024)?;
+    let mut window = new_window(rt, Format::Real1);
     // The samples before it was held.
-    open_next(&mut window, time.min(1_000))?;
-    open_next(&mut window, time)?;
+    open_next(rt, &mut window, time.min(1_000));
+    open_next(rt, &mut window, time);
     window.close();
     let mut book = CodeBook::new();
     for k in 0..3usize {
         let (nth, said) = (held.dumps(), held.next_dump());
-        let dump = next_dump(&mut held, &mut window, &mut book)?;
-        assert_same_at!(rt; time, (nth, said, dump), (k as u64, dumps[k], dumps[k]));
+        let dump = next_dump(rt, &mut held, &mut window, &mut book);
+        assert_same_at!(*rt; time, (nth, said, dump), (k as u64, dumps[k], Some(dumps[k])));
     }
-    assert_same!(rt; held.dumps(), 3);
-    Ok(())
+    assert_same!(*rt; held.dumps(), 3);
 }
 
 /// The satellite of a row.
-fn held(rate: u32, hz: i32, half: u16, time: u64) -> Result<Followed, Fail>
-    ensures { IfOk result (λ held. at_of held ≡ time) }
+fn held(rt: &impl Abort, rate: u32, hz: i32, half: u16, time: u64) -> Followed
+    ensures { at_of result ≡ time }
 {
-    if 2_000 < time {
-        return Err(Fail::new("it is held too late"));
-    }
-    let settings = Settings::new(rate, 0, Format::Real1)?;
-    Ok(Followed::hold(&settings, signal(5, hz, half)?, time))
+    assert!(rt; time <= 2_000);
+    let settings = settings(rt, rate, 0, Format::Real1);
+    Followed::hold(&settings, signal(rt, 5, hz, half), time)
 }
 
 #[test]
-fn dumps_come_by_the_rate_of_the_code(rt: HostRuntime) -> Result<(), Fail> {
+fn dumps_come_by_the_rate_of_the_code(rt: HostRuntime) {
     for &(rate, hz, half, time, dumps) in &ROWS {
-        assert_dumps(&rt, held(rate, hz, half, time)?, time, dumps)?;
+        assert_dumps(&rt, held(&rt, rate, hz, half, time), time, dumps);
     }
-    Ok(())
 }
 
 // A satellite that loops steer comes to its first dump as one that is held, since they set steps
 // after it.
 #[test]
-fn first_dump_of_a_tracked_satellite(rt: HostRuntime) -> Result<(), Fail> {
+fn first_dump_of_a_tracked_satellite(rt: HostRuntime) {
     for &(rate, hz, half, time, dumps) in &ROWS {
-        let settings = Settings::new(rate, 0, Format::Real1)?;
-        if 2_000 < time {
-            return Err(Fail::new("it is tracked too late"));
-        }
-        let tracked = Followed::track(&settings, signal(5, hz, half)?, time);
+        let settings = settings(&rt, rate, 0, Format::Real1);
+        assert!(rt; time <= 2_000);
+        let tracked = Followed::track(&settings, signal(&rt, 5, hz, half), time);
         assert_same_at!(rt; rate, (tracked.dumps(), tracked.next_dump()), (0, dumps[0]));
     }
-    Ok(())
 }

@@ -18,12 +18,12 @@ fn room_for_another_search(rt: HostRuntime) {
     let plan = short_plan(&rt, 1, 10);
     let other = Plan::new(satellite(&rt, 2), 500, 1, 1, 10).expect(&rt, "another plan");
     let source = NumberedSamples::new(PackedSamples::new(Format::Real1, &bytes), 0);
-    let named = Some(cell_of_code_file(&rt));
     for cells in [0, 1, 64, 2_045, 6_138] {
         let mut left_off = Search::new(other, &settings, 2, new_room(&rt));
         left_off.advance(cells, &source, &mut CodeBook::new());
         assert_same!(rt; left_off.done(), cells);
         let search = Search::new(plan, &settings, 2, left_off.into_room());
-        assert_same_at!(rt; cells, search_in_steps(search, &source, 700), named);
+        let found = search_in_steps(search, &source, 700);
+        assert_same_at!(rt; cells, found, Some(cell_of_code_file(&rt)));
     }
 }

@@ -26,7 +26,7 @@ fn last_dump(
     let mut last = None;
     for _ in 0..samples {
         if let Some(dump) = next_dump(&mut stream, &mut tracker) {
-            assert_same_at!(rt; dump.time, dump.news, news_at(table, dump.time));
+            assert_same_at!(*rt; dump.time, dump.news, news_at(table, dump.time));
             last = Some(dump);
         }
     }

@@ -36,7 +36,7 @@ fn assert_lock(rt: &impl Abort, bad: u64, end: u64, table: &[(u64, PlainNews)]) 
     let mut lock = PlainLock::new();
     for dump in 1..end {
         let news = lock.take(if dump < bad { 2 } else { 1 }, 1);
-        assert_same_at!(rt; dump, news, news_at(table, dump));
+        assert_same_at!(*rt; dump, news, news_at(table, dump));
     }
 }
 

@@ -1,11 +1,10 @@
 use Rattle.std.proofs.Common.{◌≡◌, arith}
 use Rattle.sample_history.specs.Histories as histories
-use Rattle.channels.specs.Windows.{history_of}
 use Rattle.bank_tests.proofs.HeldLemmas.{held_from_zero}
 use Rattle.bank_tests.proofs.channel_slots_tests.next.Goals as goal
 
 pub returns-clause-sound : goal.returns-clause-sound
-returns-clause-sound c =
+returns-clause-sound g c =
     let zero : histories.first_of c.history.result.now ≡ 0 =
     omega (arith, c.first.ensures, c.if-first-ne0.false) in
     let known = c.requires.sound in
@@ -14,7 +13,7 @@ returns-clause-sound c =
     (_, known.1, c.take.ensures.within, after.0)
 
 pub returns-clause-taken : goal.returns-clause-taken
-returns-clause-taken c none =
+returns-clause-taken g c none =
     let zero : histories.first_of c.history.result.now ≡ 0 =
     omega (arith, c.first.ensures, c.if-first-ne0.false) in
     let known = c.requires.sound in (

@@ -4,5 +4,5 @@ use Rattle.channels.specs.Windows.{first_of, end_of}
 use Rattle.satellite_tests.proofs.channels_tests.next_dumps.next_dump.Given as goal
 
 abbrev pub invariant-loop : goal.invariant-loop
-invariant-loop l =
+invariant-loop g l =
     (at_of l.held ≤ end_of l.window) × (first_of l.window ≤ at_of l.held)

@@ -7,39 +7,42 @@ use seldomplough::{
     Choice, ClockField, Doppler, Event, Field, Format, HalfChip, Packing, PackingFault, Plan, Prn,
     Receiver, Refusal, Settings, Signal, SlotNo, SlotState, TooManySamples, ValueKind,
 };
-use std::alloc::Global;
+use std::alloc::{Alloc, Global};
+use std::process::Abort;
 use std::test::Fail;
 
 /// A receiver of two clients, with two slots and one. A millisecond has 2,046 samples.
-fn opened(alloc: Global) -> Result<Receiver, Fail> {
-    let settings = Settings::new(2_046_000, 511_500, Format::Real1)?;
-    Ok(Receiver::open(alloc, settings, &[2, 1])?)
+fn opened(rt: &(impl Abort + Alloc<A = Global>)) -> Receiver {
+    let settings = Settings::new(2_046_000, 511_500, Format::Real1);
+    let settings = settings.expect(rt, "no such recording");
+    Receiver::open(rt.alloc(), settings, &[2, 1]).expect(rt, "no receiver")
 }
 
-fn slot(number: u8) -> Result<SlotNo, Fail> {
-    Ok(SlotNo::new(number).ok_or("a slot")?)
+fn slot(rt: &impl Abort, number: u8) -> SlotNo {
+    SlotNo::new(number).expect(rt, "no such slot")
 }
 
 /// A satellite's signal, without a shift, from the first chip of its code on.
-fn signal(prn: u8) -> Result<Signal, Fail> {
-    Ok(Signal {
-        prn: Prn::new(prn).ok_or("a satellite")?,
-        doppler: Doppler::new(0).ok_or("a shift")?,
-        half: HalfChip::new(0).ok_or("a half chip")?,
-    })
+fn signal(rt: &impl Abort, prn: u8) -> Signal {
+    Signal {
+        prn: Prn::new(prn).expect(rt, "no such satellite"),
+        doppler: Doppler::new(0).expect(rt, "no such shift"),
+        half: HalfChip::new(0).expect(rt, "no such half chip"),
+    }
 }
 
 // Without a shift a code of 1,023 chips has 2,046 samples, so its first dump ends there.
 #[test]
-fn counts_come_at_the_end_of_a_code(rt: HostRuntime) -> Result<(), Fail> {
-    let mut receiver = opened(rt.alloc())?;
-    receiver.hold(2, slot(0)?, signal(7)?)?;
-    receiver.counts(2, slot(0)?, 1)?;
+fn counts_come_at_the_end_of_a_code(rt: HostRuntime) {
+    let mut receiver = opened(&rt);
+    let slot = slot(&rt, 0);
+    assert_same!(rt; receiver.hold(2, slot, signal(&rt, 7)), Ok(()));
+    assert_same!(rt; receiver.counts(2, slot, 1), Ok(()));
     let bytes = [0x5a; 300];
     let mut rest: &[u8] = &bytes;
     // At most 128 bytes are taken at once.
     for (left, told) in [(172, 0), (44, 1), (0, 0)] {
-        rest = receiver.take(rest)?;
+        rest = receiver.take(rest).expect(&rt, "too many samples");
         assert_same!(rt; (rest.len(), receiver.events().len()), (left, told));
         for emitted in receiver.events() {
             assert_same!(rt; (emitted.client, emitted.slot, emitted.time), (2, 0, 2_046));
@@ -47,34 +50,34 @@ fn counts_come_at_the_end_of_a_code(rt: HostRuntime) -> Result<(), Fail> {
         }
     }
     assert_same!(rt; receiver.time(), 2_400);
-    Ok(())
 }
 
 #[test]
-fn commands_are_refused(rt: HostRuntime) -> Result<(), Fail> {
-    let mut receiver = opened(rt.alloc())?;
-    let signal = signal(7)?;
-    assert_same!(rt; receiver.counts(1, slot(0)?, 1), Err(Refusal::Idle));
-    assert_same!(rt; receiver.stop(1, slot(0)?), Err(Refusal::Idle));
-    assert_same!(rt; receiver.track(1, slot(0)?, signal), Ok(()));
-    assert_same!(rt; receiver.hold(1, slot(0)?, signal), Err(Refusal::Busy));
-    assert_same!(rt; receiver.track(2, slot(1)?, signal), Err(Refusal::NoSuchSlot));
-    assert_same!(rt; receiver.track(3, slot(0)?, signal), Err(Refusal::NoSuchSlot));
-    assert_same!(rt; receiver.state(2, slot(0)?), Ok(SlotState::Idle));
-    assert_same!(rt; receiver.stop(1, slot(0)?), Ok(()));
-    let plan = Plan::new(signal.prn, 0, 0, 1, 20)?;
-    assert_same!(rt; receiver.acquire(1, slot(0)?, plan), Ok(()));
+fn commands_are_refused(rt: HostRuntime) {
+    let mut receiver = opened(&rt);
+    let first = slot(&rt, 0);
+    let second = slot(&rt, 1);
+    assert_same!(rt; receiver.counts(1, first, 1), Err(Refusal::Idle));
+    assert_same!(rt; receiver.stop(1, first), Err(Refusal::Idle));
+    assert_same!(rt; receiver.track(1, first, signal(&rt, 7)), Ok(()));
+    assert_same!(rt; receiver.hold(1, first, signal(&rt, 7)), Err(Refusal::Busy));
+    assert_same!(rt; receiver.track(2, second, signal(&rt, 7)), Err(Refusal::NoSuchSlot));
+    assert_same!(rt; receiver.track(3, first, signal(&rt, 7)), Err(Refusal::NoSuchSlot));
+    assert_same!(rt; receiver.state(2, first), Ok(SlotState::Idle));
+    assert_same!(rt; receiver.stop(1, first), Ok(()));
+    let prn = Prn::new(7).expect(&rt, "no such satellite");
+    let plan = Plan::new(prn, 0, 0, 1, 20).expect(&rt, "no such search");
+    assert_same!(rt; receiver.acquire(1, first, plan), Ok(()));
     let searching = SlotState::Acquire {
-        prn: signal.prn,
+        prn,
         done: 0,
         cells: 2_046,
     };
-    assert_same!(rt; receiver.state(1, slot(0)?), Ok(searching));
-    Ok(())
+    assert_same!(rt; receiver.state(1, first), Ok(searching));
 }
 
 /// Packs by signs, about 0.
-fn packing(alloc: Global, kind: ValueKind) -> Result<Packing, Fail> {
+fn packing(rt: &(impl Abort + Alloc<A = Global>), kind: ValueKind) -> Packing {
     let choice = Choice {
         kind,
         is_paired: false,
@@ -86,7 +89,8 @@ fn packing(alloc: Global, kind: ValueKind) -> Result<Packing, Fail> {
         is_conjugate: false,
         takes_quadrature: false,
     };
-    Ok(Packing::open(alloc, choice.recipe()?)?)
+    let recipe = choice.recipe().expect(rt, "no such recipe");
+    Packing::open(rt.alloc(), recipe).expect(rt, "no memory")
 }
 
 /// The first byte of what was packed, where there is one byte.
@@ -99,36 +103,34 @@ fn only_byte(packing: &Packing) -> Option<u8> {
 
 // A sign is 0 for what isn't below 0, the earliest in a byte's top bit.
 #[test]
-fn signed_bytes_become_signs(rt: HostRuntime) -> Result<(), Fail> {
-    let mut packing = packing(rt.alloc(), ValueKind::I8)?;
-    packing.take_i8(&[1, -1, 5, -128, 127, 0, -3])?;
+fn signed_bytes_become_signs(rt: HostRuntime) {
+    let mut packing = packing(&rt, ValueKind::I8);
+    assert!(rt; packing.take_i8(&[1, -1, 5, -128, 127, 0, -3]).is_ok());
     assert_same!(rt; packing.packed().len(), 0);
-    packing.take_i8(&[-9, -1, -1])?;
+    assert!(rt; packing.take_i8(&[-9, -1, -1]).is_ok());
     assert_same!(rt; only_byte(&packing), Some(0b0101_0011));
-    packing.take(&[255, 0, 128, 127, 0, 0])?;
+    assert!(rt; packing.take(&[255, 0, 128, 127, 0, 0]).is_ok());
     assert_same!(rt; only_byte(&packing), Some(0b1110_1000));
-    Ok(())
 }
 
 #[test]
-fn floats_become_signs(rt: HostRuntime) -> Result<(), Fail> {
-    let mut packing = packing(rt.alloc(), ValueKind::F32)?;
-    packing.take_f32(&[0.5, -0.5, 1e30, -1e-30, 0.0, -2.0, -3.0, 4.0])?;
+fn floats_become_signs(rt: HostRuntime) {
+    let mut packing = packing(&rt, ValueKind::F32);
+    let values = [0.5, -0.5, 1e30, -1e-30, 0.0, -2.0, -3.0, 4.0];
+    assert!(rt; packing.take_f32(&values).is_ok());
     assert_same!(rt; only_byte(&packing), Some(0b0101_0110));
-    Ok(())
 }
 
 #[test]
-fn values_are_refused(rt: HostRuntime) -> Result<(), Fail> {
-    let mut signed = packing(rt.alloc(), ValueKind::I8)?;
-    let mut floats = packing(rt.alloc(), ValueKind::F32)?;
+fn values_are_refused(rt: HostRuntime) {
+    let mut signed = packing(&rt, ValueKind::I8);
+    let mut floats = packing(&rt, ValueKind::F32);
     let (other, none) = (PackingFault::OtherKind, PackingFault::NotANumber);
     assert_same!(rt; signed.take_f32(&[1.0]).err(), Some(other));
     assert_same!(rt; floats.take_i8(&[1]).err(), Some(other));
     assert_same!(rt; floats.take_f32(&[1.0, f32::NAN]).err(), Some(none));
     // The bytes of eight floats, all of whose exponent is set.
     assert_same!(rt; floats.take(&[255; 32]).err(), Some(none));
-    Ok(())
 }
 
 // The group delay is counted in 2^-31 s (IS-GPS-200, table 20-I).
