@@ -5,7 +5,7 @@ use super::{IDLE, hold, new_bank, new_timeline, one_count, plain_settings, sums}
 use crate::commands;
 use assertions::{assert_same, assert_same_at};
 use channel_slots::{
-    Answer, Bank, Command, Event, FeedFault, OpenFault, Refusal, SlotEvent, SlotNo, Timeline,
+    Answer, Bank, Command, Event, FeedFault, OpenFault, Refusal, SlotEvent, SlotNo,
 };
 use made_signals::RECORDING;
 use oscillators::Settings;
