@@ -1,6 +1,7 @@
-//! The crate that Rust programs begin with: samples in, events out, and values packed. All that is
-//! used here comes from it.
+//! The crate that Rust programs begin with: samples in, events out, and values packed. All types
+//! that are used here come from it.
 
+use crate::choices::{recipe_of, signs};
 use assertions::assert_same;
 use seldomplough::units::{chips, from_65536ths, seconds, value};
 use seldomplough::{
@@ -78,19 +79,8 @@ fn commands_are_refused(rt: HostRuntime) {
 
 /// Packs by signs, about 0.
 fn packing(rt: &(impl Abort + Alloc<A = Global>), kind: ValueKind) -> Packing {
-    let choice = Choice {
-        kind,
-        is_paired: false,
-        format: Format::Real1,
-        threshold: 0,
-        centre: 0,
-        centre_q: 0,
-        is_swapped: false,
-        is_conjugate: false,
-        takes_quadrature: false,
-    };
-    let recipe = choice.recipe().expect(rt, "no such recipe");
-    Packing::open(rt.alloc(), recipe).expect(rt, "no memory")
+    let choice: Choice = signs(kind, false, Format::Real1);
+    Packing::open(rt.alloc(), recipe_of(rt, &choice)).expect(rt, "no memory")
 }
 
 /// The first byte of what was packed, where there is one byte.

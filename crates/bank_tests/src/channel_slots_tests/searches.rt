@@ -55,7 +55,7 @@ pub(super) fn feed_to(
     told
 }
 
-/// Feeds a bank samples, and adds its events to those that it has told.
+/// Feeds a bank samples, and adds the events that it emits with them to those before.
 fn feed(
     rt: &impl Abort,
     bank: &mut Bank,
