@@ -3,35 +3,15 @@ function has answers to these, the second body has the same, and all other goals
 import os
 import re
 
+from answers import Answers
 from bare_bodies import NONE
-from second_bodies import Second, files_with, path_of_place
+from second_bodies import (InPlace, Second, files_with, is_copied, path_of_implementation,
+                           path_of_place)
 from wrong_bodies import is_at
-
-ANSWER = re.compile(r'^pub (\S+) :')
 
 # What the prover says of a declaration, and of those that cite one that it rejected.
 ERROR = re.compile(r': error: `([^`]+)`: ')
 DEPENDS = re.compile(r' depends? on `([^`]+)`, which was rejected, (?:was|were) not checked: (.*)')
-
-
-class Answers:
-    """A file of answers: the answers by their names, and what stands before and between them."""
-
-    def __init__(self, text):
-        self.others, self.answers = [], {}
-        name = None
-        for line in text.split('\n'):
-            found = ANSWER.match(line)
-            if found:
-                name = found[1]
-            elif line and line[0] not in ' })]' and not line.startswith(('unfolding', f'{name} ')):
-                name = None
-            lines = self.others if name is None else self.answers.setdefault(name, [])
-            lines.append(line)
-
-    def of_goals(self, goals):
-        """The file with the answers to these goals alone."""
-        return '\n'.join([*self.others, *(line for it in goals for line in self.answers[it])])
 
 
 def goals_of(edit, place, path, folder):
@@ -49,24 +29,20 @@ class Lone(Second):
 
     tactic = NONE
 
-    def __init__(self, place, path, number, edit, goals):
-        super().__init__(place, path, number, edit)
+    def __init__(self, place, path, number, edit, clause=None, goals=()):
+        super().__init__(place, path, number, edit, clause)
         self.goals = goals
 
     def with_right_body(self):
-        return Lone((self.file, self.function), self.path, f'{self.number}_right', None, self.goals)
+        right = super().with_right_body()
+        right.goals = self.goals
+        return right
 
     def with_tactic(self, lines, has_own):
         return [self.tactic, *(re.sub(r'#\[tactic\(.*\)\]', '', it) for it in lines)]
 
-    def copy_proof(self, folder):
-        home = super().copy_proof(folder)
-        path = os.path.join(home, 'Answers.antt')
-        with open(path, encoding='utf-8', newline='') as file:
-            text = file.read()
-        with open(path, 'w', encoding='utf-8', newline='') as file:
-            file.write(Answers(text).of_goals(self.goals))
-        return home
+    def has_answer(self, goal):
+        return goal in self.goals
 
     def has_refusal(self, refused):
         """Whether one of its goals is refused, or is left open as the others are."""
@@ -90,8 +66,12 @@ def bodies_of(places, folder):
     proof of its function answers them."""
     bodies = []
     for number, (edit, place) in enumerate(places.items(), 1):
+        if not is_copied(place, folder):
+            path = path_of_implementation(place, folder) or path_of_place(place, folder)
+            bodies.append(InPlace(place, path, number, edit))
+            continue
         path = path_of_place(place, folder)
         goals = goals_of(edit, place, path, folder)
-        bodies.append(Lone(place, path, number, edit, goals) if goals
+        bodies.append(Lone(place, path, number, edit, goals=goals) if goals
                       else Second(place, path, number, edit))
     return bodies

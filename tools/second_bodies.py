@@ -1,16 +1,28 @@
 """Wrong bodies that stand beside the right ones: each is a copy of its function under a name of its
-own, with the same contract and the same proof. So many edits of a crate are tried in one check, no
-caller waits for a function with a wrong body, and nothing else of the crate is proved again. The
-copy differs from its function by its name and the edit alone, and no other proof names what the
-prover makes of it."""
+own, with the same proof, and of the clauses of its contract that which the edit turns and one more.
+So many edits of a crate are tried in one check, no caller waits for a function with a wrong body,
+and nothing else of the crate is proved again. The copy differs from its function by its name, its
+other clauses and the edit alone, and no other proof names what the prover makes of it. A function
+that takes no second body has a wrong one in the place of its own."""
 import functools
 import os
 import re
 
+from answers import Answers
 from bare_bodies import AUTO, head_of
 from wrong_bodies import Function, has_goal, is_at, path_of
 
 IMPL = re.compile(r'(?:unsafe )?impl\b')
+
+# The `impl` of a trait: the trait, what stands in its angle brackets, and the type.
+IMPL_OF = re.compile(r'(?:unsafe )?impl(?:<.*?>)? (\w+)(?:<(.*)>)? for (\w+)')
+
+# Where a clause of a function begins, with its name where it promises something.
+CLAUSE = re.compile(r' *(?:requires|ensures(?: (\w+))?) ')
+
+# The name of a clause in that of its goal, and in what an edit says that it turns.
+IN_GOAL = re.compile(r'(?:^|returns\S*-)clause-(\w+)')
+IN_TURNS = re.compile(r'clause (\w+) of ')
 
 
 def without_parameters(head):
@@ -29,15 +41,30 @@ def named_at(function, lines):
                 if re.search(rf'\bfn {function.name}\b', lines[it]))
 
 
-def owner_of(function, lines):
-    """The type whose method a function is: empty where it is of none, and nothing where it is of a
-    trait, which takes no second method."""
+def head_around(function, lines):
+    """The line that begins the `impl` or the trait of a method; empty where a function is none."""
     at = named_at(function, lines)
     if not lines[at].startswith(' '):
         return ''
-    head = next(lines[it] for it in range(at, -1, -1) if lines[it] and lines[it][0] not in ' #/})')
+    return next(lines[it] for it in range(at, -1, -1) if lines[it] and lines[it][0] not in ' #/})')
+
+
+def owner_of(function, lines):
+    """The type whose method a function is: empty where it is of none, and nothing where it is of a
+    trait, which takes no second method."""
+    head = head_around(function, lines)
     words = without_parameters(head).split()
+    if not head:
+        return ''
     return words[1] if IMPL.match(head) and 'for' not in words else None
+
+
+def implementation_of(function, lines):
+    """How the prover calls the `impl` of a trait in which a function stands: by the type, the trait
+    and what stands in its angle brackets. Nothing where it stands in none."""
+    found = IMPL_OF.match(head_around(function, lines))
+    words = [found[3], found[1], *re.findall(r'\w+', found[2] or '')] if found else []
+    return ''.join(it[0].upper() + it[1:] for it in words) or None
 
 
 @functools.lru_cache(maxsize=None)
@@ -64,17 +91,45 @@ def path_by(file, owner, folder):
     return [*path_of(file), *filter(None, [owner])]
 
 
+def clause_of(edit):
+    """The clause at which an edit has to fail, by its goal or else by what it turns, where that has
+    a name."""
+    found = IN_GOAL.search(edit.goal[0]) or IN_TURNS.search(edit.turns)
+    return found and found[1]
+
+
+def other_clauses(function, lines, name):
+    """The lines of the clauses of a function that promise something else than the one with a name,
+    by their indexes, each with its clause; none where no clause has the name. The shortest of them
+    stays: the prover puts the name of a clause into that of its goals where there are two."""
+    texts, clause = {}, None
+    for at in range(function.first - 1, function.body - 2):
+        begins = CLAUSE.match(lines[at])
+        clause = begins[1] if begins else clause
+        texts.setdefault(clause, {})[at] = lines[at]
+    if name not in texts:
+        return {}
+    others = {it: text for it, text in texts.items() if it not in (None, name)}
+    shortest = min(others, key=lambda it: sum(map(len, others[it].values())), default=None)
+    return {at: it for it, text in others.items() if it != shortest for at in text}
+
+
 class Second:
     """A second body of a function: as an edit turns it, or the right one where there is none."""
 
     # Its attribute for the prover's tactics, where the function has none of its own.
     tactic = AUTO
 
-    def __init__(self, place, path, number, edit):
+    # Whether it stands in the place of its function.
+    is_in_place = False
+
+    def __init__(self, place, path, number, edit, clause=None):
         (self.file, self.function), self.edit = place, edit
         self.path, self.number = path, number
         self.name = f'{self.function.name}_body{number}'
         self.place = place
+        self.clause = clause_of(edit) if edit else clause
+        self.left_out = {}
 
     def full_name(self):
         """How the prover calls it."""
@@ -86,6 +141,9 @@ class Second:
         lines = text.split('\n')
         at = named_at(self.function, lines)
         lines[at] = re.sub(rf'\bfn {self.function.name}\b', f'fn {self.name}', lines[at])
+        self.left_out = other_clauses(self.function, lines, self.clause)
+        for at in self.left_out:
+            lines[at] = ''
         taken = lines[self.function.first - 1:self.function.last + 1]
         return self.with_tactic(taken, '#[tactic(' in head_of(self.function, lines))
 
@@ -99,8 +157,12 @@ class Second:
         self.place = self.file, Function(self.name, first, self.function.body + by,
                                          self.function.last + by)
 
+    def has_answer(self, goal):
+        """Whether the proof has an answer to a goal: to none of a clause that is left out."""
+        return not {*IN_GOAL.findall(goal)}.intersection(self.left_out.values())
+
     def copy_proof(self, folder):
-        """Copies the proof of the function, if it has one: gives the new folder."""
+        """Copies the proof of the function, if it has one."""
         was = os.path.join('proofs', *self.path, self.function.name)
         now = os.path.join('proofs', *self.path, self.name)
         dotted = re.compile(re.escape(was.replace(os.sep, '.')) + r'(?![\w-])')
@@ -110,13 +172,15 @@ class Second:
             for file in files:
                 with open(os.path.join(at, file), encoding='utf-8', newline='') as source:
                     text = source.read()
+                if file == 'Answers.antt':
+                    text = Answers(text).of_goals(self.has_answer)
                 with open(os.path.join(to, file), 'w', encoding='utf-8', newline='') as made:
                     made.write(dotted.sub(now.replace(os.sep, '.'), text))
-        return os.path.join(folder, now)
 
     def with_right_body(self):
         """The right body, tried as this one is."""
-        return type(self)((self.file, self.function), self.path, f'{self.number}_right', None)
+        return type(self)((self.file, self.function), self.path, f'{self.number}_right', None,
+                          self.clause)
 
     def has_refusal(self, refused):
         """Whether it is refused, at whatever goal."""
@@ -127,6 +191,27 @@ class Second:
         own = (line for line in refused if is_at(line, self.place, self.path))
         return any(has_goal(re.sub(rf'\b{self.name}\b', self.function.name, line), self.edit)
                    for line in own)
+
+
+class InPlace(Second):
+    """A wrong body in the place of the right one."""
+
+    is_in_place = True
+
+    def __init__(self, place, path, number, edit, clause=None):
+        super().__init__(place, path, number, edit, clause)
+        self.name = self.function.name
+
+    def copy_proof(self, folder):
+        """Its proof is there."""
+
+
+def path_of_implementation(place, folder):
+    """How the prover calls the `impl` of a trait in which a function of a crate stands; nothing
+    where it stands in none."""
+    file, function = place
+    name = implementation_of(function, files_with(folder, '.rt')[file].split('\n'))
+    return name and [*path_of(file), name]
 
 
 def path_of_place(place, folder):
@@ -161,6 +246,8 @@ def with_seconds(seconds, given):
         for second in ours:
             made += lines[at:second.function.last + 1]
             at = max(at, second.function.last + 1)
+            if second.is_in_place:
+                del made[second.function.first - 1 - at:]
             second.stand(len(made) + 2)
             made += ['', *second.copied(given)]
         texts[file] = '\n'.join(made + lines[at:])

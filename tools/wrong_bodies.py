@@ -38,15 +38,23 @@ def functions(text):
             yield Function(head[2], first + 1, body + 2, last)
 
 
+def parts_inside(text, name):
+    """The parts of a source in which an old text stands once: the functions with a name, or the
+    whole where none is named."""
+    lines = text.split('\n')
+    return ['\n'.join(lines[it.first - 1:it.last + 1])
+            for it in functions(text) if it.name == name] if name else [text]
+
+
 class Edit:
     """A wrong body: the texts that it changes, the clause that it turns, and the words of the goal
-    that has to fail."""
+    that has to fail. A text stands in a file, or there in the function that `inside` names."""
 
     def __init__(self, path):
         self.path = path
         self.name = os.path.basename(path)[:-len('.edit')]
         self.pairs, self.turns, self.goal = [], '', []
-        file = old = ''
+        file = inside = old = ''
         with open(path, encoding='utf-8') as lines:
             for line in lines.read().split('\n'):
                 word, _, rest = line.partition(': ')
@@ -55,22 +63,26 @@ class Edit:
                 elif word == '# goal':
                     self.goal = rest.split()
                 elif word == 'file':
-                    file = rest
+                    file, inside = rest, ''
+                elif word == 'inside':
+                    inside = rest
                 elif word == 'old':
                     old = rest
                 elif word.rstrip(':') == 'new':
-                    self.pairs.append((file, old, rest))
+                    self.pairs.append((file, inside, old, rest))
         if not (self.turns and self.goal and self.pairs):
             raise BadEdit(f'{path} names no clause, no goal or no text')
 
     def texts(self, given):
         """The texts that it makes of the given ones, by their files."""
         made = {}
-        for file, old, new in self.pairs:
+        for file, inside, old, new in self.pairs:
             text = made.get(file, given(file))
-            if text.count(old) != 1:
-                raise BadEdit(f"{self.path}: an old text stands {text.count(old)} times in {file}")
-            made[file] = text.replace(old, new)
+            parts = [it for it in parts_inside(text, inside) if old in it]
+            count = sum(it.count(old) for it in parts)
+            if count != 1:
+                raise BadEdit(f"{self.path}: an old text stands {count} times in {file}")
+            made[file] = text.replace(parts[0], parts[0].replace(old, new))
         return made
 
     def functions(self, given):
@@ -85,7 +97,7 @@ class Edit:
 
     def place(self, given):
         """The file and the function whose body has all that it changes; else nothing."""
-        files = {file for file, _, _ in self.pairs}
+        files = {it[0] for it in self.pairs}
         if len(files) != 1 or not self.pairs[0][0].startswith('src/'):
             return None
         file = files.pop()
