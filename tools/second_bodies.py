@@ -107,7 +107,7 @@ def other_clauses(function, lines, name):
         begins = CLAUSE.match(lines[at])
         clause = begins[1] if begins else clause
         texts.setdefault(clause, {})[at] = lines[at]
-    if name not in texts:
+    if name is None or name not in texts:
         return {}
     others = {it: text for it, text in texts.items() if it not in (None, name)}
     shortest = min(others, key=lambda it: sum(map(len, others[it].values())), default=None)
