@@ -9,6 +9,7 @@ extern crate alloc as real;
 #[cfg(feature = "std")]
 extern crate std;
 
+#[doc(no_inline)]
 pub use ::core::*;
 
 pub mod alloc;

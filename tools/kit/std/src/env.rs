@@ -3,6 +3,7 @@
 use crate::alloc::Global;
 use crate::string::String;
 use ::std::collections::TryReserveError;
+#[doc(no_inline)]
 pub use ::std::env::*;
 use ::std::io::{self, ErrorKind};
 

@@ -1,6 +1,7 @@
 //! Printing takes what has the right to.
 
 use crate::HostRuntime;
+#[doc(no_inline)]
 pub use ::std::io::*;
 use std::fmt::Display;
 

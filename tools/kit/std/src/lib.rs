@@ -2,6 +2,7 @@
 //! may be refused, and what touches the world takes a runtime. A crate that depends on this one
 //! under the name `std` sees it in the place of the real one.
 pub use ::std as real;
+#[doc(no_inline)]
 pub use ::std::*;
 
 pub mod env;
@@ -18,12 +19,14 @@ pub use kit_alloc::{AnyDrop, boxes, vec};
 pub use runtime::HostRuntime;
 
 pub mod alloc {
+    #[doc(no_inline)]
     pub use ::std::alloc::*;
     pub use kit_alloc::alloc::{Alloc, AllocError, AllocFailed, AllocGlobal, Global};
 }
 
 pub mod boxed {
     pub use crate::boxes::BoxedSlice;
+    #[doc(no_inline)]
     pub use ::std::boxed::*;
 }
 
@@ -37,6 +40,7 @@ pub mod prelude {
         pub use crate::vec::Vec;
         pub use crate::{AnyDrop as Drop, HostRuntime};
         pub use crate::{assert, assert_eq, eprint, eprintln, format, panic, println, vec};
+        #[doc(no_inline)]
         pub use ::std::prelude::rust_2024::*;
     }
 }
