@@ -101,19 +101,26 @@ fn measured_format(matches: &ArgMatches, is_paired: bool) -> Result<Format, Fail
 fn packing_option(matches: &ArgMatches) -> Option<&'static str>
     ensures { is_some result ≡ says_how_to_pack (found_of matches.now) }
 {
-    if matches.get_str("to").is_some() {
+    if is_given(matches, "to") {
         Some("to")
-    } else if matches.get_str("threshold").is_some() {
+    } else if is_given(matches, "threshold") {
         Some("threshold")
-    } else if matches.get_str("centre").is_some() {
+    } else if is_given(matches, "centre") {
         Some("centre")
-    } else if matches.get_str("centre-q").is_some() {
+    } else if is_given(matches, "centre-q") {
         Some("centre-q")
     } else if is_set(matches, "conjugate") {
         Some("conjugate")
     } else {
         None
     }
+}
+
+/// Whether an option with a value is there.
+fn is_given(matches: &ArgMatches, name: &str) -> bool
+    ensures { result ≡ is_some (first_value (found_of matches.now) name.now) }
+{
+    matches.get_str(name).is_some()
 }
 
 /// The packing to write.

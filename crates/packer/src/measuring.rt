@@ -26,17 +26,25 @@ pub fn measure<T: AllocGlobal + Print, R: Source>(
     ensures fault { IfErr result EndsMeasuring }
 {
     let bytes = gather(rt.alloc(), stretch, reader)?;
-    if recipe.kind == ValueKind::F32 {
-        return measure_floats(rt, recipe, &bytes);
+    match recipe.kind {
+        ValueKind::F32 => measure_floats(rt, recipe, &bytes),
+        _ => measure_numbers(rt, recipe, &bytes),
     }
-    let i = centred(recipe, &recipe.in_phase, &bytes);
-    let q = centred(recipe, &recipe.quadrature, &bytes);
+}
+
+/// Measures numbers that are no floats, and prints what was found and the options that it suggests.
+fn measure_numbers<P: Print>(rt: &P, recipe: &Recipe, bytes: &[u8]) -> Result<(), Failure>
+    requires few { length bytes.now ≤ MOST_BYTES }
+    ensures fault { IfErr result EndsMeasuring }
+{
+    let i = centred(recipe, &recipe.in_phase, bytes);
+    let q = centred(recipe, &recipe.quadrature, bytes);
     // Where there is one part, both are that one.
-    let threshold = mean_square(recipe, &i, &q, &bytes)
+    let threshold = mean_square(recipe, &i, &q, bytes)
         .isqrt()
         .min(u64::from(MOST_HALVES));
-    let of_i = recipe.measure(&i, threshold, &bytes);
-    let of_q = recipe.measure(&q, threshold, &bytes);
+    let of_i = recipe.measure(&i, threshold, bytes);
+    let of_q = recipe.measure(&q, threshold, bytes);
     if of_i.count == 0 {
         return Err(Failure::Nothing);
     }
