@@ -1,0 +1,121 @@
+"""Rows of the wrong bodies that tools/edits tries: where an edit changes what, and its copy."""
+import os
+import sys
+
+from .commands import TOP, write
+
+sys.path.insert(0, os.path.join(TOP, 'tools'))
+from lone_goals import bodies_of
+from second_bodies import with_seconds
+from wrong_bodies import BadEdit, Edit
+
+SOURCE = '''//! Counts.
+#![tactic(auto)]
+
+impl Tally {
+    /// The count.
+    pub fn count(&self) -> u64
+        requires few { self.now.count < 9 }
+        ensures value { result ≡ self.now.count }
+        ensures most { result ≤ 9 }
+        ensures long { (other : ℕ) → other ≡ result
+            → other ≤ 9 }
+    {
+        self.count
+    }
+
+    /// One more.
+    pub fn add(&mut self) {
+        self.count += 1;
+    }
+}
+
+impl From<u64> for Tally {
+    fn from(count: u64) -> Tally {
+        Tally { count }
+    }
+}
+'''
+
+# The functions that edits turn.
+COUNT = SOURCE[SOURCE.index('    /// The count.'):SOURCE.index('\n    /// One more.')]
+FROM = SOURCE[SOURCE.index('    fn from'):SOURCE.rindex('}\n')]
+
+# The copy of `count` with a wrong body, and its contract: the clause that the edit turns, and the
+# shortest of the others.
+COPY = '''#[tactic(auto)]
+    /// The count.
+    pub fn count_body1(&self) -> u64
+        requires few { self.now.count < 9 }
+        ensures value { result ≡ self.now.count }
+        ensures most { result ≤ 9 }
+
+
+    {
+        0
+    }
+'''
+
+# What stands in the place of a trait's method.
+IN_PLACE = '''#[tactic(auto)]
+    fn from(count: u64) -> Tally {
+        Tally { count: 0 }
+    }
+'''
+
+VALUE = ('clause value of Tally::count', 'returns-clause-value src/lib.rt')
+
+
+def edit(folder, turns, goal, *texts):
+    """An edit of the source."""
+    path = os.path.join(folder, 'wrong.edit')
+    write(path, '\n'.join([f'# turns: {turns}', f'# goal: {goal}', 'file: src/lib.rt', *texts]))
+    return Edit(path)
+
+
+def given(_):
+    """The text of a file of the crate."""
+    return SOURCE
+
+
+def places(rows, folder):
+    """An old text stands once: in the file, or in the functions with a name."""
+    for name, texts, wanted in (
+            ('twice', ['old: self.count', 'new: 0'], 'an old text stands 2 times'),
+            ('not there', ['inside: add', 'old: self.now', 'new: 0'], 'an old text stands 0 times'),
+            ('no function', ['inside: sub', 'old: self.count', 'new: 0'],
+             'an old text stands 0 times'),
+            ('in one', ['inside: count', 'old:         self.count', 'new:         0'], None)):
+        try:
+            said = edit(folder, *VALUE, *texts).texts(given)['src/lib.rt']
+            faults = [said] * (wanted is not None
+                               or said != SOURCE.replace('        self.count\n', '        0\n'))
+        except BadEdit as why:
+            faults = [str(why)] * (wanted is None or wanted not in str(why))
+        rows.say(f'an old text, {name}', faults)
+
+
+def copies(rows, folder):
+    """A copy has the clause that its edit turns and one more. A trait's method has no copy."""
+    write(os.path.join(folder, 'src', 'lib.rt'), SOURCE)
+    zero = ['inside: count', 'old:         self.count', 'new:         0']
+    whole = COPY.replace('9 }\n\n\n', '9 }\n        ensures long { (other : ℕ) → other ≡ result\n'
+                         '            → other ≤ 9 }\n')
+    for name, turned, texts, called, wanted in (
+            ('a method', VALUE, zero, 'Tally::count_body1', f'{COUNT}\n{COPY}'),
+            ('no clause', ('the invariant', 'returns src/lib.rt'), zero, 'Tally::count_body1',
+             f'{COUNT}\n{whole}'),
+            ('a method of a trait', ('the clause of TallyFromU64::from', 'returns src/lib.rt'),
+             ['old: Tally { count }', 'new: Tally { count: 0 }'], 'TallyFromU64::from',
+             f'\n{IN_PLACE}')):
+        wrong = edit(folder, *turned, *texts)
+        body, = bodies_of({wrong: wrong.place(given)}, folder)
+        made = with_seconds([body], given)['src/lib.rt']
+        right = FROM if body.is_in_place else COUNT
+        faults = [made] * (made != SOURCE.replace(right, wanted))
+        faults += [body.full_name()] * (body.full_name() != called)
+        first = made.split('\n')[body.place[1].first - 1]
+        rows.say(f'a copy of {name}', faults + [first] * (first != '#[tactic(auto)]'))
+
+
+ROWS = (places, copies)
