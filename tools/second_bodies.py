@@ -194,13 +194,13 @@ class Second:
 
 
 class InPlace(Second):
-    """A wrong body in the place of the right one."""
+    """A wrong body in the place of the right one. Its callers cite its contract, which stays."""
 
     is_in_place = True
 
     def __init__(self, place, path, number, edit, clause=None):
         super().__init__(place, path, number, edit, clause)
-        self.name = self.function.name
+        self.name, self.clause = self.function.name, None
 
     def copy_proof(self, folder):
         """Its proof is there."""
