@@ -13,8 +13,8 @@ MOST_ENVIRONMENT = 120 << 10
 # The KiB of address space that a sweep begins with, those of a page, and where the last run without
 # long scripts is whole.
 LEAST_SPACE, PAGE, MOST_SPACE = 2048, 4, 20480
-# How many runs after the first whole one a sweep goes on; of scripts that take long to read fewer.
-BEHIND, BEHIND_LONG = 96, 24
+# How many runs after the first whole one a sweep goes on.
+BEHIND = 96
 # The bytes of the scripts that memory is swept with, one of them or eight.
 SCRIPTS = 1, 64 << 10, 1 << 20, 16 << 20
 
@@ -110,14 +110,14 @@ class Sweep:
             self.wrong.setdefault(told(outcome), []).append(space)
         return outcome.status == 0
 
-    def faults(self, least, most, step, behind=BEHIND):
+    def faults(self, least, most, step):
         """What was wrong from too little space up to enough, in KiB: by so many at a time up to
         the first whole run, and by pages from that many and STACK KiB before it on."""
         first = next((it for it in range(least, most, step) if self.run(it)), None)
         if first is None:
             return [*self.noted(), 'no run was whole']
         whole, space = 0, max(least, first - step - STACK)
-        while whole <= behind and space < most + STACK:
+        while whole <= BEHIND and space < most + STACK:
             whole += self.run(space)
             space += PAGE
         return self.noted()
@@ -143,10 +143,9 @@ def long_scripts(programs, rows):
             case = blanks(programs, size, count)
             held = size * count >> 10
             step = PAGE if held < 1024 else 32 if held < 16384 else 256
-            behind = BEHIND if held < 16384 else BEHIND_LONG
             rows.say(f'address space, {count} scripts of {size} bytes',
                      Sweep(case, answers(programs, case))
-                     .faults(LEAST_SPACE + held, MOST_SPACE + 4 * held, step, behind))
+                     .faults(LEAST_SPACE + held, MOST_SPACE + 4 * held, step))
 
 
 def refused_in_turn(case, library, mark):

@@ -70,7 +70,7 @@ impl ChipSigns {
         ChipSigns { signs }
     }
 
-    /// The sign of the chip at a phase of the code, in 2^-32 chip: +1 for a chip 0, -1 for a chip 1.
+    /// The sign of the chip at a phase of the code, in 2^-32 chip: +1 for a 0, -1 for a 1.
     pub fn at(&self, phase: u64) -> i32 {
         self.signs[(phase % CYCLE / (1 << 32)) as usize]
     }
