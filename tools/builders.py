@@ -10,16 +10,13 @@ import children
 import room_folders
 from built import (ANY, APART, THIRD, TOP, clean_environment, find, level, read, replace,
                    sum_of_sources)
-from crate_order import job_count, read_crates, side_by_side, steps_above, with_those_below
+from crate_order import job_count, read_crates, side_by_side, with_those_below
+from crate_shares import Shares
 from rooms import RT, prove as prove_in_room
 
 # Has LLVM keep each jump within 32 bytes of code: on Intel's processors of Skylake's kind a loop
 # whose jump lies across them takes up to twice as long, and any change of code moves it.
 WITHIN_32_BYTES = '-C llvm-args=-x86-branches-within-32B-boundaries'
-
-# How far crates that are one or two steps below the program leave the processors to the others,
-# which have more above them.
-NICE = {1: 19, 2: 10}
 
 # The minutes that a proof from nothing takes, on a quick day and on a slow one: those that no
 # further processor saves, and those that the processors share.
@@ -72,33 +69,25 @@ def prove(crate, called, say):
     crates = read_crates()
     names = with_those_below([crate], crates)
     home = os.path.join(TOP, 'crates', crate)
-    began = time.monotonic()
-    in_work, left, of_level = set(), set(names), level()
+    began, of_level = time.monotonic(), level()
+    shares = Shares(names, crates)
     # The kit's compiler takes no higher level, and none by the name of `any`.
     options = [] if of_level == ANY else ['--cpu', of_level]
 
     def build(name):
-        in_work.add(name)
-        # One that the longest chain of those that are left begins with gets all processors, even
-        # where others are still at work.
-        begins_chain = steps[name] == max(steps[it] for it in left)
-        jobs = job_count() if begins_chain else max(2, job_count() // len(in_work))
-        try:
-            if name == crate:
-                # The program says nothing to speak of where it is asked for its help.
-                run([*RT, 'run', '--jobs', str(jobs), *options, '--', '--help'], home,
-                    stderr=subprocess.STDOUT)
-                return
-            is_proved, said = prove_in_room(name, crates, jobs, NICE.get(steps[name], 0))
+        jobs, nice = shares.begin(name)
+        if name == crate:
+            # The program says nothing to speak of where it is asked for its help.
+            run([*RT, 'run', '--jobs', str(jobs), *options, '--', '--help'], home,
+                stderr=subprocess.STDOUT)
+        else:
+            is_proved, said = prove_in_room(name, crates, jobs, nice)
             if not is_proved:
                 raise Failed(said)
-        finally:
-            in_work.discard(name)
-            left.discard(name)
+        shares.end(name)
 
     say_how_long(crate, called, len(names), say)
     room_folders.clear()
-    steps = steps_above(names, crates)
     # Those on which most others stand go first.
     names.sort(key=lambda name: -sum(name in with_those_below([it], crates) for it in names))
     waits = {name: crates[name] for name in names}

@@ -24,7 +24,8 @@ NO_SOURCES = {'proved': {'out', 'must-fail'}, 'plain': {'out', 'must-fail', 'spe
 # stand apart.
 PARTS = {
     'proved': ('crates.txt', 'HANDLES', 'crates', 'tools/build', 'tools/built.py',
-               'tools/builders.py', 'tools/crate_order.py', 'tools/rooms.py', 'tools/rt_once'),
+               'tools/builders.py', 'tools/crate_order.py', 'tools/crate_shares.py',
+               'tools/rooms.py', 'tools/rt_once'),
     'plain': ('crates.txt', 'crates', 'tools/build', 'tools/built.py', 'tools/builders.py',
               'tools/kit', 'tools/plain', 'tools/plain_additions.py', 'tools/plain_checks.py',
               'tools/plain_docs.py', 'tools/plain_folder.py', 'tools/plain_memory.py',

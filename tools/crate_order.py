@@ -34,14 +34,6 @@ def with_those_below(names, crates):
     return list(found)
 
 
-def steps_above(names, crates):
-    """How many of the names, which come lowest first, stand one on another above each of them."""
-    steps = {}
-    for name in reversed(names):
-        steps[name] = max((steps[it] + 1 for it in steps if name in crates[it]), default=0)
-    return steps
-
-
 def job_count():
     """How many checks run at a time: one a processor, as far as there is memory."""
     with open('/proc/meminfo', encoding='ascii') as lines:

@@ -16,8 +16,12 @@ from room_folders import new_folder
 # The kit's `rt`, quicker where many libraries lie below a crate.
 RT = (sys.executable, os.path.join(TOP, 'tools', 'rt_once'))
 
-# What `rt` keeps of a library: the library, and what its check proved.
+# What is kept of a library: the library, and what its check proved.
 KEPT = ('rlib', 'incremental')
+
+# The file beside a library that has the sum of its sources: that of `rt`, or where the library is
+# one of statements, that of tools/rt_once.
+SUMS = ('stamp', 'stated')
 
 
 def link(source, copy):
@@ -53,6 +57,11 @@ def library(crate):
     return os.path.join(TOP, 'crates', crate, 'out', 'rlib', f'{crate}.rlib')
 
 
+def is_summed_up(folder):
+    """Whether a folder has a library of which a sum tells whether it is of the sources."""
+    return any(os.path.exists(os.path.join(folder, it)) for it in SUMS)
+
+
 def has_kept(crate):
     """Whether a check of a crate has kept what it proved."""
     return os.path.isdir(os.path.join(TOP, 'crates', crate, 'out', 'incremental'))
@@ -78,8 +87,7 @@ class Room:
                             ignore=shutil.ignore_patterns('must-fail', 'out'))
             for part in KEPT[:1 + (name == crate)]:
                 kept = os.path.join(TOP, 'crates', name, 'out', part)
-                stamp = os.path.join(kept, 'stamp')
-                is_whole = part != 'rlib' or os.path.exists(stamp) or self.takes_made
+                is_whole = part != 'rlib' or is_summed_up(kept) or self.takes_made
                 if os.path.isdir(kept) and is_whole:
                     shutil.copytree(kept, os.path.join(folder, 'crates', name, 'out', part),
                                     copy_function=link)

@@ -20,7 +20,7 @@ import children
 from built import ANY, THIRD, TOP, Built, Prover, level, read, sum_of
 from crate_order import read_crates, with_those_below
 from room_folders import new_folder
-from rooms import Room, has_kept, is_made
+from rooms import Room, has_kept, is_made, is_summed_up, library
 
 # The crates of the programs, and what these are called.
 PROGRAMS = {'receiver_cli': 'receiver', 'packer_cli': 'pack'}
@@ -32,9 +32,8 @@ class Refused(Exception):
 
 
 def is_kept(crate: str) -> bool:
-    """Whether the library of a crate is one that `rt` takes as built."""
-    stamp = os.path.join(TOP, 'crates', crate, 'out', 'rlib', 'stamp')
-    return os.path.exists(stamp) or bool(is_made(crate))
+    """Whether the library of a crate is one that a room takes as built."""
+    return bool(is_summed_up(os.path.dirname(library(crate))) or is_made(crate))
 
 
 def built_programs(line: str, crates: dict[str, list[str]]) -> dict[str, dict[str, str]]:

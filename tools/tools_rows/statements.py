@@ -1,0 +1,137 @@
+"""Rows of tools/rt_once: which libraries it takes as built, and which it builds as statements."""
+import os
+import shutil
+
+from .commands import copied, run, write
+
+# A stand-in for the kit's `rt`, over two libraries: `upper` is over `lower`. It writes what it is
+# asked to build into the file `calls`. What it builds has the text of its source, and the sum of
+# what `lower` says of itself.
+RT = '''import hashlib, os
+
+class Crate:
+    def __init__(self, name, below):
+        self.name, self.deps, self.rlib = name, below, f'{name}/rlib/{name}.rlib'
+
+    def below(self):
+        return self.deps
+
+    def stamp(self):
+        return ' '.join(open(f'{it.name}/source').read() for it in [self, *self.deps])
+
+    def has_kept(self):
+        return os.path.exists(f'{self.name}/kept')
+
+    def is_built(self):
+        path = f'{self.name}/rlib/stamp'
+        return os.path.exists(path) and open(path).read() == self.stamp()
+
+    def words(self, flags, keeps=True):
+        return [self.name, *flags]
+
+    def write_library(self, way):
+        os.makedirs(self.rlib, exist_ok=True)
+        sums = [hashlib.sha256(open(f'{it.rlib}/format', 'rb').read()).hexdigest()
+                for it in self.deps]
+        with open(f'{self.rlib}/format', 'w') as file:
+            file.write(f'{way} {self.stamp()}\\n')
+            file.writelines(f'over {it.name} {sum}\\n' for it, sum in zip(self.deps, sums))
+        open('calls', 'a').write(f'{self.name}{way} ')
+
+    def call(self, *words):
+        self.write_library(' '.join(it for it in words if it == '--statements'))
+        return os.path.exists('fails')
+
+    def build_rlib(self, flags, anew):
+        if not self.is_built():
+            self.write_library('')
+            stated = f'{self.name}/rlib/stated'
+            if os.path.exists(stated):
+                os.remove(stated)
+            open(f'{self.name}/rlib/stamp', 'w').write(self.stamp())
+        return 0
+
+class rtlib:
+    RATTLE, Crate = 'rattle', Crate
+
+def main(words):
+    lower = rtlib.Crate('lower', [])
+    upper = rtlib.Crate('upper', [lower])
+    return max(it.build_rlib([], False) for it in (lower, upper))
+'''
+
+
+class Kit:
+    """A folder with such an `rt` and the sources of both libraries."""
+
+    def __init__(self, folder):
+        self.top = copied(folder, 'tools/rt_once', 'tools/children.py')
+        self.write(**{'bin/rt': RT, 'lower/source': 'one', 'upper/source': 'two'})
+        os.chmod(self.at('bin/rt'), 0o755)
+
+    def at(self, name):
+        """The path of a file."""
+        return os.path.join(self.top, name)
+
+    def write(self, **texts):
+        """Writes files."""
+        for name, text in texts.items():
+            write(self.at(name), text)
+
+    def built(self, status=0, **environment):
+        """What `rt_once` builds now, or the status where that isn't the one that is due."""
+        self.write(calls='')
+        path = os.pathsep.join([self.at('bin'), os.environ['PATH']])
+        ran = run([self.at('tools/rt_once'), 'lib'], self.top, {'PATH': path, **environment})
+        with open(self.at('calls'), encoding='utf-8') as calls:
+            said = calls.read()
+        return said if ran.status == status else f'status {ran.status}: {ran.errors[-200:]}'
+
+
+def libraries(rows, folder):
+    """A library of which nothing is kept becomes one of statements. It is taken as long as its
+    sources are the same, and those below it are what it was proved over."""
+    kit = Kit(folder)
+
+    def say(name, wanted, **environment):
+        made = kit.built(**environment)
+        rows.say(f'rt_once, {name}', [made] * (made.split() != wanted.split()))
+
+    both = 'lower--statements upper--statements'
+    say('nothing is built', both)
+    say('nothing has changed', '')
+    kit.write(**{'upper/source': 'three'})
+    say('the upper source has changed', 'upper--statements')
+    kit.write(**{'lower/source': 'four'})
+    say('the lower source has changed', both)
+    kit.write(**{'lower/kept': '', 'lower/source': 'five'})
+    say('a check has kept what it proved of the lower one', 'lower upper--statements')
+    say('nothing has changed since', '')
+    # As `rt` makes it anew.
+    write(kit.at('lower/rlib/lower.rlib/format'), 'another')
+    say('the lower one was built once more', 'upper--statements')
+    os.remove(kit.at('lower/kept'))
+    shutil.rmtree(kit.at('lower/rlib'))
+    say('the lower one is gone', both)
+    write(kit.at('upper/rlib/upper.rlib/format'), 'over another 0\n')
+    write(kit.at('lower/rlib/lower.rlib/format'), 'another')
+    say('the upper one rests on another alone', '')
+    for name in 'lower', 'upper':
+        os.remove(kit.at(f'{name}/rlib/stated'))
+    say('in a room, libraries of rt ci', '', RT_ROOM='1')
+    say('elsewhere, libraries of rt ci', both)
+
+
+def failures(rows, folder):
+    """A library that isn't proved isn't taken as built."""
+    kit = Kit(folder)
+    kit.write(fails='')
+    first = kit.built(status=1)
+    os.remove(kit.at('fails'))
+    both = ['lower--statements', 'upper--statements']
+    rows.say('rt_once, a failed build', [first] * (first.split() != both))
+    again = kit.built()
+    rows.say('rt_once, after a failed build', [again] * (again.split() != both))
+
+
+ROWS = (libraries, failures)
