@@ -7,11 +7,10 @@ from answers import Answers
 from bare_bodies import NONE
 from second_bodies import (InPlace, Second, files_with, is_copied, path_of_implementation,
                            path_of_place)
-from wrong_bodies import is_at
+from wrong_bodies import DEPENDS, is_at
 
-# What the prover says of a declaration, and of those that cite one that it rejected.
+# What the prover says of a declaration.
 ERROR = re.compile(r': error: `([^`]+)`: ')
-DEPENDS = re.compile(r' depends? on `([^`]+)`, which was rejected, (?:was|were) not checked: (.*)')
 
 
 def goals_of(edit, place, path, folder):

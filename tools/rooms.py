@@ -95,7 +95,7 @@ class Room:
     def run(self, command, jobs, nice=0, more=()):
         """Runs a command of `rt`. Gives whether the crate is proved, and what the prover said."""
         words = ['nice', '-n', str(nice), *RT, command, '--jobs', str(jobs), *more]
-        environment = {**clean_environment(), **({'RT_ROOM': '1'} if self.takes_made else {})}
+        environment = {**clean_environment(), 'RT_ROOM': 'made' if self.takes_made else 'own'}
         status, said, _ = children.run(words, self.folder, stderr=subprocess.STDOUT,
                                        env=environment)
         return status == 0, said

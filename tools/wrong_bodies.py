@@ -116,6 +116,9 @@ REFUSAL = re.compile(r'(?:note: )?(?:\./)?((?:src|proofs)/\S+?):(\d+):\d+: ')
 # A proof that names what an edit took away, and what cites that proof: that shows no clause.
 LACKS = re.compile(r'(?:\./)?proofs/.*(has no field|is not in scope|has no `|was not admitted)')
 
+# What the prover says of declarations that cite one that it rejected.
+DEPENDS = re.compile(r' depends? on `([^`]+)`, which was rejected, (?:was|were) not checked: (.*)')
+
 
 def refusals(said):
     """The lines by which the prover refused a check."""

@@ -11,7 +11,8 @@ RT = '''import hashlib, os
 
 class Crate:
     def __init__(self, name, below):
-        self.name, self.deps, self.rlib = name, below, f'{name}/rlib/{name}.rlib'
+        self.name, self.deps, self.folder = name, below, name
+        self.rlib = f'{name}/rlib/{name}.rlib'
 
     def below(self):
         return self.deps
@@ -52,7 +53,7 @@ class Crate:
         return 0
 
 class rtlib:
-    RATTLE, Crate = 'rattle', Crate
+    RATTLE, Crate, stop_on_text = 'rattle', Crate, None
 
 def main(words):
     lower = rtlib.Crate('lower', [])
@@ -118,8 +119,8 @@ def libraries(rows, folder):
     say('the upper one rests on another alone', '')
     for name in 'lower', 'upper':
         os.remove(kit.at(f'{name}/rlib/stated'))
-    say('in a room, libraries of rt ci', '', RT_ROOM='1')
-    say('elsewhere, libraries of rt ci', both)
+    say('in a room, libraries of rt ci', '', RT_ROOM='made')
+    say('in a room of its own, libraries of rt ci', both, RT_ROOM='own')
 
 
 def failures(rows, folder):
