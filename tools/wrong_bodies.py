@@ -126,6 +126,16 @@ def refusals(said):
             and (line.startswith('note: ') or ': error: ' in line)]
 
 
+def without_those(said, places):
+    """What the prover said, without the lines by which it refused functions in their own lines."""
+    def is_there(line):
+        found = REFUSAL.match(line)
+        return found and any(found[1] == file and it.first <= int(found[2]) <= it.last + 1
+                             for file, it in places)
+
+    return '\n'.join(line for line in said.split('\n') if not is_there(line))
+
+
 def does_not_compile(said, place):
     """Whether a function is one that the compiler refused, before any goal was tried."""
     file, function = place

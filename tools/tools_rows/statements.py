@@ -55,6 +55,9 @@ class Crate:
 class rtlib:
     RATTLE, Crate, stop_on_text = 'rattle', Crate, None
 
+    def help_of(verb):
+        return open('help').read()
+
 def main(words):
     lower = rtlib.Crate('lower', [])
     upper = rtlib.Crate('upper', [lower])
@@ -67,7 +70,8 @@ class Kit:
 
     def __init__(self, folder):
         self.top = copied(folder, 'tools/rt_once', 'tools/children.py')
-        self.write(**{'bin/rt': RT, 'lower/source': 'one', 'upper/source': 'two'})
+        self.write(**{'bin/rt': RT, 'lower/source': 'one', 'upper/source': 'two',
+                      'help': '--statements'})
         os.chmod(self.at('bin/rt'), 0o755)
 
     def at(self, name):
@@ -121,6 +125,10 @@ def libraries(rows, folder):
         os.remove(kit.at(f'{name}/rlib/stated'))
     say('in a room, libraries of rt ci', '', RT_ROOM='made')
     say('in a room of its own, libraries of rt ci', both, RT_ROOM='own')
+    shutil.rmtree(kit.at('upper/rlib/upper.rlib'))
+    say('the upper one is gone, but for its sum', 'upper--statements')
+    kit.write(**{'help': '', 'lower/source': 'six'})
+    say('a prover that makes no statements', 'lower upper')
 
 
 def failures(rows, folder):

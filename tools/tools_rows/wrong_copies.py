@@ -1,4 +1,7 @@
-"""Rows of the wrong bodies that tools/edits tries: where an edit changes what, and its copy."""
+"""Rows of the wrong bodies that tools/edits tries: where an edit changes what, its copy, and what
+counts as refused."""
+import importlib.machinery
+import importlib.util
 import os
 import sys
 
@@ -7,7 +10,7 @@ from .commands import TOP, write
 sys.path.insert(0, os.path.join(TOP, 'tools'))
 from lone_goals import bodies_of
 from second_bodies import with_seconds
-from wrong_bodies import BadEdit, Edit
+from wrong_bodies import BadEdit, Edit, functions, without_those
 
 SOURCE = '''//! Counts.
 #![tactic(auto)]
@@ -62,6 +65,14 @@ IN_PLACE = '''#[tactic(auto)]
         Tally { count: 0 }
     }
 '''
+
+# What the prover says where `add` has no body, and the lemma `count-is` fails.
+SAID = '''note: src/lib.rt:6:5: it is not proved that it returns this (`returns-clause-value`)
+note: src/lib.rt:17:5: it is not proved that this is not reached (`unreachable`)
+./proofs/Tallies.antt:3:1: error: `count-is`: the two types differ
+./proofs/Tallies.antt:9:1: error: 1 declaration that depends on `count-is`, which was rejected, was \
+not checked: count-grows
+logic=not-proved'''
 
 VALUE = ('clause value of Tally::count', 'returns-clause-value src/lib.rt')
 
@@ -118,4 +129,28 @@ def copies(rows, folder):
         rows.say(f'a copy of {name}', faults + [first] * (first != '#[tactic(auto)]'))
 
 
-ROWS = (places, copies)
+def tool():
+    """tools/edits as a module."""
+    loader = importlib.machinery.SourceFileLoader('edits', os.path.join(TOP, 'tools', 'edits'))
+    made = importlib.util.module_from_spec(importlib.util.spec_from_loader('edits', loader))
+    loader.exec_module(made)
+    return made
+
+
+def refusals(rows, folder):
+    """A goal counts that fails itself, and none of a function without its body."""
+    edits = tool()
+    others = [('src/lib.rt', it) for it in functions(SOURCE) if it.name == 'add']
+    said = without_those(SAID, others)
+    kept = [it for it in SAID.split('\n') if 'unreachable' not in it]
+    rows.say('what is said of others', [said] * (said.split('\n') != kept))
+    for goal, is_refused in (('returns-clause-value src/lib.rt', True),
+                             ('count-is proofs/Tallies', True), ('unreachable src/lib.rt', False),
+                             ('count-grows proofs/Tallies', False)):
+        why = edits.why_not_refused(edit(folder, 'a clause', goal, 'old: a', 'new: b'), said)
+        rows.say(f'the goal {goal}', [str(why)] * (is_refused != (why is None)))
+    why = edits.why_not_refused(edit(folder, *VALUE, 'old: a', 'new: b'), 'logic=proved')
+    rows.say('no goal', [str(why)] * ('no goal was refused' not in str(why)))
+
+
+ROWS = (places, copies, refusals)
