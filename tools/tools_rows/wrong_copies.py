@@ -70,8 +70,8 @@ IN_PLACE = '''#[tactic(auto)]
 SAID = '''note: src/lib.rt:6:5: it is not proved that it returns this (`returns-clause-value`)
 note: src/lib.rt:17:5: it is not proved that this is not reached (`unreachable`)
 ./proofs/Tallies.antt:3:1: error: `count-is`: the two types differ
-./proofs/Tallies.antt:9:1: error: 1 declaration that depends on `count-is`, which was rejected, was \
-not checked: count-grows
+./proofs/Tallies.antt:9:1: error: 1 declaration that depends on `count-is`, which was rejected, \
+was not checked: count-grows
 logic=not-proved'''
 
 VALUE = ('clause value of Tally::count', 'returns-clause-value src/lib.rt')
