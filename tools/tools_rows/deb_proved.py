@@ -23,19 +23,35 @@ def with_stand_in(folder):
     return checkout, f'{kit}:{lintian_path(folder, 0)}'
 
 
-def only_plain(rows, name, checkout, path, why, **more):
-    """A row in which there is no package of proved programs: one line says why, and no proof is
-    started."""
+def line_of(why):
+    """The line that says why there is no package of proved programs."""
+    return f"^deb: seldomplough-proved isn't made: {why}$"
+
+
+def refusal(rows, name, checkout, path, why, **more):
+    """A row in which there are no proved programs for a package: one line says why, no proof is
+    started, and nothing is made."""
     to = os.path.join(checkout.folder, name)
     os.makedirs(to)
     before = checkout.calls()
-    outcome = deb(checkout, to, PATH=path, **{'RECEIVER_PLAIN': None, **more})
+    outcome = run([sys.executable, checkout.at('tools/package/proved.py'), to], checkout.folder,
+                  {'PATH': path, 'RECEIVER_PLAIN': None, **more})
+    faults = [str(outcome)[-300:]] * (outcome.status != 3 or outcome.errors != ''
+                                      or not re.fullmatch(line_of(why) + '\n', outcome.said, re.M))
+    faults += [f'{it} was made' for it in os.listdir(to)]
+    rows.say(f'proved.py, {name}', faults + ['rt was called'] * (checkout.calls() != before))
+
+
+def only_plain(rows, checkout, path, why):
+    """Without proved programs tools/deb makes the other package, and says why there is one."""
+    to = os.path.join(checkout.folder, 'plain alone')
+    os.makedirs(to)
+    outcome = deb(checkout, to, PATH=path, RECEIVER_PLAIN=None)
     faults = [str(outcome)[-300:]] * (outcome.status != 0 or outcome.errors != '')
     made = os.listdir(to)
     faults += [f'{made}'] * (made != ['seldomplough_1.0.1_amd64.deb'])
-    line = f"^deb: seldomplough-proved isn't made: {why}$"
-    faults += [outcome.said] * (len(re.findall(line, outcome.said, re.M)) != 1)
-    rows.say(f'tools/deb, {name}', faults + ['rt was called'] * (checkout.calls() != before))
+    faults += [outcome.said] * (len(re.findall(line_of(why), outcome.said, re.M)) != 1)
+    rows.say('tools/deb, nothing is proved', faults)
 
 
 def proved(rows, folder):
@@ -45,19 +61,20 @@ def proved(rows, folder):
     checkout, path = with_stand_in(folder)
     lost = 'what `rt` proved for receiver_cli isn\'t all kept here: `rt run .*'
     missing = '`rt` hasn\'t built (receiver|packer)_cli of these sources: `tools/build .*'
-    only_plain(rows, 'nothing is proved', checkout, path, missing)
+    only_plain(rows, checkout, path, missing)
+    refusal(rows, 'nothing is proved', checkout, path, missing)
     for called in PROGRAMS.values():
         checkout.run(called)
-    only_plain(rows, 'no proof is kept', checkout, path, lost)
+    refusal(rows, 'no proof is kept', checkout, path, lost)
     for crate in PROGRAMS:
         os.makedirs(checkout.at(f'crates/{crate}/out/incremental'))
-    only_plain(rows, 'a library is not kept', checkout, path, lost)
+    refusal(rows, 'a library is not kept', checkout, path, lost)
     write(checkout.at('crates/version/out/rlib/stamp'), '')
-    only_plain(rows, 'the plain build is chosen', checkout, path, 'RECEIVER_PLAIN is set',
-               RECEIVER_PLAIN='1')
+    refusal(rows, 'the plain build is chosen', checkout, path, 'RECEIVER_PLAIN is set',
+            RECEIVER_PLAIN='1')
     write(os.path.join(folder, 'other', 'rt'), '#!/bin/sh\necho other\n', 0o755)
-    only_plain(rows, 'another rt', checkout, f'{folder}/other:{path}',
-               'there is no `rt` of the Rattle kit')
+    refusal(rows, 'another rt', checkout, f'{folder}/other:{path}',
+            'there is no `rt` of the Rattle kit')
     to = os.path.join(folder, 'both')
     os.makedirs(to)
     outcome = deb(checkout, to, PATH=path, RECEIVER_PLAIN=None)
@@ -70,7 +87,7 @@ def proved(rows, folder):
         of_ci(rows, checkout, path)
     with open(checkout.at('crates/packer_cli/src/main.rt'), 'a', encoding='utf-8') as file:
         file.write('\n// More.\n')
-    only_plain(rows, 'a source has changed', checkout, path, missing)
+    refusal(rows, 'a source has changed', checkout, path, missing)
 
 
 def of_ci(rows, checkout, path):
