@@ -38,7 +38,11 @@ HERE = os.path.dirname(os.path.realpath(__file__))
 
 
 class rtlib:
+    stop_on_text = None
+
     class Crate:
+        is_built = build_rlib = None
+
         def stamp(self):
             return ''
 

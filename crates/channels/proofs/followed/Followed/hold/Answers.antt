@@ -14,3 +14,10 @@ returns-clause-stands c xs now =
       code = none-ago signal.half _ (search rules);
       shift = refl;
     })) refl refl (λ a b. refl)
+
+pub returns-clause-begins : goal.returns-clause-begins
+returns-clause-begins c = record {
+  at = c.start.ensures.at;
+  dumps = refl;
+  steered_is = refl;
+}

@@ -17,3 +17,6 @@ returns-clause-stands c xs now =
       shift = refl;
     })
     (λ dumps. refl)
+
+pub returns-clause-begins : goal.returns-clause-begins
+returns-clause-begins c = c.track_after.ensures.begins

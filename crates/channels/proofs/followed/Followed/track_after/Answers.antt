@@ -17,3 +17,10 @@ returns-clause-stands c channel xs now b steered =
           (same-shift c.shift_of.result _ c.shift_of.ensures.small c.shift_of.ensures.value)
           tracking.ensures.stands;
     })
+
+pub returns-clause-begins : goal.returns-clause-begins
+returns-clause-begins c = record {
+  at = c.start.ensures.at;
+  dumps = refl;
+  steered_is = refl;
+}

@@ -59,3 +59,9 @@ returns-clause-follows c channel xs s shift =
 
 pub returns-clause-chance : goal.returns-clause-chance
 returns-clause-chance c = ap (λ (o : Oscillation). phase_chance o.phase) c.set_step.ensures
+
+pub returns-clause-prn : goal.returns-clause-prn
+returns-clause-prn c = refl
+
+pub returns-clause-at : goal.returns-clause-at
+returns-clause-at c = refl

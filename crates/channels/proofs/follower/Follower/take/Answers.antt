@@ -1,4 +1,4 @@
-use Rattle.std.proofs.Common.{◌≡◌, ◌+◌, ◌-◌, ◌*◌, ◌<◌, ℕ, List, ◌++◌, length, take, drop}
+use Rattle.std.proofs.Common.{◌≡◌, ◌+◌, ◌-◌, ◌*◌, ◌<◌, ℕ, List, ◌++◌, length, take, drop, refl}
 use Rattle.std.proofs.Common.{refl, ap, arith}
 use Rattle.std.proofs.lemmas.Bool.{true≢false}
 use Rattle.definitions.specs.Samples.{Sample}
@@ -168,3 +168,12 @@ returns-clause-small c =
     last-step f.code.phase n f.code.step some
     (low-before f (n - 1) (omega (arith, some, last))) in
     sums_small c.add-sums.result f.code.step total grown low f.moves
+
+pub returns-then-to-self-clause-at : goal.returns-then-to-self-clause-at
+returns-then-to-self-clause-at c = refl
+
+pub returns-then-to-self-clause-waits : goal.returns-then-to-self-clause-waits
+returns-then-to-self-clause-waits c _ = refl
+
+pub returns-clause-at : goal.returns-clause-at
+returns-clause-at c = refl
