@@ -142,3 +142,15 @@ returns-in-Some-tracking-clause-same c =
           let t = same.stands xs s in
           record { history = t.history; planes = t.planes };
     }
+
+pub returns-in_default-clause-steered : goal.returns-in_default-clause-steered
+returns-in_default-clause-steered c = refl
+
+pub returns-in-None-clause-steered : goal.returns-in-None-clause-steered
+returns-in-None-clause-steered c = refl
+
+pub returns-in-Some-tracking-clause-steered : goal.returns-in-Some-tracking-clause-steered
+returns-in-Some-tracking-clause-steered c = rw c.in-Some-tracking.is refl
+
+pub returns-in_default-clause-kept : goal.returns-in_default-clause-kept
+returns-in_default-clause-kept c _ = c.unpack.ensures.dump
