@@ -53,14 +53,21 @@ class Crate:
         return 0
 
 class rtlib:
-    RATTLE, Crate, stop_on_text = 'rattle', Crate, None
+    RATTLE, Crate = 'rattle', Crate
 
     def help_of(verb):
         return open('help').read()
 
+    def stop_on_text(crate, verb):
+        open('calls', 'a').write(f'read-{crate.name} ')
+
 def main(words):
     lower = rtlib.Crate('lower', [])
     upper = rtlib.Crate('upper', [lower])
+    # As where `rt` was called in the folder of the upper one.
+    upper.folder = os.getcwd()
+    for it in (lower, upper):
+        rtlib.stop_on_text(it, words[0])
     return max(it.build_rlib([], False) for it in (lower, upper))
 '''
 
@@ -84,13 +91,18 @@ class Kit:
             write(self.at(name), text)
 
     def built(self, status=0, **environment):
-        """What `rt_once` builds now, or the status where that isn't the one that is due."""
+        """What `rt_once` builds now, or what is wrong with the status or with the texts that `rt`
+        looks over first."""
         self.write(calls='')
         path = os.pathsep.join([self.at('bin'), os.environ['PATH']])
         ran = run([self.at('tools/rt_once'), 'lib'], self.top, {'PATH': path, **environment})
         with open(self.at('calls'), encoding='utf-8') as calls:
             said = calls.read()
-        return said if ran.status == status else f'status {ran.status}: {ran.errors[-200:]}'
+        read = ['read-upper'] if environment.get('RT_ROOM') else ['read-lower', 'read-upper']
+        words = said.split()
+        if ran.status != status or words[:len(read)] != read:
+            return f'status {ran.status}, {said}: {ran.errors[-200:]}'
+        return ' '.join(words[len(read):])
 
 
 def libraries(rows, folder):

@@ -8,6 +8,7 @@ import sys
 from .commands import TOP, write
 
 sys.path.insert(0, os.path.join(TOP, 'tools'))
+from answers import Answers
 from lone_goals import bodies_of
 from second_bodies import with_seconds
 from wrong_bodies import BadEdit, Edit, functions, without_those
@@ -129,6 +130,18 @@ def copies(rows, folder):
         rows.say(f'a copy of {name}', faults + [first] * (first != '#[tactic(auto)]'))
 
 
+def answers(rows, _):
+    """Answers to some goals, with all that stands between."""
+    texts = ['use A.{b}\n', 'pub one : goal.one\none c =\n    b c\n', 'helper : B\nhelper = b\n',
+             'pub two : goal.two\nunfolding b\ntwo c = refl\n']
+    found = Answers('\n'.join(texts))
+    rows.say('the names of answers', [f'{[*found.answers]}'] * ([*found.answers] != ['one', 'two']))
+    for kept, wanted in (('one', [0, 2, 1]), ('two', [0, 2, 3]), ('three', [0, 2])):
+        text = found.of_goals(lambda it, goal=kept: it == goal)
+        rows.say(f'the answer to {kept}', [text] * (
+            text.split() != ''.join(texts[it] for it in wanted).split()))
+
+
 def tool():
     """tools/edits as a module."""
     loader = importlib.machinery.SourceFileLoader('edits', os.path.join(TOP, 'tools', 'edits'))
@@ -153,4 +166,4 @@ def refusals(rows, folder):
     rows.say('no goal', [str(why)] * ('no goal was refused' not in str(why)))
 
 
-ROWS = (places, copies, refusals)
+ROWS = (places, copies, answers, refusals)
