@@ -51,7 +51,7 @@ class Machine:
             self.has('cargo', '#!/bin/sh\n')
             self.has('rustc', f'#!/bin/sh\necho rustc {rust} "(x 2025-01-01)"\n')
         self.write(calls='', fails='nothing', known=known, later=later, states='')
-        write(self.at('tools/gate'), '#!/bin/sh\necho gate\n', 0o755)
+        write(self.at('tools/gate'), '#!/bin/sh\necho gate "$@"\n', 0o755)
 
     def at(self, name: str) -> str:
         """The path of a file of it."""

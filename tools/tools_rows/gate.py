@@ -1,0 +1,123 @@
+"""Rows of tools/gate. All its parts are stand-ins."""
+from __future__ import annotations
+
+import os
+import re
+from typing import Any
+
+from .commands import TOP, Outcome, copied, run, write
+
+# A part: it notes that it begins and that it has ended, waits in between for what a file names, and
+# has the status that another says.
+PART = '''#!/bin/bash
+here="$(dirname "$0")"
+name="${0##*/}"
+echo "$name $*" >> "$here/../began"
+for at in {1..200}; do
+    [[ -s "$here/$name.waits" ]] || break
+    ! grep -q "^$(cat "$here/$name.waits")" "$here/../began" || break
+    sleep 0.05
+done
+echo "words of $name"
+echo "$name" >> "$here/../ended"
+exit "$(cat "$here/$name.status" 2> /dev/null || echo 0)"
+'''
+SETUP, FIRST, EARLY = 'setup --tests', 'gate-times rt ci', 'plain-check '
+
+
+class Gate:
+    """The gate over stand-ins of its parts."""
+
+    def __init__(self, folder: str, failing: str = '') -> None:
+        self.top = copied(folder, 'tools/gate', 'tools/crate_order.py')
+        with open(os.path.join(TOP, 'tools', 'gate'), encoding='utf-8') as text:
+            self.parts = sorted({*re.findall(r"'tools/([a-z-]+)'", text.read())})
+        for name in self.parts:
+            write(self.at(f'tools/{name}'), PART, 0o755)
+        if failing:
+            write(self.at(f'tools/{failing}.status'), '3')
+
+    def at(self, name: str) -> str:
+        """The path of a file of it."""
+        return os.path.join(self.top, name)
+
+    def run(self, *words: str) -> Outcome:
+        """The outcome of the gate."""
+        return run([self.at('tools/gate'), *words], self.top)
+
+    def lines(self, name: str) -> list[str]:
+        """The lines of a file that the parts write."""
+        if not os.path.exists(self.at(name)):
+            return []
+        with open(self.at(name), encoding='utf-8') as lines:
+            return lines.read().splitlines()
+
+    def faults(self, outcome: Outcome, status: int, last: str, ran: int) -> list[str]:
+        """What is wrong with an outcome: its status, its last line, and how many parts ran."""
+        found = outcome.status, outcome.said.splitlines()[-1:], len(self.lines('ended'))
+        return [f'{found}: {outcome.errors[-300:]}'] * (found != (status, [f'gate: {last}'], ran))
+
+
+def passes(rows: Any, folder: str) -> None:
+    """All parts run, and their words are printed whole, in their order."""
+    gate = Gate(folder)
+    write(gate.at('tools/gate-times.waits'), EARLY)
+    others = len(gate.parts) - 1
+    outcome = gate.run()
+    # `tools/build --keep` is run between, and is no part.
+    faults = gate.faults(outcome, 0, f'{others - 1} passed, 0 failed', others)
+    began = gate.lines('began')
+    rows.say('tools/gate', faults + ['it installs'] * (SETUP in began))
+    said = re.findall(r'^== tools/(.*)\nwords of (.*)$', outcome.said, re.M)
+    in_order = [name for name, words in said if name == words]
+    rows.say('tools/gate, the words of the parts',
+             [] if in_order[0] == 'examples-check' and in_order[-1] == 'edits'
+             and len(in_order) == others - 2 else [str(in_order)])
+    kept = began.index('build --keep')
+    rows.say('tools/gate, what begins before the programs are there',
+             [] if sorted(began[:kept]) == [FIRST, EARLY] else [str(began)])
+
+
+def installs(rows: Any, folder: str) -> None:
+    """What the parts need is installed beside the proofs, before any part begins."""
+    gate = Gate(folder)
+    # The proofs wait for it here, and it for them, to begin.
+    write(gate.at('tools/gate-times.waits'), SETUP)
+    write(gate.at('tools/setup.waits'), FIRST)
+    count = len(gate.parts)
+    outcome = gate.run('--setup')
+    rows.say('tools/gate --setup', gate.faults(outcome, 0, f'{count - 1} passed, 0 failed', count))
+    began = gate.lines('began')
+    rows.say('tools/gate --setup, what begins first',
+             [] if sorted(began[:2]) == [FIRST, SETUP] else [str(began)])
+
+
+def failures(rows: Any, folder: str) -> None:
+    """A part that fails fails the gate. What waits for the proofs, or for what is installed, isn't
+    run where these fail."""
+    for failing, words, counts, ran in (
+            ('hostile', (), '{} passed, 1 failed', None),
+            ('gate-times', (), '1 passed, 1 failed', {'gate-times', 'plain-check'}),
+            ('gate-times', ('--setup',), '2 passed, 1 failed',
+             {'gate-times', 'plain-check', 'setup'}),
+            ('setup', ('--setup',), '1 passed, 1 failed', {'gate-times', 'build', 'setup'})):
+        gate = Gate(os.path.join(folder, ' '.join((failing, *words))), failing)
+        outcome = gate.run(*words)
+        count = len(ran) if ran else len(gate.parts) - 1
+        faults = gate.faults(outcome, 1, counts.format(len(gate.parts) - 3), count)
+        ended = {*gate.lines('ended')}
+        rows.say(f'tools/gate {words}, {failing} fails',
+                 faults + [str(ended)] * bool(ran and ended != ran))
+
+
+def odd_words(rows: Any, folder: str) -> None:
+    """Other words are refused by what the usage is."""
+    gate = Gate(folder)
+    for words in (['x'], ['--setup', '--setup'], ['']):
+        outcome = gate.run(*words)
+        is_right = (outcome.status == 1 and 'usage: gate' in outcome.errors and not outcome.said
+                    and not gate.lines('began'))
+        rows.say(f'tools/gate {words}', [] if is_right else [str(outcome)[-300:]])
+
+
+ROWS = passes, installs, failures, odd_words
