@@ -106,9 +106,10 @@ def make_library(of: Toolchain, library: str, to: str) -> None:
         write(os.path.join(work, '.cargo', 'config.toml'), VENDORED.format(vendored))
         flags = [f'--remap-path-prefix={os.path.dirname(library)}=rust']
         kept = environment(of, os.path.join(work, 'home'), flags)
-        # What std has that isn't stable.
+        # What std has that isn't stable. It goes without backtraces, of which there are none here.
         kept['RUSTC_BOOTSTRAP'] = '1'
-        build(of, work, kept, '-Z', 'build-std=std,panic_abort,test')
+        of_std = ['build-std=std,panic_abort,test', 'build-std-features=panic-unwind']
+        build(of, work, kept, *(word for it in of_std for word in ('-Z', it)))
         made = os.path.join(work, 'target', TARGET, 'release', 'deps')
         os.makedirs(to)
         for name in os.listdir(made):

@@ -5,6 +5,9 @@ from dataclasses import dataclass
 
 TOP = os.path.dirname(os.path.dirname(os.path.dirname(os.path.realpath(__file__))))
 
+# The bytes of the longest line of a script that isn't refused for its length.
+LONGEST_LINE = 80
+
 # What Rust's own std reads from the environment. The proved programs have none of it.
 MARK_OF_STD = b'RUST_BACKTRACE'
 
@@ -91,11 +94,13 @@ def searches(programs, clients, share):
     return Case([programs.receiver, '--shares', shares, *scripts], bytes(size), lines)
 
 
-def blanks(programs, size, count):
-    """Scripts of so many bytes that ask for nothing."""
-    script = programs.file(f'blanks-{size}', b'\n' * size)
-    lines = b''.join(b'%d 0 end\n' % client for client in range(1, count + 1))
-    return Case([programs.receiver, *[script] * count], b'', lines)
+def one_line(programs, size, count):
+    """Scripts of so many bytes that are a line of blanks: one that is too long is refused."""
+    script = programs.file(f'line-{size}', b' ' * size)
+    clients = range(1, count + 1)
+    answers = b''.join(b'%d 0 err 1\n' % it for it in clients if size > LONGEST_LINE)
+    return Case([programs.receiver, *[script] * count], b'',
+                answers + b''.join(b'%d 0 end\n' % it for it in clients))
 
 
 def packed(programs, count=100000):

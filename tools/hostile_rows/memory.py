@@ -3,7 +3,7 @@ import os
 import re
 import signal
 
-from .cases import Case, blanks, packed, searches
+from .cases import Case, one_line, packed, searches
 from .runs import Wanted, run
 
 # The KiB of stack that are enough for every run, and how many more bytes of environment the system
@@ -140,9 +140,9 @@ def long_scripts(programs, rows):
     are shorter than what the stack has."""
     for size in SCRIPTS:
         for count in 1, 8:
-            case = blanks(programs, size, count)
+            case = one_line(programs, size, count)
             held = size * count >> 10
-            step = PAGE if held < 1024 else 32 if held < 16384 else 256
+            step = PAGE if held < 1024 else 32 if held < 16384 else 448
             rows.say(f'address space, {count} scripts of {size} bytes',
                      Sweep(case, answers(programs, case))
                      .faults(LEAST_SPACE + held, MOST_SPACE + 4 * held, step))

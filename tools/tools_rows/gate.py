@@ -7,12 +7,13 @@ from typing import Any
 
 from .commands import TOP, Outcome, copied, run, write
 
-# A part: it notes that it begins and that it has ended, waits in between for what a file names, and
-# has the status that another says.
+# A part: it notes that it begins, by which Python, and that it has ended, waits in between for what
+# a file names, and has the status that another says.
 PART = '''#!/bin/bash
 here="$(dirname "$0")"
 name="${0##*/}"
 echo "$name $*" >> "$here/../began"
+echo "$name $(readlink "$(command -v python3)")" >> "$here/../pythons"
 for at in {1..200}; do
     [[ -s "$here/$name.waits" ]] || break
     ! grep -q "^$(cat "$here/$name.waits")" "$here/../began" || break
@@ -69,6 +70,10 @@ def passes(rows: Any, folder: str) -> None:
     began = gate.lines('began')
     rows.say('tools/gate', faults + ['it installs'] * (SETUP in began))
     said = re.findall(r'^== tools/(.*)\nwords of (.*)$', outcome.said, re.M)
+    pythons = {it.split()[1] for it in gate.lines('pythons')
+               if it.split()[0] not in ('gate-times', 'build')}
+    rows.say('tools/gate, the Python of the parts',
+             [] if len(pythons) == 1 and os.access(min(pythons), os.X_OK) else [str(pythons)])
     in_order = [name for name, words in said if name == words]
     rows.say('tools/gate, the words of the parts',
              [] if in_order[0] == 'examples-check' and in_order[-1] == 'edits'
