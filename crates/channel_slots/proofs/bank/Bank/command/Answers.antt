@@ -1,3 +1,4 @@
+use Rattle.std.proofs.Common.{inl, inr}
 use Rattle.std.proofs.Common.{◌<◌, ◌≤◌, arith, ℕ, List, sym, subst, refl, ◌∙◌}
 use Rattle.channel_slots.specs.declared.seat.Seat.{Seat}
 use Rattle.channel_slots.specs.Slots.{Obeys, StandsFor, is_sound, next_event}
@@ -85,3 +86,14 @@ returns-clause-stands c settings xs asked s has =
           c.in-Some.ensures.there c.index_mut.ensures.value (request_in c.args.command) s.slots
           refl refl (λ commands t. obeys.stands xs commands (sym s.now) t));
     }
+
+pub returns-in_default-clause-none : goal.returns-in_default-clause-none
+returns-in_default-clause-none c lacks = refl
+
+pub returns-clause-none : goal.returns-clause-none
+returns-clause-none c lacks =
+    let has = c.in-Some.ensures.has in
+    elim lacks [
+      | inl none ↦ absurd (omega (arith, none, has.0))
+      | inr past ↦ absurd (omega (arith, past, c.slot.ensures, has.1))
+    ]

@@ -148,3 +148,7 @@ returns-clause-goes c =
 
 pub returns-clause-same : goal.returns-clause-same
 returns-clause-same c = c.loop-self.invariant.same
+
+pub returns-clause-rests : goal.returns-clause-rests
+returns-clause-rests c =
+    omega (arith, c.end-end.ensures, c.next_event.ensures.value, c.loop-self-test.false)

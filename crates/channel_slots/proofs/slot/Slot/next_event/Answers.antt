@@ -1,3 +1,4 @@
+use Rattle.std.proofs.Common.{refl}
 use Rattle.channel_slots.proofs.QuietSlotLemmas.{quiet-before-next}
 use Rattle.channel_slots.proofs.slot.Slot.next_event.Goals as goal
 
@@ -14,3 +15,6 @@ pub returns-in-Following-clause-quiet : goal.returns-in-Following-clause-quiet
 returns-in-Following-clause-quiet c settings xs ys commands s more early =
     quiet-before-next settings xs ys commands c.args.self.now s more
     (rw c.in-Following.is (rw c.next_dump.ensures.value at early))
+
+pub returns-in-Idle-clause-value : goal.returns-in-Idle-clause-value
+returns-in-Idle-clause-value c = rw c.in-Idle.is refl

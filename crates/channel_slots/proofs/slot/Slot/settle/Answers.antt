@@ -12,3 +12,9 @@ returns-in-Some-clause-stage c s is =
       rw c.in-Some.is at found.ensures.follows,
       rw c.in-Some.is at found.ensures.begins,
     )
+
+pub returns-in-Some-clause-left : goal.returns-in-Some-clause-left
+returns-in-Some-clause-left c = c.rest.ensures.left
+
+pub returns-in_default-found-clause-left : goal.returns-in_default-found-clause-left
+returns-in_default-found-clause-left c = c.rest.ensures.left

@@ -312,3 +312,24 @@ take-requires-in-Following-clause-few c come =
     in-time (first_of c.args.window.now) c.requires.sound.0 c.requires.sound.1
     c.in-Following.followed (rw c.in-Following.is at c.requires.sound.3.0) in
     omega (arith, known.few, c.requires.sound.2, c.requires.early)
+
+pub returns-in_ok-cell-in-Searching-clause-within :
+    goal.returns-in_ok-cell-in-Searching-clause-within
+returns-in_ok-cell-in-Searching-clause-within c =
+    let some : c.take.result ≡ Some c.in_ok-cell-in-Searching.cell =
+    c.in_ok-cell-in-Searching.was in
+    let come = c.take.ensures.due.0 (rw some refl) in
+    omega (arith, come, c.due-time.ensures.value, c.take.ensures.later.due)
+
+pub returns-in-Idle-clause-later : goal.returns-in-Idle-clause-later
+returns-in-Idle-clause-later c = tt
+
+pub returns-in-Idle-clause-same : goal.returns-in-Idle-clause-same
+returns-in-Idle-clause-same c =
+    record { first = refl; end = refl; history = refl; stands = λ xs s. s }
+
+pub returns-then-not-take-clause-goes_on : goal.returns-then-not-take-clause-goes_on
+returns-then-not-take-clause-goes_on c =
+    let took = c.take-in-Following in
+    let later = not-come took.result _ c.args.to took.ensures.came c.if-not-take.true in
+    omega (arith, later, took.ensures.waits c.if-not-take.true)

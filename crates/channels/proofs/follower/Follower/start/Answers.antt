@@ -1,3 +1,4 @@
+use Rattle.std.proofs.Common.{refl}
 use Rattle.std.proofs.Common.{◌≡◌, refl, sym, arith, pos, ap, ◌<◌, ◌*◌, ◌^◌, ◌∙◌, w64}
 use Rattle.std.proofs.lemmas.Int.{to_z-of_z, fits_signed_from_abs}
 use Rattle.definitions.specs.Oscillators.{code_step, carrier_step, code_phase_after}
@@ -60,3 +61,6 @@ returns-clause-follows c channel xs many begins =
     (ap (λ (o : Oscillation). o.step) c.new.ensures ∙ c.carrier_step.ensures
     ∙ ap (λ v. carrier_step settings v) shift
     ∙ ap (λ (d : Shift). carrier_step settings d.v) (sym begins.shift)) refl)
+
+pub returns-clause-at : goal.returns-clause-at
+returns-clause-at c = refl

@@ -1,3 +1,4 @@
+use Rattle.std.proofs.lemmas.Bool.{false≢true}
 use Rattle.std.proofs.Common.{◌≡◌, ◌+◌, ◌-◌, ◌*◌, ◌<◌, ℕ, List, ◌++◌, length, take, drop}
 use Rattle.std.proofs.Common.{refl, ap, arith}
 use Rattle.std.proofs.lemmas.Bool.{true≢false}
@@ -177,3 +178,12 @@ returns-then-to-self-clause-waits c _ = refl
 
 pub returns-clause-at : goal.returns-clause-at
 returns-clause-at c = refl
+
+pub returns-then-to-self-clause-came : goal.returns-then-to-self-clause-came
+returns-then-to-self-clause-came c = (
+  λ is. absurd (false≢true is),
+  λ far. absurd (omega (arith, far, c.if-to-self.true)),
+)
+
+pub returns-clause-came : goal.returns-clause-came
+returns-clause-came c = (λ is. omega (arith, c.if-to-self.false), λ far. refl)

@@ -20,3 +20,6 @@ returns-clause-follows c settings plan begun xs now s =
     (omega (arith, now, c.due-due.ensures.value, due))
     (omega (arith, due, c.start.ensures, s.search.start_is)))
     (λ dumps. ap (λ v. shift_after v dumps) (sym shift))
+
+pub returns-clause-begins : goal.returns-clause-begins
+returns-clause-begins c = rw c.due-due.ensures.value at c.track_after.ensures.begins

@@ -12,3 +12,13 @@ returns-clause-waits c settings plan begun xs ys early s =
       c.done.ensures,
       c.saturating_sub.ensures,
     ))
+
+pub returns-clause-value : goal.returns-clause-value
+returns-clause-value c =
+    omega (
+      arith,
+      c.due.ensures.value,
+      c.cells.ensures,
+      c.done.ensures,
+      c.saturating_sub.ensures,
+    )

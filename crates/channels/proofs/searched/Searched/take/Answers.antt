@@ -1,3 +1,4 @@
+use Rattle.std.proofs.lemmas.Bool.{false≢true}
 use Rattle.std.proofs.Common.{◌++◌, ◌-◌, refl, arith}
 use Rattle.channels.specs.Searching.{due_of}
 use Rattle.channels.proofs.SearchedLemmas.{stays, whole, quarters, searches-on, answers-with}
@@ -30,3 +31,9 @@ returns-clause-takes g c settings plan begun xs ys now holds s =
       answers = answers-with settings plan begun xs old s ys c.args.to now c.result.result _
           next.done c.result.ensures.done c.result.ensures.cell stands;
     }
+
+pub returns-then-to-next_cell-clause-due : goal.returns-then-to-next_cell-clause-due
+returns-then-to-next_cell-clause-due g c = (
+  λ is. absurd (false≢true is),
+  λ far. absurd (omega (arith, far, c.if-to-next_cell.true, c.next_cell.ensures.value)),
+)

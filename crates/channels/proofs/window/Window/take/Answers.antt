@@ -1,3 +1,4 @@
+use Rattle.std.proofs.Common.{refl}
 use Rattle.std.proofs.Common.{arith, rules, ◌∙◌}
 use Rattle.channels.proofs.WindowLemmas.{unpacked-on}
 use Rattle.channels.proofs.window.Window.take.Goals as goal
@@ -27,3 +28,9 @@ returns-clause-stands c xs s =
           ∙ unpacked-on xs c.args.run.now.samples w.first w.unpacked w.«open».begun
           (omega (arith, w.«open».taken, s.history.taken));
     }
+
+pub returns-clause-first : goal.returns-clause-first
+returns-clause-first c = refl
+
+pub returns-clause-dump : goal.returns-clause-dump
+returns-clause-dump c = refl

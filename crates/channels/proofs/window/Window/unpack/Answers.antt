@@ -28,3 +28,6 @@ returns-then-self-end-clause-same c = record {
             (omega (arith, some)) (c.end-self.ensures ∙ s.history.taken);
       };
 }
+
+pub returns-then-self-end-clause-dump : goal.returns-then-self-end-clause-dump
+returns-then-self-end-clause-dump c = refl

@@ -38,3 +38,6 @@ returns-clause-products c =
     (part_is c.new-wiped.result.q c.running_sums-2.result c.from_none-2.result
     c.running_sums-2.ensures.sums c.from_none-2.ensures.sums
     c.from_none-2.ensures.none)
+
+pub returns-clause-moved : goal.returns-clause-moved
+returns-clause-moved c = c.next_eighths-eighths.ensures.moved
