@@ -5,9 +5,9 @@ use Rattle.std.proofs.Common.{take-append-drop, true≢false}
 use Rattle.std.proofs.lemmas.List.{take_all, take_min, length-take, length-take-le}
 use Rattle.std.proofs.Math.Seq.{take-append_seam, take-append-add}
 use Rattle.std.proofs.Math.Nat.{min-le_left, min-eq_right}
-use Rattle.std.specs.Prelude.{Bool, true, false, ◌||◌, ◌==◌, Option, Result, MatchResult, ◌↔◌}
+use Rattle.std.specs.Prelude.{Bool, true, false, nat_lt, ◌||◌, ◌==◌, Option, Result, MatchResult, ◌↔◌}
 use Rattle.std.specs.Io.KnownBytes.{Consumes, Keeps}
-use Rattle.std.proofs.lemmas.Bool.{cases_lt, eq-eqb, ne_eqb}
+use Rattle.std.proofs.lemmas.Bool.{cases_lt, eq-eqb, ltb-true, lt-ltb, ne_eqb}
 use Rattle.std.proofs.Math.Bool.{or-false, or-true}
 use Rattle.definitions.specs.Oscillators.{Settings}
 use Rattle.definitions.specs.Receiver.{Client, body}
@@ -79,6 +79,32 @@ taken-before session limit bytes packing time per used is p t e whole u =
     ∙ ap (λ k. min (length bytes) (left / k)) (e ∙ ap (λ (q : Packing). samples_per_byte q) p) in
     is ∙ ap (λ (q : Packing). samples q (take used bytes)) p
     ∙ front-taken own bytes left used whole room
+
+-- some bytes stay where they have more samples than there are before the limit
+pub left-past : (packing : Packing) (time limit count used : ℕ) → time ≤ limit
+    → (limit - time) % samples_per_byte packing ≡ 0
+    → used ≡ min count ((limit - time) / samples_per_byte packing)
+    → (nat_lt used count ≡ true) ↔ (limit < time + samples_per_byte packing * count)
+left-past packing time limit count used within whole u = (
+  λ less. more packing whole u (ltb-true used count less),
+  λ past. lt-ltb used count (less packing whole u past),
+)
+  where
+    more : (p : Packing) → (limit - time) % samples_per_byte p ≡ 0
+        → used ≡ min count ((limit - time) / samples_per_byte p) → used < count
+        → limit < time + samples_per_byte p * count
+    more real1 w v l = omega (arith, within, w, v, l)
+    more real2 w v l = omega (arith, within, w, v, l)
+    more iq1 w v l = omega (arith, within, w, v, l)
+    more iq2 w v l = omega (arith, within, w, v, l)
+
+    less : (p : Packing) → (limit - time) % samples_per_byte p ≡ 0
+        → used ≡ min count ((limit - time) / samples_per_byte p)
+        → limit < time + samples_per_byte p * count → used < count
+    less real1 w v l = omega (arith, within, w, v, l)
+    less real2 w v l = omega (arith, within, w, v, l)
+    less iq1 w v l = omega (arith, within, w, v, l)
+    less iq2 w v l = omega (arith, within, w, v, l)
 
 -- the time after those, where nothing stands between the limit and a whole byte
 pub time-before : (session : Session) (limit : ℕ) (bytes : List ℕ) → time_of session ≤ limit

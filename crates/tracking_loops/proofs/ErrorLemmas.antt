@@ -18,3 +18,11 @@ pub difference_part : (result difference x y early late : ℤ) (a b : ℕ) → r
 difference_part result difference x y early late a b r d a_is b_is x_is y_is =
     r ∙ ap₂ ratio (d ∙ ap₂ (λ (z w : ℤ). z -ℤ w) x_is y_is)
     (ap₂ (λ (m n : ℕ). m + n) (a_is ∙ ap unsigned_abs x_is) (b_is ∙ ap unsigned_abs y_is))
+
+pub phase_part : (result turned x y quadrature in_phase : ℤ) (a b : ℕ)
+    → result ≡ ratio turned (a + b) → turned ≡ x *ℤ sgn y → a ≡ unsigned_abs y
+    → b ≡ unsigned_abs x → x ≡ quadrature → y ≡ in_phase
+    → result ≡ ratio (quadrature *ℤ sgn in_phase) (unsigned_abs in_phase + unsigned_abs quadrature)
+phase_part result turned x y quadrature in_phase a b r t a_is b_is x_is y_is =
+    r ∙ ap₂ ratio (t ∙ ap₂ (λ (z w : ℤ). z *ℤ sgn w) x_is y_is)
+    (ap₂ (λ (m n : ℕ). m + n) (a_is ∙ ap unsigned_abs y_is) (b_is ∙ ap unsigned_abs x_is))

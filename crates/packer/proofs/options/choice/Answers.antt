@@ -1,4 +1,5 @@
-use Rattle.std.proofs.Common.{◌∙◌, sym, ap, subst}
+use Rattle.std.proofs.Common.{◌∙◌, sym, ap, subst, rules, w32, FitsSigned}
+use Rattle.std.proofs.lemmas.Int.{to_z-of_z}
 use Rattle.std.specs.Result.{result_ok}
 use Rattle.clap.specs.Matches.{found_of}
 use Rattle.recordings.specs.declared.value_kind.ValueKind.{ValueKind}
@@ -23,3 +24,19 @@ returns-in_err-threshold-clause-why c =
     c.from-is_paired.ensures.pairs
     (sym (ap result_ok c.in_ok-format.was) ∙ c.format.ensures.value)
     (sym (ap result_ok c.in_err-threshold.was) ∙ c.threshold.ensures.value))
+
+pub returns-clause-asked : goal.returns-clause-asked
+returns-clause-asked c = record {
+  kind = c.from-is_paired.ensures.kind;
+  is_paired = c.from-is_paired.ensures.pairs;
+  format = sym c.format.ensures.value ∙ ap result_ok c.in_ok-format.was;
+  centres =
+      let i : FitsSigned w32 c.in_ok-centre.centre = search rules in
+      let q : FitsSigned w32 c.in_ok-centre.centre_q = search rules in
+      rw (to_z-of_z w32 c.in_ok-centre.centre i, to_z-of_z w32 c.in_ok-centre.centre_q q)
+      c.in_ok-centre.ensures.asked;
+  threshold = sym c.threshold.ensures.value ∙ ap result_ok c.in_ok-threshold.was;
+  is_swapped = c.is_set.ensures;
+  is_conjugate = c.is_set-2.ensures;
+  takes_quadrature = c.takes_quadrature.ensures;
+}

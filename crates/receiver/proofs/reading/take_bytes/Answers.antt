@@ -1,12 +1,12 @@
-use Rattle.std.proofs.Common.{◌∙◌, ◌++◌, ◌+◌, List, length, ap, subst}
+use Rattle.std.proofs.Common.{◌≡◌, ◌∙◌, ◌++◌, ◌+◌, ◌-◌, ◌/◌, List, length, min, ap, subst}
 use Rattle.std.proofs.lemmas.Result.{MatchResult-from_err}
-use Rattle.definitions.specs.Samples.{Sample}
+use Rattle.definitions.specs.Samples.{Sample, samples_per_byte}
 use Rattle.definitions.specs.Receiver.{body}
 use Rattle.receiver.specs.Outputs.{promised}
 use Rattle.receiver.specs.Runs.{IsWrittenTo}
 use Rattle.receiver.specs.Texts.{AppendsPart}
-use Rattle.receiver.specs.Sessions.{time_of}
-use Rattle.receiver.proofs.ReadLemmas.{taken-before, time-before}
+use Rattle.receiver.specs.Sessions.{packing_in, time_of}
+use Rattle.receiver.proofs.ReadLemmas.{left-past, taken-before, time-before}
 use Rattle.receiver.proofs.reading.take_bytes.Goals as goal
 
 pub returns-in_err-take_piece-clause-takes : goal.returns-in_err-take_piece-clause-takes
@@ -51,3 +51,12 @@ returns-clause-time g c =
     c.in_ok-take_piece.ensures.time
     ∙ ap (λ (run : List Sample). time_of c.args.session.now + length run) before
     ∙ time-before c.args.session.now c.args.limit c.args.bytes.now c.requires.within
+
+pub returns-clause-past : goal.returns-clause-past
+returns-clause-past g c =
+    let used : c.min-used.result ≡ min (length c.args.bytes.now)
+    ((c.args.limit - time_of c.args.session.now)
+    / samples_per_byte (packing_in c.args.session.now)) =
+    rw (c.time.ensures, c.per_byte.ensures, c.format-format.ensures) at c.min-used.ensures in
+    left-past (packing_in c.args.session.now) (time_of c.args.session.now) c.args.limit
+    (length c.args.bytes.now) c.min-used.result c.requires.within c.requires.whole used
