@@ -1,4 +1,4 @@
-use Rattle.std.proofs.Common.{rules, append-nil, ◌≡◌, ◌∙◌, ℕ, ◌≤◌, List, ◌++◌}
+use Rattle.std.proofs.Common.{append-nil, ◌≡◌, ◌∙◌, ℕ, ◌≤◌, List, ◌++◌}
 use Rattle.std.proofs.Common.{take, ap, sym, refl, [], subst, arith, Ok, Err}
 use Rattle.std.specs.Io.KnownBytes.{Consumes}
 use Rattle.std.proofs.Math.Nat.{min-le_left}
@@ -114,7 +114,7 @@ returns-then-count-eq0-clause-reads g c settings clients start at =
           (take c.in-Ok.count buffer) was.consumed c.in-Ok.ensures.bytes.0);
       why = (
         (
-          c.in-Ok.ensures.bytes.1 c.if-count-eq0.true (search rules),
+          c.in-Ok.ensures.bytes.1 c.if-count-eq0.true (omega arith),
           none-given c.in-Ok.count _ c.if-count-eq0.true c.in-Ok.ensures.end,
           c.in-Ok.ensures.failure ∙ was.ended.1,
         ),
