@@ -89,14 +89,16 @@ fn dumps_do_not_depend_on_the_runs(rt: HostRuntime) -> Result<(), Fail> {
     Ok(())
 }
 
-// The recording has one bit a sample, and a run at most 1,024 samples.
-static RUNS: [(Format, usize, Result<u64, FeedFault>); 6] = [
-    (Format::Real2, 1, Err(FeedFault::Packing)),
-    (Format::Iq1, 0, Err(FeedFault::Packing)),
-    (Format::Iq2, 129, Err(FeedFault::Packing)),
-    (Format::Real1, 129, Err(FeedFault::TooLong)),
-    (Format::Real1, 128, Ok(1_024)),
-    (Format::Real1, 0, Ok(1_024)),
+// The recording has one bit a sample, and a run at most 1,024 samples. One that is refused changes
+// no time.
+static RUNS: [(Format, usize, Result<(), FeedFault>, u64); 7] = [
+    (Format::Real2, 1, Err(FeedFault::Packing), 0),
+    (Format::Iq1, 0, Err(FeedFault::Packing), 0),
+    (Format::Iq2, 129, Err(FeedFault::Packing), 0),
+    (Format::Real1, 129, Err(FeedFault::TooLong), 0),
+    (Format::Real1, 128, Ok(()), 1_024),
+    (Format::Real1, 0, Ok(()), 1_024),
+    (Format::Real1, 129, Err(FeedFault::TooLong), 1_024),
 ];
 
 #[test]
@@ -104,13 +106,10 @@ fn runs_that_do_not_fit_are_refused(rt: HostRuntime) {
     let mut bank = new_bank(&rt, plain_settings(&rt), &[1]);
     let mut timeline = new_timeline(&rt);
     let zeros = [0; 129];
-    for &(format, bytes, time) in &RUNS {
-        let before = bank.time();
-        let fed = bank.try_feed(&PackedSamples::new(format, &zeros[..bytes]), &mut timeline);
-        assert_same_at!(rt; (format, bytes), fed.map(|()| bank.time()), time);
-        if time.is_err() {
-            assert_same!(rt; bank.time(), before);
-        }
+    for &(format, bytes, fed, time) in &RUNS {
+        let samples = PackedSamples::new(format, &zeros[..bytes]);
+        let found = (bank.try_feed(&samples, &mut timeline), bank.time());
+        assert_same_at!(rt; (format, bytes), found, (fed, time));
     }
 }
 
