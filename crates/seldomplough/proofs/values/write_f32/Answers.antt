@@ -6,3 +6,6 @@ pub returns-then-is_nan-clause-nan : goal.returns-then-is_nan-clause-nan
 returns-then-is_nan-clause-nan c is =
     nan-at c.args.values.now c.loop-value.value-index _ c.loop-value-test.true
     (sym c.is_nan.ensures.value ∙ c.if-is_nan.true)
+
+pub returns-then-is_nan-clause-kind : goal.returns-then-is_nan-clause-kind
+returns-then-is_nan-clause-kind c is = cc

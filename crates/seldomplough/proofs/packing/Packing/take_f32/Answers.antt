@@ -1,4 +1,4 @@
-use Rattle.std.proofs.Common.{◌≡◌, ◌∙◌, ap, Err, inl, inr, rules}
+use Rattle.std.proofs.Common.{◌≡◌, ◌∙◌, ap, sym, refl, Err, inl, inr, true, false, rules}
 use Rattle.seldomplough.proofs.NanLemmas.{nan-front, is-no-number}
 use Rattle.seldomplough.specs.Packings.{bytes_of_f32, fault_of}
 use Rattle.seldomplough.specs.declared.packing_fault.PackingFault.TheVariants.{NotANumber}
@@ -22,3 +22,10 @@ returns-in_err-take-clause-no_number c is =
           rw same at
           (c.in_err-take.ensures.fault (ap Err (is-no-number c.in_err-take.field-0.0 made)));
     }
+
+pub returns-then-ne-clause-kind : goal.returns-then-ne-clause-kind
+returns-then-ne-clause-kind c = (
+  λ other is.
+      let clash : true ≡ false = sym c.if-ne.true ∙ c.ne.ensures ∙ rw (c.kind.ensures, is) refl in cc,
+  λ other. refl,
+)
