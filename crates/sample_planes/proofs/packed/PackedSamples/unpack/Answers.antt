@@ -1,4 +1,4 @@
-use Rattle.std.proofs.Common.{ap}
+use Rattle.std.proofs.Common.{ap, ◌∙◌}
 use Rattle.sample_planes.specs.PackedRuns.{PackedRun}
 use Rattle.sample_planes.specs.Packings.{packing_of}
 use Rattle.sample_planes.specs.declared.planes.TheConstants.{MAX_SAMPLES}
@@ -10,3 +10,6 @@ unpack-requires-clause-short c =
     let i = c.self.inside in
     short_run (packing_of i.format) i.bytes.now i.first i.len c.args.self.now.samples
     (ap (λ (r : PackedRun). r.samples) c.self.view_is) MAX_SAMPLES c.requires
+
+pub returns : goal.returns
+returns c = c.unpack.ensures ∙ ap (λ (r : PackedRun). r.samples) c.self.view_is
