@@ -1,4 +1,4 @@
-use Rattle.std.proofs.Common.{◌+◌, ◌*◌, ◌-ℤ◌, ℕ, pos, w32, FitsSigned, to_z, of_z, arith}
+use Rattle.std.proofs.Common.{◌+◌, ◌*◌, ◌-ℤ◌, ℕ, pos, w32, FitsSigned, arith}
 use Rattle.std.proofs.lemmas.Int.{ints, to_z-of_z, to_z_pos, fits_signed_from_abs}
 use Rattle.acquisition.proofs.pair_powers.lowered.Goals as goal
 

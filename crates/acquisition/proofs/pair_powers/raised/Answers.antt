@@ -1,4 +1,4 @@
-use Rattle.std.proofs.Common.{◌≡◌, ◌≤◌, ◌+ℤ◌, ℤ, pos, unsigned_abs, w32, FitsSigned, to_z, of_z, arith}
+use Rattle.std.proofs.Common.{◌+ℤ◌, ℤ, pos, w32, FitsSigned, arith}
 use Rattle.std.proofs.lemmas.Int.{ints, to_z-of_z, fits_signed_from_abs}
 use Rattle.acquisition.proofs.pair_powers.raised.Goals as goal
 

@@ -1,4 +1,4 @@
-use Rattle.std.proofs.Common.{◌-ℤ◌, ◌*ℤ◌, ℤ, ℕ, pos, w32, FitsSigned, to_z, of_z, arith, refl}
+use Rattle.std.proofs.Common.{◌-ℤ◌, ◌*ℤ◌, ℤ, pos, w32, FitsSigned, arith}
 use Rattle.std.proofs.lemmas.Int.{ints, to_z-of_z, to_z_pos, fits_signed_from_abs}
 use Rattle.acquisition.proofs.part_powers.less_twice.Goals as goal
 
@@ -7,7 +7,8 @@ returns c =
     let whole : ℤ = c.args.whole in
     let r = c.requires in
     let far : ℤ = pos c.args.picked -ℤ pos c.args.raised in
-    let whole_fits : FitsSigned w32 whole = fits_signed_from_abs w32 whole (omega (arith, r.whole)) in
+    let whole_fits : FitsSigned w32 whole =
+    fits_signed_from_abs w32 whole (omega (arith, r.whole)) in
     let far_fits : FitsSigned w32 far =
     fits_signed_from_abs w32 far (omega (arith, ints, r.picked, r.raised)) in
     let twice : FitsSigned w32 (pos 2 *ℤ far) =

@@ -1,4 +1,5 @@
-use Rattle.std.proofs.Common.{◌≡◌, ◌<◌, ◌-◌, ◌≤◌, ◌+ℤ◌, ℤ, ℕ, pos, length, unsigned_abs, w32, FitsSigned, to_z, of_z, refl, arith, ◌∙◌, ap}
+use Rattle.std.proofs.Common.{◌≡◌, ◌-◌, ◌≤◌, ◌+ℤ◌, ℤ, pos, unsigned_abs, w32, FitsSigned, to_z}
+use Rattle.std.proofs.Common.{of_z, arith, ◌∙◌, ap}
 use Rattle.std.proofs.lemmas.Int.{ints, to_z-of_z, fits_signed_from_abs}
 use Rattle.std.proofs.lemmas.List.{get_or-set_same}
 use Rattle.acquisition.specs.declared.chip_ring.TheConstants.{RAISED}

@@ -1,4 +1,4 @@
-use Rattle.std.proofs.Common.{◌≡◌, ◌≤◌, ◌*◌, ◌-ℤ◌, pos, w32, FitsSigned, to_z, of_z, refl, arith, ℕ}
+use Rattle.std.proofs.Common.{◌≡◌, ◌≤◌, ◌*◌, ◌-ℤ◌, pos, w32, FitsSigned, to_z, of_z, arith, ℕ}
 use Rattle.std.proofs.lemmas.Int.{ints, to_z-of_z, to_z_pos, fits_signed_from_abs}
 use Rattle.acquisition.specs.declared.plan.TheConstants.{MOST_SIDE_BINS}
 use Rattle.acquisition.proofs.plan.Plan.bin.Goals as goal

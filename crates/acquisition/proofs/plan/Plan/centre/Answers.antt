@@ -1,5 +1,5 @@
-use Rattle.std.proofs.Common.{refl, arith, w32}
-use Rattle.std.proofs.lemmas.Int.{to_z-of_z, to_z_pos, fits_signed_from_abs}
+use Rattle.std.proofs.Common.{arith, w32}
+use Rattle.std.proofs.lemmas.Int.{to_z-of_z, fits_signed_from_abs}
 use Rattle.acquisition.proofs.plan.Plan.centre.Goals as goal
 
 pub returns-clause-value : goal.returns-clause-value
