@@ -23,3 +23,9 @@ returns-in_err-new-clause-of_plan c =
     (rw (cell-shift-fits i.centre bin c.self.invariant.0 few)
     (cell-shift-small i.centre bin c.self.invariant.0 few)) in
     cc
+
+pub returns-clause-prn : goal.returns-clause-prn
+returns-clause-prn c = rw (← c.self.view_is) refl
+
+pub returns-clause-half : goal.returns-clause-half
+returns-clause-half c = refl

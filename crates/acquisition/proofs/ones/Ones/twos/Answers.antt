@@ -1,0 +1,4 @@
+use Rattle.acquisition.proofs.ones.Ones.twos.Goals as goal
+
+pub returns : goal.returns
+returns c = c.as_slice.ensures.value

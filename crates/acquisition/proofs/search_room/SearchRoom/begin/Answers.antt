@@ -1,0 +1,5 @@
+use Rattle.acquisition.proofs.search_room.SearchRoom.begin.Goals as goal
+
+pub returns-clause-added : goal.returns-clause-added
+returns-clause-added c =
+    λ d. rw (c.push_reserved.ensures.items, c.clear.ensures.items) c.new.ensures.added
