@@ -5,7 +5,8 @@ use Rattle.std.proofs.Common.{take-append-drop, true≢false}
 use Rattle.std.proofs.lemmas.List.{take_all, take_min, length-take, length-take-le}
 use Rattle.std.proofs.Math.Seq.{take-append_seam, take-append-add}
 use Rattle.std.proofs.Math.Nat.{min-le_left, min-eq_right}
-use Rattle.std.specs.Prelude.{Bool, true, false, nat_lt, ◌||◌, ◌==◌, Option, Result, MatchResult, ◌↔◌}
+use Rattle.std.specs.Prelude.{Bool, true, false, nat_lt, ◌||◌, ◌==◌, ◌↔◌}
+use Rattle.std.specs.Prelude.{Option, Result, MatchResult}
 use Rattle.std.specs.Io.KnownBytes.{Consumes, Keeps}
 use Rattle.std.proofs.lemmas.Bool.{cases_lt, eq-eqb, ltb-true, lt-ltb, ne_eqb}
 use Rattle.std.proofs.Math.Bool.{or-false, or-true}
