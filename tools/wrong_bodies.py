@@ -114,7 +114,8 @@ class Edit:
 REFUSAL = re.compile(r'(?:note: )?(?:\./)?((?:src|proofs)/\S+?):(\d+):\d+: ')
 
 # A proof that names what an edit took away, and what cites that proof: that shows no clause.
-LACKS = re.compile(r'(?:\./)?proofs/.*(has no field|is not in scope|has no `|was not admitted)')
+LACKS = re.compile(r'(?:\./)?proofs/.*(has no field|is not in scope|has no `|was not admitted|'
+                   r'\(nearest: |projects from a record|: module `\S+`$)')
 
 # What the prover says of declarations that cite one that it rejected.
 DEPENDS = re.compile(r' depends? on `([^`]+)`, which was rejected, (?:was|were) not checked: (.*)')

@@ -11,7 +11,7 @@ sys.path.insert(0, os.path.join(TOP, 'tools'))
 from answers import Answers
 from lone_goals import bodies_of
 from second_bodies import with_seconds
-from wrong_bodies import BadEdit, Edit, functions, without_those
+from wrong_bodies import BadEdit, Edit, functions, refusals as refusals_in, without_those
 
 SOURCE = '''//! Counts.
 #![tactic(auto)]
@@ -74,6 +74,20 @@ note: src/lib.rt:17:5: it is not proved that this is not reached (`unreachable`)
 ./proofs/Tallies.antt:9:1: error: 1 declaration that depends on `count-is`, which was rejected, \
 was not checked: count-grows
 logic=not-proved'''
+
+# What the prover says of a proof that names what an edit took away, and of one that doesn't prove
+# its goal any more.
+LACKING = (
+    '`value`: `c.add` has no field `result`',
+    '`value`: `add-sums` is not in scope',
+    '`value`: module `Tallies` has no `sums`',
+    '`value`: record `Tally.count_body1.Lts.After-self` (nearest: .count)',
+    '`value`: `.result` projects from a record, but this has type `ℕ`',
+    '`value`: `goal.After-self`: module `Tally.count_body1.Goals`',
+    '`value`: `sums` was not admitted')
+SHOWING = (
+    '`value`: `omega`: the goal does not follow from what it read',
+    '`value`: the two types differ where one has module `Tally` in it')
 
 VALUE = ('clause value of Tally::count', 'returns-clause-value src/lib.rt')
 
@@ -166,4 +180,12 @@ def refusals(rows, folder):
     rows.say('no goal', [str(why)] * ('no goal was refused' not in str(why)))
 
 
-ROWS = (places, copies, answers, refusals)
+def lacks(rows, _):
+    """A proof that names what an edit took away is no refusal: it shows no clause."""
+    for texts, counts in ((LACKING, False), (SHOWING, True)):
+        for text in texts:
+            line = f'./proofs/Tally/count/Answers.antt:4:9: error: {text}'
+            rows.say(f'said of an answer: {text}', [line] * (bool(refusals_in(line)) != counts))
+
+
+ROWS = (places, copies, answers, refusals, lacks)
