@@ -1,0 +1,111 @@
+"""Wrong definitions that stand beside the right ones. An edit of a crate's specs breaks a lemma
+that it names. Of the files that lead from the lemma's to the changed one each edit has copies under
+names of their own, which name each other. So many are tried in one check, and each by itself: no
+file but its own copies names what it changes."""
+import os
+import re
+
+from lone_goals import ERROR
+from wrong_bodies import DEPENDS, refusals
+
+# A module that a file names, and the line of one in the list of those of a folder.
+USE = re.compile(r'^use (\w+(?:\.[\w-]+)*)', re.M)
+LISTED = re.compile(r'^((?:pub )?mod )(\w+)$', re.M)
+
+# The folders of what is defined and of what is proved of it, each with its list.
+FOLDERS = ('specs', 'proofs')
+
+
+class Modules:
+    """The files of a crate that its folders list, and those that each leads to."""
+
+    def __init__(self, crate, folder):
+        self.crate, self.texts = crate, {}
+        for part in FOLDERS:
+            home = os.path.join(folder, part)
+            for file in sorted(os.listdir(home)) if os.path.isdir(home) else ():
+                if file.endswith('.antt'):
+                    with open(os.path.join(home, file), encoding='utf-8', newline='') as source:
+                        self.texts[f'{part}/{file}'] = source.read()
+        files = {self.module(file): file for file in self.texts}
+        self.named = {file: {files[it] for it in USE.findall(text) if it in files}
+                      for file, text in self.texts.items()}
+
+    def module(self, file):
+        """How files name one of them."""
+        return f"Rattle.{self.crate}.{file[:-len('.antt')].replace('/', '.')}"
+
+    def below(self, file):
+        """A file and all that it leads to."""
+        found, left = {file}, [file]
+        while left:
+            more = self.named[left.pop()] - found
+            found |= more
+            left += more
+        return found
+
+    def with_lemma(self, edit):
+        """The file with the lemma that an edit breaks, by the words of its goal. Nothing where no
+        single one has it."""
+        head = re.compile(rf'^ *(?:pub )?{re.escape(edit.goal[-1])} :', re.M)
+        found = [file for file, text in self.texts.items()
+                 if file.startswith('proofs/') and head.search(text)
+                 and all(word in file for word in edit.goal[:-1])]
+        return found[0] if len(found) == 1 else None
+
+
+class Copies:
+    """The copies of an edit, or those with nothing changed where `is_right`."""
+
+    def __init__(self, edit, number, modules, is_right=False):
+        self.edit, self.modules, self.is_right = edit, modules, is_right
+        self.end = f"{'Right' if is_right else 'Wrong'}{number}"
+        changed = {file for file, *_ in edit.pairs}
+        self.files = [file for file in modules.below(modules.with_lemma(edit))
+                      if changed & modules.below(file)]
+
+    def name(self, file):
+        """The name of the copy of a file."""
+        return f"{file[:-len('.antt')]}{self.end}.antt"
+
+    def made(self):
+        """The texts of the copies, by their names."""
+        given = self.modules.texts
+        changed = {} if self.is_right else self.edit.texts(given.get)
+        names = {self.modules.module(it): self.modules.module(self.name(it)) for it in self.files}
+        return {self.name(file): USE.sub(lambda it: f'use {names.get(it[1], it[1])}',
+                                         changed.get(file, given[file])) for file in self.files}
+
+    def faults(self, said):
+        """The lines by which the prover refused anything in the copies."""
+        own = re.compile(rf'(?:\./)?(?:specs|proofs)/\w+{self.end}\.antt:\d+:\d+: error: ')
+        return [line for line in said.split('\n') if own.match(line)]
+
+    def is_refused(self, said):
+        """Whether its lemma is refused itself, and not for what it cites."""
+        found = (ERROR.search(line) for line in refusals('\n'.join(self.faults(said)))
+                 if not DEPENDS.search(line))
+        return any(it and it[1] == self.edit.goal[-1] for it in found)
+
+
+def can_copy(edit, modules):
+    """Whether an edit changes definitions alone, and breaks a lemma that leads to them."""
+    lemma = modules.with_lemma(edit)
+    return bool(lemma) and all(file in modules.below(lemma) and file.startswith('specs/')
+                               for file, *_ in edit.pairs)
+
+
+def listed(part, copies, modules):
+    """The list of the files of a folder, each with its copies after it."""
+    def with_its_copies(line):
+        file = f'{part}/{line[2]}.antt'
+        return '\n'.join([line[0], *(f'{line[1]}{line[2]}{it.end}' for it in copies
+                                     if file in it.files)])
+
+    return LISTED.sub(with_its_copies, modules.texts[f'{part}/Lib.antt'])
+
+
+def with_copies(copies, modules):
+    """The texts of all copies, and the lists of files with them."""
+    made = {name: text for it in copies for name, text in it.made().items()}
+    return {**made, **{f'{part}/Lib.antt': listed(part, copies, modules) for part in FOLDERS}}
