@@ -11,6 +11,10 @@ from wrong_bodies import functions
 # proof, or leaves the goal open.
 AUTO, NONE = '#[tactic(auto)]', '#[tactic(none)]'
 
+# An answer that is refused at once. Where a function has one, the prover doesn't load all once more
+# to print what else its proof lacks.
+REFUSED = 'missing : missing\nmissing = missing\n'
+
 # The files of a function's own proof.
 OF_FUNCTION = ('Answers.antt', 'Invariants.antt', 'Proof.antt')
 
@@ -56,3 +60,10 @@ def remove_proofs(folder, kept):
         if names[-1] not in kept and not ('fn' in names and kept.intersection(names)):
             for file in set(files).intersection(OF_FUNCTION):
                 os.remove(os.path.join(at, file))
+
+
+def refuse(folder):
+    """Puts an answer that is refused at once beside those in the folder of a function's proof."""
+    os.makedirs(folder, exist_ok=True)
+    with open(os.path.join(folder, 'Answers.antt'), 'a', encoding='utf-8') as answers:
+        answers.write(f'\n{REFUSED}')

@@ -9,7 +9,7 @@ import os
 import re
 
 from answers import Answers
-from bare_bodies import AUTO, head_of
+from bare_bodies import AUTO, head_of, refuse
 from wrong_bodies import Function, has_goal, is_at, path_of
 
 IMPL = re.compile(r'(?:unsafe )?impl\b')
@@ -162,7 +162,7 @@ class Second:
         return not {*IN_GOAL.findall(goal)}.intersection(self.left_out.values())
 
     def copy_proof(self, folder):
-        """Copies the proof of the function, if it has one."""
+        """Copies the proof of the function, if it has one, and adds an answer that is refused."""
         was = os.path.join('proofs', *self.path, self.function.name)
         now = os.path.join('proofs', *self.path, self.name)
         dotted = re.compile(re.escape(was.replace(os.sep, '.')) + r'(?![\w-])')
@@ -176,6 +176,7 @@ class Second:
                     text = Answers(text).of_goals(self.has_answer)
                 with open(os.path.join(to, file), 'w', encoding='utf-8', newline='') as made:
                     made.write(dotted.sub(now.replace(os.sep, '.'), text))
+        refuse(os.path.join(folder, now))
 
     def with_right_body(self):
         """The right body, tried as this one is."""
@@ -203,7 +204,8 @@ class InPlace(Second):
         self.name, self.clause = self.function.name, None
 
     def copy_proof(self, folder):
-        """Its proof is there."""
+        """Adds an answer that is refused. Its proof is there."""
+        refuse(os.path.join(folder, 'proofs', *self.path, self.name))
 
 
 def path_of_implementation(place, folder):
@@ -220,6 +222,13 @@ def path_of_place(place, folder):
     file, function = place
     owner = owner_of(function, files_with(folder, '.rt')[file].split('\n'))
     return None if owner is None else path_by(file, owner, folder)
+
+
+def home_of(place, folder):
+    """The folder of the proof of what stands at a place in a crate; nothing where it is of a trait
+    itself."""
+    path = path_of_place(place, folder) or path_of_implementation(place, folder)
+    return path if path is None else os.path.join(folder, 'proofs', *path, place[1].name)
 
 
 def is_copied(place, folder):

@@ -5,8 +5,9 @@ file but its own copies names what it changes."""
 import os
 import re
 
+from bare_bodies import REFUSED
 from lone_goals import ERROR
-from wrong_bodies import DEPENDS, refusals
+from wrong_bodies import DEPENDS, path_of, refusals
 
 # A module that a file names, and the line of one in the list of those of a folder.
 USE = re.compile(r'^use (\w+(?:\.[\w-]+)*)', re.M)
@@ -93,6 +94,19 @@ def can_copy(edit, modules):
     lemma = modules.with_lemma(edit)
     return bool(lemma) and all(file in modules.below(lemma) and file.startswith('specs/')
                                for file, *_ in edit.pairs)
+
+
+def home_of_law(law, sources):
+    """The folder of the proof of a law in a crate, by its sources."""
+    file = next(it for it in sorted(sources) if re.search(rf'\bfn {law}\b', sources[it]))
+    return os.path.join('proofs', *path_of(file), law)
+
+
+def answers_of(copies, modules):
+    """Answers that lead to the lemmas of all copies, and prove nothing."""
+    lemmas = (f'use {modules.module(it.name(modules.with_lemma(it.edit)))} as {it.end}\n'
+              for it in copies)
+    return ''.join([*lemmas, REFUSED])
 
 
 def listed(part, copies, modules):
