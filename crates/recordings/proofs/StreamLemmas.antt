@@ -400,3 +400,10 @@ some_group recipe =
         let d : parts * 1 ≤ parts * bits = mul-le-mul_left parts c in
         let f : per * 1 ≤ per * (parts * bits) = mul-le-mul_left per (omega arith) in
         omega arith
+
+-- ---- all groups of bytes are written, by the group that the code has
+
+pub all_groups : (i len group own : ℕ) → group ≡ own → i ≤ len / group → len / group ≤ i
+    → i ≡ len / own
+all_groups i len group own e most least =
+    let all : i ≡ len / group = omega arith in all ∙ ap (λ (g : ℕ). len / g) e

@@ -1,5 +1,7 @@
-use Rattle.std.proofs.Common.{length-append, refl}
-use Rattle.recordings.proofs.StreamLemmas.{none, one_more}
+use Rattle.std.proofs.Common.{ℕ, ◌*◌, length, length-append, refl, ◌∙◌, ap, sym}
+use Rattle.definitions.specs.Samples.{samples_per_byte}
+use Rattle.recordings.specs.Recordings.{group_of, packing_in, samples_of}
+use Rattle.recordings.proofs.StreamLemmas.{none, one_more, all_groups}
 use Rattle.recordings.proofs.recipe.Recipe.pack.Goals as goal
 
 pub loop-i-init : goal.loop-i-init
@@ -15,3 +17,15 @@ loop-i-preserved c = record {
       c.loop-i.written.items c.byte.result c.loop-i.i c.loop-i.invariant.same
       (λ k h. rw c.per_byte-per_byte.ensures at (c.byte.ensures k h)));
 }
+
+pub returns-clause-packed : goal.returns-clause-packed
+returns-clause-packed c =
+    let all = all_groups c.loop-i.i (length c.args.bytes.now) c.group-2.result
+    (group_of c.args.self.now) c.group-2.ensures.value c.loop-i.auto.i-end c.loop-i-test.false in
+    record {
+      whole = c.loop-i.invariant.count ∙ all;
+      same =
+          c.loop-i.invariant.same
+          ∙ ap (λ (n : ℕ). samples_of c.args.self.now c.args.bytes.now
+          (samples_per_byte (packing_in c.args.self.now) * n)) (sym c.loop-i.invariant.count);
+    }
