@@ -7,7 +7,8 @@ from .commands import TOP, write
 
 sys.path.insert(0, os.path.join(TOP, 'tools'))
 from wrong_bodies import Edit
-from wrong_definitions import Copies, Modules, can_copy, with_copies
+from wrong_definitions import (Copies, Modules, answers_of, can_copy, home_of_law,
+                               with_copies)
 
 # A crate: a lemma leads to what it is of, and to what that stands on, and another file doesn't.
 FILES = {
@@ -97,4 +98,18 @@ def refused(rows, folder):
     rows.say('what is refused in copies', [str(found)] * (found != [line]))
 
 
-ROWS = (copies, copied, refused)
+def entry(rows, folder):
+    """A law's answers lead to the lemmas of all copies, and prove nothing."""
+    given = modules(folder)
+    wrong = [Copies(edit(folder, goal, *COUNTS), number, given)
+             for number, goal in enumerate(('proofs/SumLemmas sum-is', 'sum-is'), 1)]
+    lines = answers_of(wrong, given).split('\n')
+    wanted = [f'use Rattle.tally.proofs.SumLemmasWrong{it} as Wrong{it}' for it in (1, 2)]
+    rows.say('what a law leads to', [str(lines)] * (lines[:2] != wanted))
+    rows.say('what a law proves', [str(lines)] * any(it.startswith('pub ') for it in lines))
+    sources = {'src/lib.rt': 'mod laws;\n', 'src/laws.rt': 'pub fn sums()\n    ensures { ⊤ }\n{}\n'}
+    found = home_of_law('sums', sources)
+    rows.say('where a law is proved', [found] * (found != 'proofs/laws/sums'))
+
+
+ROWS = (copies, copied, refused, entry)
