@@ -1,7 +1,5 @@
 """Rows of the wrong bodies that tools/edits tries: where an edit changes what, its copy, and what
 counts as refused."""
-import importlib.machinery
-import importlib.util
 import os
 import sys
 
@@ -11,6 +9,7 @@ sys.path.insert(0, os.path.join(TOP, 'tools'))
 from answers import Answers
 from lone_goals import bodies_of
 from second_bodies import with_seconds
+from trials import why_not_refused
 from wrong_bodies import BadEdit, Edit, functions, refusals as refusals_in, without_those
 
 SOURCE = '''//! Counts.
@@ -156,17 +155,8 @@ def answers(rows, _):
             text.split() != ''.join(texts[it] for it in wanted).split()))
 
 
-def tool():
-    """tools/edits as a module."""
-    loader = importlib.machinery.SourceFileLoader('edits', os.path.join(TOP, 'tools', 'edits'))
-    made = importlib.util.module_from_spec(importlib.util.spec_from_loader('edits', loader))
-    loader.exec_module(made)
-    return made
-
-
 def refusals(rows, folder):
     """A goal counts that fails itself, and none of a function without its body."""
-    edits = tool()
     others = [('src/lib.rt', it) for it in functions(SOURCE) if it.name == 'add']
     said = without_those(SAID, others)
     kept = [it for it in SAID.split('\n') if 'unreachable' not in it]
@@ -174,9 +164,9 @@ def refusals(rows, folder):
     for goal, is_refused in (('returns-clause-value src/lib.rt', True),
                              ('count-is proofs/Tallies', True), ('unreachable src/lib.rt', False),
                              ('count-grows proofs/Tallies', False)):
-        why = edits.why_not_refused(edit(folder, 'a clause', goal, 'old: a', 'new: b'), said)
+        why = why_not_refused(edit(folder, 'a clause', goal, 'old: a', 'new: b'), said)
         rows.say(f'the goal {goal}', [str(why)] * (is_refused != (why is None)))
-    why = edits.why_not_refused(edit(folder, *VALUE, 'old: a', 'new: b'), 'logic=proved')
+    why = why_not_refused(edit(folder, *VALUE, 'old: a', 'new: b'), 'logic=proved')
     rows.say('no goal', [str(why)] * ('no goal was refused' not in str(why)))
 
 
