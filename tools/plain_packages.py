@@ -63,6 +63,9 @@ Then it is this line of `Cargo.toml`:
 ALONE = '\nIt builds as `no_std`, and takes no memory.\n'
 WITH_MEMORY = '\nIt builds as `no_std`, for programs that have an allocator.\n'
 
+# What a library says that has no tests of its own, so that cargo makes no program of none.
+UNTESTED = '\n[lib]\ntest = false\n'
+
 # Keywords that people search by, where the head of a library has words of this kind.
 KEYWORDS = (('correlator', r'[Cc]orrelat|replica'), ('acquisition', r'[Aa]cquisition|[Ss]earch'),
             ('lnav', r'message|subframe|IS-GPS-200, section 20'), ('l1-ca', r'C/A'))
@@ -143,7 +146,9 @@ def head(crate, crates):
 
 def manifest(crate, crates):
     """The Cargo.toml of a crate."""
-    text, of_all = head(crate, crates), version()
+    sources = crates[crate][0]
+    is_tested = 'lib' not in sources or any('#[test]' in it for it in sources.values())
+    text, of_all = head(crate, crates) + UNTESTED * (not is_tested), version()
     for kind, below in zip(('dependencies', 'dev-dependencies'), crates[crate][1:]):
         text += f'\n[{kind}]\n' * bool(below)
         for name in below:

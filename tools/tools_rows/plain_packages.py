@@ -107,7 +107,13 @@ def packages(rows, _):
         faults = [text_over] * (('features = ["start"] }\n' in text_over) != wanted)
         rows.say(f'the features of lanes, for {crate}', faults)
     begin = '[package]\nname = "seldomplough_search"\n'
-    rows.say('a head', [text] * (not text.startswith(begin) or '[lib]' in text))
+    rows.say('a head', [text] * (not text.startswith(begin) or '[lib]\nname' in text))
+    tested = {**CRATES, 'codes': ({'lib': '//! Codes.\n', 'prn': '#[test]\nfn all() {}\n'}, [], [])}
+    for crate, crates, wanted in (('codes', CRATES, True), ('codes', tested, False),
+                                  ('cli', CRATES, False)):
+        made = manifest(crate, crates)
+        faults = [made] * (('\n[lib]\ntest = false\n' in made) != wanted)
+        rows.say(f'a package of {crate}, without tests: {wanted}', faults)
     rows.say('keywords', differs(keywords_of('A search for the C/A code.'),
                                  ['gps', 'gnss', 'sdr', 'acquisition', 'l1-ca']))
 
