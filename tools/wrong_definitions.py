@@ -29,7 +29,8 @@ class Modules:
                     with open(os.path.join(home, file), encoding='utf-8', newline='') as source:
                         self.texts[f'{part}/{file}'] = source.read()
         files = {self.module(file): file for file in self.texts}
-        self.named = {file: {files[it] for it in USE.findall(text) if it in files}
+        self.named = {file: {files.get(it) for it in USE.findall(text)
+                             if it.startswith(f'Rattle.{crate}.')}
                       for file, text in self.texts.items()}
 
     def module(self, file):
@@ -37,10 +38,11 @@ class Modules:
         return f"Rattle.{self.crate}.{file[:-len('.antt')].replace('/', '.')}"
 
     def below(self, file):
-        """A file and all that it leads to."""
+        """A file and all that it leads to: nothing among them where that is one that the prover
+        makes of code, which no copy has."""
         found, left = {file}, [file]
         while left:
-            more = self.named[left.pop()] - found
+            more = self.named.get(left.pop(), set()) - found
             found |= more
             left += more
         return found
@@ -92,8 +94,9 @@ class Copies:
 def can_copy(edit, modules):
     """Whether an edit changes definitions alone, and breaks a lemma that leads to them."""
     lemma = modules.with_lemma(edit)
-    return bool(lemma) and all(file in modules.below(lemma) and file.startswith('specs/')
-                               for file, *_ in edit.pairs)
+    below = modules.below(lemma) if lemma else {None}
+    return None not in below and all(file in below and file.startswith('specs/')
+                                     for file, *_ in edit.pairs)
 
 
 def home_of_law(law, sources):

@@ -20,6 +20,9 @@ FILES = {
     'proofs/Lib.antt': 'pub mod SumLemmas\nmod UnitLemmas\n',
     'proofs/SumLemmas.antt': 'use Rattle.std.specs.Prelude.{ℕ}\nuse Rattle.tally.specs.Sums.{sum}\n'
                              'module _ (n : ℕ) where\n  pub sum-is : sum ≡ 4\n  sum-is = refl\n',
+    'proofs/CodeLemmas.antt': 'use Rattle.tally.specs.Sums.{sum}\n'
+                              'use Rattle.tally.specs.contracts.tally.Tally.{Adds}\n'
+                              'adds : Adds\nadds = refl\n',
     'proofs/UnitLemmas.antt': 'use Rattle.tally.specs.Units.{one}\none-is : one ≡ 1\none-is = refl',
 }
 
@@ -76,6 +79,7 @@ def copied(rows, folder):
             ('a lemma of another file', 'proofs/UnitLemmas sum-is', COUNTS, False),
             ('no lemma', 'proofs/SumLemmas sum-was', COUNTS, False),
             ('what leads nowhere', 'proofs/UnitLemmas one-is', COUNTS, False),
+            ('a lemma of code', 'adds', COUNTS, False),
             ('code', 'sum-is', (*COUNTS, 'file: src/lib.rt', 'old: a', 'new: b'), False)):
         found = can_copy(edit(folder, goal, *texts), given)
         rows.say(f'copied: {name}', [str(found)] * (found != wanted))
