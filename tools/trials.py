@@ -124,8 +124,8 @@ def definitions_refused(crate, crates, edits):
     where copies with nothing changed, which are tried beside them, don't pass."""
     modules = modules_of(crate)
     wrong = [Copies(edit, number, modules) for number, edit in enumerate(edits, 1)]
-    right = max((Copies(edit, number, modules, is_right=True)
-                 for number, edit in enumerate(edits, 1)), key=lambda it: len(it.files))
+    most = max(wrong, key=lambda it: len(it.files))
+    right = Copies(most.edit, 1, modules, is_right=True)
     said = said_of_copies(crate, crates, [right, *wrong], modules)
     return set() if right.faults(said) else {it.edit for it in wrong if it.is_refused(said)}
 

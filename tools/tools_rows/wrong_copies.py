@@ -7,8 +7,9 @@ from .commands import TOP, write
 
 sys.path.insert(0, os.path.join(TOP, 'tools'))
 from answers import Answers
+from bare_bodies import REFUSED
 from lone_goals import bodies_of
-from second_bodies import with_seconds
+from second_bodies import home_of, with_seconds
 from trials import why_not_refused
 from wrong_bodies import BadEdit, Edit, functions, refusals as refusals_in, without_those
 
@@ -143,6 +144,30 @@ def copies(rows, folder):
         rows.say(f'a copy of {name}', faults + [first] * (first != '#[tactic(auto)]'))
 
 
+def unproved(rows, folder):
+    """A copy's proof is that of its function, with an answer that is refused at once. A method of a
+    trait that stands in an `impl` has a proof, and one in the trait has none."""
+    write(os.path.join(folder, 'src', 'lib.rt'), SOURCE)
+    one = 'pub returns-clause-value : goal.returns-clause-value\nreturns-clause-value c = refl\n'
+    write(os.path.join(folder, 'proofs', 'Tally', 'count', 'Answers.antt'), one)
+    wrong = edit(folder, *VALUE, 'inside: count', 'old:         self.count', 'new:         0')
+    body, = bodies_of({wrong: wrong.place(given)}, folder)
+    body.copy_proof(folder)
+    path = os.path.join(folder, 'proofs', 'Tally', 'count_body1', 'Answers.antt')
+    with open(path, encoding='utf-8') as source:
+        text = source.read()
+    rows.say('the proof of a copy', [text] * (text != f'{one}\n{REFUSED}'))
+    homes = [home_of(('src/lib.rt', it), folder) for it in functions(SOURCE)]
+    wanted = [os.path.join(folder, 'proofs', it)
+              for it in ('Tally/count', 'Tally/add', 'TallyFromU64/from')]
+    rows.say('where functions are proved', [str(homes)] * (homes != wanted))
+    trait = 'pub trait Counts {\n    fn count(&self) -> u64 {\n        0\n    }\n}\n'
+    write(os.path.join(folder, 'trait', 'src', 'lib.rt'), trait)
+    place = 'src/lib.rt', next(functions(trait))
+    home = home_of(place, os.path.join(folder, 'trait'))
+    rows.say('where a method in a trait is proved', [str(home)] * (home is not None))
+
+
 def answers(rows, _):
     """Answers to some goals, with all that stands between."""
     texts = ['use A.{b}\n', 'pub one : goal.one\none c =\n    b c\n', 'helper : B\nhelper = b\n',
@@ -178,4 +203,4 @@ def lacks(rows, _):
             rows.say(f'said of an answer: {text}', [line] * (bool(refusals_in(line)) != counts))
 
 
-ROWS = (places, copies, answers, refusals, lacks)
+ROWS = (places, copies, unproved, answers, refusals, lacks)
