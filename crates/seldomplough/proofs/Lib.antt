@@ -1,3 +1,4 @@
 mod AloneLemmas
 mod AnswerLemmas
+mod KindLemmas
 mod NanLemmas

@@ -1,4 +1,5 @@
-use Rattle.std.proofs.Common.{◌≡◌, ◌∙◌, ap, sym, refl, Err, inl, inr, true, false, rules}
+use Rattle.std.proofs.Common.{◌≡◌, ◌∙◌, ap, sym, refl, Err, inl, inr, rules}
+use Rattle.seldomplough.proofs.KindLemmas.{other-kind}
 use Rattle.seldomplough.proofs.NanLemmas.{nan-front, is-no-number}
 use Rattle.seldomplough.specs.Packings.{bytes_of_f32, fault_of}
 use Rattle.seldomplough.specs.declared.packing_fault.PackingFault.TheVariants.{NotANumber}
@@ -24,9 +25,5 @@ returns-in_err-take-clause-no_number c is =
     }
 
 pub returns-then-ne-clause-kind : goal.returns-then-ne-clause-kind
-returns-then-ne-clause-kind c = (
-  λ other is.
-      let clash : true ≡ false =
-      sym c.if-ne.true ∙ c.ne.ensures ∙ rw (c.kind.ensures, is) refl in cc,
-  λ other. refl,
-)
+returns-then-ne-clause-kind c =
+    other-kind _ _ _ (λ is. sym c.if-ne.true ∙ c.ne.ensures ∙ rw (c.kind.ensures, is) refl)
