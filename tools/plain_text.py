@@ -1,4 +1,5 @@
 """A source of Rattle as a source of Rust: clauses as comments, and what the kit has otherwise."""
+import functools
 import re
 import sys
 
@@ -59,8 +60,9 @@ def code_of(text):
     return re.sub(r'//.*', '', text)
 
 
+@functools.lru_cache(maxsize=None)
 def plain_text(text):
-    """A source as Rust."""
+    """A source as Rust. It is asked for by what names words and by what writes files."""
     text, at = DROPPED.sub('', text), 0
     while found := PROVED.search(text, at):
         end = block_end(text, found.end() - 1)

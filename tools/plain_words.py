@@ -204,6 +204,9 @@ def sources_of(crates):
     plain = {at: plain_text(text) for at, text in texts.items()}
     constants = {(*at, name): (kind, value) for at, text in plain.items()
                  for name, kind, value in CONSTANT.findall(code_of(text))}
+    kinds = {}
+    for (_, _, name), (kind, _) in constants.items():
+        kinds.setdefault(name, set()).add(kind)
     words, sources = words_of(plain), {}
     for (crate, module), text in texts.items():
         source = Source(crate, module, words=words, exported=exported_by(plain.get((crate, 'lib'))))
@@ -211,7 +214,8 @@ def sources_of(crates):
             for name in re.findall(r'\w+', names):
                 kind, value = constants.get((of, path.replace('.', '/'), name), ('', ''))
                 source.values[name] = value_of(value, constants)
-        for name, kind in names_in(crate, module, code_of(plain[crate, module]), constants):
+        code = code_of(plain[crate, module])
+        for name, kind in names_in(crate, module, code, constants, kinds):
             value = source.values.get(name)
             if (crate, module, name) in constants:
                 value = value_of(constants[crate, module, name][1], constants)
@@ -220,11 +224,11 @@ def sources_of(crates):
     return sources
 
 
-def names_in(crate, module, code, constants):
-    """The constants that code can name, its own and those it imports, with their types."""
+def names_in(crate, module, code, constants, kinds):
+    """The constants that code can name, its own and those it imports, with their types. Given are
+    all constants, and the types that those of each name have."""
     imports = ' '.join(re.findall(r'^use [^;]*', code, re.M))
     imported = set(re.findall(r'\w+', imports))
     for (of, path, name), (kind, _) in constants.items():
-        kinds = {it for (_, _, other), (it, _) in constants.items() if other == name}
-        if (of, path) == (crate, module) or name in imported and len(kinds) == 1:
+        if (of, path) == (crate, module) or name in imported and len(kinds[name]) == 1:
             yield name, kind
