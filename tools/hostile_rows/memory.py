@@ -105,7 +105,9 @@ class Sweep:
 
     def run(self, space):
         """Whether a run with so many KiB is whole. One that isn't wanted is noted."""
-        outcome = run(f'ulimit -v {space}; exec "$@"', self.case.command, self.case.given)
+        # Of thousands of runs the shell took a good part. As `sh` most systems have a small one.
+        outcome = run(f'ulimit -v {space}; exec "$@"', self.case.command, self.case.given,
+                      shell='sh')
         if not of_the_system(outcome) and differs(outcome, self.wanted):
             self.wrong.setdefault(told(outcome), []).append(space)
         return outcome.status == 0

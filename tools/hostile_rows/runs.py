@@ -1,4 +1,5 @@
-"""Runs of a program by a line of bash with limits and redirections, and what must come of them."""
+"""Runs of a program by a line of a shell, with limits and redirections, and what must come of
+them."""
 import os
 import re
 import subprocess
@@ -54,10 +55,10 @@ class Wanted:
             yield 'all lines came'
 
 
-def started(line, command, **streams):
-    """Starts a line of bash, in which "$@" is a command. Streams that aren't named are pipes."""
+def started(line, command, shell='bash', **streams):
+    """Starts a line of a shell, in which "$@" is a command. Streams that aren't named are pipes."""
     pipes = dict.fromkeys(('stdin', 'stdout', 'stderr'), subprocess.PIPE)
-    return subprocess.Popen(['bash', '-c', line, 'bash', *command], env=ENVIRONMENT,
+    return subprocess.Popen([shell, '-c', line, shell, *command], env=ENVIRONMENT,
                             **{**pipes, **streams})
 
 
@@ -73,7 +74,7 @@ def finished(process, given=None):
 
 
 def run(line, command, given=b'', **streams):
-    """The outcome of a line of bash, which is given bytes on standard input."""
+    """The outcome of a line of a shell, which is given bytes on standard input."""
     return finished(started(line, command, **streams), None if 'stdin' in streams else given)
 
 
