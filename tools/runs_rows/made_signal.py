@@ -4,6 +4,7 @@ it once more, for tests that are proved: this check needs the built program and 
 Its sign is that of a cosine times that of the chip, turned where the data bit is 1, and its size is
 3 where that of the cosine is 2. Millions of samples are made at once: long numbers hold a phase in
 each of their lanes of some bytes, and one addition moves all of them on."""
+import functools
 import itertools
 from dataclasses import dataclass
 
@@ -41,6 +42,12 @@ def code_step(rate, shift, correction=0):
     """The code's step in 2^-32 chip, at that shift and a correction in 1/65536 chip a second. A
     chip is 1,540 cycles of the carrier (IS-GPS-200, section 3.3.1)."""
     return (1023000 * 65536 + shift // 1540 + correction) * 65536 // rate
+
+
+@functools.lru_cache(maxsize=None)
+def sign_bits(satellite, turned):
+    """The sign bits of a code's two cycles, turned or not. A signal asks with each data bit."""
+    return bytes(2 * (chip ^ turned) for chip in chips(satellite)) * 2
 
 
 def combined(one, other):
@@ -110,7 +117,7 @@ class Signal:
 
     def signs(self, lanes, phase, count, turned):
         """The sign bits of so many samples, from a phase of the code on."""
-        twice = bytes(2 * (chip ^ turned) for chip in chips(self.satellite)) * 2
+        twice = sign_bits(self.satellite, turned)
         tops, at, signs = lanes.tops(phase, count), 0, []
         # A top byte is a chip's number modulo 256.
         for block in range(phase >> 40, (phase + count * lanes.step >> 40) + 1):
