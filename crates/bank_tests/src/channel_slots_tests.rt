@@ -10,7 +10,7 @@ ghost use Rattle.slot_protocol.specs.Commands.{slot_of};
 
 use crate::commands;
 use acquisition::SearchRoom;
-use assertions::assert_same;
+use assertions::{assert_same, assert_that};
 use ca_codes::{CodeBook, Prn};
 use channel_slots::*;
 use channels::Window;
@@ -85,7 +85,7 @@ const BUSY: Answer = Answer::Refused(Refusal::Busy);
 /// Sees that a slot answers so to commands at time 0.
 fn answers(rt: &impl Abort, slot: &mut Slot, settings: &Settings, rows: &[(Command, Answer)]) {
     for &(command, answer) in rows {
-        assert_same!(*rt; slot.command(settings, 0, command), answer);
+        assert_same(rt, slot.command(settings, 0, command), answer);
     }
 }
 
@@ -152,17 +152,18 @@ fn acquires_four(rt: &impl Abort) -> SlotState {
 
 #[test]
 fn idle_and_busy_slots_answer(rt: HostRuntime) {
-    let settings = plain_settings(&rt);
-    let mut slot = new_slot(&rt);
-    is_idle(&rt, &mut slot, &settings);
-    let prn = Prn::new(1).expect(&rt, "no such satellite");
+    let rt = &rt;
+    let settings = plain_settings(rt);
+    let mut slot = new_slot(rt);
+    is_idle(rt, &mut slot, &settings);
+    let prn = Prn::new(1).expect(rt, "no such satellite");
     let rows = [
-        (hold(&rt, 1, 0), 2, SlotState::Hold { prn, dumps: 0 }),
-        (track(&rt, 3, -1_000), 1, tracks_three(&rt)),
-        (acquire(&rt, 4, 10), 4, acquires_four(&rt)),
+        (hold(rt, 1, 0), 2, SlotState::Hold { prn, dumps: 0 }),
+        (track(rt, 3, -1_000), 1, tracks_three(rt)),
+        (acquire(rt, 4, 10), 4, acquires_four(rt)),
     ];
     for (begin, prn, shown) in rows {
-        is_busy(&rt, &mut slot, &settings, begin, prn, shown);
+        is_busy(rt, &mut slot, &settings, begin, prn, shown);
     }
 }
 
@@ -219,8 +220,8 @@ fn next(rt: &impl Abort, slot: &mut Slot, window: &mut Window, to: u64) -> Optio
     if window.history().first() != 0 {
         panic!(rt; "the first samples are gone");
     }
-    assert!(rt; to <= window.end());
-    assert!(rt; to <= 20_000);
+    assert_that(rt, to <= window.end());
+    assert_that(rt, to <= 20_000);
     slot.take(to, window, &mut CodeBook::new())
 }
 
@@ -257,7 +258,7 @@ fn tells(
     ensures first { first_of window.new ≡ first_of window.old }
 {
     let found = (next_dump(rt, slot, window, to), slot.next_event());
-    assert_same!(*rt; found, (wanted, next_event));
+    assert_same(rt, found, (wanted, next_event));
 }
 
 // At two samples a chip the code begins half a chip before its end, so one sample ends the segment.
@@ -265,11 +266,12 @@ fn tells(
 // chip, of the next period, has the sign -1, the others +1.
 #[test]
 fn early_wraps(rt: HostRuntime) {
-    let mut slot = held(&rt, &plain_settings(&rt), 1, 0);
-    let mut window = eight_ones(&rt);
-    assert_same!(rt; slot.next_event(), 1);
+    let rt = &rt;
+    let mut slot = held(rt, &plain_settings(rt), 1, 0);
+    let mut window = eight_ones(rt);
+    assert_same(rt, slot.next_event(), 1);
     let dump = (1, true, sums([-2, 1, 2, -1, 2, -1]));
-    tells(&rt, &mut slot, &mut window, 8, Some(dump), 2_047);
+    tells(rt, &mut slot, &mut window, 8, Some(dump), 2_047);
 }
 
 // A little slower than half a chip a sample, so the second sample ends the segment. Chip 0 of
@@ -277,21 +279,22 @@ fn early_wraps(rt: HostRuntime) {
 // at the second sample, where its pair is 2, -1: the signs of the quadrature cancel.
 #[test]
 fn sums_do_not_depend_on_the_cut(rt: HostRuntime) {
-    let settings = plain_settings(&rt);
+    let rt = &rt;
+    let settings = plain_settings(rt);
     let dump = (2, true, sums([-4, 0, 4, 0, 4, 0]));
-    let mut whole = held(&rt, &settings, 7, -1_000);
-    let mut window = eight_ones(&rt);
-    tells(&rt, &mut whole, &mut window, 8, Some(dump), 2_048);
-    let mut cut = held(&rt, &settings, 7, -1_000);
-    assert_same!(rt; cut.next_event(), 2);
-    tells(&rt, &mut cut, &mut window, 1, None, 2);
-    tells(&rt, &mut cut, &mut window, 8, Some(dump), 2_048);
+    let mut whole = held(rt, &settings, 7, -1_000);
+    let mut window = eight_ones(rt);
+    tells(rt, &mut whole, &mut window, 8, Some(dump), 2_048);
+    let mut cut = held(rt, &settings, 7, -1_000);
+    assert_same(rt, cut.next_event(), 2);
+    tells(rt, &mut cut, &mut window, 1, None, 2);
+    tells(rt, &mut cut, &mut window, 8, Some(dump), 2_048);
     // One dump was to be printed, and no other comes with these samples.
-    tells(&rt, &mut cut, &mut window, 8, None, 2_048);
+    tells(rt, &mut cut, &mut window, 8, None, 2_048);
 }
 
 #[test]
 fn slots_are_0_to_7(rt: HostRuntime) {
     let last = SlotNo::new(7).map(|slot| slot.get());
-    assert_same!(rt; (last, SlotNo::new(8)), (Some(7), None));
+    assert_same(&rt, (last, SlotNo::new(8)), (Some(7), None));
 }

@@ -45,7 +45,7 @@ fn answers_with(share: u8, text: &[u8]) -> [Option<Answer>; 3]
 
 /// Asserts the first three entries of the script of a client with four slots.
 fn assert_answers(rt: &impl Abort, text: &[u8], expected: [Option<Answer>; 3]) {
-    assert_same_at!(*rt; &text.escape_ascii(), &answers(text), &expected);
+    assert_same_at(rt, &text.escape_ascii(), &answers(text), &expected);
 }
 
 /// A command at its time.
@@ -81,7 +81,7 @@ fn slots_are_those_of_the_share(rt: HostRuntime) {
         (8, "0 stop -1", refused(0, 8)),
     ] {
         let answers = answers_with(share, text.as_bytes());
-        assert_same_at!(rt; text, &answers, &[answer, None, None]);
+        assert_same_at(&rt, text, &answers, &[answer, None, None]);
     }
 }
 
@@ -214,30 +214,32 @@ fn a_line_asks_for_its_command(rt: HostRuntime) {
         ("9 counts 0 1000000", 9, counts(0, 1_000_000)),
     ];
     for (line, time, command) in rows {
-        assert!(rt; command.is_some(), "at {line}");
+        assert_same_at(&rt, line, command.is_some(), true);
         assert_answers(&rt, line.as_bytes(), [asked(time, command), None, None]);
     }
 }
 
 #[test]
 fn a_line_without_words_has_no_entry(rt: HostRuntime) {
+    let rt = &rt;
     let spaces = [b' '; 81];
-    assert_answers(&rt, &spaces, [refused(0, 1), None, None]);
-    assert_answers(&rt, &spaces[..80], [None; 3]);
-    assert_answers(&rt, b"", [None; 3]);
-    assert_answers(&rt, b"\n\n \n", [None; 3]);
+    assert_answers(rt, &spaces, [refused(0, 1), None, None]);
+    assert_answers(rt, &spaces[..80], [None; 3]);
+    assert_answers(rt, b"", [None; 3]);
+    assert_answers(rt, b"\n\n \n", [None; 3]);
 }
 
 #[test]
 fn times_go_on_from_line_to_line(rt: HostRuntime) {
+    let rt = &rt;
     // A line refused by 4 stands at the time of the line before, and leaves it as it was.
     assert_answers(
-        &rt,
+        rt,
         b"5 hold 0 1 0 0\n4 stop 0\n5 stop 0",
         [asked(5, hold(0, 1, 0, 0)), refused(5, 4), asked(5, stop(0))],
     );
     assert_answers(
-        &rt,
+        rt,
         b"5 track 0 1 0 0\n4 track 0 1 0 0\n5 track 1 1 0 0",
         [
             asked(5, track(0, 1, 0, 0)),
@@ -247,18 +249,18 @@ fn times_go_on_from_line_to_line(rt: HostRuntime) {
     );
     // So does one refused by 3.
     assert_answers(
-        &rt,
+        rt,
         b"7 state 1\nx\n7 state 2\n",
         [asked(7, state(1)), refused(7, 3), asked(7, state(2))],
     );
     // One refused by 5 to 8 moves the time on to its own.
     assert_answers(
-        &rt,
+        rt,
         b"1 state 1\n\n6 counts 0\n6 state 2",
         [asked(1, state(1)), refused(6, 6), asked(6, state(2))],
     );
     assert_answers(
-        &rt,
+        rt,
         b"6 fly 0\n5 stop 0",
         [refused(6, 5), refused(6, 4), None],
     );

@@ -4,6 +4,7 @@ mod page_rows;
 mod subframe_rows;
 
 use acquisition::Cell;
+use assertions::assert_same_at;
 use ca_codes::Prn;
 use lane_correlator::Counts;
 use oscillators::HalfChip;
@@ -28,7 +29,7 @@ const TIME: u64 = 1_099_511_627_776;
 /// Asserts a line's bytes.
 fn assert_text(rt: &impl Abort, line: &Line, text: &[u8]) {
     let bytes: &[u8] = line;
-    assert!(rt; bytes == text, "{}", text.escape_ascii());
+    assert_same_at(rt, text.escape_ascii(), bytes, text);
 }
 
 /// Asserts the line of an event of slot 3 of client 8 at the latest time.
@@ -44,10 +45,11 @@ fn assert_event(rt: &impl Abort, event: Event, text: &[u8]) {
 
 #[test]
 fn each_kind_of_event(rt: HostRuntime) {
-    assert_event(&rt, Event::Lock, b"8 1099511627776 lock 3\n");
-    assert_event(&rt, Event::Unlock, b"8 1099511627776 unlock 3\n");
-    assert_event(&rt, Event::Lost, b"8 1099511627776 lost 3\n");
-    assert_event(&rt, Event::Bits, b"8 1099511627776 bits 3\n");
+    let rt = &rt;
+    assert_event(rt, Event::Lock, b"8 1099511627776 lock 3\n");
+    assert_event(rt, Event::Unlock, b"8 1099511627776 unlock 3\n");
+    assert_event(rt, Event::Lost, b"8 1099511627776 lost 3\n");
+    assert_event(rt, Event::Bits, b"8 1099511627776 bits 3\n");
 }
 
 static SUMS_LINE: &[u8] = b"8 1099511627776 count 3 0 -1 10 -2147483648 2147483647 -99\n";
@@ -56,11 +58,12 @@ static GAP_LINE: &[u8] = b"8 1099511627776 gap 3 18446744073709551615\n";
 
 #[test]
 fn numbers_of_events(rt: HostRuntime) {
-    assert_event(&rt, Event::Count(SUMS), SUMS_LINE);
+    let rt = &rt;
+    assert_event(rt, Event::Count(SUMS), SUMS_LINE);
     let none = b"8 1099511627776 count 3 0 0 0 0 0 0\n";
-    assert_event(&rt, Event::Count(Counts::NONE), none);
-    assert_event(&rt, Event::Gap(0), b"8 1099511627776 gap 3 0\n");
-    assert_event(&rt, Event::Gap(u64::MAX), GAP_LINE);
+    assert_event(rt, Event::Count(Counts::NONE), none);
+    assert_event(rt, Event::Gap(0), b"8 1099511627776 gap 3 0\n");
+    assert_event(rt, Event::Gap(u64::MAX), GAP_LINE);
 }
 
 /// A satellite, and what is reported of its best cell: whether it was found, the bin, the half chip

@@ -84,7 +84,8 @@ fn packer(rt: &(impl Abort + Alloc<A = Global>)) -> Packer {
 
 #[test]
 fn a_reader_that_fails(rt: HostRuntime) {
-    let (mut packer, mut stretch) = (packer(&rt), Stretch::new(0, 100));
+    let rt = &rt;
+    let (mut packer, mut stretch) = (packer(rt), Stretch::new(0, 100));
     let mut writer = Plain::new(Vec::new(rt.alloc()));
     let ended = run(
         rt.alloc(),
@@ -93,8 +94,8 @@ fn a_reader_that_fails(rt: HostRuntime) {
         &mut Plain::new(Breaking { is_broken: false }),
         &mut writer,
     );
-    assert_same!(rt; ended, Err(Failure::Input));
-    assert_same!(rt; writer.inner.as_slice(), [0].as_slice());
+    assert_same(rt, ended, Err(Failure::Input));
+    assert_same(rt, writer.inner.as_slice(), [0].as_slice());
 }
 
 /// Asserts how a run over 24 zeros ends.
@@ -106,7 +107,7 @@ fn assert_ended<W: Write + Drop>(
     let (mut packer, mut stretch) = (packer(rt), Stretch::new(0, 100));
     let mut reader = Plain::new(&[0; 24][..]);
     let ended = run(rt.alloc(), &mut packer, &mut stretch, &mut reader, writer);
-    assert_same!(*rt; ended, expected);
+    assert_same(rt, ended, expected);
 }
 
 #[test]
@@ -117,20 +118,21 @@ fn writers_that_fail(rt: HostRuntime) {
 
 #[test]
 fn a_narrow_writer(rt: HostRuntime) {
+    let rt = &rt;
     let mut narrow = Plain::new(Narrow {
         bytes: Vec::new(rt.alloc()),
         room: 2,
     });
-    assert_ended(&rt, &mut narrow, Err(Failure::Output));
-    assert_same!(rt; narrow.inner.bytes.as_slice(), [0, 0].as_slice());
+    assert_ended(rt, &mut narrow, Err(Failure::Output));
+    assert_same(rt, narrow.inner.bytes.as_slice(), [0, 0].as_slice());
     narrow.inner.room = 5;
-    assert_ended(&rt, &mut narrow, Ok(()));
-    assert_same!(rt; narrow.inner.bytes.as_slice(), [0; 5].as_slice());
+    assert_ended(rt, &mut narrow, Ok(()));
+    assert_same(rt, narrow.inner.bytes.as_slice(), [0; 5].as_slice());
 }
 
 #[test]
 fn statuses(rt: HostRuntime) {
     let output = status(Err(Failure::Output));
     let told = (output, status(Err(Failure::Centre)), status(Ok(())));
-    assert_same!(rt; told, (1, 2, 0));
+    assert_same(&rt, told, (1, 2, 0));
 }

@@ -154,7 +154,7 @@ fn assert_packed_plainly(
     if let Ok(recipe) = choice.recipe() {
         let written = in_pieces(rt, recipe, bytes, size);
         let wanted = plainly(rt, choice, bytes);
-        assert_same!(*rt; written.as_slice(), wanted.as_slice());
+        assert_same(rt, written.as_slice(), wanted.as_slice());
     }
 }
 

@@ -3,7 +3,7 @@
 ghost use Rattle.std.specs.Prelude.{◌≤◌, unsigned_abs};
 ghost use Rattle.bit_sync.specs.declared.bit_sum.TheConstants.{MOST_PUSH};
 
-use assertions::assert_same_at;
+use assertions::{assert_same_at, assert_that};
 use bit_sync::{BitNews, BitSync};
 use std::process::Abort;
 
@@ -14,7 +14,7 @@ type Row = (u32, BitNews);
 fn assert_push(rt: &impl Abort, sync: &mut BitSync, k: u32, ip: i32, rows: &[Row])
     requires { unsigned_abs ip ≤ MOST_PUSH }
 {
-    assert_same_at!(*rt; k, sync.push(ip), news_of(rows, k));
+    assert_same_at(rt, k, sync.push(ip), news_of(rows, k));
 }
 
 fn news_of(rows: &[Row], k: u32) -> BitNews {
@@ -46,7 +46,7 @@ static ALTERNATING: [Row; 5] = [
 fn edge_counts(rt: HostRuntime) {
     let mut sync = BitSync::new();
     for k in 0..400u32 {
-        assert!(rt; sync.has_edge() == (k > 320));
+        assert_same_at(&rt, k, sync.has_edge(), k > 320);
         assert_push(&rt, &mut sync, k, sum_after(k / 20), &ALTERNATING);
     }
 }
@@ -59,7 +59,7 @@ fn changes_at_every_push(rt: HostRuntime) {
     for k in 0..2000u32 {
         assert_push(&rt, &mut sync, k, sum_after(k), &[]);
     }
-    assert!(rt; !sync.has_edge());
+    assert_that(&rt, !sync.has_edge());
 }
 
 static RESET: [Row; 3] = [
@@ -96,15 +96,16 @@ static SUMS: [Row; 3] = [
 // sum. Bit 1 is nineteen times +1 and once -20: -1 in sum.
 #[test]
 fn sum_decides(rt: HostRuntime) {
+    let rt = &rt;
     let mut sync = BitSync::new();
     for k in 0..320u32 {
-        assert_push(&rt, &mut sync, k, sum_after(k / 20), &[]);
+        assert_push(rt, &mut sync, k, sum_after(k / 20), &[]);
     }
     for (first, last, ip) in [(320, 339, -19), (340, 359, -20)] {
         for k in first..last {
-            assert_push(&rt, &mut sync, k, 1, &SUMS);
+            assert_push(rt, &mut sync, k, 1, &SUMS);
         }
-        assert_push(&rt, &mut sync, last, ip, &SUMS);
+        assert_push(rt, &mut sync, last, ip, &SUMS);
     }
 }
 

@@ -12,7 +12,7 @@ mod tracking;
 mod windows;
 
 use acquisition::Signal;
-use assertions::assert_same;
+use assertions::{assert_same, assert_that};
 use ca_codes::{CodeBook, Prn};
 use channels::{Followed, Window};
 use lane_correlator::Counts;
@@ -74,13 +74,13 @@ fn open_to(rt: &impl Abort, window: &mut Window, bytes: &[u8], end: u64)
     ensures end { end_of window.new ≡ end }
     ensures more { end_of window.old ≤ end }
 {
-    assert!(rt; bytes.len() <= 1_000_000);
+    assert_that(rt, bytes.len() <= 1_000_000);
     let all = PackedSamples::new(window.history().format(), bytes);
     let from = window.end();
-    assert!(rt; from <= end);
-    assert!(rt; end <= all.len() as u64);
+    assert!(*rt; from <= end);
+    assert!(*rt; end <= all.len() as u64);
     let len = (end - from) as usize;
-    assert!(rt; window.has_room(len));
+    assert!(*rt; window.has_room(len));
     window.take(&all.part(from as usize, len));
 }
 
@@ -95,9 +95,9 @@ fn next(rt: &impl Abort, held: &mut Followed, window: &mut Window, to: u64) -> (
     ensures first { first_of window.new ≡ first_of window.old }
     ensures end { end_of window.new ≡ end_of window.old }
 {
-    assert!(rt; held.dumps() < 8);
-    assert!(rt; to <= window.end());
-    assert!(rt; to <= RECORDED);
+    assert_that(rt, held.dumps() < 8);
+    assert_that(rt, to <= window.end());
+    assert_that(rt, to <= RECORDED);
     let time = to.min(held.next_dump());
     let is_dump = held.take(to, window, &mut CodeBook::new());
     (time, is_dump.then_some(window.dump().counts))
@@ -117,17 +117,19 @@ fn assert_next(
     ensures first { first_of window.new ≡ first_of window.old }
     ensures end { end_of window.new ≡ end_of window.old }
 {
+    let found = next(rt, held, window, to);
+    assert_same(rt, found, expected);
     // What is promised comes from this comparison.
-    assert_eq!(rt; next(rt, held, window, to), expected);
+    assert!(*rt; found.0 == expected.0);
 }
 
 /// Asserts how many dumps there were, and with how many samples the next one comes.
 fn assert_stands(rt: &impl Abort, held: &Followed, dumps: u64, next_dump: u64)
     ensures { dumps_of held.now ≡ dumps }
 {
-    assert_same!(*rt; (held.dumps(), held.next_dump()), (dumps, next_dump));
+    assert_same(rt, (held.dumps(), held.next_dump()), (dumps, next_dump));
     // What is promised comes from this comparison.
-    assert!(rt; held.dumps() == dumps);
+    assert_that(rt, held.dumps() == dumps);
 }
 
 /// The counts of the first segment, which ends with sample 1,345, and of the second, which ends
@@ -144,66 +146,69 @@ fn first_and_second() -> [Option<Counts>; 2] {
 // code's shift makes none shorter yet.
 #[test]
 fn first_counts_of_a_recording(rt: HostRuntime) {
+    let rt = &rt;
     let [first, second] = first_and_second();
-    let mut held = held(&rt);
-    let mut window = new_window(&rt, Format::Real1);
-    assert_same!(rt; held.prn().get(), 5);
-    assert_stands(&rt, &held, 0, 1_346);
-    open_to(&rt, &mut window, &RECORDING, 1_000);
-    assert_next(&rt, &mut held, &mut window, 1_000, (1_000, None));
+    let mut held = held(rt);
+    let mut window = new_window(rt, Format::Real1);
+    assert_same(rt, held.prn().get(), 5);
+    assert_stands(rt, &held, 0, 1_346);
+    open_to(rt, &mut window, &RECORDING, 1_000);
+    assert_next(rt, &mut held, &mut window, 1_000, (1_000, None));
     window.close();
-    open_to(&rt, &mut window, &RECORDING, 2_000);
-    assert_next(&rt, &mut held, &mut window, 2_000, (1_346, first));
-    assert_stands(&rt, &held, 1, 3_392);
-    assert_next(&rt, &mut held, &mut window, 2_000, (2_000, None));
+    open_to(rt, &mut window, &RECORDING, 2_000);
+    assert_next(rt, &mut held, &mut window, 2_000, (1_346, first));
+    assert_stands(rt, &held, 1, 3_392);
+    assert_next(rt, &mut held, &mut window, 2_000, (2_000, None));
     window.close();
-    open_to(&rt, &mut window, &RECORDING, 3_000);
-    assert_next(&rt, &mut held, &mut window, 3_000, (3_000, None));
+    open_to(rt, &mut window, &RECORDING, 3_000);
+    assert_next(rt, &mut held, &mut window, 3_000, (3_000, None));
     window.close();
-    open_to(&rt, &mut window, &RECORDING, 4_000);
-    assert_next(&rt, &mut held, &mut window, 4_000, (3_392, second));
-    assert_stands(&rt, &held, 2, 5_438);
+    open_to(rt, &mut window, &RECORDING, 4_000);
+    assert_next(rt, &mut held, &mut window, 4_000, (3_392, second));
+    assert_stands(rt, &held, 2, 5_438);
 }
 
 // The same dumps where samples wait: as many as are open, from wherever a window begins, and never
 // the one that ends a segment, which is sample 1,345 and then sample 3,391.
 #[test]
 fn samples_wait(rt: HostRuntime) {
+    let rt = &rt;
     let [first, second] = first_and_second();
-    let mut held = held(&rt);
-    let mut window = new_window(&rt, Format::Real1);
-    open_to(&rt, &mut window, &RECORDING, 512);
-    open_to(&rt, &mut window, &RECORDING, 1_024);
-    assert_next(&rt, &mut held, &mut window, 1_024, (1_024, None));
+    let mut held = held(rt);
+    let mut window = new_window(rt, Format::Real1);
+    open_to(rt, &mut window, &RECORDING, 512);
+    open_to(rt, &mut window, &RECORDING, 1_024);
+    assert_next(rt, &mut held, &mut window, 1_024, (1_024, None));
     window.close();
-    open_to(&rt, &mut window, &RECORDING, 1_858);
-    assert_next(&rt, &mut held, &mut window, 1_858, (1_346, first));
-    open_to(&rt, &mut window, &RECORDING, 2_048);
-    assert_next(&rt, &mut held, &mut window, 2_048, (2_048, None));
+    open_to(rt, &mut window, &RECORDING, 1_858);
+    assert_next(rt, &mut held, &mut window, 1_858, (1_346, first));
+    open_to(rt, &mut window, &RECORDING, 2_048);
+    assert_next(rt, &mut held, &mut window, 2_048, (2_048, None));
     window.close();
-    open_to(&rt, &mut window, &RECORDING, 3_072);
-    assert_next(&rt, &mut held, &mut window, 3_072, (3_072, None));
+    open_to(rt, &mut window, &RECORDING, 3_072);
+    assert_next(rt, &mut held, &mut window, 3_072, (3_072, None));
     window.close();
-    open_to(&rt, &mut window, &RECORDING, 3_392);
-    assert_next(&rt, &mut held, &mut window, 3_392, (3_392, second));
+    open_to(rt, &mut window, &RECORDING, 3_392);
+    assert_next(rt, &mut held, &mut window, 3_392, (3_392, second));
 }
 
 // A dump comes with the last sample of its segment and not before, also where nothing waits.
 #[test]
 fn the_last_sample_of_a_segment_does_not_wait(rt: HostRuntime) {
+    let rt = &rt;
     let [first, _] = first_and_second();
-    let mut held = held(&rt);
-    let mut window = new_window(&rt, Format::Real1);
-    open_to(&rt, &mut window, &RECORDING, 1_000);
-    assert_next(&rt, &mut held, &mut window, 1_000, (1_000, None));
-    assert_next(&rt, &mut held, &mut window, 1_000, (1_000, None));
+    let mut held = held(rt);
+    let mut window = new_window(rt, Format::Real1);
+    open_to(rt, &mut window, &RECORDING, 1_000);
+    assert_next(rt, &mut held, &mut window, 1_000, (1_000, None));
+    assert_next(rt, &mut held, &mut window, 1_000, (1_000, None));
     window.close();
-    open_to(&rt, &mut window, &RECORDING, 1_346);
-    assert_next(&rt, &mut held, &mut window, 1_345, (1_345, None));
-    assert_stands(&rt, &held, 0, 1_346);
-    assert_next(&rt, &mut held, &mut window, 1_345, (1_345, None));
-    assert_next(&rt, &mut held, &mut window, 1_346, (1_346, first));
-    assert_stands(&rt, &held, 1, 3_392);
-    assert_next(&rt, &mut held, &mut window, 1_346, (1_346, None));
-    assert_stands(&rt, &held, 1, 3_392);
+    open_to(rt, &mut window, &RECORDING, 1_346);
+    assert_next(rt, &mut held, &mut window, 1_345, (1_345, None));
+    assert_stands(rt, &held, 0, 1_346);
+    assert_next(rt, &mut held, &mut window, 1_345, (1_345, None));
+    assert_next(rt, &mut held, &mut window, 1_346, (1_346, first));
+    assert_stands(rt, &held, 1, 3_392);
+    assert_next(rt, &mut held, &mut window, 1_346, (1_346, None));
+    assert_stands(rt, &held, 1, 3_392);
 }

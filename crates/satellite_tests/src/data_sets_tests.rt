@@ -53,16 +53,17 @@ static IN_ORDER: [Row; 4] = [
 // The subframe 3 whose word 5 is missing makes no page, so that there is nothing to take.
 #[test]
 fn incomplete_page(rt: HostRuntime) {
+    let rt = &rt;
     let zero = Some(0);
-    let incomplete = subframe_from(&rt, 0x8c, [zero, zero, None, zero, zero, zero, zero, zero]);
-    assert!(rt; Page::read(&incomplete).is_none());
+    let incomplete = subframe_from(rt, 0x8c, [zero, zero, None, zero, zero, zero, zero, zero]);
+    assert_same(rt, Page::read(&incomplete), None);
     // Word 10 begins with the issue of data: bits 271 to 278.
     let last = Some(0x07_0000);
-    let page = page(&rt, 0x8c, [zero, zero, zero, zero, zero, zero, zero, last]);
+    let page = page(rt, 0x8c, [zero, zero, zero, zero, zero, zero, zero, last]);
     let mut sets = DataSets::new();
-    assert_issues(&rt, &mut sets, &IN_ORDER[..2]);
-    assert_report(&rt, &mut sets, &page, set_of(Some([7, 7])));
-    assert_report(&rt, &mut sets, &page, None);
+    assert_issues(rt, &mut sets, &IN_ORDER[..2]);
+    assert_report(rt, &mut sets, &page, set_of(Some([7, 7])));
+    assert_report(rt, &mut sets, &page, None);
 }
 
 // Three subframes of zeros are of one issue, 0: the set has 31 zeros.
@@ -101,14 +102,15 @@ fn returning_issue(rt: HostRuntime) {
 // brings them.
 #[test]
 fn changed_values(rt: HostRuntime) {
+    let rt = &rt;
     let mut sets = DataSets::new();
-    assert_issues(&rt, &mut sets, &IN_ORDER[..3]);
+    assert_issues(rt, &mut sets, &IN_ORDER[..3]);
     for crs in [1, -1, 0] {
         let changed = Page::Eph2([7, crs, 0, 0, 0, 0, 0, 0, 0, 0, 0]);
         let mut numbers = set_numbers(7, 7);
         numbers[IODE + 1] = crs;
-        assert_report(&rt, &mut sets, &changed, Some(Report::Eph(numbers)));
-        assert_report(&rt, &mut sets, &changed, None);
+        assert_report(rt, &mut sets, &changed, Some(Report::Eph(numbers)));
+        assert_report(rt, &mut sets, &changed, None);
     }
 }
 
@@ -185,13 +187,14 @@ static OTHERS: [(Page, Report); 4] = [
 // mind them.
 #[test]
 fn other_pages_each_time(rt: HostRuntime) {
+    let rt = &rt;
     let mut sets = DataSets::new();
-    assert_issues(&rt, &mut sets, &IN_ORDER[..2]);
-    assert_reports(&rt, &mut sets, &OTHERS);
-    assert_reports(&rt, &mut sets, &OTHERS);
-    assert_issues(&rt, &mut sets, &IN_ORDER[2..3]);
-    assert_reports(&rt, &mut sets, &OTHERS[..1]);
-    assert_issues(&rt, &mut sets, &IN_ORDER[3..]);
+    assert_issues(rt, &mut sets, &IN_ORDER[..2]);
+    assert_reports(rt, &mut sets, &OTHERS);
+    assert_reports(rt, &mut sets, &OTHERS);
+    assert_issues(rt, &mut sets, &IN_ORDER[2..3]);
+    assert_reports(rt, &mut sets, &OTHERS[..1]);
+    assert_issues(rt, &mut sets, &IN_ORDER[3..]);
 }
 
 /// Asserts what each of these pages, one after another, makes reported.
@@ -210,7 +213,7 @@ fn assert_reports(rt: &impl Abort, sets: &mut DataSets, rows: &[(Page, Report)])
 
 /// Asserts what a page makes reported.
 fn assert_report(rt: &impl Abort, sets: &mut DataSets, page: &Page, expected: Option<Report>) {
-    assert_same_at!(*rt; page, sets.take(page).page, expected);
+    assert_same_at(rt, page, sets.take(page).page, expected);
 }
 
 /// Asserts which of three pages, the first of all, make something reported: the third alone, where
@@ -218,7 +221,7 @@ fn assert_report(rt: &impl Abort, sets: &mut DataSets, page: &Page, expected: Op
 fn assert_third(rt: &impl Abort, rows: &[Three]) {
     for (first, second, third, is_set) in rows {
         let found = are_reported(first, second, third);
-        assert_same!(*rt; found, [false, false, *is_set]);
+        assert_same(rt, found, [false, false, *is_set]);
     }
 }
 

@@ -53,13 +53,14 @@ fn subframe_search(rt: HostRuntime) {
 
 #[test]
 fn subframe_search_behind_gap(rt: HostRuntime) {
+    let rt = &rt;
     let rows = [(302, DATA, None), (607, DATA, Some(5))];
     let mut pushed = Pushed::new(&rows, NEVER);
-    pushed.push_bits(&rt, 0, 2);
-    pushed.push_words(&rt, &WORDS);
-    pushed.push_bits(&rt, 0, 5);
-    pushed.push_words(&rt, &WORDS);
-    pushed.assert_all(&rt);
+    pushed.push_bits(rt, 0, 2);
+    pushed.push_words(rt, &WORDS);
+    pushed.push_bits(rt, 0, 5);
+    pushed.push_words(rt, &WORDS);
+    pushed.assert_all(rt);
 }
 
 #[test]
@@ -123,18 +124,19 @@ fn false_header(rt: HostRuntime) {
 
 #[test]
 fn damaged_word(rt: HostRuntime) {
-    let one_bit = assert_damaged(&rt, 0, 30);
+    let rt = &rt;
+    let one_bit = assert_damaged(rt, 0, 30);
     let mut two_bits = 0u32;
     let mut three_bits = 0u32;
     for first in 2..30u32 {
         let one = 1 << first;
-        two_bits = two_bits.wrapping_add(assert_damaged(&rt, one, first));
+        two_bits = two_bits.wrapping_add(assert_damaged(rt, one, first));
         for second in 2..first {
             let two = one | (1 << second);
-            three_bits = three_bits.wrapping_add(assert_damaged(&rt, two, second));
+            three_bits = three_bits.wrapping_add(assert_damaged(rt, two, second));
         }
     }
-    assert_same!(rt; (one_bit, two_bits, three_bits), (28, 378, 3_276));
+    assert_same(rt, (one_bit, two_bits, three_bits), (28, 378, 3_276));
 }
 
 /// Asserts that the subframe is found with all words but word 5, where these bits of that are

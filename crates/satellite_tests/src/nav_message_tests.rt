@@ -33,10 +33,11 @@ fn edge_of_alternating_bits(rt: HostRuntime) {
 // Neither makes a report: subframe 1 waits for the two others of its set.
 #[test]
 fn gap_between_subframes(rt: HostRuntime) {
-    let mut pushed = Pushed::behind_two_zeros(&rt);
-    assert_zeros(&rt, &mut pushed, (HANDOVERS[0], DATA[1]), None, None);
-    pushed.push_zeros(&rt, 5);
-    assert_zeros(&rt, &mut pushed, (HANDOVERS[0], DATA[1]), Some(5), None);
+    let rt = &rt;
+    let mut pushed = Pushed::behind_two_zeros(rt);
+    assert_zeros(rt, &mut pushed, (HANDOVERS[0], DATA[1]), None, None);
+    pushed.push_zeros(rt, 5);
+    assert_zeros(rt, &mut pushed, (HANDOVERS[0], DATA[1]), Some(5), None);
 }
 
 // Subframes 1, 2 and 3 of zeros, one after the other, are of one issue. The third makes their set
@@ -70,15 +71,16 @@ static ALMANAC: [u32; 10] = [
 // is reported.
 #[test]
 fn almanac_page(rt: HostRuntime) {
-    let mut pushed = Pushed::behind_two_zeros(&rt);
+    let rt = &rt;
+    let mut pushed = Pushed::behind_two_zeros(rt);
     let mut words = zero_data(DATA[4]);
     words[2] = Some(0x45_0000);
     words[3] = Some(0x07_0000);
     words[9] = Some(2);
     let report = Report::Alm([1, 5, 0, 7, 0, 0, 0, 0, 0, 0, 0, 0, 0]);
-    let expected = told(&rt, words, None, Some(report));
+    let expected = told(rt, words, None, Some(report));
     for _ in 0..2 {
-        pushed.assert_words(&rt, &ALMANAC, &expected);
+        pushed.assert_words(rt, &ALMANAC, &expected);
     }
 }
 
@@ -86,16 +88,17 @@ fn almanac_page(rt: HostRuntime) {
 // of three waits for the whole subframe 3.
 #[test]
 fn damaged_word(rt: HostRuntime) {
-    let mut pushed = Pushed::behind_two_zeros(&rt);
-    let _ = pushed.push_words(&rt, &zeros_behind(HANDOVERS[0]));
-    let _ = pushed.push_words(&rt, &zeros_behind(HANDOVERS[1]));
+    let rt = &rt;
+    let mut pushed = Pushed::behind_two_zeros(rt);
+    let _ = pushed.push_words(rt, &zeros_behind(HANDOVERS[0]));
+    let _ = pushed.push_words(rt, &zeros_behind(HANDOVERS[1]));
     let mut sent = zeros_behind(HANDOVERS[2]);
     sent[6] = 1 << 20;
     let mut words = zero_data(DATA[3]);
     words[6] = None;
-    pushed.assert_words(&rt, &sent, &told(&rt, words, None, None));
+    pushed.assert_words(rt, &sent, &told(rt, words, None, None));
     let set = Some(Report::Eph([0; 31]));
-    assert_zeros(&rt, &mut pushed, (HANDOVERS[2], DATA[3]), None, set);
+    assert_zeros(rt, &mut pushed, (HANDOVERS[2], DATA[3]), None, set);
 }
 
 /// Pushes a subframe of zeros after a handover word, of which the data are given too, and asserts

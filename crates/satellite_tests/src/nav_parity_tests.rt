@@ -11,15 +11,16 @@ use nav_parity::{DATA_LIMIT, PRIOR_LIMIT, WORD_LIMIT, check, encode};
 // The telemetry word comes after 00, and the handover word after 10.
 #[test]
 fn parity_words(rt: HostRuntime) {
-    assert_same!(rt; check(TELEMETRY, 0), Some(TELEMETRY_DATA));
-    assert_same!(rt; encode(TELEMETRY_DATA, 0), TELEMETRY);
-    assert_same!(rt; check(HANDOVER, 2), Some(HANDOVER_DATA));
+    let rt = &rt;
+    assert_same(rt, check(TELEMETRY, 0), Some(TELEMETRY_DATA));
+    assert_same(rt, encode(TELEMETRY_DATA, 0), TELEMETRY);
+    assert_same(rt, check(HANDOVER, 2), Some(HANDOVER_DATA));
 }
 
 #[test]
 fn inverted_parity(rt: HostRuntime) {
-    assert_same!(rt; check(0x3fff_ffd6, 1), Some(0));
-    assert_same!(rt; check(0x3fff_ffff, 3), Some(0));
+    assert_same(&rt, check(0x3fff_ffd6, 1), Some(0));
+    assert_same(&rt, check(0x3fff_ffff, 3), Some(0));
 }
 
 #[test]
@@ -34,14 +35,15 @@ fn three_bit_law(rt: HostRuntime) {
             after_three = after_three.wrapping_add(refused(one | (1 << second), second));
         }
     }
-    assert_same!(rt; (after_one, after_two, after_three), (30, 435, 4_060));
+    assert_same(&rt, (after_one, after_two, after_three), (30, 435, 4_060));
 }
 
 #[test]
 fn there_and_back(rt: HostRuntime) {
-    assert_same!(rt; checked_code(0x8b_0000, 3), Some(0x8b_0000));
-    assert_same!(rt; recoded_word(TELEMETRY, 0), Some(TELEMETRY));
-    assert_same!(rt; recoded_word(TELEMETRY, 1), None);
+    let rt = &rt;
+    assert_same(rt, checked_code(0x8b_0000, 3), Some(0x8b_0000));
+    assert_same(rt, recoded_word(TELEMETRY, 0), Some(TELEMETRY));
+    assert_same(rt, recoded_word(TELEMETRY, 1), None);
 }
 
 /// For how many places below one the telemetry word with these bits and that changed gives no data.

@@ -3,7 +3,7 @@
 ghost use Rattle.std.specs.Prelude.{◌<◌};
 
 use crate::sent::subframe_from;
-use assertions::{assert_same, assert_same_at};
+use assertions::{assert_same, assert_same_at, assert_that};
 use frame_sync::Subframe;
 use std::process::Abort;
 use subframes::{
@@ -61,34 +61,37 @@ fn signed_fields(rt: HostRuntime) {
 
 #[test]
 fn each_field_alone(rt: HostRuntime) {
-    assert_fields(&rt, Kind::Clock, &CLOCK);
-    assert_fields(&rt, Kind::Eph2, &EPH2);
-    assert_fields(&rt, Kind::Eph3, &EPH3);
-    assert_fields(&rt, Kind::Almanac, &ALMANAC);
-    assert_fields(&rt, Kind::Utc, &UTC);
-    assert_fields(&rt, Kind::Health, &HEALTH);
-    assert!(rt; Kind::Message.fields().is_empty());
+    let rt = &rt;
+    assert_fields(rt, Kind::Clock, &CLOCK);
+    assert_fields(rt, Kind::Eph2, &EPH2);
+    assert_fields(rt, Kind::Eph3, &EPH3);
+    assert_fields(rt, Kind::Almanac, &ALMANAC);
+    assert_fields(rt, Kind::Utc, &UTC);
+    assert_fields(rt, Kind::Health, &HEALTH);
+    assert_same(rt, Kind::Message.fields().len(), 0);
 }
 
 #[test]
 fn incomplete_page(rt: HostRuntime) {
+    let rt = &rt;
     let zero = Some(0);
     let words = [zero, zero, None, zero, zero, zero, zero, zero];
-    let incomplete = subframe_from(&rt, 0x84, words);
-    assert!(rt; Page::read(&incomplete).is_none());
-    assert_field(&rt, &incomplete, Field::Clock(ClockField::Tgd), Some(0));
+    let incomplete = subframe_from(rt, 0x84, words);
+    assert_same(rt, Page::read(&incomplete), None);
+    assert_field(rt, &incomplete, Field::Clock(ClockField::Tgd), Some(0));
     // m0 has parts in words 4 and 5.
-    assert_field(&rt, &incomplete, Field::Eph2(Eph2Field::M0), None);
-    assert_field(&rt, &incomplete, Field::Eph2(Eph2Field::Dn), Some(0));
+    assert_field(rt, &incomplete, Field::Eph2(Eph2Field::M0), None);
+    assert_field(rt, &incomplete, Field::Eph2(Eph2Field::Dn), Some(0));
 }
 
 #[test]
 fn kinds_of_pages(rt: HostRuntime) {
-    assert_kind(&rt, 0x84, 0xff_0000, Some(Kind::Clock));
-    assert_kind(&rt, 0x88, 0xff_0000, Some(Kind::Eph2));
-    assert_kind(&rt, 0x8c, 0xff_0000, Some(Kind::Eph3));
+    let rt = &rt;
+    assert_kind(rt, 0x84, 0xff_0000, Some(Kind::Clock));
+    assert_kind(rt, 0x88, 0xff_0000, Some(Kind::Eph2));
+    assert_kind(rt, 0x8c, 0xff_0000, Some(Kind::Eph3));
     for sv in 0..64u32 {
-        assert_kinds(&rt, sv, kinds_by_sv(sv));
+        assert_kinds(rt, sv, kinds_by_sv(sv));
     }
 }
 
@@ -116,13 +119,13 @@ fn assert_kinds(rt: &impl Abort, sv: u32, [fourth, fifth]: [Option<Kind>; 2]) {
 /// Asserts the kind of the page that begins with this word 3.
 fn assert_kind(rt: &impl Abort, handover: u32, begun: u32, expected: Option<Kind>) {
     let found = kind(rt, handover, begun);
-    assert_same_at!(*rt; (handover, begun), found, expected);
+    assert_same_at(rt, (handover, begun), found, expected);
 }
 
 #[test]
 fn values_in_table_order(rt: HostRuntime) {
     let page = Page::read(&subframe(&rt, 0x94, WORDS));
-    assert_same!(rt; page, Some(Page::Almanac(VALUES)));
+    assert_same(&rt, page, Some(Page::Almanac(VALUES)));
 }
 
 static BY_NAME: [(Field, Option<i64>); 9] = [
@@ -140,12 +143,13 @@ static BY_NAME: [(Field, Option<i64>); 9] = [
 
 #[test]
 fn values_by_name(rt: HostRuntime) {
-    let page = Page::read(&subframe(&rt, 0x94, WORDS)).expect(&rt, "a page");
+    let rt = &rt;
+    let page = Page::read(&subframe(rt, 0x94, WORDS)).expect(rt, "a page");
     for (field, expected) in &BY_NAME {
-        assert_value(&rt, &page, *field, *expected);
+        assert_value(rt, &page, *field, *expected);
     }
     let values = VALUES;
-    assert_same!(rt; page.values(), values.as_slice());
+    assert_same(rt, page.values(), values.as_slice());
 }
 
 static COUNTS: [Page; 6] = [
@@ -177,45 +181,51 @@ fn assert_counts_up(rt: &impl Abort, page: &Page) {
         expected = expected.wrapping_add(1);
         assert_value(rt, page, *field, Some(expected));
     }
-    assert!(rt; page.values().len() == page.kind().fields().len());
+    assert_same(rt, page.values().len(), page.kind().fields().len());
 }
 
 /// Asserts the value that a page has by a field's name.
 fn assert_value(rt: &impl Abort, page: &Page, field: Field, expected: Option<i64>) {
-    assert_same_at!(*rt; field.name(), page.value(field), expected);
+    assert_same_at(rt, field.name(), page.value(field), expected);
 }
 
 // The 31 names in the order of the lines: subframe 1, 2 and 3, each as its table has it.
 #[test]
 fn names_of_an_ephemeris(rt: HostRuntime) {
+    let rt = &rt;
     let fields = ephemeris_fields();
-    assert!(rt; fields.len() == 31);
-    assert_names(&rt, &fields[..11], &CLOCK);
-    assert_names(&rt, &fields[11..22], &EPH2);
-    assert_names(&rt, &fields[22..], &EPH3);
+    assert_that(rt, fields.len() == 31);
+    assert_names(rt, &fields[..11], &CLOCK);
+    assert_names(rt, &fields[11..22], &EPH2);
+    assert_names(rt, &fields[22..], &EPH3);
 }
 
 /// Asserts that fields have the names and the exponents of these entries.
 fn assert_names(rt: &impl Abort, fields: &[Field], entries: &[Entry]) {
-    assert!(rt; fields.len() == entries.len());
+    assert_that(rt, fields.len() == entries.len());
     for k in 0..fields.len() {
         assert_name(rt, fields[k], &entries[k]);
     }
 }
 
 fn assert_name(rt: &impl Abort, field: Field, entry: &Entry) {
-    assert_same!(*rt; (field.name(), field.exponent()), (entry.name, entry.exponent));
+    assert_same(
+        rt,
+        (field.name(), field.exponent()),
+        (entry.name, entry.exponent),
+    );
 }
 
 #[test]
 fn message_characters(rt: HostRuntime) {
+    let rt = &rt;
     let words = [
         0x77_4750, 0x53_204c, 0x31_2043, 0x2f_4120, 0x54_4553, 0x54_2c20, 0x32_3220, 0x43_4800,
     ];
     let text = Page::Message(*b"GPS L1 C/A TEST, 22 CH");
-    assert_same!(rt; Page::read(&subframe(&rt, 0x90, words)), Some(text));
-    assert!(rt; text.values().is_empty());
-    assert_value(&rt, &text, Field::Utc(UtcField::Sv), None);
+    assert_same(rt, Page::read(&subframe(rt, 0x90, words)), Some(text));
+    assert_same(rt, text.values().len(), 0);
+    assert_value(rt, &text, Field::Utc(UtcField::Sv), None);
 }
 
 /// Asserts that each field of a kind is as its table has it, in its order.
@@ -239,7 +249,7 @@ fn assert_bits(rt: &impl Abort, handover: u32, field: Field, entry: &Entry) {
 
 /// Asserts what a subframe has at a field.
 fn assert_field(rt: &impl Abort, subframe: &Subframe, named: Field, expected: Option<i64>) {
-    assert_same_at!(*rt; named.name(), field(subframe, named), expected);
+    assert_same_at(rt, named.name(), field(subframe, named), expected);
 }
 
 /// What a field with all its bits 1 is.

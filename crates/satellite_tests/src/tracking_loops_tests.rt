@@ -2,7 +2,7 @@
 
 ghost use Rattle.std.specs.Prelude.{◌≡◌, pos};
 
-use assertions::{assert_same, assert_same_at};
+use assertions::{assert_same, assert_same_at, assert_that};
 use lane_correlator::Counts;
 use std::process::Abort;
 use tracking_loops::{Loops, News};
@@ -27,6 +27,7 @@ fn prompt(ip: i32, qp: i32) -> Counts
 // * 3 / 5).
 #[test]
 fn loop_steps(rt: HostRuntime) {
+    let rt = &rt;
     let mut loops = Loops::start(0);
     let news = loops.take(Counts {
         ie: 2,
@@ -36,8 +37,8 @@ fn loop_steps(rt: HostRuntime) {
         il: 1,
         ql: 0,
     });
-    assert_same!(rt; news, News::Nothing);
-    assert_stand(&rt, &loops, (0, 39_312, 1));
+    assert_same(rt, news, News::Nothing);
+    assert_stand(rt, &loops, (0, 39_312, 1));
     let news = loops.take(Counts {
         ie: 1,
         qe: 0,
@@ -46,23 +47,23 @@ fn loop_steps(rt: HostRuntime) {
         il: 2,
         ql: 0,
     });
-    assert_same!(rt; news, News::Nothing);
-    assert_stand(&rt, &loops, (-218_560, -39_328, 2));
+    assert_same(rt, news, News::Nothing);
+    assert_stand(rt, &loops, (-218_560, -39_328, 2));
 }
 
 /// Asserts the shift, the correction and the number of dumps.
 fn assert_stand(rt: &impl Abort, loops: &Loops, expected: (i64, i64, u64)) {
-    assert_same!(*rt; (loops.v(), loops.w(), loops.dumps()), expected);
+    assert_same(rt, (loops.v(), loops.w(), loops.dumps()), expected);
 }
 
 /// Asserts the news of a dump, and whether the loops are locked after it.
 fn assert_news(rt: &impl Abort, loops: &Loops, dump: u64, news: News, expected: (News, bool)) {
-    assert_same_at!(*rt; dump, (news, loops.locked()), expected);
+    assert_same_at(rt, dump, (news, loops.locked()), expected);
 }
 
 /// Asserts the shift.
 fn assert_shift(rt: &impl Abort, loops: &Loops, expected: i64) {
-    assert_same!(*rt; loops.v(), expected);
+    assert_same(rt, loops.v(), expected);
 }
 
 /// The shift after a dump, where a phase of 45 degrees is an error of 2048 and nothing turns: v is
@@ -78,17 +79,18 @@ fn held_shift(dump: u64) -> i64 {
 // Windows that are all bad: 50 of them end with dump 199 + 50 * 20.
 #[test]
 fn loop_steps_never_locked(rt: HostRuntime) {
+    let rt = &rt;
     let mut loops = Loops::start(0);
     for dump in 1..1200u64 {
-        assert!(rt; loops.dumps() < 1200);
+        assert_that(rt, loops.dumps() < 1200);
         let news = loops.take(prompt(1, 1));
         let expected = match dump {
             1199 => News::Lost,
             _ => News::Nothing,
         };
-        assert_news(&rt, &loops, dump, news, (expected, false));
+        assert_news(rt, &loops, dump, news, (expected, false));
         if dump <= 201 {
-            assert_shift(&rt, &loops, held_shift(dump));
+            assert_shift(rt, &loops, held_shift(dump));
         }
     }
 }
@@ -99,7 +101,7 @@ fn loop_steps_never_locked(rt: HostRuntime) {
 fn loop_steps_locked_once(rt: HostRuntime) {
     let mut loops = Loops::start(0);
     for dump in 1..1220u64 {
-        assert!(rt; loops.dumps() < 1220);
+        assert_that(&rt, loops.dumps() < 1220);
         let news = loops.take(if dump < 220 {
             prompt(2, 1)
         } else {
@@ -122,7 +124,7 @@ fn loop_steps_locked_once(rt: HostRuntime) {
 fn good_window_ends_the_run(rt: HostRuntime) {
     let mut loops = Loops::start(0);
     for dump in 1..640u64 {
-        assert!(rt; loops.dumps() < 640);
+        assert_that(&rt, loops.dumps() < 640);
         let is_good = dump < 220 || dump >= 400 && dump < 420;
         let news = loops.take(if is_good { prompt(0, 0) } else { prompt(1, 1) });
         let expected = match dump {
@@ -139,16 +141,17 @@ fn good_window_ends_the_run(rt: HostRuntime) {
 // dump 2, where the scalar product is 0), and in the phase, from dump 200 on.
 #[test]
 fn shift_is_limited(rt: HostRuntime) {
+    let rt = &rt;
     let mut loops = Loops::start(1 << 30);
     let _ = loops.take(prompt(1, 0));
     let _ = loops.take(prompt(0, 1));
-    assert_shift(&rt, &loops, 1 << 30);
+    assert_shift(rt, &loops, 1 << 30);
     for _ in 3..210u64 {
-        assert!(rt; loops.dumps() < 210);
+        assert_that(rt, loops.dumps() < 210);
         let _ = loops.take(prompt(0, 1));
-        assert_shift(&rt, &loops, 1 << 30);
+        assert_shift(rt, &loops, 1 << 30);
     }
-    assert!(rt; loops.dumps() < 210);
+    assert_that(rt, loops.dumps() < 210);
     let _ = loops.take(prompt(-1, 1));
-    assert_shift(&rt, &loops, (1 << 30) - 12_288 - 348_160);
+    assert_shift(rt, &loops, (1 << 30) - 12_288 - 348_160);
 }

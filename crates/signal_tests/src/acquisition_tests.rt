@@ -90,14 +90,15 @@ fn cell_of_code_file(rt: &impl Abort) -> Cell {
 
 #[test]
 fn acquire_code_file(rt: HostRuntime) {
+    let rt = &rt;
     let bytes = code_file();
-    assert_same!(rt; (bytes[0], bytes[1]), (0xf0, 0xc0));
-    let settings = real_settings(&rt, 2_046_000, Format::Real1);
-    let plan = short_plan(&rt, 1, 10);
+    assert_same(rt, (bytes[0], bytes[1]), (0xf0, 0xc0));
+    let settings = real_settings(rt, 2_046_000, Format::Real1);
+    let plan = short_plan(rt, 1, 10);
     let source = NumberedSamples::new(PackedSamples::new(Format::Real1, &bytes), 0);
     for cells in [1, 7, u64::MAX] {
-        let found = named_by_search(&rt, plan, &settings, 2, &source, cells);
-        assert_same_at!(rt; cells, found, Some(cell_of_code_file(&rt)));
+        let found = named_by_search(rt, plan, &settings, 2, &source, cells);
+        assert_same_at(rt, cells, found, Some(cell_of_code_file(rt)));
     }
 }
 
@@ -105,17 +106,18 @@ fn acquire_code_file(rt: HostRuntime) {
 // quadrature.
 #[test]
 fn equal_cells(rt: HostRuntime) {
+    let rt = &rt;
     let bytes = [0; 256];
-    let settings = real_settings(&rt, 2_046_000, Format::Real1);
+    let settings = real_settings(rt, 2_046_000, Format::Real1);
     let source = NumberedSamples::new(PackedSamples::new(Format::Real1, &bytes), 0);
     for (threshold, found) in [(10, true), (11, false)] {
-        let plan = short_plan(&rt, 1, threshold);
+        let plan = short_plan(rt, 1, threshold);
         let named = Cell {
             found,
-            ..found_cell(&rt, 0, 20)
+            ..found_cell(rt, 0, 20)
         };
-        let told = named_by_search(&rt, plan, &settings, 0, &source, 500);
-        assert_same_at!(rt; threshold, told, Some(named));
+        let told = named_by_search(rt, plan, &settings, 0, &source, 500);
+        assert_same_at(rt, threshold, told, Some(named));
     }
 }
 
@@ -138,31 +140,33 @@ fn code_in_threes(bytes_a_chip: usize) -> [u8; 4092]
 // and -24,552. At 16.368 MHz these don't either: 98,208 and -49,104.
 #[test]
 fn sums_beside_16_bits(rt: HostRuntime) {
-    let plan = short_plan(&rt, 1, 1_000);
+    let rt = &rt;
+    let plan = short_plan(rt, 1, 1_000);
     for (bytes_a_chip, power) in [(1, 753_500_880), (2, 3_014_003_520), (4, 12_056_014_080)] {
-        let settings = real_settings(&rt, 4_092_000 * bytes_a_chip as u32, Format::Real2);
+        let settings = real_settings(rt, 4_092_000 * bytes_a_chip as u32, Format::Real2);
         let bytes = code_in_threes(bytes_a_chip);
         let source = NumberedSamples::new(PackedSamples::new(Format::Real2, &bytes), 0);
-        let found = named_by_search(&rt, plan, &settings, 0, &source, 300);
-        assert_same_at!(rt; bytes_a_chip, found, Some(found_cell(&rt, 0, power)));
+        let found = named_by_search(rt, plan, &settings, 0, &source, 300);
+        assert_same_at(rt, bytes_a_chip, found, Some(found_cell(rt, 0, power)));
     }
 }
 
 #[test]
 fn search_is_left_off_and_taken_up(rt: HostRuntime) {
+    let rt = &rt;
     let bytes = [0; 256];
-    let settings = real_settings(&rt, 2_046_000, Format::Real1);
+    let settings = real_settings(rt, 2_046_000, Format::Real1);
     let source = NumberedSamples::new(PackedSamples::new(Format::Real1, &bytes), 5);
     let mut book = CodeBook::new();
-    let mut search = Search::new(short_plan(&rt, 1, 10), &settings, 7, new_room(&rt));
-    assert_stands(&rt, &search, 0);
-    advance_to(&rt, &mut search, 0, &source, &mut book, 0);
-    advance_to(&rt, &mut search, 7, &source, &mut book, 7);
-    advance_to(&rt, &mut search, 2_038, &source, &mut book, 2_045);
-    advance_to(&rt, &mut search, u64::MAX, &source, &mut book, 2_046);
+    let mut search = Search::new(short_plan(rt, 1, 10), &settings, 7, new_room(rt));
+    assert_stands(rt, &search, 0);
+    advance_to(rt, &mut search, 0, &source, &mut book, 0);
+    advance_to(rt, &mut search, 7, &source, &mut book, 7);
+    advance_to(rt, &mut search, 2_038, &source, &mut book, 2_045);
+    advance_to(rt, &mut search, u64::MAX, &source, &mut book, 2_046);
     let result = search.result();
-    advance_to(&rt, &mut search, u64::MAX, &source, &mut book, 2_046);
-    assert_same!(rt; search.result(), result);
+    advance_to(rt, &mut search, u64::MAX, &source, &mut book, 2_046);
+    assert_same(rt, search.result(), result);
 }
 
 /// A search does so many cells more, or those that are left. Asserts how many are done after them.
@@ -187,5 +191,5 @@ fn advance_to(
 /// due after 2,046 samples of the dwell, from sample 7 on, and 4 for each cell.
 fn assert_stands(rt: &impl Abort, search: &Search, done: u64) {
     let told = (search.due(), search.done(), search.result().is_some());
-    assert_same!(*rt; told, (10_237, done, done == 2_046));
+    assert_same(rt, told, (10_237, done, done == 2_046));
 }

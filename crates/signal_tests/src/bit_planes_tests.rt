@@ -9,8 +9,8 @@ fn words_of_a_plane(rt: HostRuntime) {
     let mut plane = Plane::new();
     plane.set_word(0, 0x8001_ffff_0000_0000);
     plane.set_word(1, 0x0000_4000_0000_0000);
-    assert_same!(
-        rt;
+    assert_same(
+        &rt,
         [
             plane.bit(0),
             plane.bit(1),
@@ -18,7 +18,7 @@ fn words_of_a_plane(rt: HostRuntime) {
             plane.bit(32),
             plane.bit(81),
         ],
-        [1, 0, 1, 0, 1]
+        [1, 0, 1, 0, 1],
     );
 }
 
@@ -39,7 +39,7 @@ fn lane_0_is_the_last_place_of_a_word(rt: HostRuntime) {
         0x3fff_ffff_ffff_ffff,
         0x4000_0000_0000_0000,
     ];
-    assert_same!(rt; words, expected);
+    assert_same(&rt, words, expected);
 }
 
 #[test]
@@ -52,5 +52,5 @@ fn bytes_marked_by_their_bits(rt: HostRuntime) {
     expected[2] = 4;
     expected[41] = 4;
     let marked = marked_bytes(u8x64::splat(0x81), u8x64::from_array(masks), 4);
-    assert_same!(rt; marked.to_array(), expected);
+    assert_same(&rt, marked.to_array(), expected);
 }

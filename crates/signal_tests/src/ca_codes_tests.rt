@@ -1,7 +1,7 @@
 //! The code table's octal column, and the ends of a code.
 
 use crate::parts::satellite;
-use assertions::{assert_same, assert_same_at};
+use assertions::{assert_same, assert_same_at, assert_that};
 use ca_codes::{CodeBook, Prn, PrnFault};
 
 /// The first ten chips of satellites 1 to 32 in octal, as the standard lists them (IS-GPS-200,
@@ -27,15 +27,16 @@ fn each_code_begins_as_listed(rt: HostRuntime) {
     for place in 0..32 {
         let number = place as u8 + 1;
         let chips = first_ten_chips(&mut book, satellite(&rt, number), 0);
-        assert_same_at!(rt; number, chips, FIRST_CHIPS[place]);
+        assert_same_at(&rt, number, chips, FIRST_CHIPS[place]);
     }
 }
 
 #[test]
 fn a_code_repeats_after_1023_chips(rt: HostRuntime) {
+    let rt = &rt;
     let mut book = CodeBook::new();
-    let prn = satellite(&rt, 1);
-    assert_same!(rt; first_ten_chips(&mut book, prn, 1023), 0o1440);
+    let prn = satellite(rt, 1);
+    assert_same(rt, first_ten_chips(&mut book, prn, 1023), 0o1440);
     // 4,294,967,295 is 4,198,404 times 1,023 and 3 more.
     let chips = [
         book.chip(prn, 1021),
@@ -44,16 +45,21 @@ fn a_code_repeats_after_1023_chips(rt: HostRuntime) {
         book.chip(prn, u32::MAX - 1),
         book.chip(prn, u32::MAX),
     ];
-    assert_same!(rt; chips, [false, false, true, false, false]);
+    assert_same(rt, chips, [false, false, true, false, false]);
 }
 
 #[test]
 fn satellites_are_1_to_32(rt: HostRuntime) {
-    let last = satellite(&rt, 32);
-    assert_same!(rt; last.get(), 32);
-    assert_same!(rt; [Prn::new(0), Prn::new(33)], [None, None]);
-    assert_same!(rt; [Prn::try_from(32), Prn::try_from(33)], [Ok(last), Err(PrnFault)]);
-    assert!(rt; Prn::new(31) < Some(last));
+    let rt = &rt;
+    let last = satellite(rt, 32);
+    assert_same(rt, last.get(), 32);
+    assert_same(rt, [Prn::new(0), Prn::new(33)], [None, None]);
+    assert_same(
+        rt,
+        [Prn::try_from(32), Prn::try_from(33)],
+        [Ok(last), Err(PrnFault)],
+    );
+    assert_that(rt, Prn::new(31) < Some(last));
 }
 
 #[test]
@@ -65,7 +71,7 @@ fn window_wraps(rt: HostRuntime) {
         book.window(prn, 1021) >> 52,
         book.window(prn, 2 * 1023 + 1021) >> 52,
     ];
-    assert_same!(rt; begun, [0x320, 0x320]);
+    assert_same(&rt, begun, [0x320, 0x320]);
 }
 
 /// The first ten chips of two satellites, which a book is asked for in this order.
@@ -75,10 +81,11 @@ fn first_chips_of(book: &mut CodeBook, first: Prn, second: Prn) -> (u64, u64) {
 
 #[test]
 fn either_order_fills_the_book(rt: HostRuntime) {
-    let (low, high) = (satellite(&rt, 3), satellite(&rt, 19));
+    let rt = &rt;
+    let (low, high) = (satellite(rt, 3), satellite(rt, 19));
     // The first ten chips of both are those of the standard's table, whichever of them the book was
     // asked for first.
     let upward = first_chips_of(&mut CodeBook::new(), low, high);
     let downward = first_chips_of(&mut CodeBook::default(), high, low);
-    assert_same!(rt; (upward, downward), ((0o1710, 0o1633), (0o1633, 0o1710)));
+    assert_same(rt, (upward, downward), ((0o1710, 0o1633), (0o1633, 0o1710)));
 }

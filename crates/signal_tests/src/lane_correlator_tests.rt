@@ -129,7 +129,7 @@ fn assert_agreeing(rt: &impl Abort, format: Format) {
         agreeing(rt, format, 0, 200),
         agreeing(rt, format, 954, 1024),
     );
-    assert_same!(*rt; ranges, (SHORT_RANGES, LATE_RANGES));
+    assert_same(rt, ranges, (SHORT_RANGES, LATE_RANGES));
 }
 
 #[test]
@@ -159,7 +159,7 @@ fn assert_four_samples(rt: &impl Abort, format: Format, bytes: &[u8], expected: 
 {
     let samples = unpack(format, bytes, 0, 4);
     let code = CodeOsc::new(half_chip(rt, 2_044), 1 << 30);
-    assert_same!(*rt; sums_of_quarters(rt, &samples, &code), expected);
+    assert_same(rt, sums_of_quarters(rt, &samples, &code), expected);
 }
 
 /// The sums over samples at a quarter of a cycle a sample, with the code of satellite 1.
@@ -226,14 +226,15 @@ fn quarter_cycles(rt: &impl Abort, count: usize) -> (i32, i32)
 
 #[test]
 fn a_quarter_cycle_a_sample(rt: HostRuntime) {
+    let rt = &rt;
     // Cosines 2, -1, -2, 1 and sines 1, 2, -1, -2.
     let sums = [
-        quarter_cycles(&rt, 0),
-        quarter_cycles(&rt, 1),
-        quarter_cycles(&rt, 3),
-        quarter_cycles(&rt, 4),
+        quarter_cycles(rt, 0),
+        quarter_cycles(rt, 1),
+        quarter_cycles(rt, 3),
+        quarter_cycles(rt, 4),
     ];
-    assert_same!(rt; sums, [(0, 0), (2, -1), (-1, -2), (0, 0)]);
+    assert_same(rt, sums, [(0, 0), (2, -1), (-1, -2), (0, 0)]);
 }
 
 #[test]
@@ -262,5 +263,5 @@ fn counts_add_place_by_place(rt: HostRuntime) {
         il: 55,
         ql: -54,
     };
-    assert_same!(rt; [ones.add(&more), ones.add(&Counts::NONE)], [sum, ones]);
+    assert_same(&rt, [ones.add(&more), ones.add(&Counts::NONE)], [sum, ones]);
 }

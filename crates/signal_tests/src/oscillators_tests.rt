@@ -3,7 +3,7 @@
 ghost use Rattle.std.specs.Prelude.{◌≤◌};
 
 use crate::parts::{half_chip, satellite};
-use assertions::{assert_same, assert_same_at};
+use assertions::{assert_same, assert_same_at, assert_that};
 use ca_codes::{CodeBook, Prn};
 use oscillators::*;
 use sample_planes::Format;
@@ -30,7 +30,7 @@ fn floor_steps(rt: HostRuntime) {
         settings.carrier_step(-65_536),
         settings.code_step(1540 * 65_536, 0),
     );
-    assert_same!(rt; steps, (4_294_966_246, 1_073_742_873));
+    assert_same(&rt, steps, (4_294_966_246, 1_073_742_873));
 }
 
 // -1/1540 is rounded down to -1, so the rate is 1,023,000 * 65,536 - 1 in 1/65536 chip a second.
@@ -40,7 +40,7 @@ fn floor_steps(rt: HostRuntime) {
 fn code_step_below_zero(rt: HostRuntime) {
     let settings = Settings::new(2_046_000, 0, Format::Real1).expect(&rt, "settings");
     let steps = (settings.code_step(-1, 0), settings.code_step(0, 0));
-    assert_same!(rt; steps, (2_147_483_647, 2_147_483_648));
+    assert_same(&rt, steps, (2_147_483_647, 2_147_483_648));
 }
 
 /// Rates and offsets at the ends of their ranges, and what is wrong with them.
@@ -61,7 +61,7 @@ static LIMITS: [(u32, i64, Option<SettingsFault>); 10] = [
 fn stated_limits(rt: HostRuntime) {
     for &(rate, offset, fault) in &LIMITS {
         let found = Settings::new(rate, offset, Format::Real2).err();
-        assert_same_at!(rt; (rate, offset), found, fault);
+        assert_same_at(&rt, (rate, offset), found, fault);
     }
 }
 
@@ -73,7 +73,7 @@ fn limits_of_shifts(rt: HostRuntime) {
         Doppler::new(16_000).is_some(),
         Doppler::new(16_001).is_some(),
     ];
-    assert_same!(rt; valid, [false, true, true, false]);
+    assert_same(&rt, valid, [false, true, true, false]);
 }
 
 #[test]
@@ -83,7 +83,7 @@ fn limits_of_half_chips(rt: HostRuntime) {
         HalfChip::new(2_045).is_some(),
         HalfChip::new(2_046).is_some(),
     ];
-    assert_same!(rt; valid, [true, true, false]);
+    assert_same(&rt, valid, [true, true, false]);
 }
 
 /// What the faults say.
@@ -102,31 +102,37 @@ static TEXTS: [(SettingsFault, &str); 2] = [
 fn fault_texts(rt: HostRuntime) {
     for &(fault, text) in &TEXTS {
         let printed = format!(in rt.alloc(); "{fault}").expect(&rt, "memory");
-        assert_same!(rt; printed.as_str(), text);
+        assert_same(&rt, printed.as_str(), text);
     }
 }
 
 #[test]
 fn settings_are_kept(rt: HostRuntime) {
-    let settings = Settings::new(2_047_999, 500_000, Format::Real2).expect(&rt, "settings");
-    let doppler = Doppler::new(-1_000).expect(&rt, "a shift");
+    let rt = &rt;
+    let settings = Settings::new(2_047_999, 500_000, Format::Real2).expect(rt, "settings");
+    let doppler = Doppler::new(-1_000).expect(rt, "a shift");
     let kept = (
         settings.per_ms(),
         settings.format(),
         doppler.get(),
-        half_chip(&rt, 2_045).get(),
+        half_chip(rt, 2_045).get(),
     );
-    assert_same!(rt; kept, (2_047, Format::Real2, -1_000, 2_045));
+    assert_same(rt, kept, (2_047, Format::Real2, -1_000, 2_045));
 }
 
 #[test]
 fn shifts_and_half_chips_have_ranges_and_an_order(rt: HostRuntime) {
-    let doppler = Doppler::new(-16_000).expect(&rt, "a shift");
-    let ends = (doppler.get(), half_chip(&rt, 2_045).get());
-    assert_same!(rt; ends, (-16_000, 2_045));
-    assert_same!(rt; (Doppler::new(-16_001), HalfChip::new(2_046)), (None, None));
-    assert!(rt; Doppler::new(-1) < Doppler::new(0));
-    assert!(rt; HalfChip::new(2_044) < HalfChip::new(2_045));
+    let rt = &rt;
+    let doppler = Doppler::new(-16_000).expect(rt, "a shift");
+    let ends = (doppler.get(), half_chip(rt, 2_045).get());
+    assert_same(rt, ends, (-16_000, 2_045));
+    assert_same(
+        rt,
+        (Doppler::new(-16_001), HalfChip::new(2_046)),
+        (None, None),
+    );
+    assert_that(rt, Doppler::new(-1) < Doppler::new(0));
+    assert_that(rt, HalfChip::new(2_044) < HalfChip::new(2_045));
 }
 
 #[test]
@@ -134,7 +140,7 @@ fn settings_tell_their_parts(rt: HostRuntime) {
     let settings = Settings::new(4_092_000, -511_500, Format::Real2).expect(&rt, "settings");
     let copy = settings;
     let told = (settings.rate(), settings.offset(), settings.format(), copy);
-    assert_same!(rt; told, (4_092_000, -511_500, Format::Real2, settings));
+    assert_same(&rt, told, (4_092_000, -511_500, Format::Real2, settings));
 }
 
 /// Cosine and sine, by the eighth of the cycle.
@@ -160,11 +166,11 @@ fn carrier(step: u32) -> CarrierOsc {
 /// Asserts the values of a carrier with this step.
 fn assert_carrier(rt: &impl Abort, step: u32) {
     let planes = carrier(step).planes(130);
-    assert_same!(*rt; planes.len(), 130);
+    assert_same(rt, planes.len(), 130);
     for i in 0..130 {
         let phase = (3 * 0x9000_0001 + i as u128 * step as u128) % 0x1_0000_0000;
         let expected = VALUES[(phase / 0x2000_0000) as usize];
-        assert_same_at!(*rt; (i, step), (planes.cos(i), planes.sin(i)), expected);
+        assert_same_at(rt, (i, step), (planes.cos(i), planes.sin(i)), expected);
     }
 }
 
@@ -187,7 +193,7 @@ fn assert_eighths(rt: &impl Abort, step: u32, before: u32) {
             // Phases are modulo 2^32.
             let phase = 0xb000_0003u32.wrapping_add(way.wrapping_mul(step));
             let found = lanes[63 - j as usize] as u32;
-            assert_same_at!(*rt; (w, j, step, before), found, phase / 0x2000_0000);
+            assert_same_at(rt, (w, j, step, before), found, phase / 0x2000_0000);
         }
     }
 }
@@ -224,14 +230,14 @@ fn signs(book: &mut CodeBook, prn: Prn, phase: u128) -> (i8, i8, i8) {
 fn assert_code(rt: &impl Abort, book: &mut CodeBook, half_chips: u16, step: u32) {
     let prn = satellite(rt, 19);
     let planes = CodeOsc::new(half_chip(rt, half_chips), step).planes(130, book, prn);
-    assert_same!(*rt; planes.len(), 130);
+    assert_same(rt, planes.len(), 130);
     for i in 0..130 {
         let phase = half_chips as u128 * 0x8000_0000 + i as u128 * step as u128;
-        assert_same_at!(
-            rt;
+        assert_same_at(
+            rt,
             (i, half_chips, step),
             (planes.early(i), planes.prompt(i), planes.late(i)),
-            signs(book, prn, phase)
+            signs(book, prn, phase),
         );
     }
 }
@@ -291,7 +297,7 @@ fn assert_windows(rt: &impl Abort, book: &mut CodeBook, half_chips: u16, step: u
     let prn = satellite(rt, 19);
     let osc = CodeOsc::new(half_chip(rt, half_chips), step);
     let mut words = osc.words(0);
-    assert_same_at!(*rt; step, words.has_windows(), step <= 0xe666_6666);
+    assert_same_at(rt, step, words.has_windows(), step <= 0xe666_6666);
     if words.has_windows() {
         let lanes = words.next_lanes_by_windows(book.table(prn));
         let first = half_chips as u128 * 0x8000_0000;
@@ -317,33 +323,34 @@ fn assert_masks(rt: &impl Abort, book: &mut CodeBook, lanes: &ChipLanes, first: 
     let late = lanes.late.to_array();
     for j in 0..64 {
         let phase = first % CYCLE + j as u128 * step as u128;
-        assert_same_at!(
-            rt;
+        assert_same_at(
+            rt,
             (j, first, step),
             (early[63 - j], prompt[63 - j], late[63 - j]),
-            masks(book, prn, phase)
+            masks(book, prn, phase),
         );
     }
 }
 
 #[test]
 fn code_goes_round(rt: HostRuntime) {
-    let mut osc = CodeOsc::new(half_chip(&rt, 2_045), 0x7fff_ffff);
+    let rt = &rt;
+    let mut osc = CodeOsc::new(half_chip(rt, 2_045), 0x7fff_ffff);
     // Half a chip is left, and a step is 2^-32 chip less, so it takes two.
-    assert_same!(rt; (osc.phase(), osc.to_wrap()), (2_045 * 0x8000_0000, 2));
+    assert_same(rt, (osc.phase(), osc.to_wrap()), (2_045 * 0x8000_0000, 2));
     osc.advance(2);
-    assert_phase(&rt, &osc, 0x7fff_fffe);
+    assert_phase(rt, &osc, 0x7fff_fffe);
     osc.set_step(0x8000_0000);
     osc.jump(2_045);
     let last = 0x7fff_fffe + 1_022 * 0x1_0000_0000 + 0x8000_0000;
-    assert_same!(rt; (osc.phase(), osc.to_wrap()), (last, 1));
+    assert_same(rt, (osc.phase(), osc.to_wrap()), (last, 1));
     osc.set_step(u32::MAX);
     osc.jump(u64::MAX);
     let jump = 0xffff_ffff_ffff_ffff * 0xffff_ffff;
-    assert_phase(&rt, &osc, (u128::from(last) + jump) % CYCLE);
+    assert_phase(rt, &osc, (u128::from(last) + jump) % CYCLE);
 }
 
 /// Asserts the phase, in 2^-32 chip.
 fn assert_phase(rt: &impl Abort, osc: &CodeOsc, expected: u128) {
-    assert_same!(*rt; osc.phase() as u128, expected);
+    assert_same(rt, osc.phase() as u128, expected);
 }

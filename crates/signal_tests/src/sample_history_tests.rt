@@ -2,7 +2,7 @@
 
 ghost use Rattle.std.specs.Prelude.{◌≤◌, length};
 
-use assertions::{assert_same, assert_same_at};
+use assertions::{assert_same, assert_same_at, assert_that};
 use sample_history::{MOST_TAKEN, SampleHistory};
 use sample_planes::{Format, PackedSamples, SampleSource};
 use std::alloc::{Alloc, Global};
@@ -85,11 +85,11 @@ fn open(rt: &(impl Abort + Alloc<A = Global>), format: Format, room: usize) -> S
 fn take_part(rt: &impl Abort, history: &mut SampleHistory, bytes: &[u8], first: usize, len: usize)
     requires { length bytes.now ≤ 520 }
 {
-    assert!(rt; len <= 1024);
-    assert!(rt; history.end() <= MOST_TAKEN - 1024);
+    assert_that(rt, len <= 1024);
+    assert_that(rt, history.end() <= MOST_TAKEN - 1024);
     let run = PackedSamples::new(history.format(), bytes);
-    assert!(rt; first <= run.len());
-    assert!(rt; len <= run.len() - first);
+    assert_that(rt, first <= run.len());
+    assert_that(rt, len <= run.len() - first);
     history.take(&run.part(first, len));
 }
 
@@ -101,15 +101,15 @@ fn take_next(rt: &impl Abort, history: &mut SampleHistory, first: usize, len: us
 
 /// Asserts that the history reads `len` samples from sample `n` on as those of the stream.
 fn assert_reads(rt: &impl Abort, history: &SampleHistory, n: u64, len: usize) {
-    assert!(rt; len <= 1024);
-    assert!(rt; history.first() <= n);
-    assert!(rt; n <= history.end());
-    assert!(rt; len as u64 <= history.end() - n);
+    assert_that(rt, len <= 1024);
+    assert_that(rt, history.first() <= n);
+    assert_that(rt, n <= history.end());
+    assert_that(rt, len as u64 <= history.end() - n);
     let planes = history.planes(n, len);
-    assert_same!(*rt; planes.len(), len);
+    assert_same(rt, planes.len(), len);
     for i in 0..planes.len() {
         let expected = sample(history.format(), n.wrapping_add(i as u64));
-        assert_same_at!(*rt; (n, i), (planes.value(i), planes.value_q(i)), expected);
+        assert_same_at(rt, (n, i), (planes.value(i), planes.value_q(i)), expected);
     }
 }
 
@@ -121,20 +121,20 @@ fn assert_reads_all(rt: &impl Abort, history: &SampleHistory) {
         assert_reads(rt, history, n, len as usize);
         n = n.saturating_add(len);
     }
-    assert_same!(*rt; n, history.end());
+    assert_same(rt, n, history.end());
 }
 
 /// Asserts which samples the history holds: from which on, and up to which one, and that it reads
 /// them as those of the stream.
 fn assert_holds(rt: &impl Abort, history: &SampleHistory, first: u64, end: u64) {
-    assert_same!(*rt; (history.first(), history.end()), (first, end));
+    assert_same(rt, (history.first(), history.end()), (first, end));
     assert_reads_all(rt, history);
 }
 
 /// The first six values in phase of a history that has so many.
 fn first_six(rt: &impl Abort, history: &SampleHistory) -> [i8; 6] {
-    assert!(rt; history.first() == 0);
-    assert!(rt; history.end() == 6);
+    assert_that(rt, history.first() == 0);
+    assert_that(rt, history.end() == 6);
     let planes = history.planes(0, 6);
     let mut values = [0; 6];
     for i in 0..planes.len().min(6) {
@@ -146,10 +146,11 @@ fn first_six(rt: &impl Abort, history: &SampleHistory) -> [i8; 6] {
 // Sample 5 of 00000101 is -1, then come +1 and -1; the next three are the first ones of 01100000.
 #[test]
 fn two_runs_share_a_byte(rt: HostRuntime) {
-    let mut history = open(&rt, Format::Real1, 16);
-    take_part(&rt, &mut history, &[0x05], 5, 3);
-    take_part(&rt, &mut history, &[0x60], 0, 3);
-    assert_same!(rt; first_six(&rt, &history), [-1, 1, -1, 1, -1, -1]);
+    let rt = &rt;
+    let mut history = open(rt, Format::Real1, 16);
+    take_part(rt, &mut history, &[0x05], 5, 3);
+    take_part(rt, &mut history, &[0x60], 0, 3);
+    assert_same(rt, first_six(rt, &history), [-1, 1, -1, 1, -1, -1]);
 }
 
 /// A history takes so many runs of `len` samples each, from place `first` of a byte on.
@@ -181,11 +182,12 @@ fn runs_of_any_length_at_any_place(rt: HostRuntime) {
 // The ring has 4 bytes of 4 samples. After 21 samples 5 bytes were full, so the first is gone.
 #[test]
 fn the_oldest_byte_goes_first(rt: HostRuntime) {
-    let mut history = open(&rt, Format::Real2, 10);
+    let rt = &rt;
+    let mut history = open(rt, Format::Real2, 10);
     for len in [13, 0, 6, 2] {
-        take_next(&rt, &mut history, 1, len);
+        take_next(rt, &mut history, 1, len);
     }
-    assert_holds(&rt, &history, 4, 21);
+    assert_holds(rt, &history, 4, 21);
 }
 
 /// A history of at least 10 samples takes 300 runs of up to 23.
@@ -194,7 +196,7 @@ fn assert_turns(rt: &(impl Abort + Alloc<A = Global>), format: Format) {
     for turn in 0..300usize {
         take_next(rt, &mut history, turn % format.per_byte(), 1 + turn % 23);
         assert_reads_all(rt, &history);
-        assert!(rt; history.first() <= history.end().saturating_sub(10));
+        assert_that(rt, history.first() <= history.end().saturating_sub(10));
     }
 }
 
@@ -228,9 +230,10 @@ fn reads_of_every_length_at_every_place(rt: HostRuntime) {
 // One byte of two samples, and the one that was begun.
 #[test]
 fn a_history_of_no_room_holds_the_last_samples(rt: HostRuntime) {
-    let mut history = open(&rt, Format::Iq2, 0);
+    let rt = &rt;
+    let mut history = open(rt, Format::Iq2, 0);
     for (first, len) in [(1, 1024), (1, 1024), (1, 1024), (0, 1)] {
-        take_next(&rt, &mut history, first, len);
+        take_next(rt, &mut history, first, len);
     }
-    assert_holds(&rt, &history, 3070, 3073);
+    assert_holds(rt, &history, 3070, 3073);
 }

@@ -28,7 +28,7 @@ fn values(format: Format, bytes: &[u8]) -> ([i8; 8], [i8; 8])
 fn assert_values(rt: &impl Abort, format: Format, bytes: &[u8], expected: ([i8; 8], [i8; 8]))
     requires { length bytes.now ≤ 2 }
 {
-    assert_same!(*rt; values(format, bytes), expected);
+    assert_same(rt, values(format, bytes), expected);
 }
 
 #[test]
@@ -60,9 +60,9 @@ fn complex_bytes(rt: HostRuntime) {
 
 /// Asserts how many samples there are, and their parts in phase.
 fn assert_samples(rt: &impl Abort, planes: &Planes, expected: &[i8]) {
-    assert_same!(*rt; planes.len(), expected.len());
+    assert_same(rt, planes.len(), expected.len());
     for i in 0..planes.len().min(expected.len()) {
-        assert_same_at!(*rt; i, planes.value(i), expected[i]);
+        assert_same_at(rt, i, planes.value(i), expected[i]);
     }
 }
 
@@ -79,12 +79,12 @@ fn a_run_begins_inside_a_byte(rt: HostRuntime) {
 fn parts_of_two_bits_can_be_3_in_size(rt: HostRuntime) {
     let complex = unpack(Format::Iq2, &[0x1e, 0x2d], 0, 4).has_sizes();
     let real = unpack(Format::Real1, &[0xa6], 0, 8).has_sizes();
-    assert_same!(rt; (complex, real), (true, false));
+    assert_same(&rt, (complex, real), (true, false));
 }
 
 /// Asserts the codes in the last four lanes, the last first.
 fn assert_codes(rt: &impl Abort, codes: [u8; 64], expected: [u8; 4]) {
-    assert_same!(*rt; [codes[63], codes[62], codes[61], codes[60]], expected);
+    assert_same(rt, [codes[63], codes[62], codes[61], codes[60]], expected);
 }
 
 #[test]
@@ -92,18 +92,19 @@ fn codes_have_the_first_sample_in_the_last_lane(rt: HostRuntime) {
     // 72 is +3, -3, +1, -1.
     let planes = unpack(Format::Real2, &[0x72], 0, 4);
     assert_codes(&rt, planes.codes(0).to_array(), [8, 12, 0, 4]);
-    assert_same!(rt; planes.codes_q(0), None);
+    assert_same(&rt, planes.codes_q(0), None);
 }
 
 #[test]
 fn codes_of_complex_samples(rt: HostRuntime) {
+    let rt = &rt;
     // 4B 2D is (3, 1), (-1, -3), (1, -1), (-3, 3).
     let planes = unpack(Format::Iq2, &[0x4b, 0x2d], 0, 4);
-    assert_codes(&rt, planes.codes(0).to_array(), [8, 4, 0, 12]);
-    assert_codes(&rt, planes.codes_q(0).unwrap_or([1; 64]), [0, 12, 4, 8]);
+    assert_codes(rt, planes.codes(0).to_array(), [8, 4, 0, 12]);
+    assert_codes(rt, planes.codes_q(0).unwrap_or([1; 64]), [0, 12, 4, 8]);
     // 1B is (1, 1), (1, -1), (-1, 1), (-1, -1).
     let planes = unpack(Format::Iq1, &[0x1b], 0, 4);
-    assert_codes(&rt, planes.codes_q(0).unwrap_or([1; 64]), [0, 4, 0, 4]);
+    assert_codes(rt, planes.codes_q(0).unwrap_or([1; 64]), [0, 4, 0, 4]);
 }
 
 #[test]
@@ -112,13 +113,17 @@ fn codes_of_the_second_word(rt: HostRuntime) {
     let planes = unpack(Format::Real1, &[0, 0, 0, 0, 0, 0, 0, 0, 0xa6], 0, 72);
     let codes = planes.codes(1).to_array();
     let last = [codes[59], codes[58], codes[57], codes[56]];
-    assert_same!(rt; (planes.codes(0).to_array(), last), ([0; 64], [0, 4, 4, 0]));
+    assert_same(
+        &rt,
+        (planes.codes(0).to_array(), last),
+        ([0; 64], [0, 4, 4, 0]),
+    );
     assert_codes(&rt, codes, [4, 0, 4, 0]);
 }
 
 /// Asserts two bytes.
 fn assert_bytes(rt: &impl Abort, found: [u8; 2], expected: [u8; 2]) {
-    assert_same!(*rt; found, expected);
+    assert_same(rt, found, expected);
 }
 
 #[test]
@@ -155,82 +160,86 @@ fn a_complex_sample_is_put_among_others(rt: HostRuntime) {
 
 #[test]
 fn bytes_hold_eight_four_or_two(rt: HostRuntime) {
-    assert_same!(
-        rt;
+    assert_same(
+        &rt,
         [
             Format::Real1.per_byte(),
             Format::Real2.per_byte(),
             Format::Iq1.per_byte(),
             Format::Iq2.per_byte(),
         ],
-        [8, 4, 4, 2]
+        [8, 4, 4, 2],
     );
-    assert_same!(rt; MAX_SAMPLES, 1024);
+    assert_same(&rt, MAX_SAMPLES, 1024);
 }
 
 // b3 71 is 10 11 00 11 01 11 00 01: -1, -3, +1, -3, +3, -3, +1, +3.
 #[test]
 fn a_run_in_parts(rt: HostRuntime) {
+    let rt = &rt;
     let run = PackedSamples::new(Format::Real2, &[0xb3, 0x71]);
     let (front, back) = run.split_at(5);
     let behind = run.split_at(8).1;
     let lens = [run.len(), front.len(), back.len(), behind.len()];
-    assert_same!(rt; lens, [8, 5, 3, 0]);
-    assert_samples(&rt, &front.unpack(), &[-1, -3, 1, -3, 3]);
-    assert_samples(&rt, &back.unpack(), &[-3, 1, 3]);
+    assert_same(rt, lens, [8, 5, 3, 0]);
+    assert_samples(rt, &front.unpack(), &[-1, -3, 1, -3, 3]);
+    assert_samples(rt, &back.unpack(), &[-3, 1, 3]);
     // Within a part, samples are counted from its first one.
-    assert_samples(&rt, &back.part(1, 2).unpack(), &[1, 3]);
+    assert_samples(rt, &back.part(1, 2).unpack(), &[1, 3]);
 }
 
 /// Asserts the parts in quadrature of samples.
 fn assert_quadrature(rt: &impl Abort, planes: &Planes, expected: &[i8]) {
-    assert_same!(*rt; planes.len(), expected.len());
+    assert_same(rt, planes.len(), expected.len());
     for i in 0..planes.len().min(expected.len()) {
-        assert_same_at!(*rt; i, planes.value_q(i), expected[i]);
+        assert_same_at(rt, i, planes.value_q(i), expected[i]);
     }
 }
 
 // 4B 2D is 0100 1011 0010 1101 as in `complex_bytes`, and A6 is 1010 0110.
 #[test]
 fn kept_planes_hold_the_last_run_alone(rt: HostRuntime) {
+    let rt = &rt;
     let mut planes = Planes::new();
-    assert_samples(&rt, &planes, &[]);
+    assert_samples(rt, &planes, &[]);
     PackedSamples::new(Format::Iq2, &[0x4b, 0x2d]).unpack_into(&mut planes);
-    assert_samples(&rt, &planes, &[3, -1, 1, -3]);
-    assert_quadrature(&rt, &planes, &[1, -3, -1, 3]);
+    assert_samples(rt, &planes, &[3, -1, 1, -3]);
+    assert_quadrature(rt, &planes, &[1, -3, -1, 3]);
     PackedSamples::new(Format::Real1, &[0xa6])
         .part(0, 3)
         .unpack_into(&mut planes);
-    assert_samples(&rt, &planes, &[-1, 1, -1]);
-    assert_quadrature(&rt, &planes, &[0, 0, 0]);
-    assert_same!(rt; planes.has_sizes(), false);
+    assert_samples(rt, &planes, &[-1, 1, -1]);
+    assert_quadrature(rt, &planes, &[0, 0, 0]);
+    assert_same(rt, planes.has_sizes(), false);
 }
 
 // Five samples of two bits from the first byte's last one on: 3 to 7 of the same eight.
 #[test]
 fn a_run_tells_where_it_lies(rt: HostRuntime) {
+    let rt = &rt;
     let run = PackedSamples::new(Format::Real2, &[0xb3, 0x71]);
-    assert_place(&rt, &run, &[0xb3, 0x71], 0);
-    assert_place(&rt, &run.part(3, 5), &[0xb3, 0x71], 3);
+    assert_place(rt, &run, &[0xb3, 0x71], 0);
+    assert_place(rt, &run.part(3, 5), &[0xb3, 0x71], 3);
     // From sample 4 on the first byte is passed over.
-    assert_place(&rt, &run.part(5, 2), &[0x71], 1);
+    assert_place(rt, &run.part(5, 2), &[0x71], 1);
 }
 
 /// Asserts the bytes in which a run lies, and the place of its first sample.
 fn assert_place(rt: &impl Abort, run: &PackedSamples, bytes: &[u8], first: usize) {
     let place = run.place();
-    assert_same!(*rt; place.0, bytes);
-    assert_same!(*rt; place.1, first);
+    assert_same(rt, place.0, bytes);
+    assert_same(rt, place.1, first);
 }
 
 // The same samples, the first of them being number 1,000.
 #[test]
 fn numbered_samples_keep_their_numbers(rt: HostRuntime) {
+    let rt = &rt;
     let samples = PackedSamples::new(Format::Real2, &[0xb3, 0x71]);
     let source = NumberedSamples::new(samples, 1_000);
-    assert_same!(rt; (source.first(), source.end()), (1_000, 1_008));
-    assert_samples(&rt, &source.planes(1_003, 3), &[-3, 3, -3]);
-    assert_samples(&rt, &source.planes(1_008, 0), &[]);
+    assert_same(rt, (source.first(), source.end()), (1_000, 1_008));
+    assert_samples(rt, &source.planes(1_003, 3), &[-3, 3, -3]);
+    assert_samples(rt, &source.planes(1_008, 0), &[]);
 }
 
 /// The part that bits number `at` and, where it has a size, `at + 1` of some bytes write.
@@ -276,7 +285,7 @@ fn assert_read(rt: &impl Abort, format: Format, bytes: &[u8; 600], first: usize,
     requires first { first ≤ 16 }
     requires len { len ≤ MAX_SAMPLES }
 {
-    assert_same_at!(*rt; (first, len), differing(format, bytes, first, len), 0);
+    assert_same_at(rt, (first, len), differing(format, bytes, first, len), 0);
 }
 
 #[test]

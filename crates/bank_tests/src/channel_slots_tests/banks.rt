@@ -25,17 +25,18 @@ fn bank_that_holds(rt: &(impl Abort + Alloc<A = Global>)) -> Bank {
 // Samples from the ninth of two bytes on are those of the second byte.
 #[test]
 fn a_feed_begins_anywhere(rt: HostRuntime) {
-    let mut bank = bank_that_holds(&rt);
-    let mut timeline = new_timeline(&rt);
+    let rt = &rt;
+    let mut bank = bank_that_holds(rt);
+    let mut timeline = new_timeline(rt);
     let run = PackedSamples::new(Format::Real1, &[255, 127]).part(8, 1);
-    assert_same!(rt; bank.try_feed(&run, &mut timeline), Ok(()));
+    assert_same(rt, bank.try_feed(&run, &mut timeline), Ok(()));
     let told = [SlotEvent {
         client: 1,
         slot: 0,
         time: 1,
         event: Event::Count(sums([-2, 1, 2, -1, 2, -1])),
     }];
-    assert_same!(rt; timeline.events(), told.as_slice());
+    assert_same(rt, timeline.events(), told.as_slice());
 }
 
 /// The dump of a client's slot.
@@ -71,6 +72,7 @@ fn two_that_hold(rt: &(impl Abort + Alloc<A = Global>), settings: Settings) -> B
 // however many samples a run has: also where most runs bring nothing, so that their samples wait.
 #[test]
 fn dumps_do_not_depend_on_the_runs(rt: HostRuntime) -> Result<(), Fail> {
+    let rt = &rt;
     let settings = Settings::new(2_046_000, 511_500, Format::Real1)?;
     let [first, second] = SEGMENTS;
     let wanted = [
@@ -81,10 +83,10 @@ fn dumps_do_not_depend_on_the_runs(rt: HostRuntime) -> Result<(), Fail> {
     ];
     let recording = PackedSamples::new(Format::Real1, &RECORDING);
     for piece in [1, 7, 64, 513, 1_000, 1_024] {
-        let mut bank = two_that_hold(&rt, settings);
-        let told = feed_to(&rt, &mut bank, &recording, piece, 4_000);
-        assert_same_at!(rt; piece, told.as_slice(), wanted.as_slice());
-        assert_same_at!(rt; piece, bank.time(), 4_000);
+        let mut bank = two_that_hold(rt, settings);
+        let told = feed_to(rt, &mut bank, &recording, piece, 4_000);
+        assert_same_at(rt, piece, told.as_slice(), wanted.as_slice());
+        assert_same_at(rt, piece, bank.time(), 4_000);
     }
     Ok(())
 }
@@ -103,13 +105,14 @@ static RUNS: [(Format, usize, Result<(), FeedFault>, u64); 7] = [
 
 #[test]
 fn runs_that_do_not_fit_are_refused(rt: HostRuntime) {
-    let mut bank = new_bank(&rt, plain_settings(&rt), &[1]);
-    let mut timeline = new_timeline(&rt);
+    let rt = &rt;
+    let mut bank = new_bank(rt, plain_settings(rt), &[1]);
+    let mut timeline = new_timeline(rt);
     let zeros = [0; 129];
     for &(format, bytes, fed, time) in &RUNS {
         let samples = PackedSamples::new(format, &zeros[..bytes]);
         let found = (bank.try_feed(&samples, &mut timeline), bank.time());
-        assert_same_at!(rt; (format, bytes), found, (fed, time));
+        assert_same_at(rt, (format, bytes), found, (fed, time));
     }
 }
 
@@ -117,7 +120,7 @@ fn runs_that_do_not_fit_are_refused(rt: HostRuntime) {
 fn open(rt: &(impl Abort + Alloc<A = Global>), rows: &[(&[u8], Result<u64, OpenFault>)]) {
     for &(shares, time) in rows {
         let opened = Bank::open(rt.alloc(), plain_settings(rt), shares);
-        assert_same!(*rt; opened.map(|bank| bank.time()), time);
+        assert_same(rt, opened.map(|bank| bank.time()), time);
     }
 }
 
@@ -163,23 +166,25 @@ static STOPS: [(u8, u8, Refusal); 8] = [
 
 #[test]
 fn slots_of_nobody_and_of_others_are_refused(rt: HostRuntime) {
-    let mut bank = new_bank(&rt, plain_settings(&rt), &[4, 2]);
+    let rt = &rt;
+    let mut bank = new_bank(rt, plain_settings(rt), &[4, 2]);
     for &(client, number, refusal) in &STOPS {
-        let slot = SlotNo::new(number).expect(&rt, "no such slot");
+        let slot = SlotNo::new(number).expect(rt, "no such slot");
         let answer = bank.command(client, Command::Stop { slot });
-        assert_same_at!(rt; (client, number), &answer, &Answer::Refused(refusal));
+        assert_same_at(rt, (client, number), &answer, &Answer::Refused(refusal));
     }
 }
 
 // The slot after a client's last one is the next client's first, by the list of all slots.
 #[test]
 fn a_slot_of_another_client_stays_idle(rt: HostRuntime) {
-    let mut bank = new_bank(&rt, plain_settings(&rt), &[4, 2]);
-    let hold = commands::hold(5, 1, 0, 2_045).expect(&rt, "no such hold");
+    let rt = &rt;
+    let mut bank = new_bank(rt, plain_settings(rt), &[4, 2]);
+    let hold = commands::hold(5, 1, 0, 2_045).expect(rt, "no such hold");
     let refused = Answer::Refused(Refusal::NoSuchSlot);
-    assert_same!(rt; &bank.command(1, hold), &refused);
-    let stop = commands::stop(1).expect(&rt, "no such slot");
-    assert_same!(rt; &bank.command(2, stop), &IDLE);
+    assert_same(rt, &bank.command(1, hold), &refused);
+    let stop = commands::stop(1).expect(rt, "no such slot");
+    assert_same(rt, &bank.command(2, stop), &IDLE);
 }
 
 static TEXTS: [(OpenFault, &str); 3] = [
@@ -191,7 +196,7 @@ static TEXTS: [(OpenFault, &str); 3] = [
 #[test]
 fn faults_have_texts(rt: HostRuntime) -> Result<(), Fail> {
     for &(fault, text) in &TEXTS {
-        assert_same!(rt; fault.to_string(rt.alloc())?.as_str(), text);
+        assert_same(&rt, fault.to_string(rt.alloc())?.as_str(), text);
     }
     Ok(())
 }

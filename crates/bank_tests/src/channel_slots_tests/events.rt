@@ -10,7 +10,7 @@ use super::{
 };
 use crate::commands;
 use acquisition::Cell;
-use assertions::{assert_same, assert_same_at};
+use assertions::{assert_same, assert_same_at, assert_that};
 use ca_codes::Prn;
 use channel_slots::*;
 use channels::Window;
@@ -41,11 +41,11 @@ fn begins(
     let stop = Command::Stop {
         slot: slot_zero(rt),
     };
-    assert_same!(*rt; slot.next_event(), NEVER);
-    assert_same!(*rt; slot.command(settings, time, begin), Answer::Accepted);
-    assert_same!(*rt; slot.next_event(), next_event);
-    assert_same!(*rt; slot.command(settings, time, stop), Answer::Accepted);
-    assert_same!(*rt; slot.next_event(), NEVER);
+    assert_same(rt, slot.next_event(), NEVER);
+    assert_same(rt, slot.command(settings, time, begin), Answer::Accepted);
+    assert_same(rt, slot.next_event(), next_event);
+    assert_same(rt, slot.command(settings, time, stop), Answer::Accepted);
+    assert_same(rt, slot.next_event(), NEVER);
 }
 
 /// Sees that it does so with each that begins. At two samples a chip, half a chip before the end of
@@ -74,19 +74,20 @@ fn stopped(rt: &(impl Abort + Alloc<A = Global>), settings: &Settings, time: u64
 // A slot that stopped emits nothing, and begins again at a later time.
 #[test]
 fn an_idle_slot_has_nothing_to_do(rt: HostRuntime) {
-    let settings = plain_settings(&rt);
-    let mut slot = new_slot(&rt);
+    let rt = &rt;
+    let settings = plain_settings(rt);
+    let mut slot = new_slot(rt);
     for time in [0, 5] {
-        begins_each(&rt, &mut slot, &settings, time);
+        begins_each(rt, &mut slot, &settings, time);
     }
-    let mut window = eight_ones(&rt);
-    let mut early = stopped(&rt, &settings, 0);
-    tells(&rt, &mut early, &mut window, 0, None, NEVER);
-    tells(&rt, &mut early, &mut window, 1, None, NEVER);
-    tells(&rt, &mut early, &mut window, 8, None, NEVER);
-    let mut late = stopped(&rt, &settings, 5);
-    tells(&rt, &mut late, &mut window, 5, None, NEVER);
-    tells(&rt, &mut late, &mut window, 8, None, NEVER);
+    let mut window = eight_ones(rt);
+    let mut early = stopped(rt, &settings, 0);
+    tells(rt, &mut early, &mut window, 0, None, NEVER);
+    tells(rt, &mut early, &mut window, 1, None, NEVER);
+    tells(rt, &mut early, &mut window, 8, None, NEVER);
+    let mut late = stopped(rt, &settings, 5);
+    tells(rt, &mut late, &mut window, 5, None, NEVER);
+    tells(rt, &mut late, &mut window, 8, None, NEVER);
 }
 
 /// A slot that holds satellite 1 from two chips before the end of its code on.
@@ -111,7 +112,7 @@ fn tells_at_four(
     ensures { first_of window.new ≡ 0 }
 {
     let mut slot = two_chips_before(rt);
-    assert_same!(*rt; slot.next_event(), 4);
+    assert_same(rt, slot.next_event(), 4);
     for to in first..4 {
         tells(rt, &mut slot, window, to, None, 4);
     }
@@ -122,12 +123,13 @@ fn tells_at_four(
 // any of them, or none, and emits nothing; the dump is the same however they are cut.
 #[test]
 fn nothing_comes_before_the_event(rt: HostRuntime) {
-    let mut window = eight_ones(&rt);
-    let mut whole = two_chips_before(&rt);
-    let dump = next_dump(&rt, &mut whole, &mut window, 8).expect(&rt, "no dump");
-    assert_same!(rt; (dump.0, dump.1, whole.next_event()), (4, false, 2_050));
+    let rt = &rt;
+    let mut window = eight_ones(rt);
+    let mut whole = two_chips_before(rt);
+    let dump = next_dump(rt, &mut whole, &mut window, 8).expect(rt, "no dump");
+    assert_same(rt, (dump.0, dump.1, whole.next_event()), (4, false, 2_050));
     for first in 0..5 {
-        tells_at_four(&rt, &mut window, first, dump);
+        tells_at_four(rt, &mut window, first, dump);
     }
 }
 
@@ -139,9 +141,9 @@ fn open_next(rt: &impl Abort, window: &mut Window, bytes: &[u8; 1_536], end: u64
 {
     let recording = PackedSamples::new(Format::Real1, bytes);
     let from = window.end();
-    assert!(rt; from <= end);
-    assert!(rt; end <= recording.len() as u64);
-    assert!(rt; window.history().format() == Format::Real1);
+    assert_that(rt, from <= end);
+    assert_that(rt, end <= recording.len() as u64);
+    assert_that(rt, window.history().format() == Format::Real1);
     window.close();
     let count = ((end - from) as usize).min(1_024);
     window.take(&recording.part(from as usize, count));
@@ -161,10 +163,10 @@ fn go_on(rt: &impl Abort, slot: &mut Slot, window: &mut Window, bytes: &[u8; 1_5
         if end == from {
             break;
         }
-        assert!(rt; next(rt, slot, window, from).is_none());
+        assert_that(rt, next(rt, slot, window, from).is_none());
         open_next(rt, window, bytes, end);
     }
-    assert!(rt; window.end() == end);
+    assert_that(rt, window.end() == end);
 }
 
 /// A slot that searches for satellite 1 from sample 0 on, and finds it where its threshold is
@@ -212,7 +214,7 @@ fn searches(rt: &impl Abort, slot: &mut Slot, window: &mut Window, bytes: &[u8; 
         go_on(rt, slot, window, bytes, to);
         let nothing = next(rt, slot, window, to).is_none();
         let found = (nothing, slot.cells_done(), slot.next_event());
-        assert_same_at!(*rt; to, found, (true, Some(cells), next_event));
+        assert_same_at(rt, to, found, (true, Some(cells), next_event));
     }
 }
 
@@ -247,42 +249,35 @@ fn brings(
     ensures first { first_of window.new ≡ first_of window.old }
     ensures end { end_of window.new ≡ end_of window.old }
 {
+    let found = next(rt, slot, window, to);
+    assert_same(rt, (found, slot.next_event()), (wanted, next_event));
     // What is promised comes from this comparison.
-    assert_eq!(rt;
-        (next(rt, slot, window, to), slot.next_event()),
-        (wanted, next_event)
-    );
+    assert!(*rt; found.is_none() == wanted.is_none());
 }
 
 // The answer comes with sample 10,229, also where there are more samples. From there on the slot
 // tracks the signal, whose code begins again: its first dump comes 2,046 samples later.
 #[test]
 fn a_search_comes_to_its_cells_and_its_signal(rt: HostRuntime) {
+    let rt = &rt;
     let bytes = long_code_file();
-    let mut slot = searching(&rt, 10);
-    let mut window = search_window(&rt);
-    searches(&rt, &mut slot, &mut window, &bytes);
-    go_on(&rt, &mut slot, &mut window, &bytes, 10_240);
-    brings(
-        &rt,
-        &mut slot,
-        &mut window,
-        10_240,
-        Some(named(&rt)),
-        12_276,
-    );
-    assert_same!(rt; slot.cells_done(), None);
-    brings(&rt, &mut slot, &mut window, 10_240, None, 12_276);
-    open_next(&rt, &mut window, &bytes, 11_264);
-    assert!(rt; window.end() == 11_264);
-    brings(&rt, &mut slot, &mut window, 11_264, None, 12_276);
-    open_next(&rt, &mut window, &bytes, 12_288);
-    brings(&rt, &mut slot, &mut window, 12_275, None, 12_276);
+    let mut slot = searching(rt, 10);
+    let mut window = search_window(rt);
+    searches(rt, &mut slot, &mut window, &bytes);
+    go_on(rt, &mut slot, &mut window, &bytes, 10_240);
+    brings(rt, &mut slot, &mut window, 10_240, Some(named(rt)), 12_276);
+    assert_same(rt, slot.cells_done(), None);
+    brings(rt, &mut slot, &mut window, 10_240, None, 12_276);
+    open_next(rt, &mut window, &bytes, 11_264);
+    assert_that(rt, window.end() == 11_264);
+    brings(rt, &mut slot, &mut window, 11_264, None, 12_276);
+    open_next(rt, &mut window, &bytes, 12_288);
+    brings(rt, &mut slot, &mut window, 12_275, None, 12_276);
     let dump = SlotNews::Dump {
         time: 12_276,
         is_shown: false,
     };
-    assert_same!(rt; next(&rt, &mut slot, &mut window, 12_288), Some(dump));
+    assert_same(rt, next(rt, &mut slot, &mut window, 12_288), Some(dump));
 }
 
 // Nothing is found in samples that are all alike, since no cell has more power than another: then
@@ -296,6 +291,10 @@ fn a_search_that_finds_nothing_leaves_nothing_to_do(rt: HostRuntime) {
     let Some(SlotNews::Acquired { time, cell, .. }) = news else {
         panic!(rt; "no cell was named");
     };
-    assert_same!(rt; (time, cell.found, slot.next_event()), (10_230, false, NEVER));
-    assert_same!(rt; next(&rt, &mut slot, &mut window, 10_240), None);
+    assert_same(
+        &rt,
+        (time, cell.found, slot.next_event()),
+        (10_230, false, NEVER),
+    );
+    assert_same(&rt, next(&rt, &mut slot, &mut window, 10_240), None);
 }

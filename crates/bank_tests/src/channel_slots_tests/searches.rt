@@ -6,7 +6,7 @@ use super::{acquire, new_bank, new_timeline, plain_settings};
 use crate::commands;
 use acquisition::Cell;
 use arrayvec::ArrayVec;
-use assertions::{assert_same, assert_same_at};
+use assertions::{assert_same, assert_same_at, assert_that};
 use ca_codes::Prn;
 use channel_slots::{Answer, Bank, Event, SlotEvent, SlotNo, Timeline};
 use made_signals::long_code_file;
@@ -34,8 +34,8 @@ pub(super) fn feed_to(
     piece: usize,
     until: u64,
 ) -> ArrayVec<SlotEvent, MOST_TOLD> {
-    assert!(rt; until <= recording.len() as u64);
-    assert!(rt; until <= LONGEST);
+    assert_that(rt, until <= recording.len() as u64);
+    assert_that(rt, until <= LONGEST);
     let mut told = ArrayVec::new();
     let mut timeline = new_timeline(rt);
     for _ in 0..until {
@@ -63,7 +63,7 @@ fn feed(
     timeline: &mut Timeline,
     told: &mut ArrayVec<SlotEvent, MOST_TOLD>,
 ) {
-    assert_same!(*rt; bank.try_feed(samples, timeline), Ok(()));
+    assert_same(rt, bank.try_feed(samples, timeline), Ok(()));
     told.try_extend_from_slice(timeline.events())
         .expect(rt, "too many events");
 }
@@ -79,7 +79,7 @@ fn hear(
     wanted: &[SlotEvent],
 ) {
     let told = feed_to(rt, bank, recording, piece, until);
-    assert_same_at!(*rt; piece, told.as_slice(), wanted);
+    assert_same_at(rt, piece, told.as_slice(), wanted);
 }
 
 /// The cell that the code of satellite 1 is found in: half chip 2, where all its products are 2 in
@@ -125,9 +125,9 @@ fn due_in_turn(client: u8, slot: u8) -> u64 {
 
 /// Sees that all answers but that of client 1's slot 0 come when they are due.
 fn hear_in_turn(rt: &impl Abort, told: &[SlotEvent]) {
-    assert_same!(*rt; told.len(), 31);
+    assert_same(rt, told.len(), 31);
     for event in told {
-        assert_same!(*rt; event.time, due_in_turn(event.client, event.slot));
+        assert_same(rt, event.time, due_in_turn(event.client, event.slot));
     }
 }
 
@@ -139,7 +139,7 @@ fn have_done(rt: &impl Abort, bank: &Bank, rows: &[Done]) {
     for &(client, slot, cells) in rows {
         let place = SlotNo::new(slot).expect(rt, "no such slot");
         let done = bank.cells_done(client, place);
-        assert_same!(*rt; (client, slot, done), (client, slot, cells));
+        assert_same(rt, (client, slot, done), (client, slot, cells));
     }
 }
 
@@ -158,19 +158,20 @@ static DONE_AT_10_000: [Done; 6] = [
 // is done with the fourth sample after it.
 #[test]
 fn cells_among_strangers(rt: HostRuntime) {
+    let rt = &rt;
     let zeros = [0; 2_558];
     let recording = PackedSamples::new(Format::Real1, &zeros);
-    let mut bank = new_bank(&rt, plain_settings(&rt), &[4; 8]);
-    have_done(&rt, &bank, &[(1, 0, None)]);
-    ask_in_turn(&rt, &mut bank, &recording);
-    have_done(&rt, &bank, &[(8, 3, Some(0))]);
-    hear(&rt, &mut bank, &recording, 1_024, 10_000, &[]);
-    have_done(&rt, &bank, &DONE_AT_10_000);
-    let told = feed_to(&rt, &mut bank, &recording, 1_024, 20_463);
-    hear_in_turn(&rt, told.as_slice());
-    have_done(&rt, &bank, &[(8, 3, None), (1, 0, Some(0))]);
-    hear(&rt, &mut bank, &recording, 1_024, 20_464, &[]);
-    have_done(&rt, &bank, &[(1, 0, Some(1))]);
+    let mut bank = new_bank(rt, plain_settings(rt), &[4; 8]);
+    have_done(rt, &bank, &[(1, 0, None)]);
+    ask_in_turn(rt, &mut bank, &recording);
+    have_done(rt, &bank, &[(8, 3, Some(0))]);
+    hear(rt, &mut bank, &recording, 1_024, 10_000, &[]);
+    have_done(rt, &bank, &DONE_AT_10_000);
+    let told = feed_to(rt, &mut bank, &recording, 1_024, 20_463);
+    hear_in_turn(rt, told.as_slice());
+    have_done(rt, &bank, &[(8, 3, None), (1, 0, Some(0))]);
+    hear(rt, &mut bank, &recording, 1_024, 20_464, &[]);
+    have_done(rt, &bank, &[(1, 0, Some(1))]);
 }
 
 /// The bytes of one-bit samples, after a number of other samples, fewer than a byte has.
@@ -243,7 +244,7 @@ fn feed_ten_runs(
     bank: &mut Bank,
     recording: &PackedSamples,
 ) -> ArrayVec<SlotEvent, MOST_TOLD> {
-    assert!(rt; 10_240 <= recording.len());
+    assert_that(rt, 10_240 <= recording.len());
     let mut told = ArrayVec::new();
     let mut timeline = new_timeline(rt);
     for run in 0..10 {
@@ -266,11 +267,11 @@ fn hear_again(
     due: u64,
 ) {
     let stop = commands::stop(0).expect(rt, "no such stop");
-    assert_same!(*rt; bank.command(1, stop), Answer::Accepted);
-    assert_same!(*rt; bank.command(1, acquire(rt, 1, 10)), Answer::Accepted);
+    assert_same(rt, bank.command(1, stop), Answer::Accepted);
+    assert_same(rt, bank.command(1, acquire(rt, 1, 10)), Answer::Accepted);
     let told = feed_ten_runs(rt, bank, recording);
     let named = [told_at(due, found_at_two(rt))];
-    assert_same!(*rt; told.as_slice(), named.as_slice());
+    assert_same(rt, told.as_slice(), named.as_slice());
 }
 
 // A search works where those of its slot before it did, and nothing of them is left: of one that
@@ -278,14 +279,15 @@ fn hear_again(
 // sample of the code.
 #[test]
 fn a_slot_searches_again(rt: HostRuntime) {
+    let rt = &rt;
     let bytes = long_code_file();
     let recording = PackedSamples::new(Format::Real1, &bytes);
-    let mut bank = bank_of_one(&rt);
-    hear(&rt, &mut bank, &recording, 1_024, 2, &[]);
-    bank.command(1, acquire(&rt, 2, 10));
-    hear(&rt, &mut bank, &recording, 1_024, 6_140, &[]);
-    have_done(&rt, &bank, &[(1, 0, Some(1_023))]);
+    let mut bank = bank_of_one(rt);
+    hear(rt, &mut bank, &recording, 1_024, 2, &[]);
+    bank.command(1, acquire(rt, 2, 10));
+    hear(rt, &mut bank, &recording, 1_024, 6_140, &[]);
+    have_done(rt, &bank, &[(1, 0, Some(1_023))]);
     let again = recording.part(2, 10_240);
-    hear_again(&rt, &mut bank, &again, 16_370);
-    hear_again(&rt, &mut bank, &again, 26_610);
+    hear_again(rt, &mut bank, &again, 16_370);
+    hear_again(rt, &mut bank, &again, 26_610);
 }

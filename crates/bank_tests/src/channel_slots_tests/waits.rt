@@ -26,7 +26,11 @@ fn begin(rt: &impl Abort, bank: &mut Bank, slot: u8) {
 fn has_had(rt: &impl Abort, bank: &mut Bank, slot: u8, dumps: u64) {
     let state = commands::state(slot).expect(rt, "no such slot");
     let prn = Prn::new(5).expect(rt, "no such satellite");
-    assert_same!(*rt; bank.command(1, state), Answer::State(SlotState::Hold { prn, dumps }));
+    assert_same(
+        rt,
+        bank.command(1, state),
+        Answer::State(SlotState::Hold { prn, dumps }),
+    );
 }
 
 /// What comes in 4,000 samples that are fed so many at a time. Slot 0 holds from sample 0 on, and
@@ -67,13 +71,14 @@ static DUMPS: [(u64, u8); 3] = [(1_346, 0), (2_046, 1), (3_392, 0)];
 // the same however many samples a run has.
 #[test]
 fn slots_begin_while_samples_wait(rt: HostRuntime) {
-    let one_by_one = feed_with_commands(&rt, 1);
+    let rt = &rt;
+    let one_by_one = feed_with_commands(rt, 1);
     for piece in [1, 7, 64, 513, 1_000, 1_024] {
-        let told = feed_with_commands(&rt, piece);
-        assert_same_at!(rt; piece, told.len(), DUMPS.len());
+        let told = feed_with_commands(rt, piece);
+        assert_same_at(rt, piece, told.len(), DUMPS.len());
         for (event, dump) in told.iter().zip(&DUMPS) {
-            assert_same_at!(rt; piece, (event.time, event.slot), *dump);
+            assert_same_at(rt, piece, (event.time, event.slot), *dump);
         }
-        assert_same_at!(rt; piece, told.as_slice(), one_by_one.as_slice());
+        assert_same_at(rt, piece, told.as_slice(), one_by_one.as_slice());
     }
 }

@@ -1,7 +1,7 @@
 //! A script of bytes of every value.
 
 use super::*;
-use assertions::assert_same;
+use assertions::{assert_same, assert_that};
 use std::alloc::{AllocError, Global};
 use std::test::Fail;
 
@@ -32,7 +32,7 @@ fn any_bytes_end(rt: HostRuntime) -> Result<(), Fail> {
     let mut refused = [0u32; 256];
     let mut time = 0;
     while let Some(timed) = script.next() {
-        assert!(rt; time <= timed.time);
+        assert_that(&rt, time <= timed.time);
         time = timed.time;
         if let Err(refusal) = timed.what {
             let number = refusal.number() as usize;
@@ -42,8 +42,8 @@ fn any_bytes_end(rt: HostRuntime) -> Result<(), Fail> {
     // The numbers were counted by a few lines of Python, written from the rules alone. The last
     // line that has a time reads `9`.
     let expected = [0, 1_222, 10_436, 43, 3, 2, 0, 0, 0];
-    assert_eq!(rt; &refused[..9], expected.as_slice());
-    assert_same!(rt; time, 9);
-    assert!(rt; script.next().is_none());
+    assert_same(&rt, &refused[..9], expected.as_slice());
+    assert_same(&rt, time, 9);
+    assert_same(&rt, script.next().is_none(), true);
     Ok(())
 }

@@ -60,10 +60,11 @@ static HLT: &[u8] =
 
 #[test]
 fn each_kind_of_page(rt: HostRuntime) {
-    assert_event(&rt, Event::Page(Report::Eph(alternating())), EPH);
-    assert_event(&rt, Event::Page(Report::Alm(alternating())), ALM);
-    assert_event(&rt, Event::Page(Report::Utc(alternating())), UTC);
-    assert_event(&rt, Event::Page(Report::Hlt(alternating())), HLT);
+    let rt = &rt;
+    assert_event(rt, Event::Page(Report::Eph(alternating())), EPH);
+    assert_event(rt, Event::Page(Report::Alm(alternating())), ALM);
+    assert_event(rt, Event::Page(Report::Utc(alternating())), UTC);
+    assert_event(rt, Event::Page(Report::Hlt(alternating())), HLT);
 }
 
 #[test]
@@ -77,7 +78,7 @@ fn the_longest_line(rt: HostRuntime) {
     // 3 + 1 + 20 for client and time, 8 for kind and slot, 1 for the end; for each of 31 fields a
     // space, its name, `=`, 20, `:` and its exponent. The names have 97 letters, the exponents 67.
     let bytes: &[u8] = &line;
-    assert_same!(rt; bytes.len(), 910);
+    assert_same(&rt, bytes.len(), 910);
 }
 
 static MESSAGE: &[u8] = b"8 1099511627776 msg 3 0001090a0f107f809fa0aff0ff4750532031617adebc\n";

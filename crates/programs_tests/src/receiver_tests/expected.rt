@@ -4,7 +4,7 @@ ghost use Rattle.std.specs.Prelude.{◌≡◌, ◌≤◌, ◌%◌, ◌^◌};
 
 use crate::receiver_tests::fakes::{Giving, Holding};
 use crate::receiver_tests::{plain_settings, run_one, run_plain};
-use assertions::assert_same;
+use assertions::{assert_same, assert_that};
 use channel_slots::{Bank, OpenFault};
 use receiver::RunFault;
 use std::alloc::{Alloc, Global};
@@ -18,12 +18,12 @@ pub fn has_told(
     answer: Result<u64, RunFault>,
     text: &str,
 ) {
-    assert_same!(*rt; (answered, writer.text(rt)), (answer, text));
+    assert_same(rt, (answered, writer.text(rt)), (answer, text));
 }
 
 /// Sees what a run answered.
 pub fn answers(rt: &impl Abort, answered: Result<u64, RunFault>, answer: Result<u64, RunFault>) {
-    assert_same!(*rt; answered, answer);
+    assert_same(rt, answered, answer);
 }
 
 /// Sees how often a run read, wrote and flushed.
@@ -36,17 +36,17 @@ pub fn asks(
     flushes: u64,
 ) {
     let asked = (reader.reads, writer.writes, writer.flushes);
-    assert_same!(*rt; asked, (reads, writes, flushes));
+    assert_same(rt, asked, (reads, writes, flushes));
 }
 
 /// Sees that a run flushed what it wrote.
 pub fn is_flushed(rt: &impl Abort, writer: &Holding) {
-    assert!(rt; writer.is_flushed);
+    assert_that(rt, writer.is_flushed);
 }
 
 /// Sees how often a run read, and that it flushed what it wrote.
 pub fn reads_and_flushes(rt: &impl Abort, asked: u64, writer: &Holding, reads: u64) {
-    assert_same!(*rt; (asked, writer.is_flushed), (reads, true));
+    assert_same(rt, (asked, writer.is_flushed), (reads, true));
 }
 
 /// Sees that a run of scripts over plain settings answers and writes this.
@@ -85,5 +85,5 @@ pub fn tells_within(
 /// Sees that a bank with these shares fails so to open.
 pub fn refuses_to_open(rt: &(impl Abort + Alloc<A = Global>), shares: &[u8], fault: OpenFault) {
     let bank = Bank::open(rt.alloc(), plain_settings(rt), shares);
-    assert_same!(*rt; bank.err(), Some(fault));
+    assert_same(rt, bank.err(), Some(fault));
 }

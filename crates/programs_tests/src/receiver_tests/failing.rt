@@ -24,7 +24,7 @@ fn fails(
     let answer = run_plain(rt, &[FIRST_COUNT], reader, writer);
     // The number stands on both sides, so that a mismatch shows it.
     let told = (behind, answer, Some(writer.text(rt).as_bytes()));
-    assert_same!(*rt; told, (behind, Err(fault), text));
+    assert_same(rt, told, (behind, Err(fault), text));
 }
 
 /// Sees what a run does whose reader fails after so many bytes.
@@ -72,7 +72,7 @@ fn flush_fails(
         Err(RunFault::Write),
         text,
     );
-    assert_same!(*rt; writer.flushes, 1);
+    assert_same(rt, writer.flushes, 1);
 }
 
 /// A run over two bytes and at most eight samples says that its writer failed, where that only
@@ -81,7 +81,7 @@ fn flush_fails_past_limit(rt: &(impl Abort + Alloc<A = Global>), script: &[u8], 
     let mut writer = Holding::without_flush();
     let answer = run_one(rt, script, 8, &mut Giving::whole(&[0, 0]), &mut writer);
     has_told(rt, answer, &writer, Err(RunFault::Write), text);
-    assert_same!(*rt; writer.flushes, 1);
+    assert_same(rt, writer.flushes, 1);
     writer.writes
 }
 
@@ -89,13 +89,14 @@ fn flush_fails_past_limit(rt: &(impl Abort + Alloc<A = Global>), script: &[u8], 
 // is the one that failed. The dump comes with the last of the 256 bytes, which has sample 2,046.
 #[test]
 fn failing_device(rt: HostRuntime) {
+    let rt = &rt;
     let code = code_file();
     for behind in 0usize..=256 {
-        reader_fails(&rt, &code, behind);
+        reader_fails(rt, &code, behind);
     }
     for behind in 0..FIRST_COUNT_LINES.len() {
-        let writes = writer_fails(&rt, &code, 1, behind);
-        assert_same!(rt; writes, (behind as u64).wrapping_add(1));
+        let writes = writer_fails(rt, &code, 1, behind);
+        assert_same(rt, writes, (behind as u64).wrapping_add(1));
     }
 }
 
@@ -113,7 +114,7 @@ fn a_failed_read_is_the_last(rt: HostRuntime) {
         100,
         text,
     );
-    assert_same!(rt; reader.reads, 101);
+    assert_same(&rt, reader.reads, 101);
 }
 
 // A write takes what is left before the fault, and the next write of the same line fails.
@@ -127,24 +128,26 @@ fn failing_writer_of_lines(rt: HostRuntime) {
 
 #[test]
 fn failing_flush(rt: HostRuntime) {
+    let rt = &rt;
     let code = code_file();
     flush_fails(
-        &rt,
+        rt,
         FIRST_COUNT,
         &mut Giving::whole(&code),
         FIRST_COUNT_LINES,
     );
     let mut reader = Giving::faulty(&code, usize::MAX, 100);
-    flush_fails(&rt, FIRST_COUNT, &mut reader, ANSWERS);
+    flush_fails(rt, FIRST_COUNT, &mut reader, ANSWERS);
     let text = "1 8 state 0 idle\n";
-    let _writes = flush_fails_past_limit(&rt, b"8 state 0\n9 state 0\n", text);
+    let _writes = flush_fails_past_limit(rt, b"8 state 0\n9 state 0\n", text);
 }
 
 // There is a flush with no line, too.
 #[test]
 fn failing_flush_of_nothing(rt: HostRuntime) {
-    flush_fails(&rt, b"", &mut Giving::faulty(&[0], 1, 0), "");
-    assert_same!(rt; flush_fails_past_limit(&rt, b"", ""), 0);
+    let rt = &rt;
+    flush_fails(rt, b"", &mut Giving::faulty(&[0], 1, 0), "");
+    assert_same(rt, flush_fails_past_limit(rt, b"", ""), 0);
 }
 
 /// Sees that a run over zeros without end ends with so many reads, as its writer fails.
@@ -153,7 +156,7 @@ fn ends_endless_reading(rt: &(impl Abort + Alloc<A = Global>), script: &[u8], re
     let mut writer = Holding::faulty(usize::MAX, 3);
     let settings = plain_settings(rt);
     let answer = run(rt.alloc(), settings, &[script], &mut reader, &mut writer);
-    assert_same!(*rt; (answer, reader.reads), (Err(RunFault::Write), reads));
+    assert_same(rt, (answer, reader.reads), (Err(RunFault::Write), reads));
 }
 
 // A line at 0 comes before the first read, one at 8 with the first byte.

@@ -29,25 +29,27 @@ fn refuses_clients(rt: &(impl Abort + Alloc<A = Global>), scripts: &[&[u8]]) {
 
 #[test]
 fn stated_limits(rt: HostRuntime) {
-    refuses_to_open(&rt, &[], OpenFault::Clients);
-    refuses_to_open(&rt, &[4; 9], OpenFault::Clients);
-    refuses_clients(&rt, &[]);
-    refuses_clients(&rt, &[FIRST_COUNT; 9])
+    let rt = &rt;
+    refuses_to_open(rt, &[], OpenFault::Clients);
+    refuses_to_open(rt, &[4; 9], OpenFault::Clients);
+    refuses_clients(rt, &[]);
+    refuses_clients(rt, &[FIRST_COUNT; 9])
 }
 
 // Bytes that end at the limit need one more read: where it gives nothing, that is the end; where it
 // gives a byte, the run is too long.
 #[test]
 fn sample_limit(rt: HostRuntime) {
+    let rt = &rt;
     let script = b"8 state 0\n9 state 0\n";
     for bytes_a_read in [1, 2] {
         let mut reader = Giving::pieces(&[0, 0], bytes_a_read);
         let too_long = Err(RunFault::TooLong);
-        let _reads = tells_within(&rt, script, 8, &mut reader, too_long, "1 8 state 0 idle\n");
+        let _reads = tells_within(rt, script, 8, &mut reader, too_long, "1 8 state 0 idle\n");
         let mut reader = Giving::pieces(&[0], bytes_a_read);
         let text = "1 8 state 0 idle\n1 8 end\n";
-        let reads = tells_within(&rt, script, 8, &mut reader, Ok(8), text);
-        assert_same!(rt; reads, 2);
+        let reads = tells_within(rt, script, 8, &mut reader, Ok(8), text);
+        assert_same(rt, reads, 2);
     }
 }
 
@@ -83,24 +85,26 @@ fn reads_past_limit(rt: &(impl Abort + Alloc<A = Global>), bytes_a_read: usize, 
 // 4,096 samples are 512 bytes. With one byte a read, the read after them shows that there are more.
 #[test]
 fn endless_reader(rt: HostRuntime) {
-    reads_past_limit(&rt, 1, 513);
-    reads_past_limit(&rt, 512, 2);
-    reads_past_limit(&rt, 513, 1);
+    let rt = &rt;
+    reads_past_limit(rt, 1, 513);
+    reads_past_limit(rt, 512, 2);
+    reads_past_limit(rt, 513, 1);
 }
 
 // Where memory is refused, nothing was read or written; so this holds whichever of its requests is
 // refused, or none.
 #[test]
 fn refused_memory_touches_no_device(rt: HostRuntime) {
+    let rt = &rt;
     let code = code_file();
     let mut reader = Giving::whole(&code);
     let mut writer = Holding::whole();
-    let answer = run_plain(&rt, &[FIRST_COUNT], &mut reader, &mut writer);
+    let answer = run_plain(rt, &[FIRST_COUNT], &mut reader, &mut writer);
     if answer == Err(RunFault::NoMemory) {
-        asks(&rt, &reader, &writer, 0, 0, 0);
+        asks(rt, &reader, &writer, 0, 0, 0);
     } else {
         // A write before each of the two reads, and one with the end.
-        answers(&rt, answer, Ok(2048));
-        asks(&rt, &reader, &writer, 2, 3, 1);
+        answers(rt, answer, Ok(2048));
+        asks(rt, &reader, &writer, 2, 3, 1);
     }
 }

@@ -91,7 +91,7 @@ static TEXTS: [(RunFault, &str); 6] = [
 /// Sees the text of a fault.
 fn assert_text(rt: &(impl Abort + Alloc<A = Global>), fault: RunFault, text: &str) {
     let shown = fault.to_string(rt.alloc()).expect(rt, "no memory");
-    assert_same!(*rt; shown.as_str(), text);
+    assert_same(rt, shown.as_str(), text);
 }
 
 #[test]
@@ -104,5 +104,5 @@ fn faults_have_texts(rt: HostRuntime) {
 #[test]
 fn device_fault_has_a_text(rt: HostRuntime) {
     let text = DeviceFault.to_string(rt.alloc()).expect(&rt, "no memory");
-    assert_same!(rt; text.as_str(), "the device failed");
+    assert_same(&rt, text.as_str(), "the device failed");
 }

@@ -105,22 +105,24 @@ fn run_into(rt: &(impl Abort + Alloc<A = Global>), room: &mut [u8]) -> Result<u6
 
 #[test]
 fn std_devices_run(rt: HostRuntime) {
+    let rt = &rt;
     let mut room = [0u8; 100];
-    answers(&rt, run_into(&rt, &mut room), Ok(2048));
+    answers(rt, run_into(rt, &mut room), Ok(2048));
     let text = FIRST_COUNT_LINES.as_bytes();
     let written = (room.get(..text.len()), room.get(text.len()));
-    assert_same!(rt; written, (Some(text), Some(&0)));
+    assert_same(rt, written, (Some(text), Some(&0)));
 }
 
 #[test]
 fn interrupted_reader(rt: HostRuntime) {
+    let rt = &rt;
     let mut inner = InterruptedReader { reads: 0 };
     let mut reader = Plain::new(&mut inner);
     let mut writer = Holding::whole();
-    let answer = run_over(&rt, b"0 state 0", &mut reader, &mut writer);
+    let answer = run_over(rt, b"0 state 0", &mut reader, &mut writer);
     let text = "1 0 state 0 idle\n";
-    has_told(&rt, answer, &writer, Err(RunFault::Read), text);
-    assert_same!(rt; inner.reads, 1);
+    has_told(rt, answer, &writer, Err(RunFault::Read), text);
+    assert_same(rt, inner.reads, 1);
 }
 
 /// Sees that a run whose writer is interrupted fails after so many writes and flushes.
@@ -134,7 +136,7 @@ fn fails_interrupted(
     let mut writer = Plain::new(&mut *inner);
     let answer = run_over(rt, b"0 state 0", &mut reader, &mut writer);
     let seen = (answer, inner.writes, inner.flushes);
-    assert_same!(*rt; seen, (Err(RunFault::Write), writes, flushes));
+    assert_same(rt, seen, (Err(RunFault::Write), writes, flushes));
 }
 
 // The script has one line, and the reader gives a byte and then none: the lines are `1 0 state 0
@@ -154,7 +156,7 @@ fn writer_takes_nothing(rt: HostRuntime) {
     let mut inner = IdleWriter { writes: 0 };
     let mut writer = Plain::new(&mut inner);
     let answer = run_over(&rt, FIRST_COUNT, &mut reader, &mut writer);
-    assert_same!(rt; (answer, inner.writes), (Err(RunFault::Write), 1));
+    assert_same(&rt, (answer, inner.writes), (Err(RunFault::Write), 1));
 }
 
 // A slice that is full takes nothing, either.
@@ -162,5 +164,5 @@ fn writer_takes_nothing(rt: HostRuntime) {
 fn full_slice_takes_nothing(rt: HostRuntime) {
     let mut room = [b'?'; 4];
     let answer = run_into(&rt, &mut room[..0]);
-    assert_same!(rt; (answer, room), (Err(RunFault::Write), [b'?'; 4]));
+    assert_same(&rt, (answer, room), (Err(RunFault::Write), [b'?'; 4]));
 }

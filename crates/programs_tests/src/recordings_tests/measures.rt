@@ -38,7 +38,7 @@ fn bytes_without_a_sign(rt: HostRuntime) {
         at_ends: 3,
         shares: [3, 2, 1, 1],
     };
-    assert_same!(rt; recipe.measure(&recipe.in_phase, 120, &bytes), expected);
+    assert_same(&rt, recipe.measure(&recipe.in_phase, 120, &bytes), expected);
 }
 
 // Three pairs of 16 bits, the high byte first, and three bytes of a fourth: (2, 4), (-2, 1) and
@@ -55,7 +55,8 @@ fn bytes_without_a_sign(rt: HostRuntime) {
 // and 2 are below, all near.
 #[test]
 fn pairs_with_a_common_threshold(rt: HostRuntime) {
-    let recipe = signs(&rt, ValueKind::I16Be, true, -1, 5);
+    let rt = &rt;
+    let recipe = signs(rt, ValueKind::I16Be, true, -1, 5);
     let bytes = [
         0x00, 0x02, 0x00, 0x04, 0xff, 0xfe, 0x00, 0x01, 0xff, 0xff, 0x00, 0x02, 0x80, 0x00, 0x7f,
     ];
@@ -74,9 +75,9 @@ fn pairs_with_a_common_threshold(rt: HostRuntime) {
         shares: [2, 0, 1, 0],
     };
     let (of_i, of_q) = (&recipe.in_phase, &recipe.quadrature);
-    assert_same!(rt; recipe.measure(of_i, 3, &bytes), i);
-    assert_same!(rt; recipe.measure(of_q, 3, &bytes), q);
-    assert_same!(rt; recipe.measure(of_i, 2, &bytes).shares, [0, 1, 1, 1]);
+    assert_same(rt, recipe.measure(of_i, 3, &bytes), i);
+    assert_same(rt, recipe.measure(of_q, 3, &bytes), q);
+    assert_same(rt, recipe.measure(of_i, 2, &bytes).shares, [0, 1, 1, 1]);
 }
 
 // One byte of four values of two bits, the earliest in its low bits: 00 is 1, 01 is 3, 10 is -3 and
@@ -92,5 +93,5 @@ fn values_of_two_bits(rt: HostRuntime) {
         at_ends: 2,
         shares: [1, 1, 1, 1],
     };
-    assert_same!(rt; recipe.measure(&recipe.in_phase, 4, &[0xe4]), expected);
+    assert_same(&rt, recipe.measure(&recipe.in_phase, 4, &[0xe4]), expected);
 }

@@ -3,7 +3,7 @@
 ghost use Rattle.std.specs.Prelude.{◌≤◌};
 ghost use Rattle.channels.specs.LockedMessages.{bit_count};
 
-use assertions::{assert_same, assert_same_at};
+use assertions::{assert_same, assert_same_at, assert_that};
 use channels::LockedMessage;
 use data_sets::{AlmanacSet, Report};
 use lane_correlator::Counts;
@@ -39,7 +39,7 @@ impl Reading {
 
     /// Takes a dump whose prompt sum in phase is +1, or -1.
     fn take(&mut self, rt: &impl Abort, is_negative: bool, is_locked: bool) -> MessageNews {
-        assert!(rt; self.dumps < MOST_BITS);
+        assert_that(rt, self.dumps < MOST_BITS);
         self.dumps += 1;
         let counts = Counts {
             ip: if is_negative { -1 } else { 1 },
@@ -52,7 +52,11 @@ impl Reading {
 
     /// Takes such a dump, which brings no news.
     fn take_nothing(&mut self, rt: &impl Abort, is_negative: bool, is_locked: bool) {
-        assert_same!(*rt; self.take(rt, is_negative, is_locked), MessageNews::Nothing);
+        assert_same(
+            rt,
+            self.take(rt, is_negative, is_locked),
+            MessageNews::Nothing,
+        );
     }
 
     /// Takes the dump of a lock and 360 after it. Their bits alternate up to the edge, which is
@@ -62,21 +66,21 @@ impl Reading {
         for k in 0..360u32 {
             let news = self.take(rt, k < 340 && k / 20 % 2 == 1, true);
             let edge = (news == MessageNews::Edge, self.message.has_edge());
-            assert_same_at!(*rt; k, edge, (k == 320, 320 <= k));
+            assert_same_at(rt, k, edge, (k == 320, 320 <= k));
         }
     }
 
     /// Takes the dump of an unlock.
     fn unlock(&mut self, rt: &impl Abort) {
         self.take_nothing(rt, false, false);
-        assert!(rt; !self.message.has_edge());
+        assert_that(rt, !self.message.has_edge());
     }
 
     /// Takes the dumps of a word's bits, the highest first. Only the last may bring news.
     fn take_word(&mut self, rt: &impl Abort, word: u32) -> MessageNews {
         let mut news = MessageNews::Nothing;
         for k in 0..600u32 {
-            assert_same_at!(*rt; k, news, MessageNews::Nothing);
+            assert_same_at(rt, k, news, MessageNews::Nothing);
             news = self.take(rt, word >> (29 - k / 20) & 1 == 1, true);
         }
         news
@@ -84,7 +88,7 @@ impl Reading {
 
     /// Takes a word that brings no news.
     fn take_bare_word(&mut self, rt: &impl Abort, word: u32) {
-        assert_same!(*rt; self.take_word(rt, word), MessageNews::Nothing);
+        assert_same(rt, self.take_word(rt, word), MessageNews::Nothing);
     }
 
     /// Takes the subframe of a satellite's almanac, and sees that it is reported. Gives the set
@@ -92,14 +96,14 @@ impl Reading {
     fn take_almanac(&mut self, rt: &impl Abort, satellite: u8) -> Option<AlmanacSet> {
         let mut news = MessageNews::Nothing;
         for word in almanac_words(satellite) {
-            assert_same!(*rt; news, MessageNews::Nothing);
+            assert_same(rt, news, MessageNews::Nothing);
             news = self.take_word(rt, word);
         }
         let MessageNews::Frame { reports, .. } = news else {
             panic!(rt; "no subframe");
         };
         let page = Report::Alm([1, satellite.into(), 0, 5, 0, 0, 0, 0, 0, 0, 0, 0, 0]);
-        assert_same!(*rt; reports.page, Some(page));
+        assert_same(rt, reports.page, Some(page));
         reports.set
     }
 
@@ -113,7 +117,7 @@ impl Reading {
     /// Takes the almanac of a satellite, and sees which set it completes.
     fn take_set(&mut self, rt: &impl Abort, satellite: u8, expected: Option<AlmanacSet>) {
         let set = self.take_almanac(rt, satellite);
-        assert_same_at!(*rt; satellite, set, expected);
+        assert_same_at(rt, satellite, set, expected);
     }
 }
 
@@ -147,15 +151,16 @@ fn behind(source: u32, before: u32) -> u32 {
 // would end among these, if its start were kept.
 #[test]
 fn start_ends_with_the_lock(rt: HostRuntime) {
+    let rt = &rt;
     let mut reading = Reading::new();
-    reading.lock(&rt);
+    reading.lock(rt);
     for word in [HEADER[0], HEADER[1], 0, 0, 0] {
-        reading.take_bare_word(&rt, word);
+        reading.take_bare_word(rt, word);
     }
-    reading.unlock(&rt);
-    reading.lock(&rt);
+    reading.unlock(rt);
+    reading.lock(rt);
     for _ in 0..10 {
-        reading.take_bare_word(&rt, 0);
+        reading.take_bare_word(rt, 0);
     }
 }
 
@@ -163,16 +168,17 @@ fn start_ends_with_the_lock(rt: HostRuntime) {
 // 31. After the second unlock the same set is reported again.
 #[test]
 fn almanacs_end_with_the_lock(rt: HostRuntime) {
+    let rt = &rt;
     let mut reading = Reading::new();
-    reading.lock(&rt);
-    reading.take_almanacs_to(&rt, 31);
-    reading.unlock(&rt);
-    reading.lock(&rt);
-    reading.take_set(&rt, 32, None);
-    reading.take_almanacs_to(&rt, 30);
-    reading.take_set(&rt, 31, Some(ALMANACS));
-    reading.unlock(&rt);
-    reading.lock(&rt);
-    reading.take_almanacs_to(&rt, 31);
-    reading.take_set(&rt, 32, Some(ALMANACS));
+    reading.lock(rt);
+    reading.take_almanacs_to(rt, 31);
+    reading.unlock(rt);
+    reading.lock(rt);
+    reading.take_set(rt, 32, None);
+    reading.take_almanacs_to(rt, 30);
+    reading.take_set(rt, 31, Some(ALMANACS));
+    reading.unlock(rt);
+    reading.lock(rt);
+    reading.take_almanacs_to(rt, 31);
+    reading.take_set(rt, 32, Some(ALMANACS));
 }

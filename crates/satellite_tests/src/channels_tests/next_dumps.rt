@@ -5,7 +5,7 @@ ghost use Rattle.channels.specs.FollowedChannels.{at_of};
 ghost use Rattle.channels.specs.Windows.{first_of, end_of};
 
 use super::{new_window, open_to, settings, signal};
-use assertions::{assert_same, assert_same_at};
+use assertions::{assert_same, assert_same_at, assert_that};
 use ca_codes::CodeBook;
 use channels::{Followed, Window};
 use sample_planes::Format;
@@ -54,8 +54,8 @@ fn next_dump(
 {
     for _ in 0..100 {
         let end = window.end();
-        assert!(rt; end <= 61_440);
-        assert!(rt; held.dumps() < 8);
+        assert_that(rt, end <= 61_440);
+        assert_that(rt, held.dumps() < 8);
         let time = held.next_dump();
         if held.take(end, window, book) {
             return Some(time);
@@ -83,16 +83,21 @@ fn assert_dumps(
     for k in 0..3usize {
         let (nth, said) = (held.dumps(), held.next_dump());
         let dump = next_dump(rt, &mut held, &mut window, &mut book);
-        assert_same_at!(*rt; time, (nth, said, dump), (k as u64, dumps[k], Some(dumps[k])));
+        assert_same_at(
+            rt,
+            time,
+            (nth, said, dump),
+            (k as u64, dumps[k], Some(dumps[k])),
+        );
     }
-    assert_same!(*rt; held.dumps(), 3);
+    assert_same(rt, held.dumps(), 3);
 }
 
 /// The satellite of a row.
 fn held(rt: &impl Abort, rate: u32, hz: i32, half: u16, time: u64) -> Followed
     ensures { at_of result ≡ time }
 {
-    assert!(rt; time <= 2_000);
+    assert_that(rt, time <= 2_000);
     let settings = settings(rt, rate, 0, Format::Real1);
     Followed::hold(&settings, signal(rt, 5, hz, half), time)
 }
@@ -108,10 +113,16 @@ fn dumps_come_by_the_rate_of_the_code(rt: HostRuntime) {
 // after it.
 #[test]
 fn first_dump_of_a_tracked_satellite(rt: HostRuntime) {
+    let rt = &rt;
     for &(rate, hz, half, time, dumps) in &ROWS {
-        let settings = settings(&rt, rate, 0, Format::Real1);
-        assert!(rt; time <= 2_000);
-        let tracked = Followed::track(&settings, signal(&rt, 5, hz, half), time);
-        assert_same_at!(rt; rate, (tracked.dumps(), tracked.next_dump()), (0, dumps[0]));
+        let settings = settings(rt, rate, 0, Format::Real1);
+        assert_that(rt, time <= 2_000);
+        let tracked = Followed::track(&settings, signal(rt, 5, hz, half), time);
+        assert_same_at(
+            rt,
+            rate,
+            (tracked.dumps(), tracked.next_dump()),
+            (0, dumps[0]),
+        );
     }
 }

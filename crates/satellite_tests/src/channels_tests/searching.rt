@@ -8,7 +8,7 @@ ghost use Rattle.sample_planes.specs.declared.planes.TheConstants.{MAX_SAMPLES};
 
 use super::{assert_stands, new_window, open_to, settings};
 use acquisition::{Cell, Plan, SearchRoom};
-use assertions::{assert_same, assert_same_at};
+use assertions::{assert_same, assert_same_at, assert_that};
 use ca_codes::{CodeBook, Prn};
 use channels::{Followed, Searched, Window};
 use made_signals::code_file;
@@ -56,18 +56,23 @@ fn search_in_pieces(
     requires to { 11264 ≤ length source.now.samples }
     ensures due { due_of result.0 ≡ 10232 }
 {
-    assert!(rt; search.due() == 10_232);
-    assert_same!(*rt; search.next_cell(), 2_052);
+    assert_that(rt, search.due() == 10_232);
+    assert_same(rt, search.next_cell(), 2_052);
     let mut to = 2;
     for _ in 0..10_230 {
         to += piece as u64;
         let answer = search.take(to, source, book);
         if 10_232 <= to {
-            assert_same!(*rt; search.done(), 2_046);
+            assert_same(rt, search.done(), 2_046);
             return (search, to, answer);
         }
         let told = (search.done(), search.next_cell(), answer);
-        assert_same_at!(*rt; to, told, (to.saturating_sub(2_048) / 4, next_cell_at(to), None));
+        assert_same_at(
+            rt,
+            to,
+            told,
+            (to.saturating_sub(2_048) / 4, next_cell_at(to), None),
+        );
     }
     (search, to, None)
 }
@@ -93,13 +98,13 @@ fn open_file(rt: &impl Abort, window: &mut Window, bytes: &[u8; 1_408])
     ensures end { end_of window.new ≡ end_of window.old + MAX_SAMPLES }
 {
     let end = window.end();
-    assert!(rt; end <= 20_000);
+    assert_that(rt, end <= 20_000);
     let file = PackedSamples::new(window.history().format(), bytes);
-    assert!(rt; 1_024 <= file.len());
+    assert_that(rt, 1_024 <= file.len());
     let file = file.part(0, 1_024);
-    assert!(rt; file.len() == 1_024);
+    assert_that(rt, file.len() == 1_024);
     window.close();
-    assert!(rt; window.end() == end);
+    assert_that(rt, window.end() == end);
     window.take(&file);
 }
 
@@ -117,13 +122,13 @@ fn assert_follows(
 {
     assert_stands(rt, tracked, 0, 12_276);
     open_file(rt, window, bytes);
-    assert!(rt; !tracked.take(11_256, window, book));
+    assert_that(rt, !tracked.take(11_256, window, book));
     assert_stands(rt, tracked, 0, 12_276);
     open_file(rt, window, bytes);
-    assert!(rt; !tracked.take(12_275, window, book));
+    assert_that(rt, !tracked.take(12_275, window, book));
     assert_stands(rt, tracked, 0, 12_276);
-    assert!(rt; tracked.take(12_280, window, book));
-    assert_same!(*rt; tracked.dumps(), 1);
+    assert_that(rt, tracked.take(12_280, window, book));
+    assert_same(rt, tracked.dumps(), 1);
 }
 
 /// The cell that the search is to name.
@@ -155,10 +160,10 @@ fn found_in_pieces(
 {
     let settings = settings(rt, 2_046_000, 0, Format::Real1);
     let begun = Searched::start(&settings, plan(rt, 10), 2, room);
-    assert_same!(*rt; (begun.prn().get(), begun.cells()), (1, 2_046));
+    assert_same(rt, (begun.prn().get(), begun.cells()), (1, 2_046));
     let (search, to, cell) = search_in_pieces(rt, begun, piece, source, book);
-    assert!(rt; to < 10_232 + piece as u64);
-    assert_same!(*rt; cell, Some(named(rt)));
+    assert_that(rt, to < 10_232 + piece as u64);
+    assert_same(rt, cell, Some(named(rt)));
     let tracked = search.follow(&named(rt)).expect(rt, "no signal was found");
     (tracked, search.into_room())
 }
@@ -167,7 +172,7 @@ fn found_in_pieces(
 fn assert_found(rt: &impl Abort, tracked: &Followed) {
     let shift = tracked.tracking().expect(rt, "no loops").v();
     let told = (tracked.prn().get(), tracked.dumps(), shift);
-    assert_same!(*rt; told, (1, 0, 0));
+    assert_same(rt, told, (1, 0, 0));
 }
 
 // The dwell is samples 2 to 2,047, and there are 2,046 cells: the answer is due at 2,048 + 8,184.
@@ -175,16 +180,17 @@ fn assert_found(rt: &impl Abort, tracked: &Followed) {
 // samples are left of it.
 #[test]
 fn one_cell_with_four_samples(rt: HostRuntime) {
+    let rt = &rt;
     let bytes = padded();
     let source = NumberedSamples::new(PackedSamples::new(Format::Real1, &bytes), 0);
-    let mut room = SearchRoom::new(rt.alloc()).expect(&rt, "no memory");
+    let mut room = SearchRoom::new(rt.alloc()).expect(rt, "no memory");
     for piece in [1, 3, 7, 64, 1_024] {
         let mut book = CodeBook::new();
-        let (mut tracked, left) = found_in_pieces(&rt, room, piece, &source, &mut book);
+        let (mut tracked, left) = found_in_pieces(rt, room, piece, &source, &mut book);
         room = left;
-        assert_found(&rt, &tracked);
-        let mut window = window_at_10_232(&rt, &bytes);
-        assert_follows(&rt, &mut tracked, &mut window, &bytes, &mut book);
+        assert_found(rt, &tracked);
+        let mut window = window_at_10_232(rt, &bytes);
+        assert_follows(rt, &mut tracked, &mut window, &bytes, &mut book);
     }
 }
 
@@ -192,15 +198,23 @@ fn one_cell_with_four_samples(rt: HostRuntime) {
 // each has, and a threshold above it isn't met.
 #[test]
 fn nothing_found_is_not_followed(rt: HostRuntime) {
+    let rt = &rt;
     let bytes = [0; 1_280];
-    let settings = settings(&rt, 2_046_000, 0, Format::Real1);
-    let plan = plan(&rt, 11);
+    let settings = settings(rt, 2_046_000, 0, Format::Real1);
+    let plan = plan(rt, 11);
     let source = NumberedSamples::new(PackedSamples::new(Format::Real1, &bytes), 0);
-    let room = SearchRoom::new(rt.alloc()).expect(&rt, "no memory");
+    let room = SearchRoom::new(rt.alloc()).expect(rt, "no memory");
     let mut search = Searched::start(&settings, plan, 0, room);
-    assert!(rt; search.take(10_229, &source, &mut CodeBook::new()).is_none());
+    assert_that(
+        rt,
+        search.take(10_229, &source, &mut CodeBook::new()).is_none(),
+    );
     let cell = search.take(10_240, &source, &mut CodeBook::new());
-    let cell = cell.expect(&rt, "no answer");
-    assert_same!(rt; (search.due(), cell.found, cell.power), (10_230, false, 20));
-    assert!(rt; search.follow(&cell).is_none());
+    let cell = cell.expect(rt, "no answer");
+    assert_same(
+        rt,
+        (search.due(), cell.found, cell.power),
+        (10_230, false, 20),
+    );
+    assert_that(rt, search.follow(&cell).is_none());
 }

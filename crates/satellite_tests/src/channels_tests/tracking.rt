@@ -5,7 +5,7 @@ ghost use Rattle.channels.specs.FollowedChannels.{at_of};
 ghost use Rattle.channels.specs.Windows.{first_of, end_of};
 
 use super::{new_window, open_to, settings, signal, sums};
-use assertions::{assert_same, assert_same_at};
+use assertions::{assert_same, assert_same_at, assert_that};
 use ca_codes::CodeBook;
 use channels::{Followed, Window};
 use lane_correlator::Counts;
@@ -63,8 +63,8 @@ fn next(
         open_to(rt, window, bytes, place + 1_000);
     }
     let end = window.end();
-    assert!(rt; end <= 600_000);
-    assert!(rt; tracked.dumps() < 1_000);
+    assert_that(rt, end <= 600_000);
+    assert_that(rt, tracked.dumps() < 1_000);
     let to = end.min(tracked.next_dump());
     let is_dump = tracked.take(end, window, book);
     let dump = window.dump();
@@ -78,7 +78,7 @@ fn assert_both(
     dump: Option<(Counts, News)>,
     plain: Option<PlainDump>,
 ) {
-    assert_same!(*rt; dump.is_some(), plain.is_some());
+    assert_same(rt, dump.is_some(), plain.is_some());
     if let (Some(dump), Some(plain)) = (dump, plain) {
         assert_same_dump(rt, tracked, dump, &plain);
     }
@@ -87,14 +87,14 @@ fn assert_both(
 fn assert_same_dump(rt: &impl Abort, tracked: &Followed, dump: (Counts, News), plain: &PlainDump) {
     let loops = tracked.tracking().expect(rt, "no loops");
     let told = (tracked.dumps(), loops.v(), loops.w());
-    assert_same_at!(
-        rt;
+    assert_same_at(
+        rt,
         plain.number,
         (dump, told),
         (
             (sums(plain.counts), news_of(plain.news)),
             (plain.number, plain.v, plain.w),
-        )
+        ),
     );
 }
 
@@ -110,22 +110,23 @@ fn tracked(rt: &impl Abort, made: &MadeSignal) -> Followed
 // dump 219 is the first that brings a lock.
 #[test]
 fn tracked_as_the_reference(rt: HostRuntime) {
+    let rt = &rt;
     let signal = MadeSignal::with_tail(&[]);
     let mut stream = SampleStream::new(signal, 600_000);
     let mut bytes = [0; BYTES];
-    assert_same!(rt; { stream }.fill(&mut bytes), BYTES);
+    assert_same(rt, { stream }.fill(&mut bytes), BYTES);
     let mut tracker = PlainTracker::follow(&signal);
-    let mut tracked = tracked(&rt, &signal);
+    let mut tracked = tracked(rt, &signal);
     let mut book = CodeBook::new();
-    let mut window = new_window(&rt, Format::Real2);
+    let mut window = new_window(rt, Format::Real2);
     let mut place = 0;
     // Some 580 runs, and 230 dumps.
     for _ in 0..810 {
-        let (to, dump) = next(&rt, &mut tracked, &mut window, &bytes, place, &mut book);
-        let plain = plain_dump(&rt, &mut stream, &mut tracker, (to - place) as usize);
+        let (to, dump) = next(rt, &mut tracked, &mut window, &bytes, place, &mut book);
+        let plain = plain_dump(rt, &mut stream, &mut tracker, (to - place) as usize);
         place = to;
-        assert_both(&rt, &tracked, dump, plain);
+        assert_both(rt, &tracked, dump, plain);
     }
-    assert!(rt; 230 <= tracked.dumps());
-    assert!(rt; tracked.tracking().expect(&rt, "no loops").is_locked());
+    assert_that(rt, 230 <= tracked.dumps());
+    assert_that(rt, tracked.tracking().expect(rt, "no loops").is_locked());
 }

@@ -6,7 +6,7 @@ ghost use Rattle.channels.specs.Windows.{first_of, end_of};
 ghost use Rattle.sample_planes.specs.declared.planes.TheConstants.{MAX_SAMPLES};
 
 use super::{assert_next, first_and_second, held, new_window, next, open_to};
-use assertions::{assert_same, assert_same_at};
+use assertions::{assert_same, assert_same_at, assert_that};
 use channels::{Dump, Followed, Window};
 use lane_correlator::Counts;
 use made_signals::RECORDING;
@@ -23,45 +23,47 @@ fn assert_room(rt: &impl Abort, window: &Window, end: u64, room: usize)
         window.has_room(room),
         window.has_room(room + 1),
     );
-    assert_same!(*rt; found, (end, true, false));
+    assert_same(rt, found, (end, true, false));
 }
 
 // At most 1,024 samples are open, a full window has room for an empty run alone, and a window that
 // is closed for as many again.
 #[test]
 fn a_window_has_room_for_1_024_samples(rt: HostRuntime) {
-    let mut window = new_window(&rt, Format::Real1);
-    assert_room(&rt, &window, 0, 1_024);
-    open_to(&rt, &mut window, &RECORDING, 1_000);
-    assert_room(&rt, &window, 1_000, 24);
-    open_to(&rt, &mut window, &RECORDING, 1_023);
-    assert_room(&rt, &window, 1_023, 1);
-    open_to(&rt, &mut window, &RECORDING, 1_024);
-    assert_room(&rt, &window, 1_024, 0);
+    let rt = &rt;
+    let mut window = new_window(rt, Format::Real1);
+    assert_room(rt, &window, 0, 1_024);
+    open_to(rt, &mut window, &RECORDING, 1_000);
+    assert_room(rt, &window, 1_000, 24);
+    open_to(rt, &mut window, &RECORDING, 1_023);
+    assert_room(rt, &window, 1_023, 1);
+    open_to(rt, &mut window, &RECORDING, 1_024);
+    assert_room(rt, &window, 1_024, 0);
     window.close();
-    assert_room(&rt, &window, 1_024, 1_024);
+    assert_room(rt, &window, 1_024, 1_024);
     window.close();
-    open_to(&rt, &mut window, &RECORDING, 1_025);
-    assert_room(&rt, &window, 1_025, 1_023);
+    open_to(rt, &mut window, &RECORDING, 1_025);
+    assert_room(rt, &window, 1_025, 1_023);
     window.close();
-    assert_room(&rt, &window, 1_025, 1_024);
-    open_to(&rt, &mut window, &RECORDING, 2_049);
-    assert_room(&rt, &window, 2_049, 0);
+    assert_room(rt, &window, 1_025, 1_024);
+    open_to(rt, &mut window, &RECORDING, 2_049);
+    assert_room(rt, &window, 2_049, 0);
 }
 
 // The history of a window holds all its samples while it has room, and those that are open always.
 #[test]
 fn closed_samples_are_held(rt: HostRuntime) {
-    let mut window = Window::new(rt.alloc(), Format::Real1, 2_048).expect(&rt, "no memory");
+    let rt = &rt;
+    let mut window = Window::new(rt.alloc(), Format::Real1, 2_048).expect(rt, "no memory");
     for end in [1_000, 2_000] {
-        open_to(&rt, &mut window, &RECORDING, end);
+        open_to(rt, &mut window, &RECORDING, end);
         window.close();
         let held = (window.history().first(), window.history().end());
-        assert_same!(rt; held, (0, end));
+        assert_same(rt, held, (0, end));
     }
-    open_to(&rt, &mut window, &RECORDING, 3_024);
-    assert!(rt; window.history().first() <= 976);
-    assert_same!(rt; window.history().end(), 3_024);
+    open_to(rt, &mut window, &RECORDING, 3_024);
+    assert_that(rt, window.history().first() <= 976);
+    assert_same(rt, window.history().end(), 3_024);
 }
 
 /// Sample `n` of the recording: a bit 1 is -1, and the earliest sample of a byte is its top bit.
@@ -84,9 +86,9 @@ fn assert_open(rt: &impl Abort, window: &mut Window, first: usize, len: usize)
 {
     window.unpack();
     let planes = window.planes();
-    assert_same!(*rt; planes.len(), len);
+    assert_same(rt, planes.len(), len);
     for i in 0..planes.len() {
-        assert_same_at!(*rt; i, planes.value(i), value_at(first + i));
+        assert_same_at(rt, i, planes.value(i), value_at(first + i));
     }
 }
 
@@ -94,38 +96,40 @@ fn assert_open(rt: &impl Abort, window: &mut Window, first: usize, len: usize)
 // others are. Their places count from the first that is open.
 #[test]
 fn open_samples_are_unpacked(rt: HostRuntime) {
-    let mut window = new_window(&rt, Format::Real1);
-    assert_open(&rt, &mut window, 0, 0);
-    open_to(&rt, &mut window, &RECORDING, 1_000);
-    assert_open(&rt, &mut window, 0, 1_000);
-    assert_open(&rt, &mut window, 0, 1_000);
-    assert_same!(rt; (window.place(0), window.place(1_000)), (0, 1_000));
-    open_to(&rt, &mut window, &RECORDING, 1_024);
-    assert_open(&rt, &mut window, 0, 1_024);
+    let rt = &rt;
+    let mut window = new_window(rt, Format::Real1);
+    assert_open(rt, &mut window, 0, 0);
+    open_to(rt, &mut window, &RECORDING, 1_000);
+    assert_open(rt, &mut window, 0, 1_000);
+    assert_open(rt, &mut window, 0, 1_000);
+    assert_same(rt, (window.place(0), window.place(1_000)), (0, 1_000));
+    open_to(rt, &mut window, &RECORDING, 1_024);
+    assert_open(rt, &mut window, 0, 1_024);
     window.close();
-    open_to(&rt, &mut window, &RECORDING, 1_031);
-    open_to(&rt, &mut window, &RECORDING, 1_044);
-    assert_open(&rt, &mut window, 1_024, 20);
-    assert_same!(rt; (window.place(1_024), window.place(1_044)), (0, 20));
+    open_to(rt, &mut window, &RECORDING, 1_031);
+    open_to(rt, &mut window, &RECORDING, 1_044);
+    assert_open(rt, &mut window, 1_024, 20);
+    assert_same(rt, (window.place(1_024), window.place(1_044)), (0, 20));
     window.close();
-    open_to(&rt, &mut window, &RECORDING, 2_068);
-    assert_open(&rt, &mut window, 1_044, 1_024);
+    open_to(rt, &mut window, &RECORDING, 2_068);
+    assert_open(rt, &mut window, 1_044, 1_024);
 }
 
 // The dump of a window is zero before the first, and stays until the next one comes.
 #[test]
 fn a_window_keeps_its_dump(rt: HostRuntime) {
+    let rt = &rt;
     let [first, _] = first_and_second();
-    let first = Dump::plain(first.expect(&rt, "no sums"));
-    let mut held = held(&rt);
-    let mut window = new_window(&rt, Format::Real1);
-    assert_same!(rt; *window.dump(), Dump::plain(Counts::NONE));
-    open_to(&rt, &mut window, &RECORDING, 1_000);
-    assert_next(&rt, &mut held, &mut window, 1_000, (1_000, None));
-    assert_same!(rt; *window.dump(), Dump::plain(Counts::NONE));
+    let first = Dump::plain(first.expect(rt, "no sums"));
+    let mut held = held(rt);
+    let mut window = new_window(rt, Format::Real1);
+    assert_same(rt, *window.dump(), Dump::plain(Counts::NONE));
+    open_to(rt, &mut window, &RECORDING, 1_000);
+    assert_next(rt, &mut held, &mut window, 1_000, (1_000, None));
+    assert_same(rt, *window.dump(), Dump::plain(Counts::NONE));
     window.close();
-    open_to(&rt, &mut window, &RECORDING, 2_000);
-    assert_dump_stays(&rt, first, &mut held, &mut window);
+    open_to(rt, &mut window, &RECORDING, 2_000);
+    assert_dump_stays(rt, first, &mut held, &mut window);
 }
 
 /// Asserts that a dump comes with sample 1,345 of the 2,000 so far, and stays the window's after
@@ -135,11 +139,11 @@ fn assert_dump_stays(rt: &impl Abort, dump: Dump, held: &mut Followed, window: &
     requires open { first_of window.old ≤ at_of held.old }
 {
     assert_next(rt, held, window, 2_000, (1_346, Some(dump.counts)));
-    assert_same!(*rt; window.dump(), &dump);
+    assert_same(rt, window.dump(), &dump);
     assert_next(rt, held, window, 2_000, (2_000, None));
-    assert_same!(*rt; window.dump(), &dump);
+    assert_same(rt, window.dump(), &dump);
     window.close();
-    assert_same!(*rt; window.dump(), &dump);
+    assert_same(rt, window.dump(), &dump);
 }
 
 /// The time of a dump, and its sums.
@@ -163,7 +167,7 @@ fn assert_takes(rt: &impl Abort, held: &mut Followed, window: &mut Window, dumps
     if held.next_dump() <= end {
         let dump = dumps.get(held.dumps() as usize).copied();
         let found = next(rt, held, window, end);
-        assert_same_at!(*rt; end, Some(found), dump);
+        assert_same_at(rt, end, Some(found), dump);
     }
     // A segment has more samples than are open, so no other dump comes among them.
     assert_next(rt, held, window, end, (end, None));
@@ -181,7 +185,7 @@ fn make_room(rt: &impl Abort, held: &mut Followed, window: &mut Window, piece: u
         let end = window.end();
         assert_next(rt, held, window, end, (end, None));
         window.close();
-        assert!(rt; window.end() == end);
+        assert_that(rt, window.end() == end);
     }
 }
 
@@ -195,7 +199,7 @@ fn open_piece(rt: &impl Abort, held: &mut Followed, window: &mut Window, piece: 
 {
     make_room(rt, held, window, piece);
     let from = window.end();
-    assert!(rt; from <= 4_000);
+    assert_that(rt, from <= 4_000);
     open_to(rt, window, &RECORDING, (from + piece as u64).min(4_000));
 }
 
@@ -226,7 +230,7 @@ fn assert_in_pieces(rt: &(impl Abort + Alloc<A = Global>), piece: usize, is_pati
             break;
         }
     }
-    assert_same_at!(*rt; piece, (window.end(), held.dumps()), (4_000, 2));
+    assert_same_at(rt, piece, (window.end(), held.dumps()), (4_000, 2));
 }
 
 /// How many samples are opened at a time.

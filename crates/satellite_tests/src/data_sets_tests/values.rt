@@ -25,7 +25,7 @@ static SET: [i64; 31] = [
 #[test]
 fn numbers_in_table_order(rt: HostRuntime) {
     let report = last_report(&rt, [&EPH2, &EPH3, &CLOCK]);
-    assert_same!(rt; report, Report::Eph(SET));
+    assert_same(&rt, report, Report::Eph(SET));
 }
 
 /// A field, and the value that a report has by its name.
@@ -48,10 +48,11 @@ static OF_A_SET: [Row; 11] = [
 // By its name each of the 31 numbers of a set is that of its page.
 #[test]
 fn values_by_name(rt: HostRuntime) {
-    let set = last_report(&rt, [&CLOCK, &EPH2, &EPH3]);
-    assert_values(&rt, &set, &OF_A_SET);
-    assert_each_value(&rt, &set);
-    assert_lengths(&rt, &set, 31);
+    let rt = &rt;
+    let set = last_report(rt, [&CLOCK, &EPH2, &EPH3]);
+    assert_values(rt, &set, &OF_A_SET);
+    assert_each_value(rt, &set);
+    assert_lengths(rt, &set, 31);
 }
 
 static OF_AN_ALMANAC: [Row; 5] = [
@@ -65,11 +66,12 @@ static OF_AN_ALMANAC: [Row; 5] = [
 // A single page says by its fields' names what it says as a page, and a message nothing.
 #[test]
 fn values_of_an_almanac(rt: HostRuntime) {
+    let rt = &rt;
     let report = DataSets::new().take(&Page::Almanac(ALMANAC)).page;
-    let report = report.expect(&rt, "a report");
-    assert_values(&rt, &report, &OF_AN_ALMANAC);
+    let report = report.expect(rt, "a report");
+    assert_values(rt, &report, &OF_AN_ALMANAC);
     let values = ALMANAC;
-    assert_same!(rt; report.values(), values.as_slice());
+    assert_same(rt, report.values(), values.as_slice());
 }
 
 static UTC: Report = Report::Utc([1, 56, -1, 2, 3, 4, 5, 6, 7, 8, 9, 10, 11, 12, 18, 13, 7, 19]);
@@ -91,12 +93,13 @@ static OF_A_MESSAGE: [Row; 1] = [(Field::Health(HealthField::H24), None)];
 
 #[test]
 fn values_of_other_pages(rt: HostRuntime) {
-    assert_values(&rt, &UTC, &OF_UTC);
-    assert_lengths(&rt, &UTC, 18);
-    assert_values(&rt, &HEALTH, &OF_HEALTH);
-    assert_lengths(&rt, &HEALTH, 28);
-    assert_values(&rt, &MESSAGE, &OF_A_MESSAGE);
-    assert_lengths(&rt, &MESSAGE, 0);
+    let rt = &rt;
+    assert_values(rt, &UTC, &OF_UTC);
+    assert_lengths(rt, &UTC, 18);
+    assert_values(rt, &HEALTH, &OF_HEALTH);
+    assert_lengths(rt, &HEALTH, 28);
+    assert_values(rt, &MESSAGE, &OF_A_MESSAGE);
+    assert_lengths(rt, &MESSAGE, 0);
 }
 
 /// What the last of three pages, the first of all, makes reported.
@@ -123,11 +126,11 @@ fn assert_each_value(rt: &impl Abort, report: &Report) {
 }
 
 fn assert_value(rt: &impl Abort, report: &Report, field: Field, expected: Option<i64>) {
-    assert_same_at!(*rt; field.name(), report.value(field), expected);
+    assert_same_at(rt, field.name(), report.value(field), expected);
 }
 
 /// Asserts how many fields and how many values a report has.
 fn assert_lengths(rt: &impl Abort, report: &Report, expected: usize) {
-    assert!(rt; report.fields().len() == expected);
-    assert!(rt; report.values().len() == expected);
+    assert_same(rt, report.fields().len(), expected);
+    assert_same(rt, report.values().len(), expected);
 }

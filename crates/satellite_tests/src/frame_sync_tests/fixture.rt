@@ -3,7 +3,7 @@
 ghost use Rattle.std.specs.Prelude.{◌≤◌};
 
 use crate::sent::subframe;
-use assertions::assert_same;
+use assertions::{assert_same, assert_that};
 use frame_sync::{Found, FrameSync};
 use std::process::Abort;
 
@@ -35,7 +35,7 @@ impl<'a> Pushed<'a> {
 
     /// Pushes a bit, and asserts that what is found with it is that of the next row.
     pub fn push(&mut self, rt: &impl Abort, bit: bool) {
-        assert!(rt; self.sync.pushed() < 1 << 40);
+        assert_that(rt, self.sync.pushed() < 1 << 40);
         let is_inverted = self.tail <= self.sync.pushed();
         if let Some(found) = self.sync.push(bit ^ is_inverted) {
             let row = self.rows.get(self.found).expect(rt, "nothing more to find");
@@ -62,7 +62,7 @@ impl<'a> Pushed<'a> {
 
     /// Asserts that all rows were found.
     pub fn assert_all(&self, rt: &impl Abort) {
-        assert!(rt; self.found == self.rows.len());
+        assert_that(rt, self.found == self.rows.len());
     }
 }
 
@@ -73,7 +73,7 @@ fn assert_row(rt: &impl Abort, push: u64, found: Found, row: &Row) {
         subframe: subframe(rt, words),
         gap,
     };
-    assert_same!(*rt; (push, found), (expected_push, expected));
+    assert_same(rt, (push, found), (expected_push, expected));
 }
 
 /// Asserts that this is all that is found among two bits 0 and these words, of which all bits are

@@ -6,7 +6,7 @@ ghost use Rattle.std.specs.Prelude.{◌≡◌, ◌+◌, ◌^◌, ◌<◌, ◌≤
 use super::fixture::{NEVER, Pushed, Row};
 use super::mixture::Mixture;
 use crate::sent::subframe;
-use assertions::assert_same;
+use assertions::{assert_same, assert_that};
 use nav_parity::check;
 use std::alloc::{Alloc, Global};
 use std::process::Abort;
@@ -15,16 +15,17 @@ const LENGTH: usize = 100_000;
 
 #[test]
 fn least_candidates(rt: HostRuntime) {
-    let bits = Mixture::of_length(&rt, LENGTH);
-    assert!(rt; bits.len() == LENGTH);
-    let rows = candidates(&rt, &bits);
+    let rt = &rt;
+    let bits = Mixture::of_length(rt, LENGTH);
+    assert_that(rt, bits.len() == LENGTH);
+    let rows = candidates(rt, &bits);
     // As a search in another language, over the same stream, has them.
-    assert_same!(rt; kinds(&rt, &rows), (191, 70, 7));
+    assert_same(rt, kinds(rt, &rows), (191, 70, 7));
     let mut pushed = Pushed::new(&rows, NEVER);
     for bit in &bits {
-        pushed.push(&rt, *bit);
+        pushed.push(rt, *bit);
     }
-    pushed.assert_all(&rt);
+    pushed.assert_all(rt);
 }
 
 /// The least candidates among bits, each with the number of its last bit, from 1.

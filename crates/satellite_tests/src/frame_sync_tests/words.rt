@@ -2,7 +2,7 @@
 
 use super::{DATA, without_word};
 use crate::sent::subframe;
-use assertions::{assert_same, assert_same_at};
+use assertions::{assert_same, assert_same_at, assert_that};
 use frame_sync::Subframe;
 use std::process::Abort;
 
@@ -34,16 +34,16 @@ fn words_of_no_subframe(rt: HostRuntime) {
 fn assert_words(rt: &impl Abort, words: [Option<u32>; 10], is_complete: bool) {
     let subframe = subframe(rt, words);
     let told = (subframe.id(), subframe.tow(), subframe.complete());
-    assert_same!(*rt; told, (1, 1, is_complete));
+    assert_same(rt, told, (1, 1, is_complete));
     for place in 0..10usize {
-        assert_same_at!(*rt; place, subframe.word(place + 1), words[place]);
+        assert_same_at(rt, place, subframe.word(place + 1), words[place]);
     }
 }
 
 /// Asserts that those of `DATA` with this one at a place are none.
 fn assert_none(rt: &impl Abort, place: usize, word: Option<u32>) {
-    assert!(rt; place < 10);
+    assert_that(rt, place < 10);
     let mut words = DATA;
     words[place] = word;
-    assert_same_at!(*rt; (word, place), Subframe::from_words(words), None);
+    assert_same_at(rt, (word, place), Subframe::from_words(words), None);
 }

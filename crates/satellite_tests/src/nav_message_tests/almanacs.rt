@@ -54,14 +54,15 @@ fn assert_reports(rt: &impl Abort, pushed: &mut Pushed, almanac: Almanac, set: O
         _ => panic!(rt; "no subframe"),
     };
     let page = Some(almanac.report());
-    assert_same_at!(*rt; almanac.satellite, told, Reports { page, set });
+    assert_same_at(rt, almanac.satellite, told, Reports { page, set });
 }
 
 // The set comes with the last of the 32, where all are for one time, and again where a value of it
 // has changed. Each almanac is reported, too.
 #[test]
 fn almanac_set(rt: HostRuntime) {
-    let mut pushed = Pushed::behind_two_zeros(&rt);
+    let rt = &rt;
+    let mut pushed = Pushed::behind_two_zeros(rt);
     let first = AlmanacSet {
         toa: 5,
         health: [0; 32],
@@ -73,7 +74,7 @@ fn almanac_set(rt: HostRuntime) {
             health: 0,
         };
         let set = if satellite == 32 { Some(first) } else { None };
-        assert_reports(&rt, &mut pushed, almanac, set);
+        assert_reports(rt, &mut pushed, almanac, set);
     }
     let mut second = first;
     second.health[2] = 1;
@@ -83,6 +84,6 @@ fn almanac_set(rt: HostRuntime) {
             toa,
             health,
         };
-        assert_reports(&rt, &mut pushed, almanac, set);
+        assert_reports(rt, &mut pushed, almanac, set);
     }
 }

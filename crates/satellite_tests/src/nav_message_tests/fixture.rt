@@ -3,7 +3,7 @@
 ghost use Rattle.std.specs.Prelude.{◌≤◌};
 ghost use Rattle.nav_message.specs.Standing.{bit_count};
 
-use assertions::assert_same_at;
+use assertions::{assert_same_at, assert_that};
 use nav_message::{MOST_BITS, Message, MessageNews};
 use std::process::Abort;
 
@@ -38,7 +38,7 @@ impl Pushed {
     /// Pushes sum k of 20 times +1, 20 times -1 and so on, to a message that has those before it.
     /// Push 320 reports the edge, and no other reports anything.
     pub fn push_alternating(&mut self, rt: &impl Abort, k: u32) {
-        assert!(rt; self.message.has_edge() == (k > 320));
+        assert_same_at(rt, k, self.message.has_edge(), k > 320);
         let news = self.push(rt, k / 20 % 2 == 1);
         let expected = if k == 320 {
             MessageNews::Edge
@@ -84,12 +84,12 @@ impl Pushed {
 
     /// Asserts what the last sum made reported.
     fn assert_news(&self, rt: &impl Abort, news: &MessageNews, expected: &MessageNews) {
-        assert_same_at!(*rt; self.pushes, news, expected);
+        assert_same_at(rt, self.pushes, news, expected);
     }
 
     /// Pushes +1, or -1.
     fn push(&mut self, rt: &impl Abort, is_negative: bool) -> MessageNews {
-        assert!(rt; self.pushes < MOST_BITS);
+        assert_that(rt, self.pushes < MOST_BITS);
         self.pushes += 1;
         let mut news = MessageNews::Nothing;
         self.message

@@ -157,17 +157,22 @@ fn greatest_power(values: &[i32; SAMPLES], signs: &[i32; 1023]) -> (usize, u64, 
 // at bin 1, half chip 777, and a total of 714,649,408: the power is some 180 times the mean.
 #[test]
 fn made_signal_is_found(rt: HostRuntime) {
+    let rt = &rt;
     let signs = signs(0, 7);
     let values = values(&signs);
-    assert_same!(rt; greatest_power(&values, &signs), (2, 777, 20_935_272, 714_649_408));
+    assert_same(
+        rt,
+        greatest_power(&values, &signs),
+        (2, 777, 20_935_272, 714_649_408),
+    );
     let bytes = two_bit_samples(&values);
-    let settings = Settings::new(2_046_000, 511_500, Format::Real2).expect(&rt, "settings");
-    let plan = Plan::new(satellite(&rt, 7), 250, 1, 2, 1_000).expect(&rt, "a plan");
+    let settings = Settings::new(2_046_000, 511_500, Format::Real2).expect(rt, "settings");
+    let plan = Plan::new(satellite(rt, 7), 250, 1, 2, 1_000).expect(rt, "a plan");
     let source = NumberedSamples::new(PackedSamples::new(Format::Real2, &bytes), 64);
     let named = Cell {
         bin: 1,
-        ..found_cell(&rt, 777, 20_935_272)
+        ..found_cell(rt, 777, 20_935_272)
     };
-    let found = named_by_search(&rt, plan, &settings, 100, &source, 1_000);
-    assert_same!(rt; found, Some(named));
+    let found = named_by_search(rt, plan, &settings, 100, &source, 1_000);
+    assert_same(rt, found, Some(named));
 }

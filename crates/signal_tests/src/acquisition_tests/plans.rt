@@ -28,7 +28,7 @@ fn stated_limits(rt: HostRuntime) {
     let prn = satellite(&rt, 32);
     for &(centre, bins, dwell, threshold, fault) in &LIMITS {
         let found = Plan::new(prn, centre, bins, dwell, threshold).err();
-        assert_same_at!(rt; (centre, bins, dwell, threshold), found, fault);
+        assert_same_at(&rt, (centre, bins, dwell, threshold), found, fault);
     }
 }
 
@@ -50,18 +50,19 @@ static TEXTS: [(PlanFault, &str); 4] = [
 fn faults_are_named(rt: HostRuntime) {
     for &(fault, text) in &TEXTS {
         let printed = format!(in rt.alloc(); "{fault}").expect(&rt, "memory");
-        assert_same!(rt; printed.as_str(), text);
+        assert_same(&rt, printed.as_str(), text);
     }
 }
 
 #[test]
 fn plans_tell_their_parts(rt: HostRuntime) {
-    let prn = satellite(&rt, 9);
+    let rt = &rt;
+    let prn = satellite(rt, 9);
     for (bins, cells) in [(0, 2_046), (1, 6_138), (40, 165_726)] {
-        let plan = Plan::new(prn, -5_999, bins, 3, 25).expect(&rt, "a plan");
+        let plan = Plan::new(prn, -5_999, bins, 3, 25).expect(rt, "a plan");
         let signal = (plan.prn(), plan.centre(), plan.bins());
         let told = (signal, plan.cells(), plan.dwell(), plan.threshold());
-        assert_same!(rt; told, ((prn, -5_999, bins), cells, 3, 25));
+        assert_same(rt, told, ((prn, -5_999, bins), cells, 3, 25));
     }
 }
 
@@ -88,10 +89,11 @@ fn parts(signal: Option<Signal>) -> Option<(Prn, i32, HalfChip)> {
 // Bins are 250 Hz wide.
 #[test]
 fn signals_of_cells(rt: HostRuntime) {
-    let prn = satellite(&rt, 9);
-    let half = half_chip(&rt, 2_045);
+    let rt = &rt;
+    let prn = satellite(rt, 9);
+    let half = half_chip(rt, 2_045);
     for &(centre, bins, bin, shift) in &SHIFTS {
-        let plan = Plan::new(prn, centre, bins, 1, 10).expect(&rt, "a plan");
+        let plan = Plan::new(prn, centre, bins, 1, 10).expect(rt, "a plan");
         let cell = Cell {
             bin,
             half,
@@ -102,6 +104,6 @@ fn signals_of_cells(rt: HostRuntime) {
             Some(hz) => Some((prn, hz, half)),
             None => None,
         };
-        assert_same_at!(rt; (centre, bins, bin), parts(plan.signal(&cell)), expected);
+        assert_same_at(rt, (centre, bins, bin), parts(plan.signal(&cell)), expected);
     }
 }

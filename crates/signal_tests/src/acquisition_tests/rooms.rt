@@ -13,17 +13,18 @@ use sample_planes::{Format, NumberedSamples, PackedSamples};
 // of all.
 #[test]
 fn room_for_another_search(rt: HostRuntime) {
+    let rt = &rt;
     let bytes = code_file();
-    let settings = real_settings(&rt, 2_046_000, Format::Real1);
-    let plan = short_plan(&rt, 1, 10);
-    let other = Plan::new(satellite(&rt, 2), 500, 1, 1, 10).expect(&rt, "another plan");
+    let settings = real_settings(rt, 2_046_000, Format::Real1);
+    let plan = short_plan(rt, 1, 10);
+    let other = Plan::new(satellite(rt, 2), 500, 1, 1, 10).expect(rt, "another plan");
     let source = NumberedSamples::new(PackedSamples::new(Format::Real1, &bytes), 0);
     for cells in [0, 1, 64, 2_045, 6_138] {
-        let mut left_off = Search::new(other, &settings, 2, new_room(&rt));
+        let mut left_off = Search::new(other, &settings, 2, new_room(rt));
         left_off.advance(cells, &source, &mut CodeBook::new());
-        assert_same!(rt; left_off.done(), cells);
+        assert_same(rt, left_off.done(), cells);
         let search = Search::new(plan, &settings, 2, left_off.into_room());
         let found = search_in_steps(search, &source, 700);
-        assert_same_at!(rt; cells, found, Some(cell_of_code_file(&rt)));
+        assert_same_at(rt, cells, found, Some(cell_of_code_file(rt)));
     }
 }

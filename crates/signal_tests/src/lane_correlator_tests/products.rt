@@ -101,5 +101,5 @@ fn sums_of_every_packing(rt: HostRuntime) {
         right_sums(Format::Iq1, 63),
         right_sums(Format::Iq2, 1000),
     ];
-    assert_same!(rt; right, [15 * 805 + 469, 16 * 805, 791, 15 * 805 + 469]);
+    assert_same(&rt, right, [15 * 805 + 469, 16 * 805, 791, 15 * 805 + 469]);
 }

@@ -26,7 +26,7 @@ fn last_dump(
     let mut last = None;
     for _ in 0..samples {
         if let Some(dump) = next_dump(&mut stream, &mut tracker) {
-            assert_same_at!(*rt; dump.time, dump.news, news_at(table, dump.time));
+            assert_same_at(rt, dump.time, dump.news, news_at(table, dump.time));
             last = Some(dump);
         }
     }
@@ -49,7 +49,11 @@ fn made_signal_locks(rt: HostRuntime) {
         v: 65_535_776,
         w: 2320,
     };
-    assert_same!(rt; last_dump(&rt, &signal, stream, 2_000_000, &table), Some(expected));
+    assert_same(
+        &rt,
+        last_dump(&rt, &signal, stream, 2_000_000, &table),
+        Some(expected),
+    );
 }
 
 /// Where there is noise in place of the signal.
@@ -75,5 +79,5 @@ fn hidden_signal_is_lost(rt: HostRuntime) {
         Some(dump) => dump.number,
         None => 0,
     };
-    assert_same!(rt; dumps, 1879);
+    assert_same(&rt, dumps, 1879);
 }

@@ -15,7 +15,11 @@ fn loop_steps(rt: HostRuntime) {
     loops.take([2, 0, 1, 0, 1, 0]);
     let first = (loops.v, loops.w);
     loops.take([1, 0, 2, -1, 2, 0]);
-    assert_same!(rt; (first, (loops.v, loops.w)), ((0, 39_312), (-218_560, -39_328)));
+    assert_same(
+        &rt,
+        (first, (loops.v, loops.w)),
+        ((0, 39_312), (-218_560, -39_328)),
+    );
 }
 
 // The carrier doesn't turn, and a phase of 45 degrees is an error of 2048, so that dump 200 makes v
@@ -26,7 +30,7 @@ fn loop_steps_at_200(rt: HostRuntime) {
     for dump in 1..201u64 {
         loops.take([0, 0, 1, 1, 0, 0]);
         let v = if dump < 200 { 0 } else { 360_448 };
-        assert_same!(rt; (loops.dumps(), loops.v), (dump, v));
+        assert_same(&rt, (loops.dumps(), loops.v), (dump, v));
     }
 }
 
@@ -36,7 +40,7 @@ fn assert_lock(rt: &impl Abort, bad: u64, end: u64, table: &[(u64, PlainNews)]) 
     let mut lock = PlainLock::new();
     for dump in 1..end {
         let news = lock.take(if dump < bad { 2 } else { 1 }, 1);
-        assert_same_at!(*rt; dump, news, news_at(table, dump));
+        assert_same_at(rt, dump, news, news_at(table, dump));
     }
 }
 

@@ -21,7 +21,7 @@ fn first_ten_chips(satellite: u8) -> u32 {
 #[test]
 fn first_chips(rt: HostRuntime) {
     let chips = [first_ten_chips(1), first_ten_chips(7), first_ten_chips(32)];
-    assert_same!(rt; chips, [0o1440, 0o1131, 0o1712]);
+    assert_same(&rt, chips, [0o1440, 0o1131, 0o1712]);
 }
 
 // The first chips of satellite 1 are 1100100000, each of them in two samples, and chips 1021 and
@@ -29,7 +29,11 @@ fn first_chips(rt: HostRuntime) {
 #[test]
 fn code_file_begins_with_the_code(rt: HostRuntime) {
     let bytes = code_file();
-    assert_same!(rt; [bytes[0], bytes[1], bytes[255] & 0x3f], [0xf0, 0xc0, 0b00_00_11]);
+    assert_same(
+        &rt,
+        [bytes[0], bytes[1], bytes[255] & 0x3f],
+        [0xf0, 0xc0, 0b00_00_11],
+    );
 }
 
 /// What `first_bytes` finds.
@@ -47,8 +51,12 @@ fn first_bytes(rt: HostRuntime) {
     let mut stream = SampleStream::new(MadeSignal::with_tail(&[]), 64);
     let mut bytes = [0; 20];
     let filled = stream.fill(&mut bytes);
-    assert_same!(rt; (filled, bytes), (16, FIRST_BYTES));
-    assert_same!(rt; (stream.fill(&mut bytes), stream.next_value()), (0, None));
+    assert_same(&rt, (filled, bytes), (16, FIRST_BYTES));
+    assert_same(
+        &rt,
+        (stream.fill(&mut bytes), stream.next_value()),
+        (0, None),
+    );
 }
 
 /// Eight values of a signal of satellite 7, from a sample's number on.
@@ -74,7 +82,7 @@ fn data_bits_turn_the_values(rt: HostRuntime) {
         eight_values(&signal, 1_999_873),
     ];
     let expected = [[1, -3, -1, 3, 1, -3, -1, -3], [-3, -1, 3, 1, 3, 1, 3, 1]];
-    assert_same!(rt; values, expected);
+    assert_same(&rt, values, expected);
 }
 
 // By the same program.
@@ -85,5 +93,5 @@ fn first_noise(rt: HostRuntime) {
     for value in values.iter_mut() {
         *value = noise.next_value();
     }
-    assert_same!(rt; values, [-3, -1, 3, 1, -3, -3, -1, 1]);
+    assert_same(&rt, values, [-3, -1, 3, 1, -3, -3, -1, 1]);
 }
