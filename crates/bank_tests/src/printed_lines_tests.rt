@@ -11,7 +11,6 @@ use oscillators::HalfChip;
 use printed_lines::*;
 use slot_protocol::{Answer, Event, Phase, Refusal, SlotEvent, SlotState};
 use std::process::Abort;
-use std::test::Fail;
 
 /// The sums of the tests.
 const SUMS: Counts = Counts {
@@ -109,22 +108,21 @@ fn acquired((prn, found, bin, half, power): Sought) -> Option<Event> {
 }
 
 #[test]
-fn each_kind_of_acquisition(rt: HostRuntime) -> Result<(), Fail> {
+fn each_kind_of_acquisition(rt: HostRuntime) {
     for (time, sought, text) in &ACQUISITIONS {
         let told = SlotEvent {
             client: 1,
             slot: 0,
             time: *time,
-            event: acquired(*sought).ok_or("a satellite and a half chip")?,
+            event: acquired(*sought).expect(&rt, "a satellite and a half chip"),
         };
         assert_text(&rt, &event_line(&told), text);
     }
-    Ok(())
 }
 
 #[test]
-fn each_kind_of_answer(rt: HostRuntime) -> Result<(), Fail> {
-    let prn = Prn::new(32).ok_or("a satellite")?;
+fn each_kind_of_answer(rt: HostRuntime) {
+    let prn = Prn::new(32).expect(&rt, "a satellite");
     let dumps = 18_446_744_073_709_551_615;
     let rows: [(Answer, &[u8]); 5] = [
         (Answer::Accepted, b"8 1099511627776 ok\n"),
@@ -142,7 +140,6 @@ fn each_kind_of_answer(rt: HostRuntime) -> Result<(), Fail> {
     for (answer, text) in rows {
         assert_text(&rt, &answer_line(8, TIME, 3, &answer), text);
     }
-    Ok(())
 }
 
 // One bin has 2,046 cells, 81 bins have 165,726.
@@ -166,14 +163,13 @@ static SEARCHES: [(u64, u8, u64, u64, &[u8]); 4] = [
 ];
 
 #[test]
-fn each_state_of_acquiring(rt: HostRuntime) -> Result<(), Fail> {
+fn each_state_of_acquiring(rt: HostRuntime) {
     for (time, prn, done, cells, text) in &SEARCHES {
-        let prn = Prn::new(*prn).ok_or("a satellite")?;
+        let prn = Prn::new(*prn).expect(&rt, "a satellite");
         let (done, cells) = (*done, *cells);
         let shown = Answer::State(SlotState::Acquire { prn, done, cells });
         assert_text(&rt, &answer_line(1, *time, 0, &shown), text);
     }
-    Ok(())
 }
 
 /// How many dumps there were, the two words of the loops, and the phase.
@@ -204,8 +200,8 @@ static TRACKS: [(u64, i64, i64, Phase, &[u8]); 4] = [
 ];
 
 #[test]
-fn each_state_of_tracking(rt: HostRuntime) -> Result<(), Fail> {
-    let prn = Prn::new(7).ok_or("a satellite")?;
+fn each_state_of_tracking(rt: HostRuntime) {
+    let prn = Prn::new(7).expect(&rt, "a satellite");
     for (dumps, v, w, phase, text) in &TRACKS {
         let shown = Answer::State(SlotState::Track {
             prn,
@@ -216,7 +212,6 @@ fn each_state_of_tracking(rt: HostRuntime) -> Result<(), Fail> {
         });
         assert_text(&rt, &answer_line(8, 0, 3, &shown), text);
     }
-    Ok(())
 }
 
 #[test]

@@ -9,8 +9,8 @@ use seldomplough::{
     Receiver, Refusal, Settings, Signal, SlotNo, SlotState, TooManySamples, ValueKind,
 };
 use std::alloc::{Alloc, Global};
+use std::fmt::Display;
 use std::process::Abort;
-use std::test::Fail;
 
 /// A receiver of two clients, with two slots and one. A millisecond has 2,046 samples.
 fn opened(rt: &(impl Abort + Alloc<A = Global>)) -> Receiver {
@@ -146,38 +146,33 @@ fn values_are_refused(rt: HostRuntime) {
 
 // The group delay is counted in 2^-31 s (IS-GPS-200, table 20-I).
 #[test]
-fn numbers_have_units(rt: HostRuntime) -> Result<(), Fail> {
+fn numbers_have_units(rt: HostRuntime) {
     let rt = &rt;
-    let settings = Settings::new(2_046_000, 511_500, Format::Real1)?;
+    let settings = Settings::new(2_046_000, 511_500, Format::Real1).expect(rt, "no such recording");
     assert_that(rt, seconds(3_069_000, &settings) == 1.5);
     assert_that(
         rt,
         seconds(1 << 40, &settings) == 1_099_511_627_776.0 / 2_046_000.0,
     );
     assert_that(rt, from_65536ths(-98_304) == -1.5);
-    assert_that(rt, chips(HalfChip::new(5).ok_or("a half chip")?) == 2.5);
+    assert_that(rt, chips(HalfChip::new(5).expect(rt, "a half chip")) == 2.5);
     let delay = Field::Clock(ClockField::Tgd);
     assert_that(rt, value(-3, delay) == -3.0 / 2_147_483_648.0);
-    Ok(())
+}
+
+/// Asserts what a fault is shown as.
+fn assert_shown<F: Display + Drop>(rt: &(impl Abort + Alloc<A = Global>), fault: F, text: &str) {
+    let shown = format!(in rt.alloc(); "{fault}").expect(rt, "no memory");
+    assert_same(rt, shown.as_str(), text);
 }
 
 #[test]
-fn faults_are_sentences(rt: HostRuntime) -> Result<(), Fail> {
+fn faults_are_sentences(rt: HostRuntime) {
     let rt = &rt;
-    let full = format!(in rt.alloc(); "{TooManySamples}")?;
-    assert_same(rt, full.as_str(), "a recording has at most 2^40 samples");
-    for (fault, text) in [
-        (Refusal::Busy, "the slot isn't idle"),
-        (Refusal::Idle, "the slot is idle"),
-        (Refusal::NoSuchSlot, "the client has no such slot"),
-    ] {
-        assert_same(rt, format!(in rt.alloc(); "{fault}")?.as_str(), text);
-    }
-    let other = format!(in rt.alloc(); "{}", PackingFault::OtherKind)?;
-    assert_same(
-        rt,
-        other.as_str(),
-        "the recording has values of another kind",
-    );
-    Ok(())
+    assert_shown(rt, TooManySamples, "a recording has at most 2^40 samples");
+    assert_shown(rt, Refusal::Busy, "the slot isn't idle");
+    assert_shown(rt, Refusal::Idle, "the slot is idle");
+    assert_shown(rt, Refusal::NoSuchSlot, "the client has no such slot");
+    let other = PackingFault::OtherKind;
+    assert_shown(rt, other, "the recording has values of another kind");
 }

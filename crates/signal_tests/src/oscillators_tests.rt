@@ -101,7 +101,7 @@ static TEXTS: [(SettingsFault, &str); 2] = [
 #[test]
 fn fault_texts(rt: HostRuntime) {
     for &(fault, text) in &TEXTS {
-        let printed = format!(in rt.alloc(); "{fault}").expect(&rt, "memory");
+        let printed = format!(in rt.alloc(); "{fault}").expect(&rt, "no memory");
         assert_same(&rt, printed.as_str(), text);
     }
 }
@@ -109,7 +109,7 @@ fn fault_texts(rt: HostRuntime) {
 #[test]
 fn settings_are_kept(rt: HostRuntime) {
     let rt = &rt;
-    let settings = Settings::new(2_047_999, 500_000, Format::Real2).expect(rt, "settings");
+    let settings = Settings::new(2_047_999, 500_000, Format::Real2).expect(rt, "no such recording");
     let doppler = Doppler::new(-1_000).expect(rt, "a shift");
     let kept = (
         settings.per_ms(),

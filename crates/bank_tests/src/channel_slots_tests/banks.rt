@@ -12,7 +12,6 @@ use oscillators::Settings;
 use sample_planes::{Format, PackedSamples};
 use std::alloc::{Alloc, Global};
 use std::process::Abort;
-use std::test::Fail;
 
 /// A bank of which one slot is to hold satellite 1, and to show its first dump.
 fn bank_that_holds(rt: &(impl Abort + Alloc<A = Global>)) -> Bank {
@@ -71,9 +70,9 @@ fn two_that_hold(rt: &(impl Abort + Alloc<A = Global>), settings: Settings) -> B
 // Two slots that hold the same satellite emit its dumps when they come, the first client's first,
 // however many samples a run has: also where most runs bring nothing, so that their samples wait.
 #[test]
-fn dumps_do_not_depend_on_the_runs(rt: HostRuntime) -> Result<(), Fail> {
+fn dumps_do_not_depend_on_the_runs(rt: HostRuntime) {
     let rt = &rt;
-    let settings = Settings::new(2_046_000, 511_500, Format::Real1)?;
+    let settings = Settings::new(2_046_000, 511_500, Format::Real1).expect(rt, "no such recording");
     let [first, second] = SEGMENTS;
     let wanted = [
         count_at(1_346, 1, 0, first),
@@ -88,7 +87,6 @@ fn dumps_do_not_depend_on_the_runs(rt: HostRuntime) -> Result<(), Fail> {
         assert_same_at(rt, piece, told.as_slice(), wanted.as_slice());
         assert_same_at(rt, piece, bank.time(), 4_000);
     }
-    Ok(())
 }
 
 // The recording has one bit a sample, and a run at most 1,024 samples. One that is refused changes
@@ -194,9 +192,15 @@ static TEXTS: [(OpenFault, &str); 3] = [
 ];
 
 #[test]
-fn faults_have_texts(rt: HostRuntime) -> Result<(), Fail> {
+fn faults_have_texts(rt: HostRuntime) {
     for &(fault, text) in &TEXTS {
-        assert_same(&rt, fault.to_string(rt.alloc())?.as_str(), text);
+        assert_same(
+            &rt,
+            fault
+                .to_string(rt.alloc())
+                .expect(&rt, "no memory")
+                .as_str(),
+            text,
+        );
     }
-    Ok(())
 }

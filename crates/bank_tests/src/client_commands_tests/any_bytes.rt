@@ -3,7 +3,6 @@
 use super::*;
 use assertions::{assert_same, assert_that};
 use std::alloc::{AllocError, Global};
-use std::test::Fail;
 
 /// A register of 16 bits, whose low bytes take on every value.
 fn shifted(register: u16) -> u16 {
@@ -26,8 +25,8 @@ fn any_bytes(alloc: Global) -> Result<Vec<u8>, AllocError> {
 }
 
 #[test]
-fn any_bytes_end(rt: HostRuntime) -> Result<(), Fail> {
-    let text = any_bytes(rt.alloc())?;
+fn any_bytes_end(rt: HostRuntime) {
+    let text = any_bytes(rt.alloc()).expect(&rt, "no memory");
     let mut script = Script::new(&text, 4);
     let mut refused = [0u32; 256];
     let mut time = 0;
@@ -45,5 +44,4 @@ fn any_bytes_end(rt: HostRuntime) -> Result<(), Fail> {
     assert_same(&rt, &refused[..9], expected.as_slice());
     assert_same(&rt, time, 9);
     assert_same(&rt, script.next().is_none(), true);
-    Ok(())
 }

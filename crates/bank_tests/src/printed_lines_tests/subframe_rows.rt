@@ -57,15 +57,14 @@ static SUBFRAMES: [([Option<u32>; 10], &[u8]); 3] = [
 ];
 
 #[test]
-fn words_and_missing_words(rt: HostRuntime) -> Result<(), Fail> {
+fn words_and_missing_words(rt: HostRuntime) {
     for (words, text) in &SUBFRAMES {
         let told = SlotEvent {
             client: 1,
             slot: 0,
             time: 0,
-            event: Event::Sub(Subframe::from_words(*words).ok_or("a subframe")?),
+            event: Event::Sub(Subframe::from_words(*words).expect(&rt, "a subframe")),
         };
         assert_text(&rt, &event_line(&told), text);
     }
-    Ok(())
 }

@@ -166,7 +166,7 @@ fn made_signal_is_found(rt: HostRuntime) {
         (2, 777, 20_935_272, 714_649_408),
     );
     let bytes = two_bit_samples(&values);
-    let settings = Settings::new(2_046_000, 511_500, Format::Real2).expect(rt, "settings");
+    let settings = Settings::new(2_046_000, 511_500, Format::Real2).expect(rt, "no such recording");
     let plan = Plan::new(satellite(rt, 7), 250, 1, 2, 1_000).expect(rt, "a plan");
     let source = NumberedSamples::new(PackedSamples::new(Format::Real2, &bytes), 64);
     let named = Cell {

@@ -49,7 +49,7 @@ static TEXTS: [(PlanFault, &str); 4] = [
 #[test]
 fn faults_are_named(rt: HostRuntime) {
     for &(fault, text) in &TEXTS {
-        let printed = format!(in rt.alloc(); "{fault}").expect(&rt, "memory");
+        let printed = format!(in rt.alloc(); "{fault}").expect(&rt, "no memory");
         assert_same(&rt, printed.as_str(), text);
     }
 }
