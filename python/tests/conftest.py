@@ -56,7 +56,7 @@ def launch(tmp_path: os.PathLike[str]) -> Callable[..., subprocess.CompletedProc
         if 'input' not in options:
             options.setdefault('stdin', subprocess.DEVNULL)
         outcome: subprocess.CompletedProcess[bytes]
-        outcome = subprocess.run([LAUNCHER, *words], check=False, timeout=60, **options)
+        outcome = subprocess.run([LAUNCHER, *words], check=False, timeout=120, **options)
         return outcome
 
     return command

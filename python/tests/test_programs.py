@@ -100,7 +100,7 @@ def test_first_failure_is_said_where_the_last_ends_well(tmp_path: Path) -> None:
 
 
 def test_who_leaves_ends_the_programs(tmp_path: Path) -> None:
-    path = program(tmp_path, 'endless', 'echo $$; exec sleep 60')
+    path = program(tmp_path, 'endless', 'echo $$; exec sleep 300')
     with pytest.raises(KeyError):
         with running([stage(path)], feeds.of_bytes(b'')) as stream:
             number = int(stream.readline())

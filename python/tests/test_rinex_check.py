@@ -119,7 +119,7 @@ def test_lines_of_some_fields_only(check: Check, line: str) -> None:
     assert line != EPH
     started = time.monotonic()
     refused(check(lines=LINES.replace(EPH, line)), 1, "isn't one that the receiver prints")
-    assert time.monotonic() - started < 10
+    assert time.monotonic() - started < 30
 
 
 @pytest.mark.parametrize(

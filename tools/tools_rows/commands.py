@@ -13,7 +13,7 @@ from dataclasses import dataclass
 TOP = os.path.dirname(os.path.dirname(os.path.dirname(os.path.realpath(__file__))))
 
 # The seconds after which a command counts as hanging.
-LONGEST = 60
+LONGEST = 120
 
 
 @dataclass

@@ -9,7 +9,7 @@ from .commands import write
 from .small_checkout import Checkout
 
 # The seconds in which what has to come soon comes.
-SOON = 10
+SOON = 30
 
 
 def until(holds, seconds=SOON):
