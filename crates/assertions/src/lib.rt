@@ -1,14 +1,14 @@
 //! Assertions of tests: what was found is what was expected.
 //!
-//! The prover follows a comparison, how both values would be printed and how the program would end
-//! anew in each function with an `assert!` or an `assert_eq!`. Here an assertion is a call, which is
-//! proved once for values of any type. As plain Rust, one that fails names the line of the call.
+//! The prover follows a comparison and how both values would be printed anew in each function with
+//! an `assert_eq!`. Here the comparison is a call, which is proved once for values of any type, and
+//! what it found is printed as its error. No function of a library may end the program, so that each
+//! crate of tests has a module `asserted`, whose functions do so where there is an error.
 #![tactic(auto)]
 
 ghost use Rattle.std.specs.Prelude.{◌≡◌, ◌↔◌, true, IsOk};
 
 use std::fmt::Debug;
-use std::process::Abort;
 
 /// Two values that differ.
 #[derive(Debug)]
@@ -60,36 +60,5 @@ pub fn same_at<P: Drop, T: PartialEq + Drop>(
             found,
             expected,
         })
-    }
-}
-
-/// Asserts that two values are the same. It ends the program where they differ.
-#[track_caller]
-pub fn assert_same<T: PartialEq + Debug + Drop>(rt: &impl Abort, found: T, expected: T)
-    ensures { T.eq found expected ≡ true }
-{
-    same(found, expected).expect(rt, "not the same")
-}
-
-/// Asserts that two values are the same at a place. It ends the program where they differ.
-#[track_caller]
-pub fn assert_same_at<P: Debug + Drop, T: PartialEq + Debug + Drop>(
-    rt: &impl Abort,
-    place: P,
-    found: T,
-    expected: T,
-)
-    ensures { T.eq found expected ≡ true }
-{
-    same_at(place, found, expected).expect(rt, "not the same")
-}
-
-/// Asserts a condition. It ends the program where that isn't so.
-#[track_caller]
-pub fn assert_that(rt: &impl Abort, condition: bool)
-    ensures { condition ≡ true }
-{
-    if !condition {
-        panic!(*rt; "assertion failed")
     }
 }

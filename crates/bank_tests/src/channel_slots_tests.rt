@@ -8,9 +8,9 @@ ghost use Rattle.channel_slots.specs.Slots.{is_sound};
 ghost use Rattle.channels.specs.Windows.{first_of, end_of};
 ghost use Rattle.slot_protocol.specs.Commands.{slot_of};
 
+use crate::asserted::{assert_same, assert_that};
 use crate::commands;
 use acquisition::SearchRoom;
-use assertions::{assert_same, assert_that};
 use ca_codes::{CodeBook, Prn};
 use channel_slots::*;
 use channels::Window;

@@ -5,8 +5,8 @@ ghost use Rattle.slot_protocol.specs.declared.command.TheConstants.{MOST_SLOTS};
 
 mod any_bytes;
 
+use crate::asserted::assert_same_at;
 use crate::commands::{acquire, counts, hold, state, stop, track};
-use assertions::assert_same_at;
 use client_commands::*;
 use slot_protocol::Command;
 use std::process::Abort;

@@ -3,6 +3,8 @@
 #![tactic(auto)]
 
 #[cfg(test)]
+mod asserted;
+#[cfg(test)]
 mod channel_slots_tests;
 #[cfg(test)]
 mod client_commands_tests;

@@ -3,8 +3,8 @@
 mod page_rows;
 mod subframe_rows;
 
+use crate::asserted::assert_same_at;
 use acquisition::Cell;
-use assertions::assert_same_at;
 use ca_codes::Prn;
 use lane_correlator::Counts;
 use oscillators::HalfChip;

@@ -1,7 +1,7 @@
 //! Runs over devices that fail.
 
+use crate::asserted::assert_same;
 use crate::choices::{recipe_of, signs};
-use assertions::assert_same;
 use packer::{Failure, Plain, run, status};
 use recordings::{Packer, Stretch, ValueKind};
 use sample_planes::Format;

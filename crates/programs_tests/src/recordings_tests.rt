@@ -5,8 +5,8 @@ ghost use Rattle.std.specs.Prelude.{◌≤◌, ◌<◌};
 mod by_hand;
 mod measures;
 
+use crate::asserted::assert_same;
 use crate::choices::signs;
-use assertions::assert_same;
 use recordings::{Choice, MOST_PIECE, Packer, Recipe, ValueKind};
 use sample_planes::Format;
 use std::alloc::{Alloc, Global};

@@ -1,8 +1,8 @@
 //! The crate that Rust programs begin with: samples in, events out, and values packed. All types
 //! that are used here come from it.
 
+use crate::asserted::{assert_same, assert_that};
 use crate::choices::{recipe_of, signs};
-use assertions::{assert_same, assert_that};
 use seldomplough::units::{chips, from_65536ths, seconds, value};
 use seldomplough::{
     Choice, ClockField, Doppler, Event, Field, Format, HalfChip, Packing, PackingFault, Plan, Prn,

@@ -3,7 +3,7 @@
 ghost use Rattle.std.specs.Prelude.{◌≤◌, unsigned_abs};
 ghost use Rattle.bit_sync.specs.declared.bit_sum.TheConstants.{MOST_PUSH};
 
-use assertions::{assert_same_at, assert_that};
+use crate::asserted::{assert_same_at, assert_that};
 use bit_sync::{BitNews, BitSync};
 use std::process::Abort;
 

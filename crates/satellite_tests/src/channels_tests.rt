@@ -11,8 +11,8 @@ mod searching;
 mod tracking;
 mod windows;
 
+use crate::asserted::{assert_same, assert_that};
 use acquisition::Signal;
-use assertions::{assert_same, assert_that};
 use ca_codes::{CodeBook, Prn};
 use channels::{Followed, Window};
 use lane_correlator::Counts;

@@ -4,8 +4,8 @@
 mod almanac_sets;
 mod values;
 
+use crate::asserted::{assert_same, assert_same_at};
 use crate::sent::subframe_from;
-use assertions::{assert_same, assert_same_at};
 use data_sets::{DataSets, Report};
 use std::process::Abort;
 use subframes::Page;

@@ -2,8 +2,8 @@
 
 ghost use Rattle.std.specs.Prelude.{◌<◌, ◌≤◌};
 
+use crate::asserted::assert_same;
 use crate::sent::{HANDOVER, HANDOVER_DATA, TELEMETRY, TELEMETRY_DATA};
-use assertions::assert_same;
 use std::process::Abort;
 
 mod fixture;

@@ -4,6 +4,8 @@
 #![tactic(auto)]
 
 #[cfg(test)]
+mod asserted;
+#[cfg(test)]
 mod bit_sync_tests;
 #[cfg(test)]
 mod channels_tests;

@@ -4,8 +4,8 @@ ghost use Rattle.std.specs.Prelude.{◌≡◌, ◌<◌, ◌≤◌, Some, IfSome}
 ghost use Rattle.nav_parity.specs.declared.parity.TheConstants.{WORD_LIMIT, DATA_LIMIT};
 ghost use Rattle.nav_parity.specs.declared.parity.TheConstants.{PRIOR_LIMIT};
 
+use crate::asserted::assert_same;
 use crate::sent::{HANDOVER, HANDOVER_DATA, TELEMETRY, TELEMETRY_DATA};
-use assertions::assert_same;
 use nav_parity::{DATA_LIMIT, PRIOR_LIMIT, WORD_LIMIT, check, encode};
 
 // The telemetry word comes after 00, and the handover word after 10.

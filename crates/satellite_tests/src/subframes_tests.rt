@@ -2,8 +2,8 @@
 
 ghost use Rattle.std.specs.Prelude.{◌<◌};
 
+use crate::asserted::{assert_same, assert_same_at, assert_that};
 use crate::sent::subframe_from;
-use assertions::{assert_same, assert_same_at, assert_that};
 use frame_sync::Subframe;
 use std::process::Abort;
 use subframes::{

@@ -2,7 +2,7 @@
 
 ghost use Rattle.std.specs.Prelude.{◌≡◌, pos};
 
-use assertions::{assert_same, assert_same_at, assert_that};
+use crate::asserted::{assert_same, assert_same_at, assert_that};
 use lane_correlator::Counts;
 use std::process::Abort;
 use tracking_loops::{Loops, News};

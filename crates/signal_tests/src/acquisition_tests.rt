@@ -10,9 +10,9 @@ mod made_signal;
 mod plans;
 mod rooms;
 
+use crate::asserted::{assert_same, assert_same_at};
 use crate::parts::{half_chip, satellite};
 use acquisition::*;
-use assertions::{assert_same, assert_same_at};
 use ca_codes::CodeBook;
 use made_signals::code_file;
 use oscillators::Settings;

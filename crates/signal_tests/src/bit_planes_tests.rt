@@ -1,6 +1,6 @@
 //! Planes by hand.
 
-use assertions::assert_same;
+use crate::asserted::assert_same;
 use bit_planes::{Plane, bit_of_each, marked_bytes};
 use std::simd::prelude::u8x64;
 

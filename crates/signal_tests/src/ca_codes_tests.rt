@@ -1,7 +1,7 @@
 //! The code table's octal column, and the ends of a code.
 
+use crate::asserted::{assert_same, assert_same_at, assert_that};
 use crate::parts::satellite;
-use assertions::{assert_same, assert_same_at, assert_that};
 use ca_codes::{CodeBook, Prn, PrnFault};
 
 /// The first ten chips of satellites 1 to 32 in octal, as the standard lists them (IS-GPS-200,

@@ -7,9 +7,9 @@ ghost use Rattle.sample_planes.specs.declared.planes.TheConstants.{MAX_SAMPLES};
 
 mod products;
 
+use crate::asserted::assert_same;
 use crate::noise::noise_bytes;
 use crate::parts::{half_chip, satellite};
-use assertions::assert_same;
 use ca_codes::CodeBook;
 use lane_correlator::{Counts, replica_sums};
 use oscillators::{CarrierOsc, CarrierPlanes, CodeOsc, CodePlanes};

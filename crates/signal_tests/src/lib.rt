@@ -6,6 +6,8 @@
 #[cfg(test)]
 mod acquisition_tests;
 #[cfg(test)]
+mod asserted;
+#[cfg(test)]
 mod bit_planes_tests;
 #[cfg(test)]
 mod ca_codes_tests;

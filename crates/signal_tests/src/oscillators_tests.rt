@@ -2,8 +2,8 @@
 
 ghost use Rattle.std.specs.Prelude.{◌≤◌};
 
+use crate::asserted::{assert_same, assert_same_at, assert_that};
 use crate::parts::{half_chip, satellite};
-use assertions::{assert_same, assert_same_at, assert_that};
 use ca_codes::{CodeBook, Prn};
 use oscillators::*;
 use sample_planes::Format;

@@ -2,7 +2,7 @@
 
 ghost use Rattle.std.specs.Prelude.{◌≤◌, length};
 
-use assertions::{assert_same, assert_same_at, assert_that};
+use crate::asserted::{assert_same, assert_same_at, assert_that};
 use sample_history::{MOST_TAKEN, SampleHistory};
 use sample_planes::{Format, PackedSamples, SampleSource};
 use std::alloc::{Alloc, Global};

@@ -3,8 +3,8 @@
 ghost use Rattle.std.specs.Prelude.{◌≤◌, length};
 ghost use Rattle.sample_planes.specs.declared.planes.TheConstants.{MAX_SAMPLES};
 
+use crate::asserted::{assert_same, assert_same_at};
 use crate::noise::noise_bytes;
-use assertions::{assert_same, assert_same_at};
 use sample_planes::*;
 use std::process::Abort;
 

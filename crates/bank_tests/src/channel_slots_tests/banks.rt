@@ -2,8 +2,8 @@
 
 use super::searches::feed_to;
 use super::{IDLE, hold, new_bank, new_timeline, one_count, plain_settings, sums};
+use crate::asserted::{assert_same, assert_same_at};
 use crate::commands;
-use assertions::{assert_same, assert_same_at};
 use channel_slots::{
     Answer, Bank, Command, Event, FeedFault, OpenFault, Refusal, SlotEvent, SlotNo,
 };

@@ -8,9 +8,9 @@ ghost use Rattle.channels.specs.Windows.{first_of, end_of};
 use super::{
     acquire, eight_ones, hold, new_slot, next, next_dump, plain_settings, slot_zero, tells, track,
 };
+use crate::asserted::{assert_same, assert_same_at, assert_that};
 use crate::commands;
 use acquisition::Cell;
-use assertions::{assert_same, assert_same_at, assert_that};
 use ca_codes::Prn;
 use channel_slots::*;
 use channels::Window;

@@ -3,10 +3,10 @@
 ghost use Rattle.std.specs.Prelude.{◌<◌};
 
 use super::{acquire, new_bank, new_timeline, plain_settings};
+use crate::asserted::{assert_same, assert_same_at, assert_that};
 use crate::commands;
 use acquisition::Cell;
 use arrayvec::ArrayVec;
-use assertions::{assert_same, assert_same_at, assert_that};
 use ca_codes::Prn;
 use channel_slots::{Answer, Bank, Event, SlotEvent, SlotNo, Timeline};
 use made_signals::long_code_file;

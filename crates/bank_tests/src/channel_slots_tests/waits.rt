@@ -3,9 +3,9 @@
 
 use super::new_bank;
 use super::searches::{MOST_TOLD, feed_to};
+use crate::asserted::{assert_same, assert_same_at};
 use crate::commands;
 use arrayvec::ArrayVec;
-use assertions::{assert_same, assert_same_at};
 use ca_codes::Prn;
 use channel_slots::{Answer, Bank, SlotEvent, SlotState};
 use made_signals::RECORDING;

@@ -1,7 +1,7 @@
 //! A script of bytes of every value.
 
 use super::*;
-use assertions::{assert_same, assert_that};
+use crate::asserted::{assert_same, assert_that};
 use std::alloc::{AllocError, Global};
 
 /// A register of 16 bits, whose low bytes take on every value.

@@ -1,7 +1,7 @@
 //! Lines of pages, of a clock and ephemeris, and of the almanacs of all satellites.
 
 use super::*;
-use assertions::assert_same;
+use crate::asserted::assert_same;
 use data_sets::{AlmanacSet, Report};
 
 /// The numbers 1, -2, 3, -4 and so on.

@@ -2,9 +2,9 @@
 
 ghost use Rattle.std.specs.Prelude.{◌≡◌, ◌≤◌, ◌%◌, ◌^◌};
 
+use crate::asserted::{assert_same, assert_that};
 use crate::receiver_tests::fakes::{Giving, Holding};
 use crate::receiver_tests::{plain_settings, run_one, run_plain};
-use assertions::{assert_same, assert_that};
 use channel_slots::{Bank, OpenFault};
 use receiver::RunFault;
 use std::alloc::{Alloc, Global};

@@ -1,9 +1,9 @@
 //! Readers and writers that fail.
 
 use super::{FIRST_COUNT, FIRST_COUNT_LINES, plain_settings, run_one, run_plain};
+use crate::asserted::assert_same;
 use crate::receiver_tests::expected::{has_told, reads_and_flushes, tells};
 use crate::receiver_tests::fakes::{Giving, Holding, Zeros};
-use assertions::assert_same;
 use made_signals::code_file;
 use receiver::{RunFault, run};
 use std::alloc::{Alloc, Global};

@@ -1,11 +1,11 @@
 //! What a run takes at most: clients, samples, memory.
 
 use super::{FIRST_COUNT, plain_settings, run_plain};
+use crate::asserted::assert_same;
 use crate::receiver_tests::expected::{
     answers, asks, has_told, reads_and_flushes, refuses_to_open, tells, tells_within,
 };
 use crate::receiver_tests::fakes::{Giving, Holding, Zeros};
-use assertions::assert_same;
 use channel_slots::OpenFault;
 use made_signals::code_file;
 use receiver::{RunFault, run_to};

@@ -1,9 +1,9 @@
 //! Runs of one client, and the texts of faults.
 
 use super::{FIRST_COUNT, FIRST_COUNT_LINES};
+use crate::asserted::assert_same;
 use crate::receiver_tests::expected::{asks, reads_and_flushes, tells};
 use crate::receiver_tests::fakes::{Giving, Holding};
-use assertions::assert_same;
 use made_signals::code_file;
 use receiver::{DeviceFault, RunFault};
 use std::alloc::{Alloc, Global};

@@ -1,9 +1,9 @@
 //! Readers and writers of std, each of which is asked once.
 
 use super::{FIRST_COUNT, FIRST_COUNT_LINES, plain_settings};
+use crate::asserted::assert_same;
 use crate::receiver_tests::expected::{answers, has_told};
 use crate::receiver_tests::fakes::{Giving, Holding};
-use assertions::assert_same;
 use made_signals::code_file;
 use receiver::{Plain, RunFault, Sink, Source, run};
 use std::alloc::{Alloc, Global};

@@ -2,9 +2,9 @@
 
 ghost use Rattle.std.specs.Prelude.{◌≤◌, length};
 
+use crate::asserted::{assert_same, assert_that};
 use crate::choices::recipe_of;
 use crate::recordings_tests::{choice, in_pieces};
-use assertions::{assert_same, assert_that};
 use recordings::{Choice, ChoiceFault, PackFault, Packer, Stretch, ValueKind};
 use sample_planes::Format;
 use std::alloc::{Alloc, Global};

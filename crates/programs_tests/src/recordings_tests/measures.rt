@@ -1,7 +1,7 @@
 //! What values are like, worked out by hand. Readings are twice the values, and so are distances.
 
+use crate::asserted::assert_same;
 use crate::choices::{self, recipe_of};
-use assertions::assert_same;
 use recordings::{Choice, Measure, Recipe, ValueKind};
 use sample_planes::Format;
 use std::process::Abort;

@@ -3,7 +3,7 @@
 ghost use Rattle.std.specs.Prelude.{◌≤◌};
 ghost use Rattle.channels.specs.LockedMessages.{bit_count};
 
-use assertions::{assert_same, assert_same_at, assert_that};
+use crate::asserted::{assert_same, assert_same_at, assert_that};
 use channels::LockedMessage;
 use data_sets::{AlmanacSet, Report};
 use lane_correlator::Counts;

@@ -7,8 +7,8 @@ ghost use Rattle.channels.specs.Windows.{first_of, end_of};
 ghost use Rattle.sample_planes.specs.declared.planes.TheConstants.{MAX_SAMPLES};
 
 use super::{assert_stands, new_window, open_to, settings};
+use crate::asserted::{assert_same, assert_same_at, assert_that};
 use acquisition::{Cell, Plan, SearchRoom};
-use assertions::{assert_same, assert_same_at, assert_that};
 use ca_codes::{CodeBook, Prn};
 use channels::{Followed, Searched, Window};
 use made_signals::code_file;

@@ -5,7 +5,7 @@ ghost use Rattle.channels.specs.FollowedChannels.{at_of};
 ghost use Rattle.channels.specs.Windows.{first_of, end_of};
 
 use super::{new_window, open_to, settings, signal, sums};
-use assertions::{assert_same, assert_same_at, assert_that};
+use crate::asserted::{assert_same, assert_same_at, assert_that};
 use ca_codes::CodeBook;
 use channels::{Followed, Window};
 use lane_correlator::Counts;

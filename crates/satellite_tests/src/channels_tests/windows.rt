@@ -6,7 +6,7 @@ ghost use Rattle.channels.specs.Windows.{first_of, end_of};
 ghost use Rattle.sample_planes.specs.declared.planes.TheConstants.{MAX_SAMPLES};
 
 use super::{assert_next, first_and_second, held, new_window, next, open_to};
-use assertions::{assert_same, assert_same_at, assert_that};
+use crate::asserted::{assert_same, assert_same_at, assert_that};
 use channels::{Dump, Followed, Window};
 use lane_correlator::Counts;
 use made_signals::RECORDING;

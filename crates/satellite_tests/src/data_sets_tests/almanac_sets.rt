@@ -1,6 +1,6 @@
 //! Sets of almanacs. What is expected was worked out by hand from the rules.
 
-use assertions::assert_same_at;
+use crate::asserted::assert_same_at;
 use data_sets::{AlmanacSet, DataSets, Report, Reports};
 use std::process::Abort;
 use subframes::Page;

@@ -1,7 +1,7 @@
 //! The numbers of reports, in their order and by their names.
 
 use super::{ALMANAC, TEXT};
-use assertions::{assert_same, assert_same_at};
+use crate::asserted::{assert_same, assert_same_at};
 use data_sets::{DataSets, Report};
 use std::process::Abort;
 use subframes::{

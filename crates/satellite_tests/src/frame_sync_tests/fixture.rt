@@ -2,8 +2,8 @@
 
 ghost use Rattle.std.specs.Prelude.{◌≤◌};
 
+use crate::asserted::{assert_same, assert_that};
 use crate::sent::subframe;
-use assertions::{assert_same, assert_that};
 use frame_sync::{Found, FrameSync};
 use std::process::Abort;
 

@@ -5,8 +5,8 @@ ghost use Rattle.std.specs.Prelude.{◌≡◌, ◌+◌, ◌^◌, ◌<◌, ◌≤
 
 use super::fixture::{NEVER, Pushed, Row};
 use super::mixture::Mixture;
+use crate::asserted::{assert_same, assert_that};
 use crate::sent::subframe;
-use assertions::{assert_same, assert_that};
 use nav_parity::check;
 use std::alloc::{Alloc, Global};
 use std::process::Abort;

@@ -1,8 +1,8 @@
 //! The words of a subframe, and those that are none.
 
 use super::{DATA, without_word};
+use crate::asserted::{assert_same, assert_same_at, assert_that};
 use crate::sent::subframe;
-use assertions::{assert_same, assert_same_at, assert_that};
 use frame_sync::Subframe;
 use std::process::Abort;
 

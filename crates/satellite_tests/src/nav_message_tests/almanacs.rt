@@ -2,8 +2,8 @@
 
 use super::HANDOVERS;
 use super::fixture::Pushed;
+use crate::asserted::assert_same_at;
 use crate::sent::{TELEMETRY, ended};
-use assertions::assert_same_at;
 use data_sets::{AlmanacSet, Report, Reports};
 use nav_message::MessageNews;
 use nav_parity::encode;

@@ -3,7 +3,7 @@
 ghost use Rattle.std.specs.Prelude.{◌≤◌};
 ghost use Rattle.nav_message.specs.Standing.{bit_count};
 
-use assertions::{assert_same_at, assert_that};
+use crate::asserted::{assert_same_at, assert_that};
 use nav_message::{MOST_BITS, Message, MessageNews};
 use std::process::Abort;
 

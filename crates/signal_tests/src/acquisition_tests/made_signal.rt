@@ -4,10 +4,10 @@
 ghost use Rattle.std.specs.Prelude.{◌<◌};
 
 use super::{found_cell, named_by_search};
+use crate::asserted::assert_same;
 use crate::noise::next_bit;
 use crate::parts::satellite;
 use acquisition::{Cell, Plan};
-use assertions::assert_same;
 use oscillators::Settings;
 use sample_planes::{Format, NumberedSamples, PackedSamples};
 

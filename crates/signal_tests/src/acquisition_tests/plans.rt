@@ -1,8 +1,8 @@
 //! Plans at the ends of their ranges, and the shifts of their cells.
 
+use crate::asserted::{assert_same, assert_same_at};
 use crate::parts::{half_chip, satellite};
 use acquisition::{Cell, Plan, PlanFault, Signal};
-use assertions::{assert_same, assert_same_at};
 use ca_codes::Prn;
 use oscillators::HalfChip;
 

@@ -1,9 +1,9 @@
 //! The room of a search that was left off, and of one that was done, for another search.
 
 use super::{cell_of_code_file, new_room, real_settings, search_in_steps, short_plan};
+use crate::asserted::{assert_same, assert_same_at};
 use crate::parts::satellite;
 use acquisition::{Plan, Search};
-use assertions::{assert_same, assert_same_at};
 use ca_codes::CodeBook;
 use made_signals::code_file;
 use sample_planes::{Format, NumberedSamples, PackedSamples};

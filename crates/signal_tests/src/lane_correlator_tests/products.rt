@@ -5,8 +5,8 @@ ghost use Rattle.bit_planes.specs.declared.plane.TheConstants.{WORD_PLACES};
 ghost use Rattle.lane_correlator.specs.declared.products.TheConstants.{MOST_AT_ONCE};
 ghost use Rattle.sample_planes.specs.declared.planes.TheConstants.{MAX_SAMPLES};
 
+use crate::asserted::assert_same;
 use crate::noise::noise_bytes;
-use assertions::assert_same;
 use lane_correlator::{MOST_AT_ONCE, Products};
 use oscillators::{CarrierOsc, CarrierPlanes};
 use sample_planes::{Format, Planes, unpack};

@@ -1,7 +1,7 @@
 //! Signals that are followed.
 
 use super::news_at;
-use assertions::{assert_same, assert_same_at};
+use crate::asserted::{assert_same, assert_same_at};
 use made_signals::{MadeSignal, PlainDump, PlainNews, PlainTracker, SampleStream};
 use std::process::Abort;
 

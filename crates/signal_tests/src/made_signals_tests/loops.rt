@@ -1,7 +1,7 @@
 //! Loops and locks over dumps worked out by hand.
 
 use super::news_at;
-use assertions::{assert_same, assert_same_at};
+use crate::asserted::{assert_same, assert_same_at};
 use made_signals::PlainNews;
 use made_signals::lock::PlainLock;
 use made_signals::loops::PlainLoops;

@@ -1,6 +1,6 @@
 //! The first bytes of signals and files.
 
-use assertions::assert_same;
+use crate::asserted::assert_same;
 use made_signals::chip_signs::ChipSigns;
 use made_signals::noise::Noise;
 use made_signals::{MadeSignal, SampleStream, code_file};

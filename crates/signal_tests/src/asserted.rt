@@ -1,0 +1,35 @@
+//! The assertions of these tests. Each is a call, which the prover follows no further, and names the
+//! line of that call where the tests run as plain Rust.
+
+ghost use Rattle.std.specs.Prelude.{◌≡◌, true};
+
+use assertions::{same, same_at};
+use std::fmt::Debug;
+use std::process::Abort;
+
+/// Asserts that two values are the same. It ends the program where they differ.
+#[track_caller]
+pub fn assert_same<T: PartialEq + Debug + Drop>(rt: &impl Abort, found: T, expected: T) {
+    same(found, expected).expect(rt, "not the same")
+}
+
+/// Asserts that two values are the same at a place. It ends the program where they differ.
+#[track_caller]
+pub fn assert_same_at<P: Debug + Drop, T: PartialEq + Debug + Drop>(
+    rt: &impl Abort,
+    place: P,
+    found: T,
+    expected: T,
+) {
+    same_at(place, found, expected).expect(rt, "not the same")
+}
+
+/// Asserts a condition, which is then known. It ends the program where that isn't so.
+#[track_caller]
+pub fn assert_that(rt: &impl Abort, condition: bool)
+    ensures { condition ≡ true }
+{
+    if !condition {
+        panic!(*rt; "assertion failed")
+    }
+}
