@@ -9,7 +9,9 @@ use std::process::Abort;
 
 /// Asserts that two values are the same. It ends the program where they differ.
 #[track_caller]
-pub fn assert_same<T: PartialEq + Debug + Drop>(rt: &impl Abort, found: T, expected: T) {
+pub fn assert_same<T: PartialEq + Debug + Drop>(rt: &impl Abort, found: T, expected: T)
+    ensures { T.eq found expected ≡ true }
+{
     same(found, expected).expect(rt, "not the same")
 }
 
@@ -20,7 +22,9 @@ pub fn assert_same_at<P: Debug + Drop, T: PartialEq + Debug + Drop>(
     place: P,
     found: T,
     expected: T,
-) {
+)
+    ensures { T.eq found expected ≡ true }
+{
     same_at(place, found, expected).expect(rt, "not the same")
 }
 

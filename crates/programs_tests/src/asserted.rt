@@ -3,25 +3,16 @@
 
 ghost use Rattle.std.specs.Prelude.{◌≡◌, true};
 
-use assertions::{same, same_at};
+use assertions::same;
 use std::fmt::Debug;
 use std::process::Abort;
 
 /// Asserts that two values are the same. It ends the program where they differ.
 #[track_caller]
-pub fn assert_same<T: PartialEq + Debug + Drop>(rt: &impl Abort, found: T, expected: T) {
+pub fn assert_same<T: PartialEq + Debug + Drop>(rt: &impl Abort, found: T, expected: T)
+    ensures { T.eq found expected ≡ true }
+{
     same(found, expected).expect(rt, "not the same")
-}
-
-/// Asserts that two values are the same at a place. It ends the program where they differ.
-#[track_caller]
-pub fn assert_same_at<P: Debug + Drop, T: PartialEq + Debug + Drop>(
-    rt: &impl Abort,
-    place: P,
-    found: T,
-    expected: T,
-) {
-    same_at(place, found, expected).expect(rt, "not the same")
 }
 
 /// Asserts a condition, which is then known. It ends the program where that isn't so.
