@@ -45,7 +45,7 @@ fn answers_with(share: u8, text: &[u8]) -> [Option<Answer>; 3]
 
 /// Asserts the first three entries of the script of a client with four slots.
 fn assert_answers(rt: &impl Abort, text: &[u8], expected: [Option<Answer>; 3]) {
-    assert_same_at(rt, &text.escape_ascii(), &answers(text), &expected);
+    assert_same_at(rt, text.escape_ascii(), &answers(text), &expected);
 }
 
 /// A command at its time.
