@@ -117,9 +117,9 @@ def test_no_lines_do_not_agree(check: Check) -> None:
 )
 def test_lines_of_some_fields_only(check: Check, line: str) -> None:
     assert line != EPH
-    started = time.monotonic()
+    started = time.process_time()
     refused(check(lines=LINES.replace(EPH, line)), 1, "isn't one that the receiver prints")
-    assert time.monotonic() - started < 30
+    assert time.process_time() - started < 10
 
 
 @pytest.mark.parametrize(

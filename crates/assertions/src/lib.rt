@@ -2,7 +2,7 @@
 //!
 //! The prover follows a comparison and how both values would be printed anew in each function with
 //! an `assert_eq!`. Here the comparison is a call, which is proved once for values of any type, and
-//! what it found is printed as its error. No function of a library may end the program, so that each
+//! what it found is printed as its error. No function of a library may end the program, so each
 //! crate of tests has a module `asserted`, whose functions do so where there is an error.
 #![tactic(auto)]
 

@@ -1,5 +1,5 @@
-//! The assertions of these tests. Each is a call, which the prover follows no further, and names the
-//! line of that call where the tests run as plain Rust.
+//! The assertions of these tests. Each is a call, which the prover follows no further. As plain
+//! Rust one that fails names the line of that call.
 
 ghost use Rattle.std.specs.Prelude.{◌≡◌, true};
 

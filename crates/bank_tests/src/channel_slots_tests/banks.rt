@@ -194,13 +194,7 @@ static TEXTS: [(OpenFault, &str); 3] = [
 #[test]
 fn faults_have_texts(rt: HostRuntime) {
     for &(fault, text) in &TEXTS {
-        assert_same(
-            &rt,
-            fault
-                .to_string(rt.alloc())
-                .expect(&rt, "no memory")
-                .as_str(),
-            text,
-        );
+        let shown = fault.to_string(rt.alloc()).expect(&rt, "no memory");
+        assert_same(&rt, shown.as_str(), text);
     }
 }

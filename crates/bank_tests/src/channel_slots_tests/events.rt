@@ -284,17 +284,18 @@ fn a_search_comes_to_its_cells_and_its_signal(rt: HostRuntime) {
 // the slot is idle.
 #[test]
 fn a_search_that_finds_nothing_leaves_nothing_to_do(rt: HostRuntime) {
-    let mut slot = searching(&rt, 11);
-    let mut window = search_window(&rt);
-    go_on(&rt, &mut slot, &mut window, &[0; 1_536], 10_240);
-    let news = next(&rt, &mut slot, &mut window, 10_240);
+    let rt = &rt;
+    let mut slot = searching(rt, 11);
+    let mut window = search_window(rt);
+    go_on(rt, &mut slot, &mut window, &[0; 1_536], 10_240);
+    let news = next(rt, &mut slot, &mut window, 10_240);
     let Some(SlotNews::Acquired { time, cell, .. }) = news else {
-        panic!(rt; "no cell was named");
+        panic!(*rt; "no cell was named");
     };
     assert_same(
-        &rt,
+        rt,
         (time, cell.found, slot.next_event()),
         (10_230, false, NEVER),
     );
-    assert_same(&rt, next(&rt, &mut slot, &mut window, 10_240), None);
+    assert_same(rt, next(rt, &mut slot, &mut window, 10_240), None);
 }

@@ -26,12 +26,13 @@ fn any_bytes(alloc: Global) -> Result<Vec<u8>, AllocError> {
 
 #[test]
 fn any_bytes_end(rt: HostRuntime) {
-    let text = any_bytes(rt.alloc()).expect(&rt, "no memory");
+    let rt = &rt;
+    let text = any_bytes(rt.alloc()).expect(rt, "no memory");
     let mut script = Script::new(&text, 4);
     let mut refused = [0u32; 256];
     let mut time = 0;
     while let Some(timed) = script.next() {
-        assert_that(&rt, time <= timed.time);
+        assert_that(rt, time <= timed.time);
         time = timed.time;
         if let Err(refusal) = timed.what {
             let number = refusal.number() as usize;
@@ -41,7 +42,7 @@ fn any_bytes_end(rt: HostRuntime) {
     // The numbers were counted by a few lines of Python, written from the rules alone. The last
     // line that has a time reads `9`.
     let expected = [0, 1_222, 10_436, 43, 3, 2, 0, 0, 0];
-    assert_same(&rt, &refused[..9], expected.as_slice());
-    assert_same(&rt, time, 9);
-    assert_same(&rt, script.next().is_none(), true);
+    assert_same(rt, &refused[..9], expected.as_slice());
+    assert_same(rt, time, 9);
+    assert_that(rt, script.next().is_none());
 }
