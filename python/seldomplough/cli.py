@@ -60,14 +60,15 @@ class Parser(argparse.ArgumentParser):
             sink.write(message)
 
 
-def parser() -> Parser:
-    """The parser of all words."""
+def parser(words: Sequence[str] = ()) -> Parser:
+    """The parser of all words. Where the first of them names a command, it knows no other, since
+    their modules take most of the time of a start."""
     result = Parser(prog=NAME, description=__doc__)
     result.description = 'From recordings to answers, and from printed lines to numbers.'
     result.add_argument('--version', action='version', version=f'{NAME} {__version__}')
     subparsers = result.add_subparsers(dest='command', metavar='COMMAND', required=True)
-    for module in commands.MODULES:
-        module.add(subparsers)
+    for name in [it for it in commands.NAMES if it in words[:1]] or commands.NAMES:
+        commands.module(name).add(subparsers)
     return result
 
 
@@ -118,7 +119,7 @@ def settle_output() -> None:
 def run(words: Sequence[str]) -> int:
     """Runs the command that these words name, and says its status."""
     try:
-        arguments = parser().parse_args(words)
+        arguments = parser(words).parse_args(words)
         status: int = arguments.run(arguments)
     except SystemExit as ended:
         # Help and the version were printed.

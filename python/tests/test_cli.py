@@ -30,8 +30,7 @@ def test_the_version_is_that_of_the_programs(run: Command) -> None:
 def test_help_of_each_command_has_an_example(run: Command) -> None:
     whole = run('--help')
     assert whole.status == 0 and whole.errors == ''
-    for module in commands.MODULES:
-        name = module.__name__.rpartition('.')[2].replace('_', '-')
+    for name in commands.NAMES:
         assert f'    {name} ' in whole.said
         outcome = run(name, '--help')
         assert outcome.status == 0 and outcome.errors == ''

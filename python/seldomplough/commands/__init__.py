@@ -2,26 +2,31 @@
 
 from __future__ import annotations
 
-from seldomplough.commands import answers, campaign, cn0, crystal, csv, doctor, frames, json, made
-from seldomplough.commands import merge, plots, rinex_check, search, sigmf, sky, ubx, watch
+from importlib import import_module
+from types import ModuleType
 
-MODULES = (
-    json,
-    csv,
-    frames,
-    answers,
-    cn0,
-    search,
-    sky,
-    doctor,
-    crystal,
-    merge,
-    campaign,
-    ubx,
-    sigmf,
-    rinex_check,
-    plots,
-    watch,
-    made,
+NAMES = (
+    'json',
+    'csv',
+    'frames',
+    'answers',
+    'cn0',
+    'search',
+    'sky',
+    'doctor',
+    'crystal',
+    'merge',
+    'campaign',
+    'ubx',
+    'sigmf',
+    'rinex-check',
+    'plots',
+    'watch',
+    'made',
 )
-"""All commands, in the order of the help. A new one is one import and one name here."""
+"""All commands, in the order of the help. A new one is one name here."""
+
+
+def module(name: str) -> ModuleType:
+    """The module of a command. It is loaded where it is asked for, since a start needs few."""
+    return import_module(f'{__name__}.{name.replace("-", "_")}')
