@@ -75,6 +75,4 @@ returns-clause-found c = λ bits stood.
     let step =
     made_whole bits c.args.bit c.args.self.now stood c.push.new.self.bits c.push.ensures
     c.in-Some.before c.with_word-incoming.result before c.with_word-incoming.ensures long in
-    let gap = c.gap_between-gap.ensures in
-    let found = step.is_found in
-    cc
+    rw c.gap_between-gap.ensures step.is_found
