@@ -1,4 +1,4 @@
-use Rattle.std.proofs.Common.{◌∙◌, ap, arith, refl}
+use Rattle.std.proofs.Common.{◌∙◌, ap, arith, refl, rules}
 use Rattle.std.specs.Prelude.{not}
 use Rattle.acquisition.proofs.search.Search.advance.Goals.{then-is_none, else-is_none}
 use Rattle.acquisition.proofs.search.Search.advance.Goals as goal
@@ -28,3 +28,6 @@ loop-self-init g c = elim c.if-is_none.branch [
     stands = λ settings plan start xs same s. s;
   })
 ]
+
+pub returns-clause-done : goal.returns-clause-done
+returns-clause-done c = search rules

@@ -1,4 +1,4 @@
-use Rattle.std.proofs.Common.{◌≡◌, ◌≤◌, ◌<◌, ◌+◌, ◌*◌, ◌/◌, ◌%◌, ◌∙◌, ℕ, List, ap, refl}
+use Rattle.std.proofs.Common.{◌≡◌, ◌≤◌, ◌<◌, ◌+◌, ◌*◌, ◌/◌, ◌%◌, ◌∙◌, ℕ, List, ap, refl, rules}
 use Rattle.std.proofs.Common.{arith}
 use Rattle.std.proofs.Math.Nat.{mul-le-mul_right, zero-mul}
 use Rattle.std.specs.Prelude.{get_or, slice_set}
@@ -114,3 +114,6 @@ invariant_of-self-2-clause-work g c d = elim c.if-first-count-eq-HALF_CHIPS.bran
         → get_or (slice_set c.args.self.now.room.powers.items 0 a) 0 d ≡ a
     written a d = get_or-set_same c.args.self.now.room.powers.items 0 a d
         (omega (arith, c.args.self.now.room.powers.ok.0, c.args.self.now.begun))
+
+pub invariant_of-self-2-clause-whole_bins : goal.invariant_of-self-2-clause-whole_bins
+invariant_of-self-2-clause-whole_bins c = search rules
