@@ -1,4 +1,4 @@
-use Rattle.std.proofs.Common.{◌≤◌, ℤ, sym, ap, ◌∙◌, arith, w32, FitsSigned, unsigned_abs}
+use Rattle.std.proofs.Common.{◌≤◌, ℤ, sym, ap, ◌∙◌, arith, w32, FitsSigned, unsigned_abs, rules}
 use Rattle.std.proofs.lemmas.Int.{to_z-of_z, fits_signed_from_abs}
 use Rattle.tracking_loops.specs.declared.limits.TheConstants.{MOST_SUM}
 use Rattle.definitions.specs.Events.{push_events}
@@ -37,3 +37,6 @@ pub returns-in-None-clause-news : goal.returns-in-None-clause-news
 returns-in-None-clause-news c dumps h now =
     rw c.clear-in-None.ensures
     (sym (ap push_events (none-before dumps _ (rw c.in-None.is at h)) ∙ tells-nothing))
+
+pub returns-then-not-is_locked-clause-stands : goal.returns-then-not-is_locked-clause-stands
+returns-then-not-is_locked-clause-stands c = search rules

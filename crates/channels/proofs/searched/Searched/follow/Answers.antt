@@ -1,4 +1,4 @@
-use Rattle.std.proofs.Common.{◌≡◌, sym, ap, ◌∙◌, arith}
+use Rattle.std.proofs.Common.{◌≡◌, sym, ap, ◌∙◌, arith, rules}
 use Rattle.definitions.specs.Acquisition.{Plan}
 use Rattle.definitions.specs.Loops.{shift_after}
 use Rattle.definitions.specs.Lives.{found_channel}
@@ -23,3 +23,6 @@ returns-clause-follows c settings plan begun xs now s =
 
 pub returns-clause-begins : goal.returns-clause-begins
 returns-clause-begins c = rw c.due-due.ensures.value at c.track_after.ensures.begins
+
+pub returns-clause-found : goal.returns-clause-found
+returns-clause-found c = search rules

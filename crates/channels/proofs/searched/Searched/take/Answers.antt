@@ -1,5 +1,5 @@
 use Rattle.std.proofs.lemmas.Bool.{false≢true}
-use Rattle.std.proofs.Common.{◌++◌, ◌-◌, refl, arith}
+use Rattle.std.proofs.Common.{◌++◌, ◌-◌, refl, arith, rules}
 use Rattle.channels.specs.Searching.{due_of}
 use Rattle.channels.proofs.SearchedLemmas.{stays, whole, quarters, searches-on, answers-with}
 use Rattle.channels.proofs.searched.Searched.take.Goals as goal
@@ -37,3 +37,9 @@ returns-then-to-next_cell-clause-due g c = (
   λ is. absurd (false≢true is),
   λ far. absurd (omega (arith, far, c.if-to-next_cell.true, c.next_cell.ensures.value)),
 )
+
+pub returns-then-to-next_cell-clause-waits : goal.returns-then-to-next_cell-clause-waits
+returns-then-to-next_cell-clause-waits c = search rules
+
+pub returns-clause-later : goal.returns-clause-later
+returns-clause-later c = search rules

@@ -1,4 +1,4 @@
-use Rattle.std.proofs.Common.{refl}
+use Rattle.std.proofs.Common.{refl, rules}
 use Rattle.channels.proofs.TrackingLemmas.{tells}
 use Rattle.channels.proofs.tracking.Tracking.take.Goals as goal
 
@@ -10,3 +10,6 @@ returns-clause-tells c settings v dumps s =
 
 pub returns-clause-counts : goal.returns-clause-counts
 returns-clause-counts c = refl
+
+pub returns-clause-stands : goal.returns-clause-stands
+returns-clause-stands c = search rules
