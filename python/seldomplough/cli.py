@@ -61,8 +61,8 @@ class Parser(argparse.ArgumentParser):
 
 
 def parser(words: Sequence[str] = ()) -> Parser:
-    """The parser of all words. Where the first of them names a command, it knows no other, since
-    their modules take most of the time of a start."""
+    """The parser of a command line. Where the first of these words names a command, it knows that
+    one alone: to load the modules of all takes most of the time of a start."""
     result = Parser(prog=NAME, description=__doc__)
     result.description = 'From recordings to answers, and from printed lines to numbers.'
     result.add_argument('--version', action='version', version=f'{NAME} {__version__}')
