@@ -114,7 +114,7 @@ def modules_of(crate):
 
 def said_of_copies(crate, crates, copies, modules):
     """What the prover said of copies of definitions, in a room of their own."""
-    law = named_function(crate, copies[0].edit).split('::')[-1]
+    law = law_of(crate, copies[0].edit)
     with new_folder('edits') as folder:
         return Trial(crate, crates, folder, takes_made=True).check_copies(copies, modules, law)
 
@@ -138,10 +138,19 @@ def named_function(crate, edit):
     return next((it for it in names if re.search(rf"\bfn {it.split('::')[-1]}\b", sources)), None)
 
 
+def law_of(crate, edit):
+    """The law of a crate that an edit turns, or where it turns the definitions alone any function
+    that is no method: the copies of definitions are tried as if it stood on them."""
+    sources = files_with(os.path.join(TOP, 'crates', crate), '.rt')
+    return named_function(crate, edit) or next(
+        it.name for _, text in sorted(sources.items()) for it in functions(text)
+        if f'\nfn {it.name}' in text or f'\npub fn {it.name}' in text)
+
+
 def has_copies(crate, edit):
-    """Whether an edit is tried in copies of the definitions of its crate: one that turns a law."""
-    law = named_function(crate, edit)
-    return can_copy(edit, modules_of(crate)) and law is not None and '::' not in law
+    """Whether an edit is tried in copies of the definitions of its crate: one that turns a law, or
+    the definitions alone."""
+    return can_copy(edit, modules_of(crate)) and '::' not in law_of(crate, edit)
 
 
 def why_not_refused(edit, said):

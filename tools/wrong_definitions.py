@@ -10,18 +10,31 @@ from typing import Mapping, Optional, Sequence
 
 from bare_bodies import REFUSED
 from lone_goals import ERROR
+from second_bodies import files_with
 from wrong_bodies import DEPENDS, Edit, path_of, refusals
 
-# A module that a file names, and the line of one in the list of those of a folder.
-USE = re.compile(r'^use (\w+(?:\.[\w-]+)*)', re.M)
+# A module that a file names, outside of all functions where it is one of code, and the line of one
+# in the list of those of a folder.
+USE = re.compile(r'^(?:ghost )?use (\w+(?:\.[\w-]+)*)', re.M)
 LISTED = re.compile(r'^((?:pub )?mod )(\w+)$', re.M)
 
 # The folders of what is defined and of what is proved of it, each with its list.
 FOLDERS = ('specs', 'proofs')
 
 
+def declared_in(module: str, sources: Mapping[str, str]) -> Optional[str]:
+    """The source that declares the types or constants of a module of the prover's; nothing where it
+    is of something else."""
+    names = module.split('.')[2:]
+    if names[:2] != ['specs', 'declared']:
+        return None
+    paths = (f"src/{'/'.join(names[2:end])}.rt" for end in range(len(names), 2, -1))
+    return next((it for it in paths if it in sources), None)
+
+
 class Modules:
-    """The files of a crate that its folders list, and those that each leads to."""
+    """The files of a crate that its folders list, and those that each leads to. The types that its
+    code declares lead to what their sources name."""
 
     def __init__(self, crate: str, folder: str) -> None:
         self.crate = crate
@@ -32,10 +45,12 @@ class Modules:
                 if file.endswith('.antt'):
                     with open(os.path.join(home, file), encoding='utf-8', newline='') as source:
                         self.texts[f'{part}/{file}'] = source.read()
+        sources = {file: text for file, text in files_with(folder, '.rt').items()
+                   if file.startswith('src/')}
         files = {self.module(file): file for file in self.texts}
-        self.named = {file: {files.get(it) for it in USE.findall(text)
-                             if it.startswith(f'Rattle.{crate}.')}
-                      for file, text in self.texts.items()}
+        self.named = {file: {files.get(it) or declared_in(it, sources)
+                             for it in USE.findall(text) if it.startswith(f'Rattle.{crate}.')}
+                      for file, text in {**self.texts, **sources}.items()}
 
     def module(self, file: str) -> str:
         """How files name one of them."""
@@ -51,6 +66,11 @@ class Modules:
             found |= more
             left += more
         return found
+
+    def above_changed(self, edit: Edit, lemmas: str) -> list[str]:
+        """Of the files to which one with lemmas leads those that lead to what an edit changes."""
+        changed = {file for file, *_ in edit.pairs}
+        return [it for it in self.below(lemmas) if it and changed & self.below(it)]
 
     def with_lemma(self, edit: Edit) -> Optional[str]:
         """The file with the lemma that an edit breaks, by the words of its goal. Nothing where no
@@ -68,10 +88,8 @@ class Copies:
     def __init__(self, edit: Edit, number: int, modules: Modules, is_right: bool = False) -> None:
         self.edit, self.modules, self.is_right = edit, modules, is_right
         self.end = f"{'Right' if is_right else 'Wrong'}{number}"
-        changed = {file for file, *_ in edit.pairs}
         self.lemmas = modules.with_lemma(edit) or ''
-        self.files = [file for file in modules.below(self.lemmas)
-                      if file and changed & modules.below(file)]
+        self.files = modules.above_changed(edit, self.lemmas)
 
     def name(self, file: str) -> str:
         """The name of the copy of a file."""
@@ -98,11 +116,13 @@ class Copies:
 
 
 def can_copy(edit: Edit, modules: Modules) -> bool:
-    """Whether an edit changes definitions alone, and breaks a lemma that leads to them."""
+    """Whether an edit changes definitions alone, and breaks a lemma that leads to them, and not by
+    way of code, which has no copies."""
     lemma = modules.with_lemma(edit)
     below: set[Optional[str]] = modules.below(lemma) if lemma else {None}
-    return None not in below and all(file in below and file.startswith('specs/')
-                                     for file, *_ in edit.pairs)
+    return (None not in below and all(file in below and file.startswith('specs/')
+                                      for file, *_ in edit.pairs)
+            and all(it in modules.texts for it in modules.above_changed(edit, lemma or '')))
 
 
 def home_of_law(law: str, sources: Mapping[str, str]) -> str:

@@ -7,13 +7,14 @@ from typing import Any
 
 from .commands import TOP, Outcome, copied, run, write
 
-# A part: it notes that it begins, by which Python, and that it has ended, waits in between for what
-# a file names, and has the status that another says.
+# A part: it notes that it begins, by which Python, how many jobs `rt` would take, and that it has
+# ended, waits in between for what a file names, and has the status that another says.
 PART = '''#!/bin/bash
 here="$(dirname "$0")"
 name="${0##*/}"
 echo "$name $*" >> "$here/../began"
 echo "$name $(readlink "$(command -v python3)")" >> "$here/../pythons"
+echo "$name ${RT_JOBS-}" >> "$here/../jobs"
 for at in {1..200}; do
     [[ -s "$here/$name.waits" ]] || break
     ! grep -q "^$(cat "$here/$name.waits")" "$here/../began" || break
@@ -77,6 +78,9 @@ def passes(rows: Any, folder: str) -> None:
                if it.split()[0] not in ('gate-times', 'build')}
     rows.say('tools/gate, the Python of the parts',
              [] if len(pythons) == 1 and os.access(min(pythons), os.X_OK) else [str(pythons)])
+    jobs = [it for it in gate.lines('jobs') if re.search(r' \d', it)]
+    rows.say('tools/gate, the jobs of its rt ci',
+             [] if len(jobs) == 1 and re.match(r'gate-times [1-9]', jobs[0]) else [str(jobs)])
     in_order = [name for name, words in said if name == words]
     rows.say('tools/gate, the words of the parts',
              [] if in_order[0] == 'examples-check' and in_order[-1] == 'edits'

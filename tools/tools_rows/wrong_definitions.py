@@ -10,8 +10,12 @@ from wrong_bodies import Edit
 from wrong_definitions import (Copies, Modules, answers_of, can_copy, home_of_law,
                                with_copies)
 
-# A crate: a lemma leads to what it is of, and to what that stands on, and another file doesn't.
+# A crate: a lemma leads to what it is of, and to what that stands on, and another file doesn't. A
+# type that its code declares leads to the units.
 FILES = {
+    'src/lib.rt': 'mod tally;\n',
+    'src/tally.rt': 'ghost use Rattle.tally.specs.Units.{one};\npub struct Tally {}\n\n'
+                    'impl Tally {\n    ghost use Rattle.tally.specs.Sums.{sum};\n}\n',
     'specs/Lib.antt': 'pub mod Counts\npub mod Sums\npub mod Units\n',
     'specs/Counts.antt': 'pub count : ℕ\ncount = 3\n',
     'specs/Sums.antt': 'use Rattle.tally.specs.Counts.{count}\nuse Rattle.tally.specs.Units.{one}\n'
@@ -23,6 +27,9 @@ FILES = {
     'proofs/CodeLemmas.antt': 'use Rattle.tally.specs.Sums.{sum}\n'
                               'use Rattle.tally.specs.contracts.tally.Tally.{Adds}\n'
                               'adds : Adds\nadds = refl\n',
+    'proofs/TypeLemmas.antt': 'use Rattle.tally.specs.Sums.{sum}\n'
+                              'use Rattle.tally.specs.declared.tally.Tally.{Tally}\n'
+                              'of-type : Tally → sum ≡ 4\nof-type _ = refl\n',
     'proofs/UnitLemmas.antt': 'use Rattle.tally.specs.Units.{one}\none-is : one ≡ 1\none-is = refl',
 }
 
@@ -80,6 +87,8 @@ def copied(rows, folder):
             ('no lemma', 'proofs/SumLemmas sum-was', COUNTS, False),
             ('what leads nowhere', 'proofs/UnitLemmas one-is', COUNTS, False),
             ('a lemma of code', 'adds', COUNTS, False),
+            ('a lemma of a type', 'of-type', COUNTS, True),
+            ('what a type leads to', 'of-type', UNITS, False),
             ('code', 'sum-is', (*COUNTS, 'file: src/lib.rt', 'old: a', 'new: b'), False)):
         found = can_copy(edit(folder, goal, *texts), given)
         rows.say(f'copied: {name}', [str(found)] * (found != wanted))

@@ -4,6 +4,7 @@ use Rattle.std.proofs.lemmas.List.{drop_all}
 use Rattle.receiver.specs.declared.queue.Queue.{Queue}
 use Rattle.receiver.specs.Queues.{least_gap_of}
 use Rattle.receiver.proofs.SessionLemmas.{least-small}
+use Rattle.std.proofs.lemmas.Grind.{common_steps}
 use Rattle.receiver.proofs.queues.least_gap.Goals as goal
 
 pub loop-queue-init : goal.loop-queue-init
@@ -19,3 +20,6 @@ returns c =
     ≡ min c.loop-queue.least 18446744073709551615 =
     ap (λ (l : List Queue). min c.loop-queue.least (least_gap_of c.args.now l)) none in
     omega (arith, last, c.loop-queue.invariant.rest, c.loop-queue.invariant.small)
+
+pub loop-queue-preserved : goal.loop-queue-preserved
+loop-queue-preserved c = grind (arith, common_steps)

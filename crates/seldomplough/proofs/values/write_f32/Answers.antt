@@ -1,5 +1,6 @@
-use Rattle.std.proofs.Common.{◌∙◌, sym}
+use Rattle.std.proofs.Common.{◌∙◌, sym, arith}
 use Rattle.seldomplough.proofs.NanLemmas.{nan-at}
+use Rattle.std.proofs.lemmas.Grind.{common_steps}
 use Rattle.seldomplough.proofs.values.write_f32.Goals as goal
 
 pub returns-then-is_nan-clause-nan : goal.returns-then-is_nan-clause-nan
@@ -9,3 +10,6 @@ returns-then-is_nan-clause-nan c is =
 
 pub returns-then-is_nan-clause-kind : goal.returns-then-is_nan-clause-kind
 returns-then-is_nan-clause-kind c is = cc
+
+pub loop-value-preserved : goal.loop-value-preserved
+loop-value-preserved c = grind (arith, common_steps)

@@ -61,3 +61,6 @@ returns-clause-within c =
     let key : Seat → ℕ × ℕ = λ p. (p.client, p.number) in
     let many = length-map ps key in
     omega (arith, h, is, many, c.get-3.ensures.same)
+
+pub returns-clause-has : goal.returns-clause-has
+returns-clause-has c = search rules

@@ -1,4 +1,4 @@
-use Rattle.std.proofs.Common.{refl}
+use Rattle.std.proofs.Common.{refl, rules}
 use Rattle.channel_slots.proofs.QuietSlotLemmas.{quiet-before-next}
 use Rattle.channel_slots.proofs.slot.Slot.next_event.Goals as goal
 
@@ -18,3 +18,6 @@ returns-in-Following-clause-quiet c settings xs ys commands s more early =
 
 pub returns-in-Idle-clause-value : goal.returns-in-Idle-clause-value
 returns-in-Idle-clause-value c = rw c.in-Idle.is refl
+
+pub returns-in-Searching-clause-value : goal.returns-in-Searching-clause-value
+returns-in-Searching-clause-value c = search rules

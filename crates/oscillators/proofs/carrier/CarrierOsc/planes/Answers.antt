@@ -1,4 +1,4 @@
-use Rattle.std.proofs.Common.{◌≡◌, ◌*◌, ◌+◌, ◌-◌, ◌/◌, ◌^◌, ◌<◌, ℕ, ap, ◌∙◌, arith}
+use Rattle.std.proofs.Common.{◌≡◌, ◌*◌, ◌+◌, ◌-◌, ◌/◌, ◌^◌, ◌<◌, ℕ, ap, ◌∙◌, arith, rules}
 use Rattle.std.proofs.Math.Path.{ap₂}
 use Rattle.definitions.specs.Oscillators.{carrier_phase_after, cosine, sine}
 use Rattle.oscillators.specs.Views.{Oscillation}
@@ -71,3 +71,6 @@ returns-clause-sin c =
     let room : k < 1024 = omega (arith, c.requires) in
     rw start (ap₂ signed (i.sin_sign.drawn k behind room) (i.sin_size.drawn k behind room)
     ∙ sine_by_bits (carrier_phase_after phase step k) (omega arith)))
+
+pub loop-w-init : goal.loop-w-init
+loop-w-init c = search rules

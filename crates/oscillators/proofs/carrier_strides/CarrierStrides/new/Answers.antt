@@ -1,4 +1,4 @@
-use Rattle.std.proofs.Common.{◌<◌, ℕ, arith, ◌∙◌}
+use Rattle.std.proofs.Common.{◌<◌, ℕ, arith, ◌∙◌, rules}
 use Rattle.oscillators.specs.Halves.{place}
 use Rattle.oscillators.proofs.OrderLemmas.{place_below, ordered_lane}
 use Rattle.oscillators.proofs.CarryLemmas.{ordered_signed, half_fits}
@@ -15,3 +15,6 @@ returns c =
           ordered_signed c.loop-k.room k _ i.room_long h
           (i.room (place k) (all (place k) (place_below k h))) (half_fits _ (omega arith));
     }
+
+pub loop-k-preserved : goal.loop-k-preserved
+loop-k-preserved c = search rules

@@ -1,4 +1,4 @@
-use Rattle.std.proofs.Common.{◌+◌, ◌-◌, ◌<◌, ◌^◌, ℕ, ◌∙◌, arith}
+use Rattle.std.proofs.Common.{◌+◌, ◌-◌, ◌<◌, ◌^◌, ℕ, ◌∙◌, arith, rules}
 use Rattle.oscillators.proofs.SampleLemmas.{chip_at, chip_before}
 use Rattle.oscillators.proofs.code_words.CodeWords.masks_by_samples.Goals as goal
 
@@ -16,3 +16,6 @@ returns-clause-masks c prn is =
       late = λ j h. i.late (63 - j) (all (63 - j) (omega arith))
           ∙ chip_before prn c.args.table.now is (phase + 2 ^ 31) step j h;
     }
+
+pub loop-k-preserved : goal.loop-k-preserved
+loop-k-preserved c = search rules
