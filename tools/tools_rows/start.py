@@ -26,6 +26,9 @@ OF_SYSTEM = [26, 27]
 # A bit of each answer that no processor has.
 NEVER = {'FIRST': 16, 'SAVED': 31, 'SEVENTH': 22, 'EXTENDED': 18}
 
+# What has the lanes ask at the start of a program.
+START = ['--cfg', 'feature="start"']
+
 # A program that needs nothing of the lanes.
 MAIN = 'use std::process::id;\n\nfn main() {\n    println!("{}", id());\n}\n'
 
@@ -71,25 +74,25 @@ def refusals(rows, folder):
     if not shutil.which('rustc') or 'x86_64-unknown-linux' not in run(['rustc', '-Vv'], '/').said:
         return
     is_third = level() == THIRD
-    for name in ['', *NEVER]:
-        top = copied(folder, 'tools/kit/lanes', name=f'asks{name}')
+    for names, options in (([], START), *(([name], START) for name in NEVER), ([*NEVER], [])):
+        asked = ' and '.join(names) or 'as it is'
+        top = copied(folder, 'tools/kit/lanes', name=f'asks {len(os.listdir(folder))}')
         path = os.path.join(top, SOURCE)
         text = read(path)
-        if name:
+        for name in names:
             text = re.sub(rf'({name}: u32 = bits\(\[)', rf'\g<1>{NEVER[name]}, ', text)
         write(path, text)
-        for options in [['--cfg', 'feature="start"'], []]:
-            made, fault = program(top, *options)
-            if fault:
-                rows.say(f'a program that asks, {name}', [fault.errors[-300:]])
-                continue
-            outcome = run([made], top)
-            if options and (name or not is_third):
-                faults = refused(outcome, re.escape(LINE), 1)
-            else:
-                is_right = outcome.status == 0 and not outcome.errors and outcome.said
-                faults = [str(outcome)] * (is_third and not is_right)
-            rows.say(f'a program that asks, {name or "as it is"}, {options}', faults)
+        made, fault = program(top, *options)
+        if fault:
+            rows.say(f'a program that asks, {asked}', [fault.errors[-300:]])
+            continue
+        outcome = run([made], top)
+        if options and (names or not is_third):
+            faults = refused(outcome, re.escape(LINE), 1)
+        else:
+            is_right = outcome.status == 0 and not outcome.errors and outcome.said
+            faults = [str(outcome)] * (is_third and not is_right)
+        rows.say(f'a program that asks, {asked}, {options}', faults)
 
 
 ROWS = (questions, refusals)

@@ -1,4 +1,4 @@
-use Rattle.std.proofs.Common.{refl, sym}
+use Rattle.std.proofs.Common.{refl, sym, rules}
 use Rattle.data_sets.proofs.PageReports.{kept-last, other-last, is_other}
 use Rattle.data_sets.proofs.last_pages.LastPages.take.Goals as goal
 
@@ -22,3 +22,6 @@ returns-in_default c =
       kept = λ pages h. other-last pages c.args.page.now c.args.self.now other h;
       told = sym other;
     }
+
+pub returns-in-Clock-clause-told : goal.returns-in-Clock-clause-told
+returns-in-Clock-clause-told c = search rules
