@@ -139,18 +139,19 @@ def named_function(crate, edit):
 
 
 def law_of(crate, edit):
-    """The law of a crate that an edit turns, or where it turns the definitions alone any function
-    that is no method: the copies of definitions are tried as if it stood on them."""
+    """The law of a crate that an edit turns, or where it turns the definitions alone the first
+    function that is no method: the copies of definitions are tried as if it stood on them. Nothing
+    where there is none."""
     sources = files_with(os.path.join(TOP, 'crates', crate), '.rt')
-    return named_function(crate, edit) or next(
-        it.name for _, text in sorted(sources.items()) for it in functions(text)
-        if f'\nfn {it.name}' in text or f'\npub fn {it.name}' in text)
+    free = re.search(r'^(?:pub )?fn (\w+)', '\n'.join(map(sources.get, sorted(sources))), re.M)
+    return named_function(crate, edit) or (free and free[1])
 
 
 def has_copies(crate, edit):
     """Whether an edit is tried in copies of the definitions of its crate: one that turns a law, or
     the definitions alone."""
-    return can_copy(edit, modules_of(crate)) and '::' not in law_of(crate, edit)
+    law = law_of(crate, edit)
+    return can_copy(edit, modules_of(crate)) and law is not None and '::' not in law
 
 
 def why_not_refused(edit, said):

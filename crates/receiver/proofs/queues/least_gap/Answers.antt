@@ -1,10 +1,10 @@
 use Rattle.std.proofs.Common.{◌≡◌, List, [], drop, arith, ap}
 use Rattle.std.specs.Prelude.{min}
 use Rattle.std.proofs.lemmas.List.{drop_all}
+use Rattle.std.proofs.lemmas.Grind.{common_steps}
 use Rattle.receiver.specs.declared.queue.Queue.{Queue}
 use Rattle.receiver.specs.Queues.{least_gap_of}
 use Rattle.receiver.proofs.SessionLemmas.{least-small}
-use Rattle.std.proofs.lemmas.Grind.{common_steps}
 use Rattle.receiver.proofs.queues.least_gap.Goals as goal
 
 pub loop-queue-init : goal.loop-queue-init

@@ -1,6 +1,6 @@
 use Rattle.std.proofs.Common.{◌∙◌, sym, arith}
-use Rattle.seldomplough.proofs.NanLemmas.{nan-at}
 use Rattle.std.proofs.lemmas.Grind.{common_steps}
+use Rattle.seldomplough.proofs.NanLemmas.{nan-at}
 use Rattle.seldomplough.proofs.values.write_f32.Goals as goal
 
 pub returns-then-is_nan-clause-nan : goal.returns-then-is_nan-clause-nan

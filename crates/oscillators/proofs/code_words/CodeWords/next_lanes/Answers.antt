@@ -1,5 +1,5 @@
-use Rattle.oscillators.proofs.ChipLaneLemmas.{signs_of_masks}
 use Rattle.std.proofs.Common.{rules}
+use Rattle.oscillators.proofs.ChipLaneLemmas.{signs_of_masks}
 use Rattle.oscillators.proofs.code_words.CodeWords.next_lanes.Goals as goal
 
 pub returns-clause-chips : goal.returns-clause-chips
