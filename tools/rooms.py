@@ -71,6 +71,9 @@ class Room:
     """A copy of a crate in a repository of its own, with what was kept of it. It may take the
     libraries that `rt ci` made; else these are left out, and made anew."""
 
+    # What tells tools/rt_once of it, beside whether it takes those libraries.
+    environment = {}
+
     def __init__(self, crate, crates, folder, takes_made=False):
         self.crate, self.folder = crate, os.path.join(folder, 'crates', crate)
         self.takes_made = takes_made and are_libraries_of_ci()
@@ -95,7 +98,8 @@ class Room:
     def run(self, command, jobs, nice=0, more=()):
         """Runs a command of `rt`. Gives whether the crate is proved, and what the prover said."""
         words = ['nice', '-n', str(nice), *RT, command, '--jobs', str(jobs), *more]
-        environment = {**clean_environment(), 'RT_ROOM': 'made' if self.takes_made else 'own'}
+        environment = {**clean_environment(), **self.environment,
+                       'RT_ROOM': 'made' if self.takes_made else 'own'}
         status, said, _ = children.run(words, self.folder, stderr=subprocess.STDOUT,
                                        env=environment)
         return status == 0, said

@@ -16,6 +16,8 @@ from wrong_definitions import (Copies, Modules, answers_of, can_copy, home_of_la
 class Trial(Room):
     """A room in which edits of its crate are tried."""
 
+    environment = {'RT_TRIAL': '1'}
+
     def text(self, file):
         """A text of the crate."""
         with open(os.path.join(self.folder, file), encoding='utf-8', newline='') as source:
@@ -89,11 +91,19 @@ def said_of(crate, crates, bodies):
         return said
 
 
+def shortest_right(bodies):
+    """The right body of the shortest function of which bodies are tried in copies; none where there
+    is no copy."""
+    copies = [it for it in bodies if not it.is_in_place]
+    copies.sort(key=lambda it: it.function.last - it.function.first)
+    return [it.with_right_body() for it in copies[:1]]
+
+
 def bodies_refused(crate, crates, places):
     """Tries edits of bodies in one check, or in two where some don't compile. Gives those that were
     refused at their goals: none where a right body that is tried beside them doesn't pass."""
     bodies = bodies_of(places, os.path.join(TOP, 'crates', crate))
-    right = [it.with_right_body() for it in bodies if not it.is_in_place][:1]
+    right = shortest_right(bodies)
     said = said_of(crate, crates, [*right, *bodies])
     broken = [it for it in [*right, *bodies] if does_not_compile(said, it.place)]
     if set(right).intersection(broken):

@@ -15,6 +15,7 @@ from functools import lru_cache
 from io import BufferedReader
 from typing import IO, Callable, Iterator, List, NamedTuple, Optional, Sequence, cast
 
+from seldomplough.endings import held
 from seldomplough.failures import WORDS, Failure, of_system, one_line
 from seldomplough.feeds import Feed, Feeder, close
 from seldomplough.refusals import in_words
@@ -99,7 +100,9 @@ def running(
         stack.callback(_end, started)
         for stage, errors in zip(stages, said):
             source = started[-1].stdout if started else subprocess.PIPE
-            started.append(_start(stage, source, errors))
+            # One that is begun is known before a signal ends what is done.
+            with held():
+                started.append(_start(stage, source, errors))
             if len(started) > 1:
                 close(started[-2].stdout)
         feeder.begin(cast(IO[bytes], started[0].stdin))

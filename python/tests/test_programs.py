@@ -3,8 +3,10 @@
 from __future__ import annotations
 
 import os
+import signal
+import subprocess
 from pathlib import Path
-from typing import Dict, List
+from typing import Callable, Dict, List, cast
 
 import pytest
 from conftest import EXAMPLES, program
@@ -22,6 +24,25 @@ def no_checkout(monkeypatch: pytest.MonkeyPatch, tmp_path: Path) -> None:
 
 def stage(path: str, *words: str, name: str = 'receiver') -> Stage:
     return Stage(Program(name, path), words, words)
+
+
+def test_signal_ends_what_was_just_begun(tmp_path: Path, monkeypatch: pytest.MonkeyPatch) -> None:
+    """A signal that comes before the program is known ends it too."""
+    begun: List[int] = []
+    popen = subprocess.Popen
+
+    def late(*words: object, **more: object) -> subprocess.Popen[bytes]:
+        process = cast(Callable[..., 'subprocess.Popen[bytes]'], popen)(*words, **more)
+        begun.append(process.pid)
+        os.kill(os.getpid(), signal.SIGINT)
+        return process
+
+    monkeypatch.setattr(subprocess, 'Popen', late)
+    path = program(tmp_path, 'receiver', 'exec sleep 300')
+    with pytest.raises(KeyboardInterrupt):
+        with running([stage(path)], feeds.of_bytes(b'')):
+            pass
+    assert not os.path.exists(f'/proc/{begun[0]}')
 
 
 def test_given_file_is_taken(tmp_path: Path) -> None:

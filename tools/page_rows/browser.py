@@ -146,6 +146,11 @@ class Browser:
         elif method == 'Log.entryAdded':
             self.console.append(given['entry']['text'])
 
+    def busy(self) -> float:
+        """The seconds of a processor that the renderers took so far."""
+        found = self.ask_browser('SystemInfo.getProcessInfo')['processInfo']
+        return sum(float(it['cpuTime']) for it in found if it['type'] == 'renderer')
+
     def resident(self) -> int:
         """The resident bytes of the greatest renderer."""
         found = [0]

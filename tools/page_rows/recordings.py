@@ -14,8 +14,9 @@ from .page import PAUSE
 # The bytes of a great recording, which has no blocks on the disc. As samples of one bit they are
 # two hours and 20 minutes at the least rate.
 GREAT = 2 * 10**9
-# The seconds that it may take, which is 65 times real time; it took 23 to 55.
-SECONDS = 120
+# The seconds of a processor that it may take: 65 times real time. Alone it took 23 to 56 of the
+# clock, and 51 of a processor for those 56. It hangs where it takes so many seconds of the clock.
+SECONDS, HANGS = 120, 900
 # The most memory that the bank may take, and that the renderer may take beside what it had: pieces
 # of a megabyte wait for the collector there.
 MOST_MEMORY, MOST_GROWTH = 8 << 20, 1 << 30
@@ -37,21 +38,22 @@ def great_recording(rows: Rows) -> None:
     before = most = page.browser.resident()
     page.forget()
     page.click('run')
-    began = time.monotonic()
+    began, was_busy = time.monotonic(), page.browser.busy()
     while page.value('document.getElementById("far").dataset.done') != 'true':
         most = max(most, page.browser.resident())
-        if time.monotonic() - began > SECONDS:
+        if time.monotonic() - began > HANGS:
             break
         time.sleep(10 * PAUSE)
-    took = time.monotonic() - began
+    took, busy = time.monotonic() - began, page.browser.busy() - was_busy
     os.remove(path)
     memory = page.value('kept.memory')
-    rows.tell(f'a great recording within {SECONDS} s', took <= SECONDS, f'{took:.0f} s')
+    is_quick = 0 < busy <= SECONDS
+    rows.tell(f'a great recording within {SECONDS} s of a processor', is_quick, f'{busy:.0f} s')
     rows.tell('its lines', page.saved() == f'1 0 ok\n1 {GREAT * 8} end\n', page.saved())
     rows.tell('the memory of the bank', 0 < memory <= MOST_MEMORY, memory)
     rows.tell('the memory of the renderer', most - before <= MOST_GROWTH, most - before)
     rows.note(
-        f'{GREAT / 1e9:.0f} GB in {took:.0f} s,'
+        f'{GREAT / 1e9:.0f} GB in {took:.0f} s, {busy:.0f} of a processor,'
         f' {GREAT * 8 / 2046000 / took:.0f} times real time; {memory / 2 ** 20:.1f} MiB of'
         f' memory of the bank, {(most - before) / 2 ** 20:.0f} MiB more of the renderer'
     )

@@ -1,10 +1,11 @@
 """Rows of tools/maker, which cargo builds wherever it is built."""
 import shutil
 
-from .commands import copied, refused
+from .commands import copied, refused, write
 from .small_checkout import Checkout
 
 SOURCE = 'benchmarks/maker/src/main.rs'
+MANIFEST = 'benchmarks/maker/Cargo.toml'
 
 # A command of few samples.
 FEW = ('tools/maker', '--samples', '8')
@@ -15,6 +16,10 @@ def with_maker(folder):
     checkout = Checkout(folder)
     copied(folder, 'benchmarks/maker', name='checkout')
     shutil.rmtree(checkout.at('benchmarks/maker/target'), ignore_errors=True)
+    # How fast it makes eight samples is no matter, and how long it takes to build is.
+    with open(checkout.at(MANIFEST), encoding='utf-8') as file:
+        text = file.read()
+    write(checkout.at(MANIFEST), text.replace('lto = true', 'opt-level = 0'))
     return checkout
 
 

@@ -32,6 +32,28 @@ START = ['--cfg', 'feature="start"']
 # A program that needs nothing of the lanes.
 MAIN = 'use std::process::id;\n\nfn main() {\n    println!("{}", id());\n}\n'
 
+# Another one, without std, which is linked as one piece in a fifteenth of the time.
+BARE = '''#![no_std]
+#![no_main]
+
+use core::panic::PanicInfo;
+
+unsafe extern "C" {
+    fn puts(text: *const u8) -> i32;
+}
+
+#[panic_handler]
+fn panicked(_: &PanicInfo) -> ! {
+    loop {}
+}
+
+#[unsafe(no_mangle)]
+extern "C" fn main() -> i32 {
+    unsafe { puts(c"begun".as_ptr().cast()) };
+    0
+}
+'''
+
 LINE = 'seldomplough: this program is built for x86-64-v3, which the processor lacks'
 
 
@@ -53,14 +75,15 @@ def questions(rows, _):
     rows.say('the flags of x86-64-v3', [f'{flags}'] * (flags != set(read(FLAGS).split())))
 
 
-def program(folder, *options):
-    """A program over the lanes of a folder, for the third level. Gives its path, or the outcome of
-    what failed."""
+def program(folder, text, *options):
+    """A program of this text over the lanes of a folder, for the third level. Gives its path, or
+    the outcome of what failed."""
     rustc = ['rustc', '--edition', '2024', '-Copt-level=1', f'-Ctarget-cpu={THIRD}']
-    write(os.path.join(folder, 'main.rs'), asking_text(MAIN))
+    linked = ['-Clto', '-Cpanic=abort', '-lc'] if text == BARE else ['-Clto']
+    write(os.path.join(folder, 'main.rs'), asking_text(text))
     for words in (['--crate-type', 'rlib', '--crate-name', 'lanes', *options,
                    'tools/kit/lanes/src/lib.rs'],
-                  ['-Clto', '--extern', 'lanes=liblanes.rlib', 'main.rs']):
+                  [*linked, '--extern', 'lanes=liblanes.rlib', 'main.rs']):
         outcome = run([*rustc, *words], folder)
         if outcome.status:
             return None, outcome
@@ -70,11 +93,13 @@ def program(folder, *options):
 def refusals(rows, folder):
     """A program begins where the processor is of the level, and else ends with one line and status
     1. So does one that asks for a bit that no processor has, of each answer. A library that no
-    program asks for the feature leaves it."""
+    program asks for the feature leaves it. Where only the bit differs, the program has no std."""
     if not shutil.which('rustc') or 'x86_64-unknown-linux' not in run(['rustc', '-Vv'], '/').said:
         return
     is_third = level() == THIRD
-    for names, options in (([], START), *(([name], START) for name in NEVER), ([*NEVER], [])):
+    first, *others = NEVER
+    for names, options, main in (([], START, MAIN), ([first], START, MAIN),
+                                 *(([name], START, BARE) for name in others), ([*NEVER], [], MAIN)):
         asked = ' and '.join(names) or 'as it is'
         top = copied(folder, 'tools/kit/lanes', name=f'asks {len(os.listdir(folder))}')
         path = os.path.join(top, SOURCE)
@@ -82,7 +107,7 @@ def refusals(rows, folder):
         for name in names:
             text = re.sub(rf'({name}: u32 = bits\(\[)', rf'\g<1>{NEVER[name]}, ', text)
         write(path, text)
-        made, fault = program(top, *options)
+        made, fault = program(top, main, *options)
         if fault:
             rows.say(f'a program that asks, {asked}', [fault.errors[-300:]])
             continue

@@ -98,7 +98,9 @@ class Kit:
         ran = run([self.at('tools/rt_once'), 'lib'], self.top, {'PATH': path, **environment})
         with open(self.at('calls'), encoding='utf-8') as calls:
             said = calls.read()
-        read = ['read-upper'] if environment.get('RT_ROOM') else ['read-lower', 'read-upper']
+        read = ['read-lower', 'read-upper']
+        if 'RT_ROOM' in environment:
+            read = [] if 'RT_TRIAL' in environment else ['read-upper']
         words = said.split()
         if ran.status != status or words[:len(read)] != read:
             return f'status {ran.status}, {said}: {ran.errors[-200:]}'
@@ -136,6 +138,7 @@ def libraries(rows, folder):
     for name in 'lower', 'upper':
         os.remove(kit.at(f'{name}/rlib/stated'))
     say('in a room, libraries of rt ci', '', RT_ROOM='made')
+    say('where edits are tried, libraries of rt ci', '', RT_ROOM='made', RT_TRIAL='1')
     say('in a room of its own, libraries of rt ci', both, RT_ROOM='own')
     shutil.rmtree(kit.at('upper/rlib/upper.rlib'))
     say('the upper one is gone, but for its sum', 'upper--statements')
