@@ -12,11 +12,13 @@ import time
 from contextlib import ExitStack, contextmanager
 from typing import Callable, Iterator
 
+from hanging import HANGS
+
 NODES = ('one', 'two')
 PROGRAMS = ('munged', 'slurmctld', 'slurmd', 'sbatch', 'scontrol', 'scancel', 'sinfo', 'squeue')
 # Debian has the daemons in folders that aren't in the PATH of everybody.
 PATH = os.pathsep.join((os.environ.get('PATH', ''), '/usr/sbin', '/sbin'))
-# Seconds that the daemons may take to begin, and to end.
+# Seconds that a daemon may take to end before it is killed.
 PATIENCE = 30
 
 CONFIGURATION = '''ClusterName=farm
@@ -86,10 +88,10 @@ def daemon(words: list[str], environment: dict[str, str], log: str) -> Iterator[
 
 def wait_for(is_so: Callable[[], bool], what: str) -> None:
     """Waits until something is so."""
-    end = time.monotonic() + PATIENCE
+    end = time.monotonic() + HANGS
     while not is_so():
         if time.monotonic() > end:
-            raise RuntimeError(f'{what} within {PATIENCE} s')
+            raise RuntimeError(f'{what} within {HANGS} s')
         time.sleep(0.1)
 
 

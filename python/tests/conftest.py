@@ -19,6 +19,10 @@ TOP = os.path.realpath(os.path.join(os.path.dirname(__file__), '..', '..'))
 LAUNCHER = os.path.join(TOP, 'seldomplough')
 EXAMPLES = os.path.join(TOP, 'examples')
 
+# The seconds of the clock after which a command counts as hanging. None takes nearly as long, even
+# where others have the processors of a slow machine.
+HANGS = 900
+
 # Names that a shell, an awk or a parser of words takes for something else than a file's.
 NAMES = ('run=1.lines', 'a b', "x';y", '$(touch made)', 'a\nb', '<x', '|x', '*', '\u00e4\u20ac')
 
@@ -56,7 +60,7 @@ def launch(tmp_path: os.PathLike[str]) -> Callable[..., subprocess.CompletedProc
         if 'input' not in options:
             options.setdefault('stdin', subprocess.DEVNULL)
         outcome: subprocess.CompletedProcess[bytes]
-        outcome = subprocess.run([LAUNCHER, *words], check=False, timeout=120, **options)
+        outcome = subprocess.run([LAUNCHER, *words], check=False, timeout=HANGS, **options)
         return outcome
 
     return command

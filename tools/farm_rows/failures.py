@@ -8,6 +8,8 @@ import subprocess
 from contextlib import contextmanager
 from typing import Iterator, Optional
 
+from hanging import HANGS
+
 from . import inputs
 from .cases import DONE, Farm, Rows, on_slurm
 from .inputs import CUT, MISSING, RECORDINGS
@@ -15,8 +17,6 @@ from .jobs import kill_one
 
 # What the second node's disk holds at first, in bytes: less than any recording that is packed.
 SHORT = 200000
-# Seconds for the first run of the workflow.
-LONGEST = 600
 
 
 @contextmanager
@@ -63,7 +63,7 @@ def run(rows: Rows, farm: Farm, node: int) -> list[str]:
                                    stdin=subprocess.DEVNULL, stdout=said, stderr=said)
         try:
             killed = kill_one(farm, process)
-            status = process.wait(LONGEST)
+            status = process.wait(HANGS)
         finally:
             process.terminate()
             process.wait()

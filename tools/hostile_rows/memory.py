@@ -13,10 +13,13 @@ MOST_ENVIRONMENT = 120 << 10
 # The KiB of address space that a sweep begins with, those of a page, and where the last run without
 # long scripts is whole.
 LEAST_SPACE, PAGE, MOST_SPACE = 2048, 4, 20480
-# How many runs after the first whole one a sweep goes on.
-BEHIND = 96
+# How many KiB after the first whole run a sweep goes on.
+BEHIND = 384
 # The bytes of the scripts that memory is swept with, one of them or eight.
 SCRIPTS = 1, 64 << 10, 1 << 20, 16 << 20
+# How far apart the limits are from so many KiB of scripts on: up to the first whole run, and near
+# it. The longer the scripts, the longer each run reads them.
+STEPS = (128 << 10, 1792, 64), (16 << 10, 448, PAGE), (1 << 10, 32, PAGE), (0, PAGE, PAGE)
 
 # What Rust's own std says before it aborts: it was refused little, as docs/PLAIN.md has it.
 ABORTED = re.compile(rb'(?:(?!memory allocation of \d{6})[^\0])*')
@@ -112,16 +115,16 @@ class Sweep:
             self.wrong.setdefault(told(outcome), []).append(space)
         return outcome.status == 0
 
-    def faults(self, least, most, step):
+    def faults(self, least, most, step=PAGE, near=PAGE):
         """What was wrong from too little space up to enough, in KiB: by so many at a time up to
-        the first whole run, and by pages from that many and STACK KiB before it on."""
+        the first whole run, and by fewer near it, from a step and STACK KiB before it on."""
         first = next((it for it in range(least, most, step) if self.run(it)), None)
         if first is None:
             return [*self.noted(), 'no run was whole']
         whole, space = 0, max(least, first - step - STACK)
-        while whole <= BEHIND and space < most + STACK:
+        while whole <= BEHIND // near and space < most + STACK:
             whole += self.run(space)
-            space += PAGE
+            space += near
         return self.noted()
 
     def noted(self):
@@ -134,20 +137,19 @@ def address_space(programs, rows):
     """Limits of the address space, page by page, from too little up to enough."""
     for name, case in cases_of(programs):
         rows.say(f'address space, {name}',
-                 Sweep(case, answers(programs, case)).faults(LEAST_SPACE, MOST_SPACE, PAGE))
+                 Sweep(case, answers(programs, case)).faults(LEAST_SPACE, MOST_SPACE))
 
 
 def long_scripts(programs, rows):
-    """Limits of the address space with scripts of all sizes. With long ones it goes by steps that
-    are shorter than what the stack has."""
+    """Limits of the address space with scripts of all sizes."""
     for size in SCRIPTS:
         for count in 1, 8:
             case = one_line(programs, size, count)
             held = size * count >> 10
-            step = PAGE if held < 1024 else 32 if held < 16384 else 448
+            steps = next(steps for least, *steps in STEPS if held >= least)
             rows.say(f'address space, {count} scripts of {size} bytes',
                      Sweep(case, answers(programs, case))
-                     .faults(LEAST_SPACE + held, MOST_SPACE + 4 * held, step))
+                     .faults(LEAST_SPACE + held, MOST_SPACE + 4 * held, *steps))
 
 
 def refused_in_turn(case, library, mark):

@@ -5,8 +5,7 @@ import re
 import subprocess
 from dataclasses import dataclass
 
-# The seconds after which a run counts as hanging.
-LONGEST = 120
+from hanging import HANGS
 
 # What the option parser says of a refusal, and the line of the packer.
 PARSER = re.compile(rb'error: (?:(?!receiver: )[^\0])+')
@@ -65,11 +64,11 @@ def started(line, command, shell='bash', **streams):
 def finished(process, given=None):
     """The outcome of a process that was started, with what is left to give it."""
     try:
-        lines, errors = process.communicate(given, timeout=LONGEST)
+        lines, errors = process.communicate(given, timeout=HANGS)
     except subprocess.TimeoutExpired:
         process.kill()
         process.communicate()
-        return Outcome(-9, b'', f'no end after {LONGEST} s'.encode())
+        return Outcome(-9, b'', f'no end after {HANGS} s'.encode())
     return Outcome(process.returncode, lines or b'', errors or b'')
 
 

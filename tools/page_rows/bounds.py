@@ -39,7 +39,7 @@ def too_many_lines(rows: Rows) -> None:
     path = rows.file('many.real1', b'')
     os.truncate(path, ZEROS)
     page.choose(path)
-    page.wait('document.getElementById("name").textContent.startsWith("many.real1")', 10)
+    page.wait('document.getElementById("name").textContent.startsWith("many.real1")')
     counted = '\n'.join(f'0 hold {it} 1 0 0\n0 counts {it} 1000000' for it in range(SLOTS))
     page.put(kind='real1', rate='2046000', offset='511500', text=counted)
     page.forget()

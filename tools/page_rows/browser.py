@@ -9,9 +9,7 @@ import time
 from typing import Any
 
 import children
-
-# Seconds after which a call that has no answer counts as hanging.
-LONGEST = 60
+from hanging import HANGS
 
 # Chromium reads calls from the first of these descriptors, and writes to the second.
 CALLS, ANSWERS = 3, 4
@@ -36,7 +34,11 @@ OPTIONS = (
 
 
 class Hangs(Exception):
-    """A browser that doesn't answer, or is gone."""
+    """A browser that doesn't answer, or is gone, or a page in which something doesn't come to be."""
+
+
+class Refuses(Exception):
+    """A browser or a page that can't do what it is asked for."""
 
 
 def pipe() -> tuple[int, int]:
@@ -109,12 +111,12 @@ class Browser:
 
     def answer(self, number: int, method: str) -> dict[str, Any]:
         """The answer to the call of a number."""
-        end = time.monotonic() + LONGEST
+        end = time.monotonic() + HANGS
         while True:
             message = self.message(end, method)
             if message.get('id') == number:
                 if 'error' in message:
-                    raise Hangs(f'{method}: {message["error"]["message"]}')
+                    raise Refuses(f'{method}: {message["error"]["message"]}')
                 result: dict[str, Any] = message['result']
                 return result
             self.hear(message)
@@ -123,7 +125,7 @@ class Browser:
         """The next message."""
         while b'\0' not in self.rest:
             if not select.select([self.answers], [], [], max(0, end - time.monotonic()))[0]:
-                raise Hangs(f'{method} had no answer within {LONGEST} s')
+                raise Hangs(f'{method} had no answer within {HANGS} s')
             data = os.read(self.answers, 1 << 20)
             if not data:
                 raise Hangs('the browser is gone')

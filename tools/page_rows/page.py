@@ -6,7 +6,9 @@ import os
 import time
 from typing import Any
 
-from .browser import Browser, Hangs
+from hanging import HANGS
+
+from .browser import Browser, Hangs, Refuses
 
 # Seconds between two looks at the page.
 PAUSE = 0.05
@@ -54,7 +56,7 @@ class Page:
         # Nothing of the page that was open before has this.
         self.value('globalThis.isLeft = true')
         call('Page.navigate', url=f'file://{folder or self.folder}/index.html')
-        self.wait('document.readyState === "complete" && !globalThis.isLeft && !!kept', 30)
+        self.wait('document.readyState === "complete" && !globalThis.isLeft && !!kept')
         call('Page.removeScriptToEvaluateOnNewDocument', identifier=script)
 
     def value(self, text: str) -> Any:
@@ -63,15 +65,15 @@ class Page:
             'Runtime.evaluate', expression=text, awaitPromise=True, returnByValue=True
         )
         if 'exceptionDetails' in came:
-            raise Hangs(f'{text} in the page: {came["exceptionDetails"]}')
+            raise Refuses(f'{text} in the page: {came["exceptionDetails"]}')
         return came['result'].get('value')
 
-    def wait(self, text: str, seconds: float) -> None:
+    def wait(self, text: str) -> None:
         """Waits until an expression holds."""
-        end = time.monotonic() + seconds
+        end = time.monotonic() + HANGS
         while not self.value(text):
             if time.monotonic() > end:
-                raise Hangs(f'{text} did not hold within {seconds:.0f} s')
+                raise Hangs(f'{text} did not hold within {HANGS} s')
             time.sleep(PAUSE)
 
     def banks(self) -> Any:
@@ -110,7 +112,7 @@ class Page:
         }})()"""
         )
         if place is None:
-            raise Hangs(f'{name} can not be clicked')
+            raise Refuses(f'{name} can not be clicked')
         for kind in ('mousePressed', 'mouseReleased'):
             self.browser.call(
                 'Input.dispatchMouseEvent',
@@ -158,19 +160,19 @@ class Page:
             'delete document.getElementById("far").dataset.done'
         )
 
-    def done(self, seconds: float = 60) -> str:
+    def done(self) -> str:
         """Waits until a run, or the opening of lines, is over. Gives the sentence about it."""
-        self.wait('document.getElementById("far").dataset.done === "true"', seconds)
+        self.wait('document.getElementById("far").dataset.done === "true"')
         return self.text('said')
 
-    def said(self, seconds: float = 20) -> str:
+    def said(self) -> str:
         """Waits for a sentence, and gives it."""
-        self.wait('document.getElementById("said").textContent !== ""', seconds)
+        self.wait('document.getElementById("said").textContent !== ""')
         return self.text('said')
 
     def saved(self) -> str:
         """The text of all lines, as the button saves it."""
         self.value('kept.text = null')
         self.click('save')
-        self.wait('kept.text !== null', 10)
+        self.wait('kept.text !== null')
         return str(self.value('kept.text.text()'))

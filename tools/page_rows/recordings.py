@@ -7,6 +7,7 @@ import time
 
 import children
 from built import TOP
+from hanging import HANGS
 
 from .cases import Row, Rows, expected
 from .page import PAUSE
@@ -15,8 +16,8 @@ from .page import PAUSE
 # two hours and 20 minutes at the least rate.
 GREAT = 2 * 10**9
 # The seconds of a processor that it may take: 65 times real time. Alone it took 23 to 56 of the
-# clock, and 51 of a processor for those 56. It hangs where it takes so many seconds of the clock.
-SECONDS, HANGS = 120, 900
+# clock, and 51 of a processor for those 56.
+SECONDS = 120
 # The most memory that the bank may take, and that the renderer may take beside what it had: pieces
 # of a megabyte wait for the collector there.
 MOST_MEMORY, MOST_GROWTH = 8 << 20, 1 << 30
@@ -32,7 +33,7 @@ def great_recording(rows: Rows) -> None:
     path = rows.file('great.real1', b'')
     os.truncate(path, GREAT)
     page.choose(path)
-    page.wait('document.getElementById("name").textContent.startsWith("great.real1")', 10)
+    page.wait('document.getElementById("name").textContent.startsWith("great.real1")')
     page.put(kind='real1', rate='2046000', offset='511500', text='0 hold 0 1 0 0', shares='')
     page.value('kept.memory = 0')
     before = most = page.browser.resident()
@@ -65,11 +66,11 @@ def stopped_recording(rows: Rows) -> None:
     path = rows.file('stopped.real1', b'')
     os.truncate(path, GREAT)
     page.choose(path)
-    page.wait('document.getElementById("name").textContent.startsWith("stopped.real1")', 10)
+    page.wait('document.getElementById("name").textContent.startsWith("stopped.real1")')
     page.put(text='0 state 0')
     page.forget()
     page.click('run')
-    page.wait('document.getElementById("bar").value > 0.01', 30)
+    page.wait('document.getElementById("bar").value > 0.01')
     page.click('stop')
     page.done()
     os.remove(path)
@@ -110,7 +111,7 @@ def search(rows: Rows) -> None:
     others, where they are."""
     page = rows.page
     page.choose(made(rows))
-    page.wait('document.getElementById("name").textContent.startsWith("made.i8")', 10)
+    page.wait('document.getElementById("name").textContent.startsWith("made.i8")')
     page.put(kind='i8', bits='1', rate='2046000', offset=str(MADE_OFFSET), skip='', count='')
     page.forget()
     page.click('search')
@@ -126,7 +127,7 @@ def search(rows: Rows) -> None:
         'the satellites that are found', set(found) == set(MADE) and all(near.values()), found
     )
     # The table is drawn some moments later.
-    page.wait(f'document.querySelectorAll("#sky-rows tr").length === {len(MADE)}', 10)
+    page.wait(f'document.querySelectorAll("#sky-rows tr").length === {len(MADE)}')
     shown = page.text('sky-rows')
     numbers = {int(it) for it in re.findall(r'PRN (\d+)', shown)}
     rows.tell('the satellites in the table', numbers == set(MADE), shown)

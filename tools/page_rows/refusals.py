@@ -57,8 +57,7 @@ def fill(rows: Rows, path: str, given: dict[str, str]) -> None:
     page.choose(path)
     page.wait(
         'document.getElementById("name").textContent.startsWith('
-        f'{json.dumps(os.path.basename(path))})',
-        10,
+        f'{json.dumps(os.path.basename(path))})'
     )
     usual = {'rate': '2046000', 'offset': '0', 'skip': '', 'count': '', 'shares': '', 'bits': '1'}
     page.put(**{**usual, 'text': '0 state 0', **given})

@@ -4,11 +4,11 @@ import socket
 import subprocess
 import threading
 
+from hanging import HANGS
+
 # The program reads at most so many bytes at once, and writes fewer than so many.
 MOST_READ = 16384
 MOST_WRITTEN = 65536
-# The seconds without a line after which a run counts as hanging.
-LONGEST = 120
 
 
 def feed(device, samples, piece):
@@ -63,7 +63,7 @@ class Runs:
         with reads, writes:
             process = subprocess.Popen(self.command(scripts, options), stdin=reads, stdout=writes)
         threading.Thread(target=feed, args=(gives, samples, piece), daemon=True).start()
-        takes.settimeout(LONGEST)
+        takes.settimeout(HANGS)
         packets = []
         try:
             with takes:

@@ -10,10 +10,9 @@ import shutil
 import subprocess
 from dataclasses import dataclass
 
-TOP = os.path.dirname(os.path.dirname(os.path.dirname(os.path.realpath(__file__))))
+from hanging import HANGS
 
-# The seconds after which a command counts as hanging.
-LONGEST = 120
+TOP = os.path.dirname(os.path.dirname(os.path.dirname(os.path.realpath(__file__))))
 
 
 @dataclass
@@ -24,7 +23,7 @@ class Outcome:
     errors: str
 
 
-def run(command, folder, environment=None, given='', longest=LONGEST):
+def run(command, folder, environment=None, given=''):
     """The outcome of a command in a folder. `environment` has what is set besides the usual; a
     variable that is None there is taken away."""
     merged = {**os.environ, 'PYTHONDONTWRITEBYTECODE': '1', **(environment or {})}
@@ -32,9 +31,9 @@ def run(command, folder, environment=None, given='', longest=LONGEST):
     try:
         ran = subprocess.run(command, cwd=folder, env=merged, input=given, stdout=subprocess.PIPE,
                              stderr=subprocess.PIPE, encoding='utf-8', errors='replace',
-                             timeout=longest)
+                             timeout=HANGS)
     except subprocess.TimeoutExpired:
-        return Outcome(-9, '', f'no end after {longest} s\n')
+        return Outcome(-9, '', f'no end after {HANGS} s\n')
     return Outcome(ran.returncode, ran.stdout, ran.stderr)
 
 

@@ -45,7 +45,7 @@ def lintian_path(folder, status):
 
 def deb(checkout, *words, **more):
     """The outcome of tools/deb in the folder of the row."""
-    return run([checkout.at('tools/deb'), *words], checkout.folder, more, longest=120)
+    return run([checkout.at('tools/deb'), *words], checkout.folder, more)
 
 
 def refuses(rows, name, checkout, words, **more):
@@ -129,7 +129,7 @@ def same_bytes(rows, folder):
         to = os.path.join(folder, name)
         os.makedirs(to)
         outcome = run(['bash', '-c', 'umask 077; exec "$0" "$1"', f'{top}/tools/deb', to], folder,
-                      {'TMPDIR': to, 'PATH': lintian_path(folder, 0), **more}, longest=240)
+                      {'TMPDIR': to, 'PATH': lintian_path(folder, 0), **more})
         packages = [it for it in os.listdir(to) if it.endswith('.deb')]
         faults = [] if outcome.status == 0 and len(packages) == 1 else [str(outcome)[-300:]]
         rows.say(f'tools/deb, the {name} package', faults)

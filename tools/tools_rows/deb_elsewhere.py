@@ -66,7 +66,7 @@ def arm64(rows: Any, folder: str) -> None:
         os.makedirs(to)
         tool = os.path.join(folder, name, 'tools', 'deb')
         outcome = run(
-            [tool, to, '--arch=arm64'], folder, {'PATH': lintian_path(folder, 0)}, longest=240
+            [tool, to, '--arch=arm64'], folder, {'PATH': lintian_path(folder, 0)}
         )
         faults = [str(outcome)[-300:]] * (outcome.status != 0)
         rows.say(

@@ -5,16 +5,15 @@ import signal
 import subprocess
 import time
 
+from hanging import HANGS
+
 from .commands import write
 from .small_checkout import Checkout
 
-# The seconds in which what has to come soon comes.
-SOON = 30
 
-
-def until(holds, seconds=SOON):
+def until(holds):
     """Waits until a condition holds. Gives whether it does."""
-    last = time.monotonic() + seconds
+    last = time.monotonic() + HANGS
     while not holds() and time.monotonic() < last:
         time.sleep(0.05)
     return holds()
@@ -52,7 +51,7 @@ def no_lock(rows, folder):
     held = [open(checkout.at(name), encoding='utf-8') for name in ('tools/build', 'out/lock')]
     for file in held:
         fcntl.flock(file, fcntl.LOCK_EX)
-    outcome = checkout.run('receiver', longest=SOON)
+    outcome = checkout.run('receiver')
     rows.say('./receiver, built, where others hold locks',
              [] if outcome.said == 'proved\n' else [str(outcome)])
     mode = os.stat(checkout.at('out/lock')).st_mode & 0o777
@@ -61,7 +60,7 @@ def no_lock(rows, folder):
     folders = [os.open(checkout.at(name), os.O_RDONLY) for name in ('.', 'out', 'tools', 'crates')]
     for it in folders:
         fcntl.flock(it, fcntl.LOCK_EX)
-    outcome = checkout.run('pack', longest=SOON)
+    outcome = checkout.run('pack')
     rows.say('./pack, not built, where a reader holds locks of sources',
              [] if outcome.said == 'proved\n' else [str(outcome)])
     for it in folders:
@@ -79,8 +78,8 @@ def waiting(rows, folder):
     faults = [f'it said {said!r}'] * ('waits' not in said or 'receiver' not in said)
     os.remove(waits)
     os.kill(int(checkout.calls()[0][0]), signal.SIGTERM)
-    first.communicate(timeout=SOON)
-    lines, _ = second.communicate(timeout=SOON)
+    first.communicate(timeout=HANGS)
+    lines, _ = second.communicate(timeout=HANGS)
     faults += [f'it printed {lines!r}'] * (lines != 'proved\n')
     rows.say('./receiver twice at once', faults)
 
@@ -94,7 +93,7 @@ def end_of(rows, name, checkout, started, stop, is_room_gone):
     if is_alive(prover):
         os.kill(prover, signal.SIGKILL)
     try:
-        started.communicate(timeout=SOON)
+        started.communicate(timeout=HANGS)
     except subprocess.TimeoutExpired:
         started.kill()
         faults.append('it goes on itself')
@@ -126,12 +125,12 @@ def signal_to_cargo(rows, folder):
     fake, note = os.path.join(folder, 'fake'), os.path.join(folder, 'number')
     write(os.path.join(fake, 'rustc'), '#!/bin/sh\necho rustc 1.85.0\n', 0o755)
     write(os.path.join(fake, 'cargo'), '#!/bin/sh\n[ "$1" = build ] || exit 0\n'
-          f'sleep 60 & echo $! > {note}.new; mv {note}.new {note}; wait\n', 0o755)
+          f'sleep {2 * HANGS} & echo $! > {note}.new; mv {note}.new {note}; wait\n', 0o755)
     started = checkout.start('tools/build', 'receiver_cli', 'receiver',
                              PATH=f'{fake}:{checkout.bare}:{os.defpath}')
     faults = ['it has not begun'] * (not until(lambda: os.path.exists(note)))
     started.terminate()
-    started.communicate(timeout=SOON)
+    started.communicate(timeout=HANGS)
     with open(note, encoding='utf-8') as file:
         child = int(file.read())
     faults += ['it goes on'] * (not until(lambda: not is_alive(child)))
@@ -151,7 +150,7 @@ def killed(rows, folder):
     locked = os.open(checkout.at('.git/crate-locked'), os.O_RDONLY)
     fcntl.flock(locked, fcntl.LOCK_EX)
     os.makedirs(checkout.at('.git/crate-used/crates'))
-    using = subprocess.Popen(['sleep', '60'], cwd=checkout.at('.git/crate-used/crates'))
+    using = subprocess.Popen(['sleep', str(2 * HANGS)], cwd=checkout.at('.git/crate-used/crates'))
     os.remove(waits)
     outcome = checkout.run('receiver')
     using.kill()

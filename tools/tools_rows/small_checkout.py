@@ -7,6 +7,8 @@ import signal
 import subprocess
 import sys
 
+from hanging import HANGS
+
 from .commands import copied, run, write
 
 MAIN = '''//! A program that prints its version, or its help.
@@ -54,7 +56,7 @@ def main(words):
     with open(HERE + '/calls', 'a', errors='surrogateescape') as calls:
         print(os.getpid(), words[0], os.getcwd(), file=calls)
     if words[0] == 'lib' and os.path.exists(HERE + '/waits'):
-        time.sleep(60)
+        time.sleep(%d)
     os.makedirs('out/rlib', exist_ok=True)
     if words[0] == 'run':
         name = os.path.basename(os.getcwd())
@@ -127,7 +129,7 @@ class Checkout:
     def add_rt(self, line):
         """Puts an `rt` that calls itself so before all else in the PATH. Gives its folder."""
         folder = os.path.join(self.folder, 'kit', 'bin')
-        write(os.path.join(folder, 'rt'), RT % sys.executable, 0o755)
+        write(os.path.join(folder, 'rt'), RT % (sys.executable, 2 * HANGS), 0o755)
         write(os.path.join(folder, 'line'), line)
         self.path = f'{folder}:{self.path}' if folder not in self.path else self.path
         return folder
@@ -144,10 +146,9 @@ class Checkout:
         """The environment of its commands."""
         return {'PATH': self.path, 'RECEIVER_PLAIN': None, **more}
 
-    def run(self, *words, longest=60, **more):
+    def run(self, *words, **more):
         """The outcome of one of its tools, by its path in the checkout and its words."""
-        return run([self.at(words[0]), *words[1:]], self.top, self.environment(**more),
-                   longest=longest)
+        return run([self.at(words[0]), *words[1:]], self.top, self.environment(**more))
 
     def start(self, *words, **more):
         """Starts one of its tools, with pipes. No signal that ends it is ignored from the start, as
