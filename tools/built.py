@@ -47,8 +47,9 @@ KEPT = ('CARGO_HOME', 'CARGO_BUILD_JOBS')
 ANY, THIRD = 'any', 'x86-64-v3'
 FLAGS = os.path.join(TOP, 'tools', 'package', f'{THIRD}.flags')
 
-# The seconds after which a command that has said nothing is ended.
-LONGEST = 20
+# The seconds after which a command that has said nothing is ended. It takes less than one, or ten
+# where a machine lends a tenth of its processors.
+LONGEST = 120
 
 # What the kit's `rt` calls itself, and the file beside it that says so too.
 KIT = 'rattle-kit-'

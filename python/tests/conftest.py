@@ -19,9 +19,8 @@ TOP = os.path.realpath(os.path.join(os.path.dirname(__file__), '..', '..'))
 LAUNCHER = os.path.join(TOP, 'seldomplough')
 EXAMPLES = os.path.join(TOP, 'examples')
 
-# The seconds of the clock after which a command counts as hanging. None takes nearly as long, even
-# where others have the processors of a slow machine.
-HANGS = 900
+# The seconds of the clock after which a command counts as hanging, however slow the machine.
+HANGS = 3600
 
 # Names that a shell, an awk or a parser of words takes for something else than a file's.
 NAMES = ('run=1.lines', 'a b', "x';y", '$(touch made)', 'a\nb', '<x', '|x', '*', '\u00e4\u20ac')

@@ -34,7 +34,8 @@ class Patient:
     def seen(self, data: bytes, *words: str) -> Outcome:
         """What the doctor says."""
         self.path.write_bytes(data)
-        return self.run('doctor', *named(self.plain), *words, '--', str(self.path))
+        usual = (*named(self.plain), '--limit', '3600')
+        return self.run('doctor', *usual, *words, '--', str(self.path))
 
     def cured(self, data: bytes, *words: str) -> List[str]:
         """The words of the command that it ends with, which the bits are seen with."""
