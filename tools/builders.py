@@ -170,7 +170,7 @@ def build_plain(crate, sources, line, say):
         return cargo_build(crate, folder, os.path.join(target.folder, of_level), flags)
 
     levels = [ANY, THIRD] if 'host: x86_64-' in line else [ANY]
-    if os.environ.get('RECEIVER_PLAIN') == HERE:
+    if os.environ.get('RECEIVER_PLAIN') == HERE and level() in levels:
         levels = [level()]
     paths = dict(side_by_side({it: [] for it in levels}, build, job_count()))
     if sum_of_sources('plain') == sources:
