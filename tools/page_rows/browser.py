@@ -34,7 +34,7 @@ OPTIONS = (
 
 
 class Hangs(Exception):
-    """A browser that doesn't answer, or is gone, or a page in which something doesn't come to be."""
+    """A browser that doesn't answer, or is gone, or a page that doesn't come to be as it should."""
 
 
 class Refuses(Exception):
