@@ -18,6 +18,9 @@ from rooms import RT, prove as prove_in_room
 # whose jump lies across them takes up to twice as long, and any change of code moves it.
 WITHIN_32_BYTES = '-C llvm-args=-x86-branches-within-32B-boundaries'
 
+# What RECEIVER_PLAIN says where no other processor starts what is built.
+HERE = 'here'
+
 # The minutes that a proof from nothing takes, on a quick day and on a slow one: those that no
 # further processor saves, and those that the processors share.
 MINUTES = {'receiver_cli': ((1, 21), (3, 35.4)), 'packer_cli': ((2.5, 3), (4, 4.5))}
@@ -150,7 +153,8 @@ def build_apart(name, sources, line, say):
 
 def build_plain(crate, sources, line, say):
     """Builds a program of plain Rust by cargo: for any processor, and on x86-64 for the third level
-    too, side by side. Gives its paths by the levels."""
+    too, side by side; or for the processor at hand alone, where that is asked for. Gives its paths
+    by the levels."""
     folder = os.path.join(TOP, 'plain')
     say('this build is of plain Rust, by cargo, and not proved; it takes about half a minute')
     run([sys.executable, '-E', '-s', '-S', os.path.join(TOP, 'tools', 'plain'), folder], TOP)
@@ -166,6 +170,8 @@ def build_plain(crate, sources, line, say):
         return cargo_build(crate, folder, os.path.join(target.folder, of_level), flags)
 
     levels = [ANY, THIRD] if 'host: x86_64-' in line else [ANY]
+    if os.environ.get('RECEIVER_PLAIN') == HERE and level() in levels:
+        levels = [level()]
     paths = dict(side_by_side({it: [] for it in levels}, build, job_count()))
     if sum_of_sources('plain') == sources:
         target.keep()

@@ -91,7 +91,7 @@ def built(crate: str, name: str) -> str:
         pytest.skip('cargo is not in the PATH, so that the programs cannot be built')
     ran = subprocess.run(
         [os.path.join(TOP, 'tools', 'build'), crate, name],
-        env={**os.environ, 'RECEIVER_PLAIN': '1'},
+        env={**os.environ, 'RECEIVER_PLAIN': 'here'},
         stdin=subprocess.DEVNULL,
         stdout=subprocess.PIPE,
         check=True,

@@ -2,6 +2,8 @@
 import os
 import shutil
 
+import built
+
 from .commands import changes, contents, refused, run, write
 from .small_checkout import LIBRARY, Checkout
 
@@ -101,6 +103,28 @@ def levels(rows, folder):
              refused(checkout.run('receiver', PATH=checkout.bare), 'receiver: .*`cargo`.*', 1))
     rows.say('./receiver, one of two programs is gone', checkout.prints('1.0.1'))
     rows.say('./receiver, it has come again', checkout.prints('1.0.1', PATH=checkout.bare))
+
+
+def at_hand(rows, folder):
+    """A build for the processor at hand alone makes one program, which any start there takes."""
+    if not shutil.which('cargo') or os.uname().machine != 'x86_64':
+        return
+    checkout = Checkout(folder)
+    path = path_of(checkout, RECEIVER_PLAIN='here')
+    wanted = PROGRAM % built.level()
+    made = [it for it in (PROGRAM % built.ANY, PROGRAM % built.THIRD)
+            if os.path.exists(checkout.at(it))]
+    rows.say('tools/build, for the processor at hand alone',
+             [f'it made {made}, not {wanted}'] * (made != [wanted])
+             + [f'it gives {path!r}'] * (path != checkout.at(wanted)))
+    for more in ({}, {'RECEIVER_PLAIN': '1'}, {'RECEIVER_PLAIN': 'here'}):
+        rows.say(f'./receiver, built for the processor at hand alone, with {more}',
+                 checkout.prints('1.0.1', PATH=checkout.bare, **more))
+    checkout.set_version('1.0.2')
+    rows.say('./receiver, built for more again', checkout.prints('1.0.2'))
+    made = {PROGRAM % it for it in (built.ANY, built.THIRD)}
+    rows.say('./receiver, its programs again',
+             [f'{it} is missing' for it in made if not os.path.exists(checkout.at(it))])
 
 
 def proved_for_more(rows, folder):
@@ -288,5 +312,5 @@ def environments(rows, folder):
     rows.say('./receiver by a link', [] if outcome.said == 'proved\n' else [str(outcome)[-300:]])
 
 
-ROWS = (variables, by_content, levels, proved_for_more, failures, nothing_to_build_with, words,
-        other_rt, the_kit, odd_places, environments)
+ROWS = (variables, by_content, levels, at_hand, proved_for_more, failures, nothing_to_build_with,
+        words, other_rt, the_kit, odd_places, environments)

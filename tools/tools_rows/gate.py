@@ -8,16 +8,21 @@ from typing import Any
 from .commands import TOP, Outcome, copied, run, write
 
 # A part: it notes that it begins, by which Python, how many jobs `rt` would take, and that it has
-# ended, waits in between for what a file names, and has the status that another says.
+# ended, waits in between until all have begun that a file names, and has the status that another
+# says.
 PART = '''#!/bin/bash
 here="$(dirname "$0")"
 name="${0##*/}"
 echo "$name $*" >> "$here/../began"
 echo "$name $(readlink "$(command -v python3)")" >> "$here/../pythons"
 echo "$name ${RT_JOBS-}" >> "$here/../jobs"
-for at in {1..200}; do
+for ((at = 0; at < 20000; at++)); do
     [[ -s "$here/$name.waits" ]] || break
-    ! grep -q "^$(cat "$here/$name.waits")" "$here/../began" || break
+    missing=''
+    while read -r other; do
+        grep -q "^$other" "$here/../began" || missing="$other"
+    done < "$here/$name.waits"
+    [[ -n "$missing" ]] || break
     sleep 0.05
 done
 echo "words of $name"
@@ -25,6 +30,9 @@ echo "$name" >> "$here/../ended"
 exit "$(cat "$here/$name.status" 2> /dev/null || echo 0)"
 '''
 SETUP, FIRST = 'setup --tests', 'gate-times rt ci'
+
+# A line of its table, on Linux: what was idle while a part ran, and what other machines took.
+LINE = r'^\| `tools/([a-z-]+)` \| \d+ \| \d+ \| (?:(\d+) %)? \| (?:(\d+) %)? \| passed \|$'
 
 # Those that need nothing of the proofs.
 EARLY = {'plain-check', 'python-check', 'tools-check'}
@@ -34,7 +42,8 @@ class Gate:
     """The gate over stand-ins of its parts."""
 
     def __init__(self, folder: str, failing: str = '') -> None:
-        self.top = copied(folder, 'tools/gate', 'tools/crate_order.py')
+        self.top = copied(folder, 'tools/gate', 'tools/crate_order.py',
+                          'tools/processor_shares.py')
         with open(os.path.join(TOP, 'tools', 'gate'), encoding='utf-8') as text:
             self.parts = sorted({*re.findall(r"'tools/([a-z-]+)'", text.read())})
         for name in self.parts:
@@ -66,7 +75,7 @@ class Gate:
 def passes(rows: Any, folder: str) -> None:
     """All parts run, and their words are printed whole, in their order."""
     gate = Gate(folder)
-    write(gate.at('tools/gate-times.waits'), 'tools-check')
+    write(gate.at('tools/gate-times.waits'), ''.join(f'{it}\n' for it in EARLY))
     others = len(gate.parts) - 1
     outcome = gate.run()
     # `tools/build --keep` is run between, and is no part.
@@ -81,6 +90,11 @@ def passes(rows: Any, folder: str) -> None:
     jobs = [it for it in gate.lines('jobs') if re.search(r' \d', it)]
     rows.say('tools/gate, the jobs of its rt ci',
              [] if len(jobs) == 1 and re.match(r'gate-times [1-9]', jobs[0]) else [str(jobs)])
+    table = re.findall(LINE, outcome.said, re.M)
+    # What ends within a hundredth of a second has no shares. The first part waits for another.
+    wrong = [it for it in table if sum(int(share or 0) for share in it[1:]) > 100]
+    is_right = len(table) == others - 1 and table[0][0] == 'gate-times' and '' not in table[0]
+    rows.say('tools/gate, its table', [f'{table}'] * (not is_right or wrong != []))
     in_order = [name for name, words in said if name == words]
     rows.say('tools/gate, the words of the parts',
              [] if in_order[0] == 'examples-check' and in_order[-1] == 'edits'
@@ -94,8 +108,8 @@ def installs(rows: Any, folder: str) -> None:
     """What the parts need is installed beside the proofs, before any part begins."""
     gate = Gate(folder)
     # The proofs wait for it here, and it for them, to begin.
-    write(gate.at('tools/gate-times.waits'), SETUP)
-    write(gate.at('tools/setup.waits'), FIRST)
+    write(gate.at('tools/gate-times.waits'), f'{SETUP}\n')
+    write(gate.at('tools/setup.waits'), f'{FIRST}\n')
     count = len(gate.parts)
     outcome = gate.run('--setup')
     rows.say('tools/gate --setup', gate.faults(outcome, 0, f'{count - 1} passed, 0 failed', count))

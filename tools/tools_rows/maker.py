@@ -1,7 +1,7 @@
 """Rows of tools/maker, which cargo builds wherever it is built."""
 import shutil
 
-from .commands import copied, refused, write
+from .commands import copied, refused
 from .small_checkout import Checkout
 
 SOURCE = 'benchmarks/maker/src/main.rs'
@@ -17,9 +17,8 @@ def with_maker(folder):
     copied(folder, 'benchmarks/maker', name='checkout')
     shutil.rmtree(checkout.at('benchmarks/maker/target'), ignore_errors=True)
     # How fast it makes eight samples is no matter, and how long it takes to build is.
-    with open(checkout.at(MANIFEST), encoding='utf-8') as file:
-        text = file.read()
-    write(checkout.at(MANIFEST), text.replace('lto = true', 'opt-level = 0'))
+    with open(checkout.at(MANIFEST), 'a', encoding='utf-8') as file:
+        file.write('\n[profile.release]\nopt-level = 0\n')
     return checkout
 
 
