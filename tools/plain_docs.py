@@ -7,11 +7,13 @@ import textwrap
 DOCS = re.compile(r'\A(?://!.*\n)*')
 EXAMPLE = re.compile(r'^//!     .*\n(?:(?://!\n)*//!     .*\n)*', re.M)
 
-# The lines around an example, so that it can end early; rustdoc shows none of them. The sources'
-# own `Box` is that of the kit.
+# The lines around an example, so that it can end early; rustdoc shows no line of them. It is built
+# alone: rustdoc would build a second program to join the examples of a crate, which has but one.
+# The sources' own `Box` is that of the kit.
 FAULT = 'Result<(), std::boxed::Box<dyn core::error::Error>>'
-HEAD = f'//!     # fn main() -> {FAULT} {{\n'
-TAIL = '//!     # Ok(())\n//!     # }\n'
+BEGIN = '//! ```rust,standalone_crate\n'
+HEAD = f'//! # fn main() -> {FAULT} {{\n'
+TAIL = '//! # Ok(())\n//! # }\n//! ```\n'
 
 # A crate in a path.
 NAMED = re.compile(r'(?<![\w:])(?:::)?(\w+)::')
@@ -68,8 +70,9 @@ def tested_text(text, package, names):
     that the example names are given by these: they are known under both."""
     def program(found):
         named = sorted(set(NAMED.findall(found[0])).intersection(names).difference([package]))
-        known = ''.join(f'//!     # extern crate {names[it]} as {it};\n' for it in named)
-        return known + HEAD + found[0] + TAIL
+        known = ''.join(f'//! # extern crate {names[it]} as {it};\n' for it in named)
+        example = re.sub(r'^//!     ', '//! ', found[0], flags=re.M)
+        return BEGIN + known + HEAD + example + TAIL
 
     docs = DOCS.match(text)[0]
     return EXAMPLE.sub(program, docs, count=1) + text[len(docs):]

@@ -128,8 +128,8 @@ def readmes(rows, _):
     tested = tested_text(named, 'seldomplough_search', names)
     known = [line for line in tested.split('\n') if 'extern' in line]
     rows.say('the names of a test of docs', differs(known, [
-        '//!     # extern crate codes as seldomplough_codes;',
-        '//!     # extern crate alloc as seldomplough_kit_alloc;']))
+        '//! # extern crate codes as seldomplough_codes;',
+        '//! # extern crate alloc as seldomplough_kit_alloc;']))
 
 
 def registry(rows, _):
