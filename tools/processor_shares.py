@@ -13,20 +13,21 @@ class Shares(NamedTuple):
     taken: int
 
 
-def ticks() -> list[int]:
+def ticks(stat: str = STAT) -> list[int]:
     """The ticks so far of all processors: by programs, by those that are nice, by the system, none
     at work, none while a disk is, by two kinds of interrupts, and by other machines. None where the
     system doesn't count them."""
     try:
-        with open(STAT, encoding='utf-8') as counts:
+        with open(stat, encoding='utf-8') as counts:
             return [int(it) for it in counts.readline().split()[1:9]]
     except OSError:
         return []
 
 
-def shares_since(before: list[int]) -> Shares | None:
+def shares_since(before: list[int], stat: str = STAT) -> Shares | None:
     """The shares since there were so many ticks; none where the system doesn't count them."""
-    gone = [after - was for after, was in zip(ticks(), before)]
+    # Linux may take back some that it had counted as waiting for a disk.
+    gone = [max(0, after - was) for after, was in zip(ticks(stat), before)]
     if len(gone) < 8 or sum(gone) <= 0:
         return None
     return Shares(*(round(100 * it / sum(gone)) for it in (gone[3] + gone[4], gone[7])))

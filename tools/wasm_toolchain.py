@@ -25,10 +25,12 @@ FEATURES = {'bank': '+simd128', 'relaxed': '+simd128,+relaxed-simd'}
 DEBIAN = ('/usr/bin/rustc', '/usr/bin/cargo')
 PACKAGES = 'rustc-web cargo-web rust-web-src lld'
 
-# An empty crate: cargo builds the standard library beside it. In the workspace of plain Rust it
-# would find two crates `std`, since the stand-in there is called so too. What tests alone need isn't
-# optimised: that took a fifth of the seconds of processors, and no test would end sooner.
+# What tests alone need of the standard library. It isn't optimised: that took a fifth of the
+# seconds of processors, and tests would end no sooner.
 OF_TESTS = ('test', 'proc_macro', 'getopts')
+
+# An empty crate: cargo builds the standard library beside it. In the workspace of plain Rust it
+# would find two crates `std`, since the stand-in there is called so too.
 EMPTY = '[package]\nname = "empty"\nedition = "2024"\n\n[lib]\n\n[workspace]\n' + ''.join(
     f'\n[profile.release.package.{it}]\nopt-level = 0\n' for it in OF_TESTS
 )

@@ -5,6 +5,8 @@ import os
 import re
 from typing import Any
 
+from processor_shares import Shares, shares_since
+
 from .commands import TOP, Outcome, copied, run, write
 
 # A part: it notes that it begins, by which Python, how many jobs `rt` would take, and that it has
@@ -91,10 +93,14 @@ def passes(rows: Any, folder: str) -> None:
     rows.say('tools/gate, the jobs of its rt ci',
              [] if len(jobs) == 1 and re.match(r'gate-times [1-9]', jobs[0]) else [str(jobs)])
     table = re.findall(LINE, outcome.said, re.M)
-    # What ends within a hundredth of a second has no shares. The first part waits for another.
+    # What ends within a hundredth of a second has no shares. The first part waits for others, and
+    # has them where the system counts any.
     wrong = [it for it in table if sum(int(share or 0) for share in it[1:]) > 100]
-    is_right = len(table) == others - 1 and table[0][0] == 'gate-times' and '' not in table[0]
-    rows.say('tools/gate, its table', [f'{table}'] * (not is_right or wrong != []))
+    is_right = len(table) == others - 1 and table[0][0] == 'gate-times'
+    has_shares = is_right and '' not in table[0]
+    is_counted = shares_since([0] * 8) is not None
+    rows.say('tools/gate, its table',
+             [f'{table}'] * (not is_right or wrong != [] or has_shares != is_counted))
     in_order = [name for name, words in said if name == words]
     rows.say('tools/gate, the words of the parts',
              [] if in_order[0] == 'examples-check' and in_order[-1] == 'edits'
@@ -102,6 +108,23 @@ def passes(rows: Any, folder: str) -> None:
     kept = began.index('build --keep')
     rows.say('tools/gate, what begins before the programs are there',
              [] if {*began[:kept]} == {FIRST, *(f'{it} ' for it in EARLY)} else [str(began)])
+
+
+def shares(rows: Any, folder: str) -> None:
+    """What was idle, and what other machines took, of a hundred ticks whose use is known, of which
+    none is taken back; nothing where the system doesn't count them."""
+    path = os.path.join(folder, 'stat')
+    before = [100, 0, 100, 100, 50, 0, 0, 7, 3, 0]
+    for name, gone, wanted in (('a hundred', [40, 5, 20, 18, 7, 3, 2, 5, 9, 0], Shares(25, 5)),
+                               ('one taken back', [90, 0, 0, 10, -1, 0, 0, 0, 0, 0], Shares(10, 0)),
+                               ('none', [0] * 10, None),
+                               ('not of other machines', [40, 5, 20, 18, 7, 3, 2], None)):
+        after = [was + it for was, it in zip(before, gone)]
+        write(path, f'cpu  {" ".join(map(str, after))}\ncpu0 {after[0]} 0 0 9 0 0 0 9 0 0\n')
+        found = shares_since(before[:8], path)
+        rows.say(f'the shares of processors, {name}', [f'{found}'] * (found != wanted))
+    found = shares_since(before[:8], os.path.join(folder, 'nowhere'))
+    rows.say('the shares of processors, not counted', [f'{found}'] * (found is not None))
 
 
 def installs(rows: Any, folder: str) -> None:
@@ -146,4 +169,4 @@ def odd_words(rows: Any, folder: str) -> None:
         rows.say(f'tools/gate {words}', [] if is_right else [str(outcome)[-300:]])
 
 
-ROWS = passes, installs, failures, odd_words
+ROWS = passes, shares, installs, failures, odd_words
