@@ -19,6 +19,9 @@ RT = (sys.executable, os.path.join(TOP, 'tools', 'rt_once'))
 # What is kept of a library: the library, and what its check proved.
 KEPT = ('rlib', 'incremental')
 
+# The crate without code in whose check others are read.
+CHECKED = 'checked_at_once'
+
 # The file beside a library that has the sum of its sources: that of `rt`, or where the library is
 # one of statements, that of tools/rt_once.
 SUMS = ('stamp', 'stated')
@@ -77,7 +80,12 @@ class Room:
     def __init__(self, crate, crates, folder, takes_made=False):
         self.crate, self.folder = crate, os.path.join(folder, 'crates', crate)
         self.takes_made = takes_made and are_libraries_of_ci()
-        below = with_those_below([crate], crates)
+        self.lay_out([crate], crates, folder)
+
+    def lay_out(self, own, crates, folder):
+        """Copies crates into a folder as a repository, and all below them. Gives the words of
+        crates.txt for each of its own."""
+        below = with_those_below(own, crates)
         with open(os.path.join(TOP, 'crates.txt'), encoding='utf-8') as lines:
             named = [it for it in lines if it.split('#')[0].partition(':')[0].strip() in below]
         with open(os.path.join(folder, 'crates.txt'), 'w', encoding='utf-8') as file:
@@ -86,14 +94,19 @@ class Room:
         for name in below:
             # The libraries below are only read.
             shutil.copytree(os.path.join(TOP, 'crates', name), os.path.join(folder, 'crates', name),
-                            copy_function=shutil.copy2 if name == crate else link,
+                            copy_function=shutil.copy2 if name in own else link,
                             ignore=shutil.ignore_patterns('must-fail', 'out'))
-            for part in KEPT[:1 + (name == crate)]:
+            for part in self.parts_of(name):
                 kept = os.path.join(TOP, 'crates', name, 'out', part)
                 is_whole = part != 'rlib' or is_summed_up(kept) or self.takes_made
                 if os.path.isdir(kept) and is_whole:
                     shutil.copytree(kept, os.path.join(folder, 'crates', name, 'out', part),
                                     copy_function=link)
+        return [it for it in named if it.partition(':')[0] in own]
+
+    def parts_of(self, name):
+        """What it takes of what is kept of a crate."""
+        return KEPT if name == self.crate else KEPT[:1]
 
     def run(self, command, jobs, nice=0, more=()):
         """Runs a command of `rt`. Gives whether the crate is proved, and what the prover said."""
@@ -119,6 +132,28 @@ class Room:
                     shutil.move(made, kept)
         finally:
             os.close(lock)
+
+
+class SharedRoom(Room):
+    """Libraries in a repository of their own that are checked at once: the check is of a crate
+    without code that stands on them, and reads their sources. So what each check loads before its
+    first proof is loaded once for all of them."""
+
+    def __init__(self, names, crates, folder, takes_made=False):
+        self.crate, self.folder = CHECKED, os.path.join(folder, 'crates', CHECKED)
+        self.takes_made, self.names = takes_made and are_libraries_of_ci(), names
+        self.environment = {**self.environment, 'RT_SOURCES': ' '.join(names)}
+        lines = self.lay_out(names, crates, folder)
+        below = {it for line in lines for it in line.partition(':')[2].split()}
+        with open(os.path.join(folder, 'crates.txt'), 'a', encoding='utf-8') as file:
+            file.write(f'{CHECKED}: {" ".join(sorted(below.union(names)))}\n')
+        os.makedirs(os.path.join(self.folder, 'src'))
+        with open(os.path.join(self.folder, 'src', 'lib.rt'), 'w', encoding='utf-8') as source:
+            source.write('#![tactic(auto)]\n')
+
+    def parts_of(self, name):
+        """What it takes of what is kept of a crate: no library of those that it reads."""
+        return () if name in self.names else KEPT[:1]
 
 
 def prove(crate, crates, jobs, nice=0):

@@ -1,94 +1,30 @@
-"""Rooms in which edits of a crate are tried, and which of them the prover refused there."""
+"""Which edits the prover refused where they are tried."""
 import os
 import re
 
-from bare_bodies import refuse, remove_proofs, with_tactics, without_bodies
 from crate_order import TOP
 from lone_goals import bodies_of
-from rooms import Room, has_kept, new_folder
-from second_bodies import files_with, home_of, with_seconds
-from wrong_bodies import (DEPENDS, does_not_compile, functions, has_goal, refusals,
-                          without_those)
-from wrong_definitions import (Copies, Modules, answers_of, can_copy, home_of_law,
-                               with_copies)
+from rooms import has_kept, new_folder
+from second_bodies import files_with
+from trial_rooms import SharedTrial, Trial
+from wrong_bodies import DEPENDS, does_not_compile, has_goal, refusals
+from wrong_definitions import Copies, Modules, can_copy
 
 
-class Trial(Room):
-    """A room in which edits of its crate are tried."""
-
-    environment = {'RT_TRIAL': '1'}
-
-    def text(self, file):
-        """A text of the crate."""
-        with open(os.path.join(self.folder, file), encoding='utf-8', newline='') as source:
-            return source.read()
-
-    def sources(self):
-        """The sources of the crate."""
-        return [os.path.relpath(os.path.join(at, file), self.folder)
-                for at, _, files in os.walk(os.path.join(self.folder, 'src')) for file in files]
-
-    def check_with(self, texts, names=()):
-        """Checks the crate with these texts, or functions of it alone. Gives whether it is proved,
-        and what the prover said."""
-        for file, text in texts.items():
-            with open(os.path.join(self.folder, file), 'w', encoding='utf-8', newline='') as source:
-                source.write(text)
-        return self.run('check', 1, more=[it for name in names for it in ('--only', name)])
-
-    def leave_unproved(self, kept):
-        """Has nothing proved of functions but for those with these names, and nothing printed."""
-        remove_proofs(self.folder, kept)
-        others = [(file, it) for file in self.sources() for it in functions(self.text(file))
-                  if it.name not in kept]
-        for home in filter(None, (home_of(it, self.folder) for it in others)):
-            refuse(home)
-
-    def check_bodies(self, bodies):
-        """Checks second bodies alone. Gives what the prover said."""
-        made = with_seconds(bodies, self.text)
-        for body in bodies:
-            body.copy_proof(self.folder)
-        kept = {body.name for body in bodies}
-        self.leave_unproved(kept)
-        texts = {file: without_bodies(made.get(file) or self.text(file), kept)
-                 for file in self.sources()}
-        return self.check_with(texts, [body.full_name() for body in bodies])[1]
-
-    def check_copies(self, copies, modules, law):
-        """Checks copies of files of definitions and their lemmas, as if a law stood on them. Gives
-        what the prover said."""
-        remove_proofs(self.folder, set())
-        home = home_of_law(law, {file: self.text(file) for file in self.sources()})
-        os.makedirs(os.path.join(self.folder, home), exist_ok=True)
-        texts = {file: without_bodies(self.text(file), set()) for file in self.sources()}
-        made = {**with_copies(copies, modules),
-                os.path.join(home, 'Answers.antt'): answers_of(copies, modules)}
-        return self.check_with({**texts, **made}, [law])[1]
-
-    def check_function(self, edit, name):
-        """Checks with an edit one function alone. Gives what the prover said, but for the goals of
-        those without bodies, which are left open."""
-        changed = edit.texts(self.text)
-        kept = {name.split('::')[-1], *edit.functions(self.text)}
-        self.leave_unproved(kept)
-        texts = {file: changed.get(file) or self.text(file) for file in [*self.sources(), *changed]}
-        bare = {file: with_tactics(without_bodies(text, kept), kept) if file.startswith('src/')
-                else text for file, text in texts.items()}
-        others = [(file, it) for file, text in bare.items() if file.startswith('src/')
-                  for it in functions(text) if it.name not in kept]
-        return without_those(self.check_with(bare, [name])[1], others)
-
-
-def said_of(crate, crates, bodies):
-    """What the prover said of second bodies, in a room of their own. What this proved of the crate,
-    as its lemmas, is kept where nothing was."""
+def said_of(crates, bodies):
+    """What the prover said of second bodies, by their crates, in a room of their own. What this
+    proved of a single crate, as its lemmas, is kept where nothing was."""
+    if not bodies:
+        return {}
     with new_folder('edits') as folder:
-        room = Trial(crate, crates, folder, takes_made=True)
-        said = room.check_bodies(bodies)
+        if len(bodies) > 1:
+            return SharedTrial([*bodies], crates, folder, takes_made=True).check_bodies(bodies)
+        (crate, ours), = bodies.items()
+        room = Trial(crate, crates, folder)
+        said = room.check_bodies(ours)
         if not has_kept(crate):
             room.bring_out(('incremental',))
-        return said
+        return {crate: said}
 
 
 def shortest_right(bodies):
@@ -99,22 +35,23 @@ def shortest_right(bodies):
     return [it.with_right_body() for it in copies[:1]]
 
 
-def bodies_refused(crate, crates, places):
-    """Tries edits of bodies in one check, or in two where some don't compile. Gives those that were
-    refused at their goals: none where a right body that is tried beside them doesn't pass."""
-    bodies = bodies_of(places, os.path.join(TOP, 'crates', crate))
-    right = shortest_right(bodies)
-    said = said_of(crate, crates, [*right, *bodies])
-    broken = [it for it in [*right, *bodies] if does_not_compile(said, it.place)]
-    if set(right).intersection(broken):
-        return set()
+def bodies_refused(crates, places):
+    """Tries edits of bodies by their crates in one check, or in two where some don't compile. Gives
+    those that were refused at their goals: none of a crate of which a right body that is tried
+    beside them doesn't pass."""
+    bodies = {it: bodies_of(ours, os.path.join(TOP, 'crates', it)) for it, ours in places.items()}
+    right = {it: shortest_right(ours) for it, ours in bodies.items()}
+    said = said_of(crates, {it: [*right[it], *ours] for it, ours in bodies.items()})
+    broken = {it for name, text in said.items() for it in [*right[name], *bodies[name]]
+              if does_not_compile(text, it.place)}
     if broken:
-        bodies = [it for it in bodies if it not in broken]
-        said = said_of(crate, crates, [*right, *bodies])
-    refused = refusals(said)
-    if any(it.has_refusal(refused) for it in right):
-        return set()
-    return {it.edit for it in bodies if it.is_refused(refused)}
+        bodies = {name: [it for it in ours if it not in broken] for name, ours in bodies.items()
+                  if not broken.intersection(right[name])}
+        said = said_of(crates, {it: [*right[it], *ours] for it, ours in bodies.items()})
+    refused = {name: refusals(text) for name, text in said.items()}
+    return {it.edit for name, ours in bodies.items()
+            if not any(it.has_refusal(refused[name]) for it in right[name])
+            for it in ours if it.is_refused(refused[name])}
 
 
 def modules_of(crate):
@@ -126,12 +63,12 @@ def said_of_copies(crate, crates, copies, modules):
     """What the prover said of copies of definitions, in a room of their own."""
     law = law_of(crate, copies[0].edit)
     with new_folder('edits') as folder:
-        return Trial(crate, crates, folder, takes_made=True).check_copies(copies, modules, law)
+        return Trial(crate, crates, folder).check_copies(copies, modules, law)
 
 
 def definitions_refused(crate, crates, edits):
-    """Tries edits of definitions in one check. Gives those that were refused at their lemmas: none
-    where copies with nothing changed, which are tried beside them, don't pass."""
+    """Tries edits of definitions of a crate in one check. Gives those that were refused at their
+    lemmas: none where copies with nothing changed, which are tried beside them, don't pass."""
     modules = modules_of(crate)
     wrong = [Copies(edit, number, modules) for number, edit in enumerate(edits, 1)]
     most = max(wrong, key=lambda it: len(it.files))
@@ -181,11 +118,11 @@ def try_alone(crate, crates, edit):
     name = named_function(crate, edit)
     if name:
         with new_folder('edits') as folder:
-            room = Trial(crate, crates, folder, takes_made=True)
+            room = Trial(crate, crates, folder)
             if not why_not_refused(edit, room.check_function(edit, name)):
                 return None
     with new_folder('edits') as folder:
-        room = Trial(crate, crates, folder, takes_made=True)
+        room = Trial(crate, crates, folder)
         is_proved, said = room.check_with(edit.texts(room.text))
     if is_proved:
         return f'{edit.path}: NOT REFUSED: the crate is still proved with it'

@@ -11,7 +11,7 @@ RT = '''import hashlib, os
 
 class Crate:
     def __init__(self, name, below):
-        self.name, self.deps, self.folder = name, below, name
+        self.name, self.deps, self.folder, self.of_kit = name, below, name, ['std']
         self.rlib = f'{name}/rlib/{name}.rlib'
 
     def below(self):
@@ -28,19 +28,23 @@ class Crate:
         return os.path.exists(path) and open(path).read() == self.stamp()
 
     def words(self, flags, keeps=True):
-        return [self.name, *flags]
+        libraries = [word for it in self.deps for word in
+                     ('--extern', f'{it.name}={it.rlib}', '-L', f'dependency={it.name}/rlib')]
+        return [self.name, '-L', 'dependency=kit', *libraries, *flags]
 
     def write_library(self, way):
         os.makedirs(self.rlib, exist_ok=True)
+        built = [it for it in self.deps if os.path.exists(it.rlib)]
         sums = [hashlib.sha256(open(f'{it.rlib}/format', 'rb').read()).hexdigest()
-                for it in self.deps]
+                for it in built]
         with open(f'{self.rlib}/format', 'w') as file:
             file.write(f'{way} {self.stamp()}\\n')
-            file.writelines(f'over {it.name} {sum}\\n' for it, sum in zip(self.deps, sums))
+            file.writelines(f'over {it.name} {sum}\\n' for it, sum in zip(built, sums))
         open('calls', 'a').write(f'{self.name}{way} ')
 
     def call(self, *words):
-        self.write_library(' '.join(it for it in words if it == '--statements'))
+        is_read = 'RT_SOURCES' in os.environ
+        self.write_library(' '.join(it for it in words if it == '--statements' or is_read))
         return os.path.exists('fails')
 
     def build_rlib(self, flags, anew):
@@ -53,7 +57,7 @@ class Crate:
         return 0
 
 class rtlib:
-    RATTLE, Crate = 'rattle', Crate
+    RATTLE, KIT, Crate = 'rattle', 'kit', Crate
 
     def help_of(verb):
         return open('help').read()
@@ -158,4 +162,16 @@ def failures(rows, folder):
     rows.say('rt_once, after a failed build', [again] * (again.split() != both))
 
 
-ROWS = (libraries, failures)
+def sources(rows, folder):
+    """A library that is to be read from its source isn't built, and the check of what stands on it
+    is passed its source in the place of the library."""
+    kit = Kit(folder)
+    made = kit.built(RT_SOURCES='lower')
+    passed = made.partition('rattle build ')[2].split()
+    wanted = ['upper', '-L', 'dependency=kit', '--extern', 'core=kit/rlibs/core.rlib', '--lib',
+              'lower:core,std=lower/src/lib.rt', '--statements', '-o', 'upper/rlib/upper.rlib']
+    faults = [made] * (not made.startswith('upper') or passed != wanted)
+    rows.say('rt_once, a library that is read from its source', faults)
+
+
+ROWS = (libraries, failures, sources)

@@ -1,0 +1,58 @@
+"""Which edits are tried in one check. What a check loads before its first proof takes as long as ten
+edits, so those of several crates share one."""
+from crate_order import with_those_below
+from rooms import is_program
+
+# So many edits are tried in one check at most, but for more of its last function: with more,
+# processors are idle in the end.
+MOST_EDITS = 100
+
+
+def parts_of(places):
+    """The edits that are tried in one check each: as many in each, but those of a function stay
+    together."""
+    parts, count = [], -(-len(places) // MOST_EDITS)
+    for edit, (file, function) in sorted(places.items(), key=lambda it: (it[1][0], it[1][1].first)):
+        was = parts and list(parts[-1].values())[-1]
+        is_same = was and (was[0], was[1].first) == (file, function.first)
+        if not is_same and (not parts or len(parts[-1]) * count >= len(places)):
+            parts.append({})
+        parts[-1][edit] = file, function
+    return parts
+
+
+def joins(group, name, crates):
+    """Whether a crate can be tried in one check with those of a group: the check reads the sources
+    of all of these, so none that is built may lie between them."""
+    between = {it for it in with_those_below([name], crates)
+               if not set(group).isdisjoint(with_those_below([it], crates))}
+    return between <= {name, *group}
+
+
+def groups_of(places, crates):
+    """The crates whose edits are tried in one check each. A program's are tried by themselves."""
+    groups = []
+    for name in (it for it in with_those_below(places, crates) if places.get(it)):
+        fit = (it for it in groups if not is_program(name) and not is_program(it[0])
+               and sum(len(places[other]) for other in [name, *it]) <= MOST_EDITS
+               and joins(it, name, crates))
+        group = next(fit, None)
+        if group:
+            group.append(name)
+        else:
+            groups.append([name])
+    return groups
+
+
+def checks_of(places, crates):
+    """The edits, by their crates, that are tried in one check each, those that take long first: a
+    check takes the longer the more it loads, and each body is proved."""
+    checks = []
+    for name, *others in groups_of(places, crates):
+        checks += ([{it: places[it] for it in (name, *others)}] if others
+                   else [{name: it} for it in parts_of(places[name])])
+
+    def weight(check):
+        return sum(len(ours) * len(with_those_below([it], crates)) for it, ours in check.items())
+
+    return sorted(checks, key=weight, reverse=True)
