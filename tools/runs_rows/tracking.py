@@ -13,6 +13,21 @@ def counts(runs):
     see(runs, 'tracked counts', signal, samples, TRACK + '0 counts 0 300\n', lines)
 
 
+def steps(runs):
+    """The state at each dump has the shift and the correction of the segment that begins with it.
+    From dump 200 on they come by another law, and dump 219 is the first that brings a lock."""
+    signal = Signal()
+    samples, times = signal.samples(600000), []
+    reference = Reference(signal, samples)
+    while reference.dump(600000):
+        times.append(reference.time)
+    runs.tell('the dumps of a tracked slot', 230 <= len(times), len(times))
+    commands = [(0, 'ok'), (0, 'ok'), *((time, None) for time in times), (600000, 'end')]
+    script = f'{TRACK}0 counts 0 300\n' + ''.join(f'{time} state 0\n' for time in times)
+    see(runs, 'the steps of a tracked slot', signal, samples, script,
+        Reference(signal, samples, 300).follow(commands))
+
+
 def segment_of_one_sample(runs):
     """The first segment begins half a chip before the end of the code and has one sample. The
     carrier's pair there is 2 and 1, and the value is 3 times the chip's sign: so the prompt and the
@@ -71,4 +86,4 @@ def refused_track(runs):
     see(runs, 'a refused track changes nothing', signal, samples, script, lines)
 
 
-ROWS = counts, segment_of_one_sample, states, lost, refused_track
+ROWS = counts, steps, segment_of_one_sample, states, lost, refused_track

@@ -8,13 +8,12 @@ ghost use Rattle.channels.specs.Windows.{first_of, end_of};
 mod locks;
 mod next_dumps;
 mod searching;
-mod tracking;
 mod windows;
 
 use crate::asserted::{assert_same, assert_that};
 use acquisition::Signal;
 use ca_codes::{CodeBook, Prn};
-use channels::{Followed, Window};
+use channels::{Dump, Followed, Window};
 use lane_correlator::Counts;
 use made_signals::RECORDING;
 use oscillators::{Doppler, HalfChip, Settings};
@@ -132,83 +131,39 @@ fn assert_stands(rt: &impl Abort, held: &Followed, dumps: u64, next_dump: u64)
     assert_that(rt, held.dumps() == dumps);
 }
 
-/// The counts of the first segment, which ends with sample 1,345, and of the second, which ends
-/// with sample 3,391.
-fn first_and_second() -> [Option<Counts>; 2] {
-    [
-        Some(sums([-354, -50, -704, -12, -432, -42])),
-        Some(sums([-623, -73, -1_079, 11, -483, 143])),
-    ]
+/// The counts of the first segment, which ends with sample 1,345.
+fn first_counts() -> Counts {
+    sums([-354, -50, -704, -12, -432, -42])
 }
 
 // The first segment begins at half chip 700 and ends with sample 1,345; it takes two runs of 1,000
-// samples at most. The second is the next 2,046 samples, in three. So is the third, of which the
-// code's shift makes none shorter yet.
+// samples at most. The second is the next 2,046 samples. The dump of a window is zero before the
+// first, and stays until the next one comes.
 #[test]
 fn first_counts_of_a_recording(rt: HostRuntime) {
     let rt = &rt;
-    let [first, second] = first_and_second();
     let mut held = held(rt);
     let mut window = new_window(rt, Format::Real1);
     assert_same(rt, held.prn().get(), 5);
     assert_stands(rt, &held, 0, 1_346);
     open_to(rt, &mut window, &RECORDING, 1_000);
     assert_next(rt, &mut held, &mut window, 1_000, (1_000, None));
+    assert_same(rt, *window.dump(), Dump::plain(Counts::NONE));
     window.close();
     open_to(rt, &mut window, &RECORDING, 2_000);
-    assert_next(rt, &mut held, &mut window, 2_000, (1_346, first));
-    assert_stands(rt, &held, 1, 3_392);
-    assert_next(rt, &mut held, &mut window, 2_000, (2_000, None));
-    window.close();
-    open_to(rt, &mut window, &RECORDING, 3_000);
-    assert_next(rt, &mut held, &mut window, 3_000, (3_000, None));
-    window.close();
-    open_to(rt, &mut window, &RECORDING, 4_000);
-    assert_next(rt, &mut held, &mut window, 4_000, (3_392, second));
-    assert_stands(rt, &held, 2, 5_438);
+    assert_first_dump(rt, &mut held, &mut window);
 }
 
-// The same dumps where samples wait: as many as are open, from wherever a window begins, and never
-// the one that ends a segment, which is sample 1,345 and then sample 3,391.
-#[test]
-fn samples_wait(rt: HostRuntime) {
-    let rt = &rt;
-    let [first, second] = first_and_second();
-    let mut held = held(rt);
-    let mut window = new_window(rt, Format::Real1);
-    open_to(rt, &mut window, &RECORDING, 512);
-    open_to(rt, &mut window, &RECORDING, 1_024);
-    assert_next(rt, &mut held, &mut window, 1_024, (1_024, None));
+/// Asserts that the first dump comes with sample 1,345 of the 2,000 so far, and stays the window's
+/// after the others too.
+fn assert_first_dump(rt: &impl Abort, held: &mut Followed, window: &mut Window)
+    requires begun { at_of held.old ≤ 1346 }
+    requires open { first_of window.old ≤ at_of held.old }
+{
+    let first = first_counts();
+    assert_next(rt, held, window, 2_000, (1_346, Some(first)));
+    assert_stands(rt, held, 1, 3_392);
+    assert_next(rt, held, window, 2_000, (2_000, None));
     window.close();
-    open_to(rt, &mut window, &RECORDING, 1_858);
-    assert_next(rt, &mut held, &mut window, 1_858, (1_346, first));
-    open_to(rt, &mut window, &RECORDING, 2_048);
-    assert_next(rt, &mut held, &mut window, 2_048, (2_048, None));
-    window.close();
-    open_to(rt, &mut window, &RECORDING, 3_072);
-    assert_next(rt, &mut held, &mut window, 3_072, (3_072, None));
-    window.close();
-    open_to(rt, &mut window, &RECORDING, 3_392);
-    assert_next(rt, &mut held, &mut window, 3_392, (3_392, second));
-}
-
-// A dump comes with the last sample of its segment and not before, also where nothing waits.
-#[test]
-fn the_last_sample_of_a_segment_does_not_wait(rt: HostRuntime) {
-    let rt = &rt;
-    let [first, _] = first_and_second();
-    let mut held = held(rt);
-    let mut window = new_window(rt, Format::Real1);
-    open_to(rt, &mut window, &RECORDING, 1_000);
-    assert_next(rt, &mut held, &mut window, 1_000, (1_000, None));
-    assert_next(rt, &mut held, &mut window, 1_000, (1_000, None));
-    window.close();
-    open_to(rt, &mut window, &RECORDING, 1_346);
-    assert_next(rt, &mut held, &mut window, 1_345, (1_345, None));
-    assert_stands(rt, &held, 0, 1_346);
-    assert_next(rt, &mut held, &mut window, 1_345, (1_345, None));
-    assert_next(rt, &mut held, &mut window, 1_346, (1_346, first));
-    assert_stands(rt, &held, 1, 3_392);
-    assert_next(rt, &mut held, &mut window, 1_346, (1_346, None));
-    assert_stands(rt, &held, 1, 3_392);
+    assert_same(rt, *window.dump(), Dump::plain(first));
 }

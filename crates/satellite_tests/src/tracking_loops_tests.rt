@@ -1,25 +1,20 @@
 //! Loops over dumps worked out by hand, and the ends of the lock.
 
-ghost use Rattle.std.specs.Prelude.{◌≡◌, pos};
+ghost use Rattle.lane_correlator.specs.Counting.{AreWithin, counts_in};
+ghost use Rattle.tracking_loops.specs.declared.limits.TheConstants.{MOST_SUM};
 
 use crate::asserted::{assert_same, assert_same_at, assert_that};
 use lane_correlator::Counts;
 use std::process::Abort;
 use tracking_loops::{Loops, News};
 
-fn prompt(ip: i32, qp: i32) -> Counts
-    ensures ip { result.ip ≡ ip }
-    ensures qp { result.qp ≡ qp }
-    ensures others { (result.ie ≡ pos 0) × (result.qe ≡ pos 0) × (result.il ≡ pos 0)
-        × (result.ql ≡ pos 0) }
+fn prompt(ip: i8, qp: i8) -> Counts
+    ensures { AreWithin MOST_SUM (counts_in result) }
 {
     Counts {
-        ie: 0,
-        qe: 0,
-        ip,
-        qp,
-        il: 0,
-        ql: 0,
+        ip: ip.into(),
+        qp: qp.into(),
+        ..Counts::NONE
     }
 }
 
@@ -56,11 +51,6 @@ fn assert_stand(rt: &impl Abort, loops: &Loops, expected: (i64, i64, u64)) {
     assert_same(rt, (loops.v(), loops.w(), loops.dumps()), expected);
 }
 
-/// Asserts the news of a dump, and whether the loops are locked after it.
-fn assert_news(rt: &impl Abort, loops: &Loops, dump: u64, news: News, expected: (News, bool)) {
-    assert_same_at(rt, dump, (news, loops.locked()), expected);
-}
-
 /// Asserts the shift.
 fn assert_shift(rt: &impl Abort, loops: &Loops, expected: i64) {
     assert_same(rt, loops.v(), expected);
@@ -76,64 +66,74 @@ fn held_shift(dump: u64) -> i64 {
     }
 }
 
-// Windows that are all bad: 50 of them end with dump 199 + 50 * 20.
 #[test]
-fn loop_steps_never_locked(rt: HostRuntime) {
+fn shift_from_dump_200_on(rt: HostRuntime) {
     let rt = &rt;
     let mut loops = Loops::start(0);
-    for dump in 1..1200u64 {
-        assert_that(rt, loops.dumps() < 1200);
-        let news = loops.take(prompt(1, 1));
-        let expected = match dump {
-            1199 => News::Lost,
-            _ => News::Nothing,
-        };
-        assert_news(rt, &loops, dump, news, (expected, false));
-        if dump <= 201 {
-            assert_shift(rt, &loops, held_shift(dump));
-        }
+    for dump in 1..202u64 {
+        assert_that(rt, loops.dumps() < 202);
+        let _ = loops.take(prompt(1, 1));
+        assert_shift(rt, &loops, held_shift(dump));
     }
 }
 
-// One good window, and then bad ones: ten end with dump 219 + 10 * 20, and fifty with dump
-// 219 + 50 * 20.
-#[test]
-fn loop_steps_locked_once(rt: HostRuntime) {
-    let mut loops = Loops::start(0);
-    for dump in 1..1220u64 {
-        assert_that(&rt, loops.dumps() < 1220);
-        let news = loops.take(if dump < 220 {
-            prompt(2, 1)
-        } else {
-            prompt(1, 1)
-        });
-        let expected = match dump {
-            219 => News::Lock,
-            419 => News::Unlock,
-            1219 => News::Lost,
-            _ => News::Nothing,
-        };
-        let is_locked = dump >= 219 && dump < 419;
-        assert_news(&rt, &loops, dump, news, (expected, is_locked));
+/// The first and the last dumps of two stretches whose windows are good; whether their prompt sums
+/// are zero, or 2 and 1; up to which dump others are bad; and which dumps bring the lock, its end
+/// and the loss. A dump 0 doesn't come.
+type Course = ([u64; 4], bool, u64, [u64; 3]);
+
+static COURSES: [Course; 3] = [
+    // All windows are bad: 50 of them end with dump 199 + 50 * 20.
+    ([0; 4], false, 1_199, [0, 0, 1_199]),
+    // One is good, and then all are bad: ten end with dump 219 + 10 * 20, and fifty with dump
+    // 219 + 50 * 20.
+    ([1, 219, 0, 0], false, 1_219, [219, 419, 1_219]),
+    // A good one after nine bad ones begins the run anew, so that the lock ends ten windows after
+    // it: 219 + (9 + 1 + 10) * 20. A window of zeros is good.
+    ([1, 219, 400, 419], true, 639, [219, 619, 0]),
+];
+
+/// The sums of a dump.
+fn sums_at(dump: u64, good: [u64; 4], is_zero: bool) -> Counts
+    ensures { AreWithin MOST_SUM (counts_in result) }
+{
+    let is_good = good[0] <= dump && dump <= good[1] || good[2] <= dump && dump <= good[3];
+    match (is_good, is_zero) {
+        (false, _) => prompt(1, 1),
+        (true, false) => prompt(2, 1),
+        (true, true) => prompt(0, 0),
     }
 }
 
-// A good window after nine bad ones begins the run anew, so that the lock ends ten windows after
-// it: 219 + (9 + 1 + 10) * 20. A window of zeros is good.
+/// The news of a dump, and whether the loops are locked after it.
+fn lock_at(dump: u64, told: [u64; 3]) -> (News, bool) {
+    let is_locked = told[0] <= dump && dump < told[1];
+    let news = if dump == told[0] {
+        News::Lock
+    } else if dump == told[1] {
+        News::Unlock
+    } else if dump == told[2] {
+        News::Lost
+    } else {
+        News::Nothing
+    };
+    (news, is_locked)
+}
+
 #[test]
-fn good_window_ends_the_run(rt: HostRuntime) {
+fn windows_begin_and_end_the_lock(rt: HostRuntime) {
+    for &(good, is_zero, last, told) in &COURSES {
+        follow(&rt, good, is_zero, last, told);
+    }
+}
+
+/// Asserts the news of each dump, and whether the loops are locked after it.
+fn follow(rt: &impl Abort, good: [u64; 4], is_zero: bool, last: u64, told: [u64; 3]) {
     let mut loops = Loops::start(0);
-    for dump in 1..640u64 {
-        assert_that(&rt, loops.dumps() < 640);
-        let is_good = dump < 220 || dump >= 400 && dump < 420;
-        let news = loops.take(if is_good { prompt(0, 0) } else { prompt(1, 1) });
-        let expected = match dump {
-            219 => News::Lock,
-            619 => News::Unlock,
-            _ => News::Nothing,
-        };
-        let is_locked = dump >= 219 && dump < 619;
-        assert_news(&rt, &loops, dump, news, (expected, is_locked));
+    for dump in 1..=last {
+        assert_that(rt, loops.dumps() < 1_220);
+        let news = loops.take(sums_at(dump, good, is_zero));
+        assert_same_at(rt, dump, (news, loops.locked()), lock_at(dump, told));
     }
 }
 
