@@ -7,6 +7,7 @@ from threading import Thread
 from typing import IO, Callable, Optional
 
 from seldomplough import files
+from seldomplough.endings import held
 from seldomplough.failures import of_system
 
 Feed = Callable[[IO[bytes]], None]
@@ -69,8 +70,11 @@ class Feeder:
 
     def begin(self, sink: IO[bytes]) -> None:
         """Begins to write."""
-        self.thread = Thread(target=self._write, args=(sink,), daemon=True)
-        self.thread.start()
+        thread = Thread(target=self._write, args=(sink,), daemon=True)
+        # One that a signal leaves half begun can't be waited for.
+        with held():
+            thread.start()
+            self.thread = thread
 
     def _write(self, sink: IO[bytes]) -> None:
         try:

@@ -2,6 +2,7 @@
 
 from __future__ import annotations
 
+import io
 import os
 import signal
 import threading
@@ -11,6 +12,7 @@ from typing import Iterator, List, Optional
 import pytest
 
 from seldomplough.endings import ENDING, held
+from seldomplough.feeds import Feeder
 
 
 class Came(Exception):
@@ -80,3 +82,19 @@ def test_in_another_thread_nothing_waits() -> None:
     thread.start()
     thread.join()
     assert found == [take]
+
+
+def test_a_feed_is_begun_before_a_signal_is_taken(monkeypatch: pytest.MonkeyPatch) -> None:
+    """One that is half begun has nothing that can be waited for."""
+    start = threading.Thread.start
+
+    def interrupted(thread: threading.Thread) -> None:
+        os.kill(os.getpid(), signal.SIGTERM)
+        start(thread)
+
+    monkeypatch.setattr(threading.Thread, 'start', interrupted)
+    feeder, sink = Feeder(lambda sink: None), io.BytesIO()
+    with pytest.raises(Came):
+        feeder.begin(sink)
+    feeder.end()
+    assert sink.closed
