@@ -1,6 +1,5 @@
 """A satellite that is tracked from the first sample on, by the plain formulas, and the lines of a
-client that tracks it in slot 0. It shares nothing with the receiver. The crate `made_signals` has a
-tracker once more, as it has the signal, for tests that are proved."""
+client that tracks it in slot 0. It shares nothing with the receiver."""
 from operator import mul
 
 from seldomplough.codes import chips

@@ -1,6 +1,6 @@
 """A satellite that is tracked, beside the plain tracker."""
 from .made_signal import Signal
-from .signals import TRACK, see
+from .signals import PIECE, TRACK, options_of, see
 from .tracker import Reference
 
 
@@ -26,6 +26,18 @@ def steps(runs):
     script = f'{TRACK}0 counts 0 300\n' + ''.join(f'{time} state 0\n' for time in times)
     see(runs, 'the steps of a tracked slot', signal, samples, script,
         Reference(signal, samples, 300).follow(commands))
+
+
+def known_dump(runs):
+    """The sums and the steps of the last of 800 dumps come from a program in another language,
+    apart from this project."""
+    signal = Signal()
+    came = b''.join(runs.written([f'{TRACK}0 counts 0 800\n2000000 state 0\n'],
+                                 signal.samples(2000000), options_of(signal), PIECE))
+    is_right = came.endswith(b'\n1 1999877 count 0 -4784 128 -8734 4 -4616 -152\n'
+                             b'1 2000000 state 0 track 7 800 65535776 2320 bits\n'
+                             b'1 2000000 end\n') and came.count(b' count ') == 800
+    runs.tell('the last of 800 dumps', is_right, came[-200:])
 
 
 def segment_of_one_sample(runs):
@@ -56,6 +68,13 @@ def states(runs):
         Reference(signal, samples).follow(steps))
 
 
+# When the news of a signal come that noise hides, and how many dumps it has by then: these come
+# from a program in another language, apart from this project.
+HIDDEN = ((547378, 'lock'), (1297377, 'unlock'), (1447377, 'lock'), (2697377, 'unlock'),
+          (4697375, 'lost'))
+HIDDEN_DUMPS = 1879
+
+
 def lost(runs):
     """Noise hides the signal for 260 milliseconds, and later for good."""
     signal = Signal()
@@ -63,8 +82,11 @@ def lost(runs):
     reference = Reference(signal, samples)
     lines = reference.follow([(0, 'ok'), (4700000, 'state 0 idle'), (4700000, 'err 10'),
                               (4700000, 'ok'), (4700000, 'end')])
-    is_right = reference.news == ['lock', 'unlock', 'lock', 'unlock', 'lost']
-    runs.tell('the plain tracker over a hidden signal', is_right, reference.news)
+    ends = tuple(f' {news} 0' for _, news in HIDDEN)
+    told = [line for line in lines.split('\n') if line.endswith(ends)]
+    is_right = (told == [f'1 {time} {news} 0' for time, news in HIDDEN]
+                and reference.loops.dumps == HIDDEN_DUMPS)
+    runs.tell('the plain tracker over a hidden signal', is_right, (told, reference.loops.dumps))
     see(runs, 'a hidden signal is lost', signal, samples,
         f'{TRACK}4700000 state 0\n4700000 stop 0\n4700000 {TRACK[2:]}', lines)
 
@@ -86,4 +108,4 @@ def refused_track(runs):
     see(runs, 'a refused track changes nothing', signal, samples, script, lines)
 
 
-ROWS = counts, steps, segment_of_one_sample, states, lost, refused_track
+ROWS = counts, steps, known_dump, segment_of_one_sample, states, lost, refused_track

@@ -1,34 +1,26 @@
-//! Signals for tests: the signal of one satellite, made sample by sample from its formula, and a
-//! plain reference of how it is tracked. Only tests use this crate.
+//! Signals for tests: the signal of one satellite, made sample by sample from its formula. Only
+//! tests use this crate.
 //!
 //! It is written from the formulas alone and calls no other crate, so that a test compares two
 //! things that were written apart. It is proved to be safe and to end, that values are at most 3 in
 //! size and that `fill` stays in its buffer, and no more: that the signals are those of their
 //! formulas is only tested, in the crate `signal_tests`, for which some of its parts are public.
 //!
-//!     use made_signals::{MadeSignal, PlainTracker, SampleStream};
+//!     use made_signals::{MadeSignal, SampleStream};
 //!
-//!     let signal = MadeSignal::with_tail(&[]);
-//!     let mut stream = SampleStream::new(signal, 10_000);
-//!     let mut tracker = PlainTracker::follow(&signal);
+//!     let mut stream = SampleStream::new(MadeSignal::with_tail(&[]), 10_000);
 //!     while let Some(value) = stream.next_value() {
-//!         let dump = tracker.take(value);
+//!         // The next sample: -3, -1, 1 or 3.
 //!     }
 #![tactic(auto)]
 
 pub mod chip_signs;
-pub mod lock;
-pub mod loops;
-mod news;
 pub mod noise;
 mod recording;
 mod signal;
 mod steps;
 mod stream;
-mod tracker;
 
-pub use news::PlainNews;
 pub use recording::{RECORDING, code_file, long_code_file};
 pub use signal::MadeSignal;
 pub use stream::SampleStream;
-pub use tracker::{PlainDump, PlainTracker};

@@ -3,8 +3,6 @@
 
 const COSINES: [i32; 8] = [2, 1, -1, -2, -2, -1, 1, 2];
 
-const SINES: [i32; 8] = [1, 2, 2, 1, -1, -2, -2, -1];
-
 /// The carrier's step in 2^-32 cycle, at a Doppler shift of v / 65536 Hz.
 pub fn carrier_step(rate: u32, offset: i64, v: i64) -> u64 {
     let shift = offset.wrapping_mul(65_536).wrapping_add(v);
@@ -27,9 +25,4 @@ fn quotient(a: i64, rate: u32) -> u64 {
 /// The cosine at a phase of the carrier in 2^-32 cycle, of which only the lower 32 bits count.
 pub fn cosine(phase: u64) -> i32 {
     COSINES[(phase % (1 << 32) / (1 << 29)) as usize]
-}
-
-/// The sine there.
-pub fn sine(phase: u64) -> i32 {
-    SINES[(phase % (1 << 32) / (1 << 29)) as usize]
 }

@@ -27,7 +27,7 @@ fn public_types_are_of_threads() {
         devices: DeviceFault, Plain<u8>;
         frame_sync: Found, FrameSync, Subframe;
         lane_correlator: Counts, Products;
-        made_signals: MadeSignal, PlainDump, PlainNews, PlainTracker, SampleStream;
+        made_signals: MadeSignal, SampleStream;
         nav_message: Message, MessageNews;
         oscillators: CarrierOsc, CarrierPlanes, CarrierWords, ChipLanes;
         oscillators: CodeOsc, CodePlanes, CodeWords;
