@@ -82,3 +82,16 @@ class Runs:
             is_right = came == text
             self.tell(f'{name}, {piece} bytes a read', is_right,
                       is_right or difference(came, text))
+
+    def see_cut(self, name, scripts, samples, lines, *options, steps):
+        """Sees that runs write these lines wherever their samples are cut, of one bit each. One
+        more client asks for a state after each so many samples, and its lines are left out."""
+        stranger = b'%d ' % (len(scripts) + 1)
+        text = lines.encode()
+        for step in steps:
+            times = range(step, 8 * len(samples), step)
+            cuts = ''.join(f'{time} state 0\n' for time in times)
+            written = b''.join(self.written([*scripts, cuts], samples, options)).splitlines(True)
+            came = b''.join(line for line in written if not line.startswith(stranger))
+            is_right = came == text and len(written) == text.count(b'\n') + len(times) + 1
+            self.tell(f'{name}, cut after each {step} samples', is_right, difference(came, text))

@@ -55,6 +55,24 @@ def slots_of_each_share(runs):
              '1 0 state 7 idle\n2 0 err 8\n1 0 end\n2 0 end\n', '--shares', '81')
 
 
+def last_slot_of_each_share(runs):
+    """Each kind of command goes to a client's last slot, and is refused for the next one, and for
+    one below 0. What was begun is seen by the state: at 0 Hz the loops begin with 0, and a search
+    of one bin has 2,046 cells."""
+    for share, command, answer, shown in (
+            (1, 'state {}', 'state 0 idle', 'idle'),
+            (2, 'hold {} 3 0 0', 'ok', 'hold 3 0'),
+            (3, 'track {} 3 0 0', 'ok', 'track 3 0 0 0 open'),
+            (5, 'acquire {} 3 0 0 1 20', 'ok', 'acquire 3 0 2046'),
+            (7, 'counts {} 1', 'err 10', 'idle'),
+            (8, 'stop {}', 'err 10', 'idle')):
+        last = share - 1
+        script = ''.join(f'0 {command.format(slot)}\n' for slot in (last, share, -1))
+        runs.see(f'{command} and a share of {share}', [f'{script}0 state {last}\n'], b'',
+                 f'1 0 {answer}\n1 0 err 8\n1 0 err 8\n1 0 state {last} {shown}\n1 0 end\n',
+                 '--shares', str(share))
+
+
 def sixty_four_searches(runs):
     """With samples that are all 1 each cell's sums are 2 and -1 times two samples for each chip, of
     which all chips of satellite 1 add up to -1. So all powers are 20, and none of them reaches a
@@ -67,6 +85,33 @@ def sixty_four_searches(runs):
              ''.join(f'{client} 10230 acq {slot} 1 none 0 0 20\n'
                      for client in numbers for slot in slots) +
              ''.join(f'{client} 10232 end\n' for client in numbers), '--shares', '88888888')
+
+
+def search_among_strangers(runs):
+    """Client 1's slot 0 searches over ten periods and 81 bins, from time 0 on. Whatever 31 other
+    slots search for, its dwell ends at 20,460, and one cell is done with the fourth sample after
+    it. Slot s of client k begins at 4 (k - 1) + s with one period and one bin, so it is due 10,230
+    samples later, and all cells are equal, as those above. At 10,000 the dwells of the second and
+    of the last slot, which ended at 2,047 and at 2,077, have a cell for each four samples since."""
+    asked = [(4 * client + slot, client, slot) for client in range(8) for slot in range(4)][1:]
+    scripts = [''.join(f'{time} acquire {slot} 1 0 0 1 1000\n' for time, of, slot in asked
+                       if of == client) for client in range(8)]
+    scripts[0] = '0 state 0\n0 acquire 0 1 0 40 10 1000\n' + scripts[0]
+    scripts[0] += '10000 state 0\n10000 state 1\n20463 state 0\n20464 state 0\n'
+    scripts[7] += '31 state 3\n10000 state 3\n20463 state 3\n'
+    runs.see('a search among strangers', scripts, bytes(2559),
+             '1 0 state 0 idle\n1 0 ok\n' +
+             ''.join(f'{client + 1} {time} ok\n' for time, client, _ in asked) +
+             '8 31 state 3 acquire 1 0 2046\n'
+             '1 10000 state 0 acquire 1 0 165726\n'
+             '1 10000 state 1 acquire 1 1988 2046\n'
+             '8 10000 state 3 acquire 1 1980 2046\n' +
+             ''.join(f'{client + 1} {time + 10230} acq {slot} 1 none 0 0 20\n'
+                     for time, client, slot in asked) +
+             '1 20463 state 0 acquire 1 0 165726\n'
+             '8 20463 state 3 idle\n'
+             '1 20464 state 0 acquire 1 1 165726\n' +
+             ''.join(f'{client} 20472 end\n' for client in range(1, 9)), pieces=(128, 2559))
 
 
 def share_of_eight_beside_others(runs):
@@ -117,4 +162,5 @@ def first_dumps(runs):
 
 
 ROWS = (two_clients_bytewise, strangers_errors, same_time_order, slots_of_each_share,
-        sixty_four_searches, share_of_eight_beside_others, four_slots_each, first_dumps)
+        last_slot_of_each_share, sixty_four_searches, search_among_strangers,
+        share_of_eight_beside_others, four_slots_each, first_dumps)

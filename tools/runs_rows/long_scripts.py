@@ -1,5 +1,8 @@
 """Long scripts: as many bytes as the program takes, a million commands at one time, and a command
 at every sample."""
+import itertools
+from collections import Counter
+
 from .made_signal import code_file
 
 
@@ -38,4 +41,29 @@ def full_buffer(runs):
     runs.tell('writes of a full buffer', lengths == [16371, 16371, 16371, 16371, 2516, 8], lengths)
 
 
-ROWS = full_buffer, most_bytes, a_million_commands_at_one_time, a_command_at_every_sample
+def shifted():
+    """The values of a register of 16 bits, whose low bytes take on every value."""
+    register = 0xace1
+    while True:
+        register = register >> 1 ^ (0xb400 if register & 1 else 0)
+        yield register & 255
+
+
+def any_bytes(runs):
+    """Ten thousand runs of 0 to 96 bytes of every value, each followed by a line feed. How often
+    each refusal comes was counted by a few lines of Python, written from the rules alone. The last
+    line that has a time reads `9`."""
+    values = shifted()
+    script = b''.join(bytes(itertools.islice(values, run % 97)) + b'\n' for run in range(10000))
+    seen = len(script), len(set(script))
+    runs.tell('bytes of every value', seen == (489604, 256), seen)
+    came = b''.join(runs.written([script.decode('latin-1')], bytes(2))).decode().splitlines()
+    times = [int(line.split()[1]) for line in came[:-1]]
+    ends = sorted(times) == times and times[-1] == 9 and came[-1] == '1 16 end'
+    runs.tell('any bytes end', ends, came[-2:])
+    refusals = Counter(' '.join(line.split()[2:]) for line in came[:-1] if ' err ' in line)
+    wanted = {'err 1': 1222, 'err 2': 10436, 'err 3': 43, 'err 4': 3, 'err 5': 2}
+    runs.tell('refusals of any bytes', refusals == wanted, refusals)
+
+
+ROWS = any_bytes, full_buffer, most_bytes, a_million_commands_at_one_time, a_command_at_every_sample

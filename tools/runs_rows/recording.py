@@ -1,6 +1,9 @@
 """Eight clients with all their slots over the beginning of a recording, beside eight runs with one
-client each."""
+client each; and two slots, in runs of many lengths."""
 import os
+
+from .made_signal import Signal
+from .tracker import Reference
 
 # The folder of the examples. The recording is of three satellites in noise.
 EXAMPLES = os.path.join(os.path.dirname(os.path.realpath(__file__)), '..', '..', 'examples')
@@ -73,6 +76,16 @@ FIRST_LINES = (
     '9600 end\n')
 
 
+# After how many samples another client cuts runs.
+STEPS = 1, 7, 64, 513, 1000, 1024
+
+
+def recorded(size):
+    """So many bytes of the recording."""
+    with open(os.path.join(EXAMPLES, 'three_satellites.real1'), 'rb') as file:
+        return file.read(size)
+
+
 def lines_of(text, client):
     """The lines of a client, without its number."""
     lines = (line.split(b' ', 1) for line in text.splitlines(True))
@@ -82,8 +95,7 @@ def lines_of(text, client):
 def clients_do_not_touch_each_other(runs):
     """Four holds and four counts of each client, its dumps, and its end. They are written before
     the two reads and at the end."""
-    with open(os.path.join(EXAMPLES, 'three_satellites.real1'), 'rb') as file:
-        samples = file.read(1200)
+    samples = recorded(1200)
     writes = runs.written(SCRIPTS, samples, OPTIONS)
     together = b''.join(writes)
     first = lines_of(together, 1)
@@ -96,4 +108,56 @@ def clients_do_not_touch_each_other(runs):
         runs.tell(f'client {number} alone', is_same and alone.count(b'\n') == dumps + 9, alone)
 
 
-ROWS = (clients_do_not_touch_each_other,)
+def two_slots_hold_alike(runs):
+    """Slots of two clients that hold the same satellite have its dumps together, the first client's
+    first, also where most runs bring nothing, so that their samples wait. The sums are those of the
+    first client above."""
+    scripts = [f'0 hold {slot} 5 1250 700\n0 counts {slot} 2\n' for slot in (0, 1)]
+    counts = [line.split(' count 0 ') for line in FIRST_LINES.splitlines() if ' count 0 ' in line]
+    lines = ''.join(f'{client} {time} count {client - 1} {sums}\n' for time, sums in counts[:2]
+                    for client in (1, 2))
+    runs.see_cut('two slots that hold alike', scripts, recorded(500),
+                 f'1 0 ok\n1 0 ok\n2 0 ok\n2 0 ok\n{lines}1 4000 end\n2 4000 end\n',
+                 *OPTIONS, '--shares', '121', steps=STEPS)
+
+
+def first_dump(first):
+    """When a hold of satellite 5 that begins at a sample has its first dump, and its sums, by the
+    plain tracker: a first dump is that of a hold. Each sample takes two bits there, which are its
+    sign and a size of 1."""
+    values = ''.join(f'{byte:08b}' for byte in recorded(500))[first:]
+    two_bit = int(''.join(bit + '0' for bit in values), 2).to_bytes(len(values) // 4, 'big')
+    reference = Reference(Signal(rate=2046000, offset=511500, satellite=5, doppler=1250,
+                                 half_chip=700), two_bit, 1)
+    reference.dump(4000)
+    _, time, _, _, sums = reference.lines[0].split(' ', 4)
+    return f'1 {int(time) + first} count {{}} {sums}\n'
+
+
+def slots_begin_while_samples_wait(runs):
+    """A slot begins with the sample after those so far, also where these wait for others. Slot 0
+    holds from sample 0 on, and is asked for its state while samples wait. Slot 1 begins at sample
+    500, stops at 600, and begins again at 700. Either has its first dump 1,346 samples after it
+    began, and the next one 2,046 later."""
+    begin = '{0} hold {1} 5 1250 700\n{0} counts {1} 9\n'
+    script = (begin.format(0, 0) + begin.format(500, 1) + '600 state 0\n600 stop 1\n' +
+              begin.format(700, 1) + '2045 state 0\n2045 state 1\n2046 state 1\n'
+              '4000 state 0\n4000 state 1\n')
+    second = next(line for line in FIRST_LINES.splitlines() if line.startswith('3392 '))
+    runs.tell('the first dump by the plain tracker', first_dump(0).format(0)[2:] in FIRST_LINES,
+              first_dump(0))
+    runs.see_cut('slots that begin while samples wait', [script], recorded(500),
+                 '1 0 ok\n1 0 ok\n'
+                 '1 500 ok\n1 500 ok\n'
+                 '1 600 state 0 hold 5 0\n1 600 ok\n'
+                 '1 700 ok\n1 700 ok\n'
+                 f'{first_dump(0).format(0)}'
+                 '1 2045 state 0 hold 5 1\n1 2045 state 1 hold 5 0\n'
+                 f'{first_dump(700).format(1)}'
+                 '1 2046 state 1 hold 5 1\n'
+                 f'1 {second}\n'
+                 '1 4000 state 0 hold 5 2\n1 4000 state 1 hold 5 1\n'
+                 '1 4000 end\n', *OPTIONS, steps=STEPS)
+
+
+ROWS = clients_do_not_touch_each_other, two_slots_hold_alike, slots_begin_while_samples_wait

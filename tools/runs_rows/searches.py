@@ -16,6 +16,8 @@ def code_is_found(runs):
                         (DUE_BYTES - 1, '1 2 ok\n1 10224 end\n')):
         runs.see(f'a search over {size} bytes', [script], LONG_FILE[:size], lines,
                  pieces=(1, 3, 128, 2000))
+    runs.see_cut('a search', [script], LONG_FILE[:DUE_BYTES],
+                 '1 2 ok\n1 10232 acq 0 1 found 0 2 20930580\n1 10232 end\n', steps=(1, 3))
 
 
 def equal_cells(runs):
@@ -101,12 +103,47 @@ def state_at_the_due_time(runs):
 
 def cells_come_with_samples(runs):
     """The dwell ends at 2,046, and one cell is done with every four samples after it."""
-    cells = ((0, 0), (2045, 0), (2049, 0), (2050, 1), (2053, 1), (2054, 2), (6137, 1022),
-             (6138, 1023), (10225, 2044), (10226, 2045), (10229, 2045))
+    cells = ((0, 0), (1, 0), (2045, 0), (2046, 0), (2049, 0), (2050, 1), (2053, 1), (2054, 2),
+             (6137, 1022), (6138, 1023), (10225, 2044), (10226, 2045), (10229, 2045))
     states = ''.join(f'{time} state 0\n' for time, _ in cells)
     lines = ''.join(f'1 {time} state 0 acquire 1 {done} 2046\n' for time, done in cells)
     runs.see('cells come with samples', [f'0 acquire 0 1 0 0 1 10\n{states}10229 stop 0\n'],
              LONG_FILE[:DUE_BYTES], f'1 0 ok\n{lines}1 10229 ok\n1 10232 end\n', pieces=(125,))
+
+
+def code_goes_on(runs):
+    """The code begins with the search, so it is found at half chip 0, where all products are 1. It
+    is tracked from the answer on, and begins again there: its first dump comes 2,046 samples
+    later. The neighbouring chips' products add up to -1. The answer is the same where a command
+    stands right before it."""
+    found = '10230 acq 0 1 found 0 0 20930580'
+    for asked, answers in (('', [found]),
+                           ('10229 state 0\n', ['10229 state 0 acquire 1 2045 2046', found]),
+                           ('10240 state 0\n', [found, '10240 state 0 track 1 0 0 0 open'])):
+        lines = (*answers, '11264 state 0 track 1 0 0 0 open', '12275 state 0 track 1 0 0 0 open',
+                 '12276 count 0 2044 -1022 4092 -2046 2044 -1022', '12288 end')
+        runs.see('the code goes on after a search',
+                 [f'0 acquire 0 1 0 0 1 10\n0 counts 0 1\n{asked}11264 state 0\n12275 state 0\n'],
+                 LONG_FILE, '1 0 ok\n1 0 ok\n' + ''.join(f'1 {line}\n' for line in lines),
+                 pieces=(1, 2000))
+
+
+def a_slot_searches_again(runs):
+    """Nothing is left of a search that was stopped half way through its cells, or of one that came
+    to its end: 4,092 samples after its dwell the first has 1,023 cells. Each begins at half chip 2
+    of the code, and is due after 10,230 samples."""
+    again = '{0} stop 0\n{0} acquire 0 1 0 0 1 10\n'
+    script = '2 acquire 0 2 0 0 1 10\n6140 state 0\n' + again.format(6140) + again.format(16370)
+    runs.see('a slot searches again', [script], code_file(26608),
+             '1 2 ok\n'
+             '1 6140 state 0 acquire 2 1023 2046\n'
+             '1 6140 ok\n'
+             '1 6140 ok\n'
+             '1 16370 acq 0 1 found 0 2 20930580\n'
+             '1 16370 ok\n'
+             '1 16370 ok\n'
+             '1 26600 acq 0 1 found 0 2 20930580\n'
+             '1 26608 end\n', pieces=(128, 2000))
 
 
 def counts_outlast_the_search(runs):
@@ -145,5 +182,5 @@ def stop_at_the_due_time(runs):
 
 
 ROWS = (code_is_found, equal_cells, waiting_state, commands_at_the_due_time,
-        commands_while_it_searches, state_at_the_due_time, cells_come_with_samples,
-        counts_outlast_the_search, stop_at_the_due_time)
+        commands_while_it_searches, state_at_the_due_time, cells_come_with_samples, code_goes_on,
+        a_slot_searches_again, counts_outlast_the_search, stop_at_the_due_time)
