@@ -1,8 +1,5 @@
 //! Commands by the numbers that a line has, or none where a number is out of its range.
 
-ghost use Rattle.std.specs.Prelude.{◌≡◌, IfSome};
-ghost use Rattle.slot_protocol.specs.Commands.{slot_of};
-
 use acquisition::{Plan, Signal};
 use ca_codes::Prn;
 use oscillators::{Doppler, HalfChip};
@@ -18,9 +15,7 @@ fn signal(prn: u8, doppler: i32, half: u16) -> Option<Signal> {
 }
 
 /// A hold from a shift in Hz and a half chip on.
-pub fn hold(slot: u8, prn: u8, doppler: i32, half: u16) -> Option<Command>
-    ensures { IfSome result (λ command. slot_of command ≡ slot) }
-{
+pub fn hold(slot: u8, prn: u8, doppler: i32, half: u16) -> Option<Command> {
     Some(Command::Hold {
         slot: SlotNo::new(slot)?,
         signal: signal(prn, doppler, half)?,
@@ -28,9 +23,7 @@ pub fn hold(slot: u8, prn: u8, doppler: i32, half: u16) -> Option<Command>
 }
 
 /// A track from a shift in Hz and a half chip on.
-pub fn track(slot: u8, prn: u8, doppler: i32, half: u16) -> Option<Command>
-    ensures { IfSome result (λ command. slot_of command ≡ slot) }
-{
+pub fn track(slot: u8, prn: u8, doppler: i32, half: u16) -> Option<Command> {
     Some(Command::Track {
         slot: SlotNo::new(slot)?,
         signal: signal(prn, doppler, half)?,
@@ -45,9 +38,7 @@ pub fn acquire(
     bins: u32,
     dwell: u32,
     threshold: u32,
-) -> Option<Command>
-    ensures { IfSome result (λ command. slot_of command ≡ slot) }
-{
+) -> Option<Command> {
     Some(Command::Acquire {
         slot: SlotNo::new(slot)?,
         plan: Plan::new(Prn::new(prn)?, centre, bins, dwell, threshold).ok()?,
@@ -55,9 +46,7 @@ pub fn acquire(
 }
 
 /// A request to show so many dumps.
-pub fn counts(slot: u8, n: u32) -> Option<Command>
-    ensures { IfSome result (λ command. slot_of command ≡ slot) }
-{
+pub fn counts(slot: u8, n: u32) -> Option<Command> {
     Some(Command::Counts {
         slot: SlotNo::new(slot)?,
         n,
@@ -65,18 +54,14 @@ pub fn counts(slot: u8, n: u32) -> Option<Command>
 }
 
 /// A question for the state.
-pub fn state(slot: u8) -> Option<Command>
-    ensures { IfSome result (λ command. slot_of command ≡ slot) }
-{
+pub fn state(slot: u8) -> Option<Command> {
     Some(Command::State {
         slot: SlotNo::new(slot)?,
     })
 }
 
 /// A stop of what the slot does.
-pub fn stop(slot: u8) -> Option<Command>
-    ensures { IfSome result (λ command. slot_of command ≡ slot) }
-{
+pub fn stop(slot: u8) -> Option<Command> {
     Some(Command::Stop {
         slot: SlotNo::new(slot)?,
     })

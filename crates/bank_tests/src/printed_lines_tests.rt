@@ -120,26 +120,26 @@ fn each_kind_of_acquisition(rt: HostRuntime) {
     }
 }
 
+/// Asserts the line of an answer about slot 3 of client 8 at the latest time.
+fn assert_answer(rt: &impl Abort, answer: Answer, text: &[u8]) {
+    assert_text(rt, &answer_line(8, TIME, 3, &answer), text);
+}
+
+static HELD: &[u8] = b"8 1099511627776 state 3 hold 32 18446744073709551615\n";
+
 #[test]
 fn each_kind_of_answer(rt: HostRuntime) {
-    let prn = Prn::new(32).expect(&rt, "a satellite");
+    let rt = &rt;
+    assert_answer(rt, Answer::Accepted, b"8 1099511627776 ok\n");
+    let busy = Answer::Refused(Refusal::Busy);
+    assert_answer(rt, busy, b"8 1099511627776 err 9\n");
+    let idle = Answer::Refused(Refusal::Idle);
+    assert_answer(rt, idle, b"8 1099511627776 err 10\n");
+    let state = Answer::State(SlotState::Idle);
+    assert_answer(rt, state, b"8 1099511627776 state 3 idle\n");
+    let prn = Prn::new(32).expect(rt, "a satellite");
     let dumps = 18_446_744_073_709_551_615;
-    let rows: [(Answer, &[u8]); 5] = [
-        (Answer::Accepted, b"8 1099511627776 ok\n"),
-        (Answer::Refused(Refusal::Busy), b"8 1099511627776 err 9\n"),
-        (Answer::Refused(Refusal::Idle), b"8 1099511627776 err 10\n"),
-        (
-            Answer::State(SlotState::Idle),
-            b"8 1099511627776 state 3 idle\n",
-        ),
-        (
-            Answer::State(SlotState::Hold { prn, dumps }),
-            b"8 1099511627776 state 3 hold 32 18446744073709551615\n",
-        ),
-    ];
-    for (answer, text) in rows {
-        assert_text(&rt, &answer_line(8, TIME, 3, &answer), text);
-    }
+    assert_answer(rt, Answer::State(SlotState::Hold { prn, dumps }), HELD);
 }
 
 // One bin has 2,046 cells, 81 bins have 165,726.

@@ -1,7 +1,7 @@
 use Rattle.std.proofs.Common.{◌≡◌, arith}
 use Rattle.sample_history.specs.Histories as histories
 use Rattle.bank_tests.proofs.HeldLemmas.{held_from_zero}
-use Rattle.bank_tests.proofs.channel_slots_tests.next.Goals as goal
+use Rattle.bank_tests.proofs.channel_slots_tests.events.next.Goals as goal
 
 pub returns-clause-sound : goal.returns-clause-sound
 returns-clause-sound g c =
