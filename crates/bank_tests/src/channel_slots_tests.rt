@@ -7,7 +7,7 @@ use crate::commands;
 use channel_slots::*;
 use lane_correlator::Counts;
 use oscillators::Settings;
-use sample_planes::Format;
+use sample_planes::{Format, PackedSamples};
 use std::alloc::{Alloc, Global};
 use std::process::Abort;
 
@@ -38,6 +38,18 @@ fn new_bank(rt: &(impl Abort + Alloc<A = Global>), shares: &[u8]) -> Bank {
 /// The room for the events of a run.
 fn new_timeline(rt: &(impl Abort + Alloc<A = Global>)) -> Timeline {
     Timeline::new(rt.alloc()).expect(rt, "no memory")
+}
+
+/// Sees that a bank takes a run, and that just these events come with it.
+fn hears(
+    rt: &(impl Abort + Alloc<A = Global>),
+    bank: &mut Bank,
+    run: &PackedSamples,
+    told: &[SlotEvent],
+) {
+    let mut timeline = new_timeline(rt);
+    assert_same(rt, bank.try_feed(run, &mut timeline), Ok(()));
+    assert_same(rt, timeline.events(), told);
 }
 
 /// Sums in the order of a line of counts.

@@ -1,7 +1,7 @@
 //! The slots of several clients over one stream.
 
-use super::{hold, new_bank, new_timeline, plain_settings, sums};
-use crate::asserted::{assert_same, assert_same_at};
+use super::{hears, hold, new_bank, new_timeline, plain_settings, sums};
+use crate::asserted::{assert_same, assert_same_at, assert_that};
 use crate::commands;
 use channel_slots::{
     Answer, Bank, Command, Event, FeedFault, OpenFault, Refusal, SlotEvent, SlotNo,
@@ -23,72 +23,47 @@ fn bank_that_holds(rt: &(impl Abort + Alloc<A = Global>)) -> Bank {
 #[test]
 fn a_feed_begins_anywhere(rt: HostRuntime) {
     let rt = &rt;
-    let mut bank = bank_that_holds(rt);
-    let mut timeline = new_timeline(rt);
     let run = PackedSamples::new(Format::Real1, &[255, 127]).part(8, 1);
-    assert_same(rt, bank.try_feed(&run, &mut timeline), Ok(()));
-    let told = [SlotEvent {
+    let count = SlotEvent {
         client: 1,
         slot: 0,
         time: 1,
         event: Event::Count(sums([-2, 1, 2, -1, 2, -1])),
-    }];
-    assert_same(rt, timeline.events(), told.as_slice());
+    };
+    hears(rt, &mut bank_that_holds(rt), &run, &[count]);
 }
 
-/// Sees what a bank answers to a run, and its time then.
-fn fed(
-    rt: &(impl Abort + Alloc<A = Global>),
-    bank: &mut Bank,
-    run: &PackedSamples,
-    wanted: Result<(), FeedFault>,
-    time: u64,
-) {
-    let found = bank.try_feed(run, &mut new_timeline(rt));
-    assert_same(rt, (found, bank.time()), (wanted, time));
-}
+/// A format, bytes, what a bank answers to a run of them, and its time then.
+type Run = (Format, &'static [u8], Result<(), FeedFault>, u64);
 
 // The recording has one bit a sample, and a run at most 1,024 samples. One that is refused changes
 // no time.
+static RUNS: [Run; 7] = [
+    (Format::Real2, &[0], Err(FeedFault::Packing), 0),
+    (Format::Iq1, &[], Err(FeedFault::Packing), 0),
+    (Format::Iq2, &[0; 129], Err(FeedFault::Packing), 0),
+    (Format::Real1, &[0; 129], Err(FeedFault::TooLong), 0),
+    (Format::Real1, &[0; 128], Ok(()), 1_024),
+    (Format::Real1, &[], Ok(()), 1_024),
+    (Format::Real1, &[0; 129], Err(FeedFault::TooLong), 1_024),
+];
+
+/// Sees that a bank does so.
+fn feed(rt: &(impl Abort + Alloc<A = Global>), bank: &mut Bank, row: &Run) {
+    let &(format, bytes, wanted, time) = row;
+    assert_that(rt, bytes.len() <= 129);
+    let run = PackedSamples::new(format, bytes);
+    let found = (bank.try_feed(&run, &mut new_timeline(rt)), bank.time());
+    assert_same_at(rt, (format, bytes.len()), found, (wanted, time));
+}
+
 #[test]
 fn runs_that_do_not_fit_are_refused(rt: HostRuntime) {
     let rt = &rt;
-    let bank = &mut new_bank(rt, &[1]);
-    let none = [];
-    let most = PackedSamples::new(Format::Real1, &[0; 128]);
-    let long = PackedSamples::new(Format::Real1, &[0; 129]);
-    let packing = Err(FeedFault::Packing);
-    fed(
-        rt,
-        bank,
-        &PackedSamples::new(Format::Real2, &[0]),
-        packing,
-        0,
-    );
-    fed(
-        rt,
-        bank,
-        &PackedSamples::new(Format::Iq1, &none),
-        packing,
-        0,
-    );
-    fed(
-        rt,
-        bank,
-        &PackedSamples::new(Format::Iq2, &[0; 129]),
-        packing,
-        0,
-    );
-    fed(rt, bank, &long, Err(FeedFault::TooLong), 0);
-    fed(rt, bank, &most, Ok(()), 1_024);
-    fed(
-        rt,
-        bank,
-        &PackedSamples::new(Format::Real1, &none),
-        Ok(()),
-        1_024,
-    );
-    fed(rt, bank, &long, Err(FeedFault::TooLong), 1_024);
+    let mut bank = new_bank(rt, &[1]);
+    for row in &RUNS {
+        feed(rt, &mut bank, row);
+    }
 }
 
 /// Shares, and the time of a bank that has them, or why none has.

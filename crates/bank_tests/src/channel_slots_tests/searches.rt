@@ -2,11 +2,11 @@
 
 ghost use Rattle.std.specs.Prelude.{◌<◌};
 
-use super::{acquire, new_bank, new_timeline};
-use crate::asserted::{assert_same, assert_same_at, assert_that};
+use super::{acquire, hears, new_bank};
+use crate::asserted::{assert_same, assert_that};
 use acquisition::Cell;
 use ca_codes::Prn;
-use channel_slots::{Bank, Event, SlotEvent, SlotNo, Timeline};
+use channel_slots::{Bank, Event, SlotEvent, SlotNo};
 use made_signals::long_code_file;
 use oscillators::HalfChip;
 use sample_planes::{Format, PackedSamples, SampleSource};
@@ -36,59 +36,58 @@ fn named(rt: &impl Abort, half: u16) -> SlotEvent {
 /// Feeds a bank so many more samples of a recording of 10,240, or those that are left, and sees
 /// that satellite 1 is found at a half chip with number 10,231, and nothing else comes.
 fn hear_next(
-    rt: &impl Abort,
+    rt: &(impl Abort + Alloc<A = Global>),
     bank: &mut Bank,
     recording: &PackedSamples,
-    piece: usize,
-    timeline: &mut Timeline,
     half: u16,
+    piece: usize,
 ) {
     let from = bank.time();
     assert_that(rt, from <= 10_240);
     assert_that(rt, recording.len() == 10_240);
-    let run = recording.part(from as usize, piece.min(10_240 - from as usize));
-    assert_same(rt, bank.try_feed(&run, timeline), Ok(()));
-    if from < 10_232 && 10_232 <= bank.time() {
-        assert_same_at(rt, from, timeline.events(), [named(rt, half)].as_slice());
+    let count = piece.min(10_240 - from as usize);
+    let run = recording.part(from as usize, count);
+    if from < 10_232 && 10_232 <= from + count as u64 {
+        hears(rt, bank, &run, &[named(rt, half)]);
     } else {
-        assert_same_at(rt, from, timeline.events().len(), 0);
+        hears(rt, bank, &run, &[]);
     }
 }
 
+/// A number of samples, and how many such pieces there are of 10,238 samples.
+type Pieces = (usize, u32);
+
 /// Sees that a bank that is asked at sample 2 finds satellite 1 at a half chip of a recording,
 /// which it takes in pieces.
-fn hear(rt: &(impl Abort + Alloc<A = Global>), recording: &PackedSamples, half: u16, piece: usize) {
+fn hear(
+    rt: &(impl Abort + Alloc<A = Global>),
+    recording: &PackedSamples,
+    half: u16,
+    (piece, pieces): Pieces,
+) {
     let mut bank = new_bank(rt, &[4]);
-    let mut timeline = new_timeline(rt);
-    hear_next(rt, &mut bank, recording, 2, &mut timeline, half);
+    hear_next(rt, &mut bank, recording, half, 2);
     bank.command(1, acquire(rt, 10));
-    for _ in 0..10_240 {
-        if bank.time() == 10_240 {
-            break;
-        }
-        hear_next(rt, &mut bank, recording, piece, &mut timeline, half);
+    for _ in 0..pieces {
+        hear_next(rt, &mut bank, recording, half, piece);
     }
     assert_same(rt, bank.time(), 10_240);
 }
 
 /// Sees that it does so wherever in a byte the recording begins, which is as many half chips later.
-fn hear_from_each_place(rt: &(impl Abort + Alloc<A = Global>), piece: usize) {
+fn hear_from_each_place(rt: &(impl Abort + Alloc<A = Global>), pieces: Pieces) {
     let bytes = long_code_file();
     let recording = PackedSamples::new(Format::Real1, &bytes);
     for first in 0..8u16 {
-        hear(
-            rt,
-            &recording.part(first as usize, 10_240),
-            first + 2,
-            piece,
-        );
+        let part = recording.part(first as usize, 10_240);
+        hear(rt, &part, first + 2, pieces);
     }
 }
 
 #[test]
 fn recordings_from_each_place_of_a_byte(rt: HostRuntime) {
-    for piece in [1, 3, 1_024] {
-        hear_from_each_place(&rt, piece);
+    for pieces in [(1, 10_238), (3, 3_413), (1_024, 10)] {
+        hear_from_each_place(&rt, pieces);
     }
 }
 
@@ -102,12 +101,6 @@ fn have_done(rt: &impl Abort, bank: &Bank, rows: &[Done]) {
         let done = bank.cells_done(client, place);
         assert_same(rt, (client, slot, done), (client, slot, cells));
     }
-}
-
-/// Feeds a bank 1,024 samples of value 1.
-fn feed_ones(rt: &(impl Abort + Alloc<A = Global>), bank: &mut Bank) {
-    let run = PackedSamples::new(Format::Real1, &[0; 128]);
-    assert_same(rt, bank.try_feed(&run, &mut new_timeline(rt)), Ok(()));
 }
 
 /// Before there are samples. There is no client 0 or 9, and no slot 7 of client 1.
@@ -128,7 +121,8 @@ fn cells_of_slots(rt: HostRuntime) {
     bank.command(1, acquire(rt, 1_000));
     have_done(rt, &bank, &DONE_AT_0);
     for _ in 0..3 {
-        feed_ones(rt, &mut bank);
+        let ones = PackedSamples::new(Format::Real1, &[0; 128]);
+        hears(rt, &mut bank, &ones, &[]);
     }
     have_done(rt, &bank, &[(1, 0, Some(256))]);
 }
