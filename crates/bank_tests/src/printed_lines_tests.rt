@@ -65,59 +65,37 @@ fn numbers_of_events(rt: HostRuntime) {
     assert_event(rt, Event::Gap(u64::MAX), GAP_LINE);
 }
 
-/// A satellite, and what is reported of its best cell: whether it was found, the bin, the half chip
-/// and the power.
-type Sought = (u8, bool, i32, u16, u64);
-
-// The code of satellite 1, recorded with no noise, is named at its third half chip. Where all
-// samples are +1, all cells have the power 20, and the first of them is named.
-static ACQUISITIONS: [(u64, Sought, &[u8]); 5] = [
-    (
-        10_232,
-        (1, true, 0, 2, 20_930_580),
-        b"1 10232 acq 0 1 found 0 2 20930580\n",
-    ),
-    (
-        10_230,
-        (1, true, 0, 0, 20),
-        b"1 10230 acq 0 1 found 0 0 20\n",
-    ),
-    (
-        10_230,
-        (1, false, 0, 0, 20),
-        b"1 10230 acq 0 1 none 0 0 20\n",
-    ),
-    (
-        TIME,
-        (32, true, -40, 2_045, 18_446_744_073_709_551_615),
-        b"1 1099511627776 acq 0 32 found -40 2045 18446744073709551615\n",
-    ),
-    (0, (7, false, 40, 1_022, 0), b"1 0 acq 0 7 none 40 1022 0\n"),
-];
-
-/// The event of such a satellite.
-fn acquired((prn, found, bin, half, power): Sought) -> Option<Event> {
-    let cell = Cell {
-        bin,
-        half: HalfChip::new(half)?,
-        power,
-        found,
+/// Asserts the line of a satellite's best cell, in slot 0 of client 1.
+fn assert_acquired(rt: &impl Abort, time: u64, prn: u8, cell: Cell, text: &[u8]) {
+    let prn = Prn::new(prn).expect(rt, "a satellite");
+    let told = SlotEvent {
+        client: 1,
+        slot: 0,
+        time,
+        event: Event::Acquired { prn, cell },
     };
-    let prn = Prn::new(prn)?;
-    Some(Event::Acquired { prn, cell })
+    assert_text(rt, &event_line(&told), text);
 }
+
+static FOUND: &[u8] = b"1 1099511627776 acq 0 32 found -40 2045 18446744073709551615\n";
 
 #[test]
 fn each_kind_of_acquisition(rt: HostRuntime) {
-    for (time, sought, text) in &ACQUISITIONS {
-        let told = SlotEvent {
-            client: 1,
-            slot: 0,
-            time: *time,
-            event: acquired(*sought).expect(&rt, "a satellite and a half chip"),
-        };
-        assert_text(&rt, &event_line(&told), text);
-    }
+    let rt = &rt;
+    let found = Cell {
+        bin: -40,
+        half: HalfChip::new(2_045).expect(rt, "a half chip"),
+        power: 18_446_744_073_709_551_615,
+        found: true,
+    };
+    assert_acquired(rt, TIME, 32, found, FOUND);
+    let missed = Cell {
+        bin: 40,
+        half: HalfChip::new(1_022).expect(rt, "a half chip"),
+        power: 0,
+        found: false,
+    };
+    assert_acquired(rt, 0, 7, missed, b"1 0 acq 0 7 none 40 1022 0\n");
 }
 
 /// Asserts the line of an answer about slot 3 of client 8 at the latest time.
@@ -142,76 +120,57 @@ fn each_kind_of_answer(rt: HostRuntime) {
     assert_answer(rt, Answer::State(SlotState::Hold { prn, dumps }), HELD);
 }
 
-// One bin has 2,046 cells, 81 bins have 165,726.
-static SEARCHES: [(u64, u8, u64, u64, &[u8]); 4] = [
-    (2_049, 1, 0, 2_046, b"1 2049 state 0 acquire 1 0 2046\n"),
-    (2_050, 1, 1, 2_046, b"1 2050 state 0 acquire 1 1 2046\n"),
-    (
-        TIME,
-        32,
-        165_725,
-        165_726,
-        b"1 1099511627776 state 0 acquire 32 165725 165726\n",
-    ),
-    (
-        0,
-        7,
-        0,
-        18_446_744_073_709_551_615,
-        b"1 0 state 0 acquire 7 0 18446744073709551615\n",
-    ),
-];
-
-#[test]
-fn each_state_of_acquiring(rt: HostRuntime) {
-    for (time, prn, done, cells, text) in &SEARCHES {
-        let prn = Prn::new(*prn).expect(&rt, "a satellite");
-        let (done, cells) = (*done, *cells);
-        let shown = Answer::State(SlotState::Acquire { prn, done, cells });
-        assert_text(&rt, &answer_line(1, *time, 0, &shown), text);
-    }
+/// Asserts the line of the state of slot 0 of client 1, of which so many of these cells are done.
+fn assert_searching(rt: &impl Abort, time: u64, prn: u8, (done, cells): (u64, u64), text: &[u8]) {
+    let prn = Prn::new(prn).expect(rt, "a satellite");
+    let shown = Answer::State(SlotState::Acquire { prn, done, cells });
+    assert_text(rt, &answer_line(1, time, 0, &shown), text);
 }
 
-/// How many dumps there were, the two words of the loops, and the phase.
-static TRACKS: [(u64, i64, i64, Phase, &[u8]); 4] = [
-    (
-        0,
-        65_536_000,
-        0,
-        Phase::Unlocked,
-        b"8 0 state 3 track 7 0 65536000 0 open\n",
-    ),
-    (
-        201,
-        -1,
-        2,
-        Phase::Locked,
-        b"8 0 state 3 track 7 201 -1 2 lock\n",
-    ),
-    (
-        18_446_744_073_709_551_615,
-        -9_223_372_036_854_775_808,
-        9_223_372_036_854_775_807,
-        Phase::Edged,
-        b"8 0 state 3 track 7 18446744073709551615 -9223372036854775808 9223372036854775807 \
-        bits\n",
-    ),
-    (1, 5, -6, Phase::Edged, b"8 0 state 3 track 7 1 5 -6 bits\n"),
-];
+static LAST_CELL: &[u8] = b"1 1099511627776 state 0 acquire 32 165725 165726\n";
+
+static MOST_CELLS: &[u8] = b"1 0 state 0 acquire 7 0 18446744073709551615\n";
+
+// 81 bins of 2,046 cells have 165,726.
+#[test]
+fn each_state_of_acquiring(rt: HostRuntime) {
+    let rt = &rt;
+    assert_searching(rt, TIME, 32, (165_725, 165_726), LAST_CELL);
+    assert_searching(rt, 0, 7, (0, 18_446_744_073_709_551_615), MOST_CELLS);
+}
+
+/// Asserts the line of the state of slot 3 of client 8, which tracks satellite 7: how many dumps
+/// there were, the two words of the loops, and the phase.
+fn assert_tracking(rt: &impl Abort, dumps: u64, (v, w): (i64, i64), phase: Phase, text: &[u8]) {
+    let prn = Prn::new(7).expect(rt, "a satellite");
+    let shown = Answer::State(SlotState::Track {
+        prn,
+        dumps,
+        v,
+        w,
+        phase,
+    });
+    assert_text(rt, &answer_line(8, 0, 3, &shown), text);
+}
+
+static FIRST: &[u8] = b"8 0 state 3 track 7 0 65536000 0 open\n";
+
+static LOCKED: &[u8] = b"8 0 state 3 track 7 201 -1 2 lock\n";
+
+static LONGEST: &[u8] =
+    b"8 0 state 3 track 7 18446744073709551615 -9223372036854775808 9223372036854775807 bits\n";
+
+static EDGED: &[u8] = b"8 0 state 3 track 7 1 5 -6 bits\n";
 
 #[test]
 fn each_state_of_tracking(rt: HostRuntime) {
-    let prn = Prn::new(7).expect(&rt, "a satellite");
-    for (dumps, v, w, phase, text) in &TRACKS {
-        let shown = Answer::State(SlotState::Track {
-            prn,
-            dumps: *dumps,
-            v: *v,
-            w: *w,
-            phase: *phase,
-        });
-        assert_text(&rt, &answer_line(8, 0, 3, &shown), text);
-    }
+    let rt = &rt;
+    assert_tracking(rt, 0, (65_536_000, 0), Phase::Unlocked, FIRST);
+    assert_tracking(rt, 201, (-1, 2), Phase::Locked, LOCKED);
+    let most = 18_446_744_073_709_551_615;
+    let ends = (-9_223_372_036_854_775_808, 9_223_372_036_854_775_807);
+    assert_tracking(rt, most, ends, Phase::Edged, LONGEST);
+    assert_tracking(rt, 1, (5, -6), Phase::Edged, EDGED);
 }
 
 #[test]

@@ -106,6 +106,13 @@ static STOPS: [(u8, u8, Refusal); 8] = [
     (255, 7, Refusal::NoSuchSlot),
 ];
 
+/// Sees that a bank refuses to stop a slot so.
+fn refuses(rt: &impl Abort, bank: &mut Bank, &(client, number, refusal): &(u8, u8, Refusal)) {
+    let slot = SlotNo::new(number).expect(rt, "no such slot");
+    let answer = bank.command(client, Command::Stop { slot });
+    assert_same_at(rt, (client, number), &answer, &Answer::Refused(refusal));
+}
+
 // By the list of all slots, what would be the first client's sixth is the second client's last,
 // which stays idle.
 #[test]
@@ -115,10 +122,8 @@ fn slots_of_nobody_and_of_others_are_refused(rt: HostRuntime) {
     let hold = commands::hold(5, 1, 0, 2_045).expect(rt, "no such hold");
     let refused = Answer::Refused(Refusal::NoSuchSlot);
     assert_same(rt, &bank.command(1, hold), &refused);
-    for &(client, number, refusal) in &STOPS {
-        let slot = SlotNo::new(number).expect(rt, "no such slot");
-        let answer = bank.command(client, Command::Stop { slot });
-        assert_same_at(rt, (client, number), &answer, &Answer::Refused(refusal));
+    for row in &STOPS {
+        refuses(rt, &mut bank, row);
     }
 }
 

@@ -227,8 +227,25 @@ fn named(rt: &impl Abort, found: bool) -> SlotNews {
     }
 }
 
+/// Sees what a search answers with the next eleven samples, and when the slot has something to do
+/// next. The answer comes with sample 10,229, and nothing with those after it.
+fn ends(rt: &impl Abort, slot: &mut Slot, window: &mut Window, found: bool, next_event: u64)
+    requires { (reach : ℕ)
+        × (is_sound (end_of window.old) (end_of window.old) reach slot.old ≡ true) }
+{
+    let news = next_after(rt, slot, window, 11);
+    assert_same(
+        rt,
+        (news, slot.cells_done()),
+        (Some(named(rt, found)), None),
+    );
+    let to = window.end();
+    assert_same(rt, (to, slot.next_event()), (10_240, next_event));
+    brings(rt, slot, window, to, None, next_event);
+}
+
 /// Sees how a search with a threshold goes, whether it finds the signal, and when the slot has
-/// something to do next. The answer comes with sample 10,229, also where there are more samples.
+/// something to do next.
 fn searches_ones(
     rt: &(impl Abort + Alloc<A = Global>),
     threshold: u32,
@@ -240,15 +257,7 @@ fn searches_ones(
     for row in &CELLS {
         searches(rt, &mut slot, &mut window, row);
     }
-    let news = next_after(rt, &mut slot, &mut window, 11);
-    assert_same(
-        rt,
-        (news, slot.cells_done()),
-        (Some(named(rt, found)), None),
-    );
-    let to = window.end();
-    assert_same(rt, (to, slot.next_event()), (10_240, next_event));
-    brings(rt, &mut slot, &mut window, to, None, next_event);
+    ends(rt, &mut slot, &mut window, found, next_event);
 }
 
 // From its answer on a slot tracks the signal, whose code begins again: its first dump comes 2,046
