@@ -9,7 +9,7 @@ use ca_codes::Prn;
 use channel_slots::{Bank, Event, SlotEvent, SlotNo};
 use made_signals::long_code_file;
 use oscillators::HalfChip;
-use sample_planes::{Format, PackedSamples, SampleSource};
+use sample_planes::{Format, PackedSamples};
 use std::alloc::{Alloc, Global};
 use std::process::Abort;
 
