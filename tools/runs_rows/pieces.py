@@ -1,12 +1,7 @@
 """One satellite that is held or searched for, whatever pieces its samples are taken in: reads of
 some bytes, and commands between them, each of which has the slot take the samples before it."""
-import os
-
 from .made_signal import code_file
-from .recording import EXAMPLES, OPTIONS
-
-# So many samples are taken at a time.
-PIECES = (1, 7, 64, 513, 1000, 1024)
+from .recording import OPTIONS, STEPS, recorded
 
 # The first two dumps of satellite 5 in the recording: the number of samples by then, and the sums
 # that two references apart from this project give. Its segments end with samples 1,345 and 3,391.
@@ -29,15 +24,13 @@ def dumps_of_a_hold(runs):
     """A dump comes with the last sample of its segment, which is its own, and not before or once
     more: where all samples wait for it, where they are taken in pieces, and where they are taken up
     to each sample about it."""
-    with open(os.path.join(EXAMPLES, 'three_satellites.real1'), 'rb') as file:
-        samples = file.read(500)
     about = (512, 1000, 1000, 1024, 1345, 1345, 1346, 1346, 1347, 1858, 2000, 2048, 3000, 3072,
              3391, 3392, 3392, 3393)
     rows = [('waiting', ()), ('about its dumps', about)]
-    rows += [(f'by {piece} samples', range(piece, 4000, piece)) for piece in PIECES]
+    rows += [(f'by {piece} samples', range(piece, 4000, piece)) for piece in STEPS]
     for name, times in rows:
         script = HOLD + ''.join(f'{time} state 0\n' for time in times)
-        runs.see(f'a hold, {name}', [script], samples, held(times, 4000), *OPTIONS,
+        runs.see(f'a hold, {name}', [script], recorded(500), held(times, 4000), *OPTIONS,
                  pieces=(1, 64, 500))
 
 
