@@ -7,6 +7,9 @@ from rooms import is_program
 # processors are idle in the end.
 MOST_EDITS = 100
 
+# An edit of a crate with none below takes as long as so many crates add to that of one above them.
+ALONE = 8
+
 
 def parts_of(places):
     """The edits that are tried in one check each: as many in each, but those of a function stay
@@ -45,14 +48,15 @@ def groups_of(places, crates):
 
 
 def checks_of(places, crates):
-    """The edits, by their crates, that are tried in one check each, those that take long first: a
-    check takes the longer the more it loads, and each body is proved."""
+    """The edits, by their crates, that are tried in one check each, those that take long first. An
+    edit takes the longer the more crates lie below."""
     checks = []
     for name, *others in groups_of(places, crates):
         checks += ([{it: places[it] for it in (name, *others)}] if others
                    else [{name: it} for it in parts_of(places[name])])
 
     def weight(check):
-        return sum(len(ours) * len(with_those_below([it], crates)) for it, ours in check.items())
+        return sum(len(ours) * (ALONE + len(with_those_below([it], crates)))
+                   for it, ours in check.items())
 
     return sorted(checks, key=weight, reverse=True)

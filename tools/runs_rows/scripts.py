@@ -182,8 +182,8 @@ def times_go_on(runs):
             ('5 hold 0 1 0 0\n4 stop 0\n5 stop 0', ('5 ok', '5 err 4', '5 ok')),
             ('5 track 0 1 0 0\n4 track 0 1 0 0\n5 track 1 1 0 0', ('5 ok', '5 err 4', '5 ok')),
             ('7 state 1\nx\n7 state 2\n', ('7 state 1 idle', '7 err 3', '7 state 2 idle')),
-            ('1 state 1\n\n6 counts 0\n6 state 2', ('1 state 1 idle', '6 err 6',
-                                                   '6 state 2 idle')),
+            ('1 state 1\n\n6 counts 0\n6 state 2',
+             ('1 state 1 idle', '6 err 6', '6 state 2 idle')),
             ('6 fly 0\n5 stop 0', ('6 err 5', '6 err 4'))):
         runs.see(f'times of {script!r}', [script], bytes(1),
                  ''.join(f'1 {line}\n' for line in (*lines, '8 end')))
