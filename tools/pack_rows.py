@@ -21,7 +21,10 @@ REFUSED = (
     ('--from i8 --to real1 --centre-q x', f'--centre-q: {NUMBER}'),
     ('--from bits1-low --to real1 --skip 1', f'--skip: {SAMPLES}'),
     ('--from i8 --to real1 --count 1099511627777', f'--count: {SAMPLES}'),
-    ('--from i8 --to iq1', '--from: real values have no part in quadrature'),
+    *((f'--from i8 --to {words}', '--from: real values have no part in quadrature')
+      for words in ('iq1', 'real1 --conjugate')),
+    ('--from iq-bits1-low --to iq2 --threshold 2', '--from: values of one bit have no sizes'),
+    ('--from iq-i8 --to iq1 --part q', '--from: one part makes real samples alone'),
     ('--from f32 --to real2 --threshold 1e39', FLOAT),
     ('--from f32 --to real2 --threshold -1', FLOAT),
     # The float nearest to these is -0.
@@ -42,6 +45,30 @@ PACKED = (
     # Unsigned bytes have the centre 127.5. Five pairs are ten bytes.
     ('--from iq-u8 --to iq1 --skip 5 --count 4', bytes(10) + bytes((127, 128)) * 4 + bytes(4),
      b'\xaa'),
+    # An end of the range, two values beside the centre, and the other end: below it far and near,
+    # then not below it near and far.
+    ('--from u8 --to real2 --threshold 42.5', bytes((0, 127, 128, 255)), b'\xe1'),
+    ('--from i8 --to real2 --threshold 43 --centre -4.5', struct.pack('<4b', -128, -5, -4, 127),
+     b'\xe1'),
+    *((f'--from {kind} --to real2 --threshold 10923 --centre 500',
+       struct.pack(order + '4h', -32768, 499, 500, 32767), b'\xe1')
+      for kind, order in (('i16', '<'), ('i16be', '>'))),
+    # 42.5 and 43.5 below the centre, and above it.
+    ('--from u8 --to real2 --threshold 42.5', bytes((85, 84, 170, 171)), b'\xb1'),
+    # Of (1, -2) and (-3, 4) the signs are 01 10. The second of each part is farther than 2 from 0.
+    *((f'--from iq-i8 --to {words}', struct.pack('<4b', 1, -2, -3, 4) * 2, packing)
+      for words, packing in (
+          ('iq1', b'\x66'),
+          ('iq1 --conjugate', b'\x33'),
+          ('iq1 --conjugate --swap', b'\xcc'),
+          ('iq1 --swap --centre 4.5 --centre-q 0', b'\xbb'),
+          ('real2 --threshold 2', b'\x33'),
+          ('real2 --threshold 2 --part q', b'\x99'))),
+    # The float after 0.5 is far, and 0.5 is near, as -0.25 is. Then come -0 and 0, minus infinity,
+    # and the greatest float below 0.
+    ('--from f32 --to real2 --threshold 0.5',
+     struct.pack('<3fI4I', -1, -0.25, 0.5, 0x3f000001, 0x80000000, 0, 0xff800000, 0x80000001),
+     b'\xe1\x0e'),
     ('--from f32 --to real2 --threshold 0.25',
      struct.pack('<4f', 0.25, 0.2500001, -0.25, -1), b'\x1b'),
     ('--from f32 --to real2 --threshold 0', struct.pack('<4f', 0, 1e-30, -1e-30, 0), b'\x1c'),

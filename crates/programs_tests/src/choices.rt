@@ -1,7 +1,8 @@
 //! What is chosen for a recording that is packed.
 
-use recordings::{Choice, Recipe, ValueKind};
+use recordings::{Choice, Packer, Recipe, ValueKind};
 use sample_planes::Format;
+use std::alloc::{Alloc, Global};
 use std::process::Abort;
 
 /// Signs of values as they are, about 0.
@@ -22,4 +23,9 @@ pub fn signs(kind: ValueKind, is_paired: bool, format: Format) -> Choice {
 /// The recipe of a choice that isn't refused.
 pub fn recipe_of(rt: &impl Abort, choice: &Choice) -> Recipe {
     choice.recipe().expect(rt, "no such choice")
+}
+
+/// A packer that took nothing.
+pub fn packer_of(rt: &(impl Abort + Alloc<A = Global>), choice: &Choice) -> Packer {
+    Packer::new(rt.alloc(), recipe_of(rt, choice)).expect(rt, "no memory")
 }

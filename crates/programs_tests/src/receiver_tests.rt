@@ -1,21 +1,16 @@
-//! Whole runs over readers and writers that count and fail: what they answer, and what they write.
-//! `tools/runs-check` tries what needs no device of its own, over the built program.
+//! Whole runs over readers and writers that count and fail: what they answer, what they write, and
+//! how often they ask a device. `tools/runs-check` tries what needs no device of its own, over the
+//! built program.
 
-ghost use Rattle.std.specs.Prelude.{◌≡◌, ◌≤◌, ◌%◌, ◌^◌};
-
-mod expected;
-mod failing;
+mod cases;
+mod endings;
 mod fakes;
-mod limits;
 mod runs;
 mod shares;
 mod std_devices;
 
-use crate::receiver_tests::fakes::{Giving, Holding};
 use oscillators::Settings;
-use receiver::{RunFault, run, run_to};
 use sample_planes::Format;
-use std::alloc::{Alloc, Global};
 use std::process::Abort;
 
 /// Holds satellite 1 from the first sample on, and asks for one dump.
@@ -27,7 +22,7 @@ const FIRST_COUNT: &[u8] = b"0 hold 0 1 0 0\n0 counts 0 1\n";
 /// pair is 2 and 1 throughout. The early and the late chip are half a chip away: half of the
 /// samples meet their own chip, the others a neighbouring one. The products of all neighbouring
 /// chips of satellite 1 add up to -1, so 1,023 - 1 is left of these.
-const FIRST_COUNT_LINES: &str = "1 0 ok\n\
+const FIRST_COUNT_LINES: &[u8] = b"1 0 ok\n\
     1 0 ok\n\
     1 2046 count 0 2044 -1022 4092 -2046 2044 -1022\n\
     1 2048 end\n";
@@ -35,29 +30,4 @@ const FIRST_COUNT_LINES: &str = "1 0 ok\n\
 /// One-bit samples at two samples a chip, with the carrier at 0 Hz.
 fn plain_settings(rt: &impl Abort) -> Settings {
     Settings::new(2_046_000, 0, Format::Real1).expect(rt, "no such recording")
-}
-
-/// A run of scripts over plain settings.
-fn run_plain(
-    rt: &(impl Abort + Alloc<A = Global>),
-    scripts: &[&[u8]],
-    reader: &mut Giving,
-    writer: &mut Holding,
-) -> Result<u64, RunFault> {
-    run(rt.alloc(), plain_settings(rt), scripts, reader, writer)
-}
-
-/// A run of one script over plain settings and at most `limit` samples.
-fn run_one(
-    rt: &(impl Abort + Alloc<A = Global>),
-    script: &[u8],
-    limit: u64,
-    reader: &mut Giving,
-    writer: &mut Holding,
-) -> Result<u64, RunFault>
-    requires limit { limit ≤ 2 ^ 40 }
-    requires whole { limit % 8 ≡ 0 }
-{
-    let settings = plain_settings(rt);
-    run_to(rt.alloc(), settings, &[script], limit, reader, writer)
 }

@@ -1,184 +1,211 @@
-//! Recordings of random values, packed, against plain loops.
+//! What values are like, what a packer holds, and what a stretch takes, worked out by hand.
+//! `tools/pack-check` sees what is packed of recordings, over the built program.
 
-ghost use Rattle.std.specs.Prelude.{◌≤◌, ◌<◌};
+ghost use Rattle.std.specs.Prelude.{◌≤◌, length};
 
-mod by_hand;
-mod measures;
-
-use crate::asserted::assert_same;
-use crate::choices::signs;
-use recordings::{Choice, MOST_PIECE, Packer, Recipe, ValueKind};
+use crate::asserted::{assert_same, assert_that};
+use crate::choices::{packer_of, recipe_of, signs};
+use recordings::{Choice, Measure, Packer, Stretch, ValueKind};
 use sample_planes::Format;
 use std::alloc::{Alloc, Global};
 use std::process::Abort;
 
-/// Every kind.
-static KINDS: [ValueKind; 8] = [
-    ValueKind::U8,
-    ValueKind::I8,
-    ValueKind::I16,
-    ValueKind::I16Be,
-    ValueKind::Bits2Low,
-    ValueKind::SignSizeLow,
-    ValueKind::Bits1Low,
-    ValueKind::Bits1High,
+/// What the values of some bytes are like. Readings are twice the values, and so are centres,
+/// thresholds and distances.
+struct Row {
+    kind: ValueKind,
+    /// Whether the values are pairs, of which the parts in quadrature have their sign turned.
+    is_paired: bool,
+    /// The centres in phase and in quadrature.
+    centres: (i32, i32),
+    /// Whether it is the part in quadrature that is measured.
+    is_q: bool,
+    threshold: u64,
+    bytes: &'static [u8],
+    measure: Measure,
+}
+
+/// Three pairs of 16 bits, the high byte first, and three bytes of a fourth: (2, 4), (-2, 1) and
+/// (-1, 2).
+const PAIRS: &[u8] = &[
+    0x00, 0x02, 0x00, 0x04, 0xff, 0xfe, 0x00, 0x01, 0xff, 0xff, 0x00, 0x02, 0x80, 0x00, 0x7f,
 ];
 
-/// Every format.
-static FORMATS: [Format; 4] = [Format::Real1, Format::Real2, Format::Iq1, Format::Iq2];
+static MEASURED: [Row; 5] = [
+    // Bytes without a sign about 127.5, the threshold 60, so 255 and 120 in readings. The readings
+    // are 0, 510, 260, 254, 510, 258 and 256, which add up to 2048: the mean is 1024/7. Their
+    // distances are 255, 255, 5, 1, 255, 3 and 1, with the squares 3 * 65025 + 25 + 1 + 9 + 1 =
+    // 195111. At the ends are 0 and both 255. Not below the centre are 130, 129 and 128, which are
+    // near, and both 255, which are far; below it are 127, which is near, and 0, which is far.
+    Row {
+        kind: ValueKind::U8,
+        is_paired: false,
+        centres: (255, 255),
+        is_q: false,
+        threshold: 120,
+        bytes: &[0, 255, 130, 127, 255, 129, 128],
+        measure: Measure {
+            count: 7,
+            sum: 2048,
+            squares: 195_111,
+            at_ends: 3,
+            shares: [3, 2, 1, 1],
+        },
+    },
+    // In phase the readings 4, -4 and -2 add up to -2: the mean is -1/3, to the nearest half -0.5.
+    // Their distances from it are 5, 3 and 1, with the squares 25 + 9 + 1 = 35. 2 is above -0.5 and
+    // far from it. -2 and -1 are below it and near, -2 just at the threshold.
+    //
+    // In quadrature 8, 2 and 4 add up to 14: the mean is 7/3, to the nearest half 2.5. Their
+    // distances are 3, 3 and 1, with the squares 9 + 9 + 1 = 19. Of both parts the mean square is
+    // 54/6 = 9, so the threshold is 3, which is 1.5. The sign is turned: 4 is above 2.5, and 1 and
+    // 2 are below, all near.
+    Row {
+        kind: ValueKind::I16Be,
+        is_paired: true,
+        centres: (-1, 5),
+        is_q: false,
+        threshold: 3,
+        bytes: PAIRS,
+        measure: Measure {
+            count: 3,
+            sum: -2,
+            squares: 35,
+            at_ends: 0,
+            shares: [0, 1, 2, 0],
+        },
+    },
+    Row {
+        kind: ValueKind::I16Be,
+        is_paired: true,
+        centres: (-1, 5),
+        is_q: true,
+        threshold: 3,
+        bytes: PAIRS,
+        measure: Measure {
+            count: 3,
+            sum: 14,
+            squares: 19,
+            at_ends: 0,
+            shares: [2, 0, 1, 0],
+        },
+    },
+    // Of the whole numbers in 35/3 and 19/3 the mean square would be 17/2, and the threshold 2: by
+    // this -2 is far.
+    Row {
+        kind: ValueKind::I16Be,
+        is_paired: true,
+        centres: (-1, 5),
+        is_q: false,
+        threshold: 2,
+        bytes: PAIRS,
+        measure: Measure {
+            count: 3,
+            sum: -2,
+            squares: 35,
+            at_ends: 0,
+            shares: [0, 1, 1, 1],
+        },
+    },
+    // One byte of four values of two bits, the earliest in its low bits: 00 is 1, 01 is 3, 10 is -3
+    // and 11 is -1. So the readings are 2, 6, -6 and -2, which add up to 0, with the squares 4 + 36
+    // + 36 + 4 = 80. 3 and -3 are the ends of the range, and farther from 0 than 2.
+    Row {
+        kind: ValueKind::Bits2Low,
+        is_paired: false,
+        centres: (0, 0),
+        is_q: false,
+        threshold: 4,
+        bytes: &[0xe4],
+        measure: Measure {
+            count: 4,
+            sum: 0,
+            squares: 80,
+            at_ends: 2,
+            shares: [1, 1, 1, 1],
+        },
+    },
+];
 
-/// Signs of values as they are, about centre and threshold of their kind.
-fn choice(kind: ValueKind, is_paired: bool, format: Format) -> Choice {
-    let (centre, threshold) = match kind {
-        ValueKind::U8 => (255, 85),
-        ValueKind::I8 => (-9, 86),
-        ValueKind::I16 | ValueKind::I16Be => (1000, 21846),
-        _ => (0, 4),
+/// Asserts what the values of some bytes are like.
+fn assert_measured(rt: &impl Abort, row: &Row) {
+    let format = if row.is_paired {
+        Format::Iq1
+    } else {
+        Format::Real1
     };
-    Choice {
-        threshold,
-        centre,
-        centre_q: centre,
-        ..signs(kind, is_paired, format)
-    }
-}
-
-/// Bytes that look like chance: the top bytes of a congruential generator of 32 bits.
-fn noise(rt: &(impl Abort + Alloc<A = Global>), count: usize) -> Vec<u8> {
-    let mut bytes = Vec::new(rt.alloc());
-    let mut state: u32 = 12345;
-    for _ in 0..count {
-        state = state.wrapping_mul(1_664_525).wrapping_add(1_013_904_223);
-        bytes.push((state >> 24) as u8).expect(rt, "no memory");
-    }
-    bytes
-}
-
-/// Byte `i`, or 0.
-fn at(bytes: &[u8], i: usize) -> u8 {
-    bytes.get(i).copied().unwrap_or(0)
-}
-
-/// Twice value `i`, as Rust reads it.
-fn twice(kind: ValueKind, bytes: &[u8], i: usize) -> i64
-    requires { i < 1000000 }
-{
-    let value = match kind {
-        ValueKind::U8 => i64::from(at(bytes, i)),
-        ValueKind::I8 => i64::from(i8::from_le_bytes([at(bytes, i)])),
-        ValueKind::I16 => i64::from(i16::from_le_bytes([at(bytes, 2 * i), at(bytes, 2 * i + 1)])),
-        ValueKind::I16Be => i64::from(i16::from_be_bytes([at(bytes, 2 * i), at(bytes, 2 * i + 1)])),
-        ValueKind::Bits2Low => [1, 3, -3, -1][usize::from(at(bytes, i / 4) >> (i % 4 * 2) & 3)],
-        ValueKind::SignSizeLow => [1, 3, -1, -3][usize::from(at(bytes, i / 4) >> (i % 4 * 2) & 3)],
-        ValueKind::Bits1Low => [1, -1][usize::from(at(bytes, i / 8) >> (i % 8) & 1)],
-        _ => [1, -1][usize::from(at(bytes, i / 8) >> (7 - i % 8) & 1)],
+    let recipe = recipe_of(
+        rt,
+        &Choice {
+            centre: row.centres.0,
+            centre_q: row.centres.1,
+            is_conjugate: row.is_paired,
+            ..signs(row.kind, row.is_paired, format)
+        },
+    );
+    assert_that(rt, row.bytes.len() <= 1 << 20);
+    let found = if row.is_q {
+        recipe.measure(&recipe.quadrature, row.threshold, row.bytes)
+    } else {
+        recipe.measure(&recipe.in_phase, row.threshold, row.bytes)
     };
-    2 * value
+    assert_same(rt, &found, &row.measure);
 }
 
-/// Bits in a row, the first in the top of its byte.
-#[derive(Drop)]
-struct Bits {
-    bytes: Vec<u8>,
-    last: u8,
-    count: u32,
-}
-
-impl Bits {
-    fn push(&mut self, rt: &impl Abort, bit: bool) {
-        self.last = self.last << 1 | u8::from(bit);
-        self.count = self.count.wrapping_add(1);
-        if self.count % 8 == 0 {
-            self.bytes.push(self.last).expect(rt, "no memory");
-        }
-    }
-
-    /// The bits of a value.
-    fn put(&mut self, rt: &impl Abort, choice: &Choice, value: i64) {
-        self.push(rt, value < i64::from(choice.centre));
-        let distance = value.wrapping_sub(i64::from(choice.centre)).unsigned_abs();
-        if matches!(choice.format, Format::Real2 | Format::Iq2) {
-            self.push(rt, distance > u64::from(choice.threshold));
-        }
+#[test]
+fn measures(rt: HostRuntime) {
+    for row in &MEASURED {
+        assert_measured(&rt, row);
     }
 }
 
-/// Packs value by value and bit by bit.
-fn plainly(rt: &(impl Abort + Alloc<A = Global>), choice: &Choice, bytes: &[u8]) -> Vec<u8> {
-    let mut bits = Bits {
-        bytes: Vec::new(rt.alloc()),
-        last: 0,
-        count: 0,
+#[test]
+fn a_stretch_of_pieces(rt: HostRuntime) {
+    let rt = &rt;
+    let mut stretch = Stretch::new(3, 4);
+    assert_part(rt, &mut stretch, &[0, 1], &[], false);
+    assert_part(rt, &mut stretch, &[2, 3, 4], &[3, 4], false);
+    assert_part(rt, &mut stretch, &[5, 6, 7], &[5, 6], true);
+    assert_part(rt, &mut stretch, &[8], &[], true);
+}
+
+/// Asserts what a stretch takes of a piece, and whether it is over then.
+fn assert_part(rt: &impl Abort, stretch: &mut Stretch, piece: &[u8], part: &[u8], is_over: bool) {
+    assert_same(rt, stretch.part(piece), part);
+    assert_that(rt, stretch.is_over() == is_over);
+}
+
+// A pair has 32 bits: 25 bytes are six pairs and a byte, and with three more they are seven.
+#[test]
+fn what_is_left(rt: HostRuntime) {
+    let rt = &rt;
+    assert_same(rt, ValueKind::I16.bits(), 16);
+    let below = Choice {
+        centre: 1000,
+        centre_q: 1000,
+        ..signs(ValueKind::I16, true, Format::Iq1)
     };
-    let is_complex = matches!(choice.format, Format::Iq1 | Format::Iq2);
-    let count = bytes.len().min(100_000) * 8 / choice.kind.bits();
-    for i in 0..count {
-        if i < 1_000_000 && (!choice.is_paired || is_complex || i % 2 == 0) {
-            bits.put(rt, choice, twice(choice.kind, bytes, i));
-        }
-    }
-    bits.bytes
+    let mut packer = packer_of(rt, &below);
+    assert_left(rt, &mut packer, &[0; 25], &[0xff], (2, true));
+    assert_left(rt, &mut packer, &[0; 3], &[], (3, false));
 }
 
-/// Packs in pieces of a size.
-fn in_pieces(
+/// Asserts what is written with a piece, how many samples are held after it, and whether it ends
+/// inside one.
+fn assert_left(
     rt: &(impl Abort + Alloc<A = Global>),
-    recipe: Recipe,
-    bytes: &[u8],
-    size: usize,
-) -> Vec<u8>
-    requires { size ≤ 65536 }
-{
-    let mut packer = Packer::new(rt.alloc(), recipe).expect(rt, "no memory");
-    let (mut all, mut written) = (Vec::new(rt.alloc()), Vec::new(rt.alloc()));
-    let mut rest = bytes;
-    for _ in 0..bytes.len() {
-        let (piece, behind) = rest.split_at(rest.len().min(size));
-        packer.take(piece, &mut written).expect(rt, "no number");
-        all.extend_from_slice(&written).expect(rt, "no memory");
-        rest = behind;
-    }
-    all
-}
-
-/// Asserts that a recording packed in pieces of a size is as it is packed value by value, where a
-/// choice can be had.
-fn assert_packed_plainly(
-    rt: &(impl Abort + Alloc<A = Global>),
-    choice: &Choice,
-    bytes: &[u8],
-    size: usize,
+    packer: &mut Packer,
+    piece: &[u8],
+    expected: &[u8],
+    left: (usize, bool),
 )
-    requires { size ≤ 65536 }
+    requires { length piece.now ≤ 65536 }
 {
-    if let Ok(recipe) = choice.recipe() {
-        let written = in_pieces(rt, recipe, bytes, size);
-        let wanted = plainly(rt, choice, bytes);
-        assert_same(rt, written.as_slice(), wanted.as_slice());
-    }
-}
-
-// A hundred thousand values of each kind of bytes, and more of those of bits.
-#[test]
-fn every_kind_and_cut(rt: HostRuntime) {
-    let bytes = noise(&rt, 100_000);
-    for kind in &KINDS {
-        for format in &FORMATS {
-            for is_paired in [false, true] {
-                let choice = choice(*kind, is_paired, *format);
-                assert_packed_plainly(&rt, &choice, &bytes, MOST_PIECE);
-            }
-        }
-    }
-}
-
-#[test]
-fn pieces_of_every_size(rt: HostRuntime) {
-    let bytes = noise(&rt, 3001);
-    for kind in &KINDS {
-        let choice = choice(*kind, true, Format::Iq1);
-        for size in [1, 7, 64, 1000, MOST_PIECE] {
-            assert_packed_plainly(&rt, &choice, &bytes, size);
-        }
-    }
+    let mut written = Vec::new(rt.alloc());
+    packer.take(piece, &mut written).expect(rt, "not packed");
+    let found = (
+        written.as_slice(),
+        (packer.samples_held(), packer.ends_inside()),
+    );
+    assert_same(rt, found, (expected, left));
 }

@@ -1,13 +1,12 @@
 //! Devices that fail where a test wants it, and count the calls on them.
 
-ghost use Rattle.std.specs.Prelude.{Some, None, false};
+ghost use Rattle.std.specs.Prelude.{Some};
 
 use arrayvec::ArrayVec;
 use receiver::{DeviceFault, Sink, Source};
-use std::process::Abort;
 
 /// The most bytes that a `Holding` has room for.
-const ROOM: usize = 16_384;
+const ROOM: usize = 256;
 
 /// Gives at most so many bytes a read. It fails once, when so many are given, and would then go on.
 #[derive(Drop)]
@@ -22,18 +21,8 @@ pub struct Giving<'a> {
 }
 
 impl<'a> Giving<'a> {
-    /// Gives all it has with one read, as far as there is room.
-    pub fn whole(bytes: &'a [u8]) -> Self {
-        Giving::faulty(bytes, usize::MAX, usize::MAX)
-    }
-
-    /// Gives at most `at_once` bytes a read.
-    pub fn pieces(bytes: &'a [u8], at_once: usize) -> Self {
-        Giving::faulty(bytes, at_once, usize::MAX)
-    }
-
-    /// Fails once after `until_fault` bytes.
-    pub fn faulty(bytes: &'a [u8], at_once: usize, until_fault: usize) -> Self {
+    /// Gives at most so many bytes a read, and fails once after so many.
+    pub fn new(bytes: &'a [u8], (at_once, until_fault): (usize, usize)) -> Self {
         Giving {
             bytes,
             at_once,
@@ -77,38 +66,6 @@ impl Source for Giving<'_> {
     }
 }
 
-/// Gives zeros without end, at most so many a read.
-#[derive(Drop)]
-pub struct Zeros {
-    at_once: usize,
-    pub reads: u64,
-}
-
-impl Zeros {
-    pub fn pieces(at_once: usize) -> Self {
-        Zeros { at_once, reads: 0 }
-    }
-}
-
-impl Source for Zeros {
-    ghost remaining = { λ _. None };
-
-    ghost has_failed = { λ _. false };
-
-    ghost was_asked_again = { λ _. false };
-
-    ghost gave_none = { λ _. false };
-
-    fn read(&mut self, buffer: &mut [u8]) -> Result<usize, DeviceFault> {
-        self.reads = self.reads.wrapping_add(1);
-        let count = buffer.len().min(self.at_once.max(1));
-        for byte in buffer.iter_mut() {
-            *byte = 0;
-        }
-        Ok(count)
-    }
-}
-
 /// Keeps what is written. It fails once, when it holds so many bytes, and would then go on; or it
 /// fails at each flush.
 #[derive(Drop)]
@@ -125,18 +82,13 @@ pub struct Holding {
 }
 
 impl Holding {
-    /// Takes all of each write.
-    pub fn whole() -> Self {
-        Holding::faulty(usize::MAX, usize::MAX)
-    }
-
-    /// Takes at most `at_once` bytes a write, and fails once after `until_fault` bytes.
-    pub fn faulty(at_once: usize, until_fault: usize) -> Self {
+    /// Takes at most so many bytes a write, and fails once after so many, or at each flush.
+    pub fn new((at_once, until_fault): (usize, usize), flush_fails: bool) -> Self {
         Holding {
             bytes: ArrayVec::new(),
             at_once,
             until_fault,
-            flush_fails: false,
+            flush_fails,
             writes: 0,
             flushes: 0,
             is_flushed: false,
@@ -144,16 +96,9 @@ impl Holding {
         }
     }
 
-    /// Takes all of each write, and fails at each flush.
-    pub fn without_flush() -> Self {
-        let mut device = Holding::whole();
-        device.flush_fails = true;
-        device
-    }
-
     /// What was written.
-    pub fn text(&self, rt: &impl Abort) -> &str {
-        std::str::from_utf8(self.bytes.as_slice()).expect(rt, "no text")
+    pub fn bytes(&self) -> &[u8] {
+        self.bytes.as_slice()
     }
 }
 

@@ -1,50 +1,54 @@
-//! Clients with unequal shares of the slots.
+//! Numbers of scripts, and shares, with which there is no run.
 
 use super::{FIRST_COUNT, plain_settings};
-use crate::receiver_tests::expected::{answers, asks, refuses_to_open};
+use crate::asserted::assert_same;
+use crate::receiver_tests::cases::ALL;
 use crate::receiver_tests::fakes::{Giving, Holding};
-use channel_slots::{MOST_TIME, OpenFault};
-use receiver::{RunFault, run_shares};
+use channel_slots::MOST_TIME;
+use receiver::{RunFault, run, run_shares};
 use std::alloc::{Alloc, Global};
 use std::process::Abort;
 
-/// Sees that a run of so many scripts with these shares is refused so, before it reads or writes.
-fn refuses(rt: &(impl Abort + Alloc<A = Global>), clients: usize, shares: &[u8], fault: RunFault) {
-    let mut reader = Giving::whole(&[0]);
-    let mut writer = Holding::whole();
-    let settings = plain_settings(rt);
+/// What a run of so many scripts answers, with these shares or with four slots each.
+fn answer(
+    rt: &(impl Abort + Alloc<A = Global>),
+    clients: usize,
+    shares: Option<&[u8]>,
+    reader: &mut Giving,
+    writer: &mut Holding,
+) -> Result<u64, RunFault> {
+    let (alloc, settings) = (rt.alloc(), plain_settings(rt));
     let scripts = &[FIRST_COUNT; 9][..clients.min(9)];
-    let alloc = rt.alloc();
-    let answer = run_shares(
-        alloc,
-        settings,
-        scripts,
-        shares,
-        MOST_TIME,
-        &mut reader,
-        &mut writer,
-    );
-    answers(rt, answer, Err(fault));
-    asks(rt, &reader, &writer, 0, 0, 0);
+    match shares {
+        Some(shares) => run_shares(alloc, settings, scripts, shares, MOST_TIME, reader, writer),
+        None => run(alloc, settings, scripts, reader, writer),
+    }
 }
 
 /// Numbers of scripts, shares, and how a run of them is refused.
-static REFUSED: [(usize, &[u8], RunFault); 8] = [
-    (0, &[], RunFault::Clients),
-    (0, &[4], RunFault::Clients),
-    (9, &[4; 9], RunFault::Clients),
-    (9, &[4], RunFault::Clients),
-    (2, &[4], RunFault::Share),
-    (1, &[4, 4], RunFault::Share),
-    (1, &[0], RunFault::Share),
-    (2, &[8, 9], RunFault::Share),
+static REFUSED: [(usize, Option<&[u8]>, RunFault); 11] = [
+    (0, None, RunFault::Clients),
+    (9, None, RunFault::Clients),
+    (0, Some(&[]), RunFault::Clients),
+    (0, Some(&[4]), RunFault::Clients),
+    (9, Some(&[4; 9]), RunFault::Clients),
+    (9, Some(&[4]), RunFault::Clients),
+    (2, Some(&[4]), RunFault::Share),
+    (1, Some(&[4, 4]), RunFault::Share),
+    (1, Some(&[0]), RunFault::Share),
+    (2, Some(&[8, 9]), RunFault::Share),
+    (2, Some(&[4, 9]), RunFault::Share),
 ];
 
 // The scripts are checked before the shares, and both before anything is read or written.
 #[test]
 fn share_faults(rt: HostRuntime) {
+    let rt = &rt;
     for &(clients, shares, fault) in &REFUSED {
-        refuses(&rt, clients, shares, fault);
+        let mut reader = Giving::new(&[0], (ALL, ALL));
+        let mut writer = Holding::new((ALL, ALL), false);
+        let answer = answer(rt, clients, shares, &mut reader, &mut writer);
+        let asked = (reader.reads, writer.writes, writer.flushes);
+        assert_same(rt, (answer, asked), (Err(fault), (0, 0, 0)));
     }
-    refuses_to_open(&rt, &[4, 9], OpenFault::Share);
 }
