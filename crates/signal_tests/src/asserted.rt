@@ -4,7 +4,8 @@
 ghost use Rattle.std.specs.Prelude.{◌≡◌, true};
 
 use assertions::{same, same_at};
-use std::fmt::Debug;
+use std::alloc::{Alloc, Global};
+use std::fmt::{Debug, Display};
 use std::process::Abort;
 
 /// Asserts that two values are the same. It ends the program where they differ.
@@ -36,4 +37,15 @@ pub fn assert_that(rt: &impl Abort, condition: bool)
     if !condition {
         panic!(*rt; "assertion failed")
     }
+}
+
+/// Asserts what a fault is shown as.
+#[track_caller]
+pub fn assert_shown<F: Display + Drop>(
+    rt: &(impl Abort + Alloc<A = Global>),
+    fault: F,
+    text: &str,
+) {
+    let shown = fault.to_string(rt.alloc()).expect(rt, "no memory");
+    assert_same(rt, shown.as_str(), text);
 }

@@ -1,8 +1,7 @@
-//! Sums against plain loops, and sums worked out by hand.
+//! Sums against plain loops, and sums worked out by hand. `tools/runs-check` has more of these,
+//! over the built receiver.
 
 ghost use Rattle.std.specs.Prelude.{◌≤◌, length};
-ghost use Rattle.definitions.specs.Samples.{sample_count};
-ghost use Rattle.sample_planes.specs.Packings.{packing_of};
 ghost use Rattle.sample_planes.specs.declared.planes.TheConstants.{MAX_SAMPLES};
 
 mod products;
@@ -84,35 +83,44 @@ fn between(earlier: &Counts, later: &Counts) -> Counts {
 fn agreeing(rt: &impl Abort, format: Format, lowest: usize, len: usize) -> u32
     requires { len ≤ MAX_SAMPLES }
 {
-    let prn = satellite(rt, 7);
-    let mut book = CodeBook::new();
-    let carrier = CarrierOsc::new(0x2345_6789);
-    let code = CodeOsc::new(half_chip(rt, 2_030), 0x6000_0001);
     let samples = unpack(format, &noise_bytes(), 3, len);
     let plain = plain_sums(
         &samples,
-        &carrier.planes(samples.len()),
-        &code.planes(samples.len(), &mut book, prn),
+        &carrier_at(0).planes(samples.len()),
+        &code_at(rt, 0).planes(samples.len(), &mut CodeBook::new(), satellite(rt, 7)),
     );
     let mut agreeing = 0u32;
     for from in lowest..=samples.len() {
-        let mut carrier_there = CarrierOsc::new(0x2345_6789);
-        carrier_there.advance(from as u64);
-        let mut code_there = CodeOsc::new(half_chip(rt, 2_030), 0x6000_0001);
-        code_there.jump(from as u64);
-        for to in from..=samples.len() {
-            let sums = replica_sums(
-                &samples,
-                from,
-                to - from,
-                &carrier_there,
-                &code_there,
-                &mut book,
-                prn,
-            );
-            if sums == between(&plain[from], &plain[to]) {
-                agreeing = agreeing.wrapping_add(1);
-            }
+        agreeing = agreeing.wrapping_add(agreeing_from(rt, &samples, &plain, from));
+    }
+    agreeing
+}
+
+/// The carrier at a sample.
+fn carrier_at(sample: usize) -> CarrierOsc {
+    let mut carrier = CarrierOsc::new(0x2345_6789);
+    carrier.advance(sample as u64);
+    carrier
+}
+
+/// The code at a sample.
+fn code_at(rt: &impl Abort, sample: usize) -> CodeOsc {
+    let mut code = CodeOsc::new(half_chip(rt, 2_030), 0x6000_0001);
+    code.jump(sample as u64);
+    code
+}
+
+/// For how many ranges of a run that begin at a sample the sums are those of a plain loop.
+fn agreeing_from(rt: &impl Abort, samples: &Planes, plain: &[Counts; 1025], from: usize) -> u32
+    requires { length samples.now ≤ MAX_SAMPLES }
+{
+    let (carrier, code, prn) = (carrier_at(from), code_at(rt, from), satellite(rt, 7));
+    let mut book = CodeBook::new();
+    let mut agreeing = 0u32;
+    for to in from..=samples.len() {
+        let sums = replica_sums(samples, from, to - from, &carrier, &code, &mut book, prn);
+        if sums == between(&plain[from], &plain[to]) {
+            agreeing = agreeing.wrapping_add(1);
         }
     }
     agreeing
@@ -133,85 +141,10 @@ fn assert_agreeing(rt: &impl Abort, format: Format) {
 }
 
 #[test]
-fn sums_of_one_bit_samples(rt: HostRuntime) {
-    assert_agreeing(&rt, Format::Real1);
-}
-
-#[test]
-fn sums_of_two_bit_samples(rt: HostRuntime) {
-    assert_agreeing(&rt, Format::Real2);
-}
-
-#[test]
-fn sums_of_complex_samples(rt: HostRuntime) {
-    assert_agreeing(&rt, Format::Iq1);
-}
-
-#[test]
-fn sums_of_complex_two_bit_samples(rt: HostRuntime) {
-    assert_agreeing(&rt, Format::Iq2);
-}
-
-/// Asserts the sums of four samples at a quarter of a cycle and a quarter of a chip a sample, the
-/// code of satellite 1 beginning with its last chip.
-fn assert_four_samples(rt: &impl Abort, format: Format, bytes: &[u8], expected: Counts)
-    requires { 4 ≤ sample_count (packing_of format) bytes.now }
-{
-    let samples = unpack(format, bytes, 0, 4);
-    let code = CodeOsc::new(half_chip(rt, 2_044), 1 << 30);
-    assert_same(rt, sums_of_quarters(rt, &samples, &code), expected);
-}
-
-/// The sums over samples at a quarter of a cycle a sample, with the code of satellite 1.
-fn sums_of_quarters(rt: &impl Abort, samples: &Planes, code: &CodeOsc) -> Counts {
-    replica_sums(
-        samples,
-        0,
-        samples.len(),
-        &CarrierOsc::new(1 << 30),
-        code,
-        &mut CodeBook::new(),
-        satellite(rt, 1),
-    )
-}
-
-#[test]
-fn two_bit_byte(rt: HostRuntime) {
-    let expected = Counts {
-        ie: 12,
-        qe: 4,
-        ip: 6,
-        qp: 2,
-        il: 6,
-        ql: 2,
-    };
-    assert_four_samples(&rt, Format::Real2, &[0x72], expected);
-}
-
-#[test]
-fn complex_byte(rt: HostRuntime) {
-    let expected = Counts {
-        ie: -2,
-        qe: 6,
-        ip: 2,
-        qp: -6,
-        il: 2,
-        ql: -6,
-    };
-    assert_four_samples(&rt, Format::Iq1, &[0x1b], expected);
-}
-
-#[test]
-fn complex_bytes(rt: HostRuntime) {
-    let expected = Counts {
-        ie: 12,
-        qe: 4,
-        ip: -8,
-        qp: 4,
-        il: -8,
-        ql: 4,
-    };
-    assert_four_samples(&rt, Format::Iq2, &[0x4b, 0x2d], expected);
+fn sums_of_every_packing(rt: HostRuntime) {
+    for format in [Format::Real1, Format::Real2, Format::Iq1, Format::Iq2] {
+        assert_agreeing(&rt, format);
+    }
 }
 
 /// The prompt sums over samples of +1, at a quarter of a cycle a sample, with chip 2 of satellite
@@ -220,7 +153,15 @@ fn quarter_cycles(rt: &impl Abort, count: usize) -> (i32, i32)
     requires { count ≤ 4 }
 {
     let samples = unpack(Format::Real1, &[0], 0, count);
-    let sums = sums_of_quarters(rt, &samples, &CodeOsc::new(half_chip(rt, 4), 0));
+    let sums = replica_sums(
+        &samples,
+        0,
+        samples.len(),
+        &CarrierOsc::new(1 << 30),
+        &CodeOsc::new(half_chip(rt, 4), 0),
+        &mut CodeBook::new(),
+        satellite(rt, 1),
+    );
     (sums.ip, sums.qp)
 }
 

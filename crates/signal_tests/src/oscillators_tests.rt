@@ -2,7 +2,7 @@
 
 ghost use Rattle.std.specs.Prelude.{◌≤◌};
 
-use crate::asserted::{assert_same, assert_same_at, assert_that};
+use crate::asserted::{assert_same, assert_same_at, assert_shown};
 use crate::parts::{half_chip, satellite};
 use ca_codes::{CodeBook, Prn};
 use oscillators::*;
@@ -23,24 +23,23 @@ static EXTREME_STEPS: [u32; 6] = [
 /// The code's cycle, 1,023 chips of 2^32.
 const CYCLE: u128 = 4_393_751_543_808;
 
+// Of the code's steps the second has -1/1540, which is rounded down to -1, so the rate is 1,023,000
+// * 65,536 - 1 in 1/65536 chip a second. Times 65,536 and over 2,046,000 that is 2^31 -
+// 65,536/2,046,000, a little less than 2^31, and rounded down 2^31 - 1. With -1/1540 rounded to 0
+// it would be 2^31.
 #[test]
 fn floor_steps(rt: HostRuntime) {
-    let settings = Settings::new(4_092_000, 0, Format::Real1).expect(&rt, "settings");
-    let steps = (
-        settings.carrier_step(-65_536),
-        settings.code_step(1540 * 65_536, 0),
-    );
-    assert_same(&rt, steps, (4_294_966_246, 1_073_742_873));
-}
-
-// -1/1540 is rounded down to -1, so the rate is 1,023,000 * 65,536 - 1 in 1/65536 chip a second.
-// Times 65,536 and over 2,046,000 that is 2^31 - 65,536/2,046,000, a little less than 2^31, and
-// rounded down 2^31 - 1. With -1/1540 rounded to 0 it would be 2^31.
-#[test]
-fn code_step_below_zero(rt: HostRuntime) {
-    let settings = Settings::new(2_046_000, 0, Format::Real1).expect(&rt, "settings");
-    let steps = (settings.code_step(-1, 0), settings.code_step(0, 0));
-    assert_same(&rt, steps, (2_147_483_647, 2_147_483_648));
+    let rt = &rt;
+    let fast = Settings::new(4_092_000, 0, Format::Real1).expect(rt, "settings");
+    let slow = Settings::new(2_046_000, 0, Format::Real1).expect(rt, "settings");
+    let carrier = fast.carrier_step(-65_536);
+    let code = [
+        fast.code_step(1540 * 65_536, 0),
+        slow.code_step(-1, 0),
+        slow.code_step(0, 0),
+    ];
+    let expected = [1_073_742_873, 2_147_483_647, 2_147_483_648];
+    assert_same(rt, (carrier, code), (4_294_966_246, expected));
 }
 
 /// Rates and offsets at the ends of their ranges, and what is wrong with them.
@@ -66,24 +65,29 @@ fn stated_limits(rt: HostRuntime) {
 }
 
 #[test]
-fn limits_of_shifts(rt: HostRuntime) {
+fn shifts_have_ranges_and_an_order(rt: HostRuntime) {
     let valid = [
         Doppler::new(-16_001).is_some(),
-        Doppler::new(-16_000).is_some(),
         Doppler::new(16_000).is_some(),
         Doppler::new(16_001).is_some(),
+        Doppler::new(-1) < Doppler::new(0),
     ];
-    assert_same(&rt, valid, [false, true, true, false]);
+    assert_same(&rt, valid, [false, true, false, true]);
+    for hz in [-16_000, -1_000] {
+        let shift = Doppler::new(hz).expect(&rt, "a shift");
+        assert_same(&rt, shift.get(), hz);
+    }
 }
 
 #[test]
-fn limits_of_half_chips(rt: HostRuntime) {
+fn half_chips_have_ranges_and_an_order(rt: HostRuntime) {
     let valid = [
         HalfChip::new(0).is_some(),
-        HalfChip::new(2_045).is_some(),
         HalfChip::new(2_046).is_some(),
+        HalfChip::new(2_044) < HalfChip::new(2_045),
     ];
-    assert_same(&rt, valid, [true, true, false]);
+    let last = half_chip(&rt, 2_045).get();
+    assert_same(&rt, (valid, last), ([true, false, true], 2_045));
 }
 
 /// What the faults say.
@@ -101,46 +105,20 @@ static TEXTS: [(SettingsFault, &str); 2] = [
 #[test]
 fn fault_texts(rt: HostRuntime) {
     for &(fault, text) in &TEXTS {
-        let printed = format!(in rt.alloc(); "{fault}").expect(&rt, "no memory");
-        assert_same(&rt, printed.as_str(), text);
+        assert_shown(&rt, fault, text);
     }
 }
 
 #[test]
-fn settings_are_kept(rt: HostRuntime) {
-    let rt = &rt;
-    let settings = Settings::new(2_047_999, 500_000, Format::Real2).expect(rt, "no such recording");
-    let doppler = Doppler::new(-1_000).expect(rt, "a shift");
-    let kept = (
-        settings.per_ms(),
-        settings.format(),
-        doppler.get(),
-        half_chip(rt, 2_045).get(),
-    );
-    assert_same(rt, kept, (2_047, Format::Real2, -1_000, 2_045));
-}
-
-#[test]
-fn shifts_and_half_chips_have_ranges_and_an_order(rt: HostRuntime) {
-    let rt = &rt;
-    let doppler = Doppler::new(-16_000).expect(rt, "a shift");
-    let ends = (doppler.get(), half_chip(rt, 2_045).get());
-    assert_same(rt, ends, (-16_000, 2_045));
-    assert_same(
-        rt,
-        (Doppler::new(-16_001), HalfChip::new(2_046)),
-        (None, None),
-    );
-    assert_that(rt, Doppler::new(-1) < Doppler::new(0));
-    assert_that(rt, HalfChip::new(2_044) < HalfChip::new(2_045));
-}
-
-#[test]
 fn settings_tell_their_parts(rt: HostRuntime) {
-    let settings = Settings::new(4_092_000, -511_500, Format::Real2).expect(&rt, "settings");
+    let settings = Settings::new(2_047_999, -511_500, Format::Real2).expect(&rt, "settings");
     let copy = settings;
-    let told = (settings.rate(), settings.offset(), settings.format(), copy);
-    assert_same(&rt, told, (4_092_000, -511_500, Format::Real2, settings));
+    let told = (settings.rate(), settings.offset(), settings.format());
+    assert_same(
+        &rt,
+        (told, settings.per_ms(), copy),
+        ((2_047_999, -511_500, Format::Real2), 2_047, settings),
+    );
 }
 
 /// Cosine and sine, by the eighth of the cycle.
@@ -174,13 +152,6 @@ fn assert_carrier(rt: &impl Abort, step: u32) {
     }
 }
 
-#[test]
-fn carrier_views_at_extreme_steps(rt: HostRuntime) {
-    for &step in &EXTREME_STEPS {
-        assert_carrier(&rt, step);
-    }
-}
-
 /// Asserts the eighths of two words of a carrier, of which the first has so many samples before the
 /// carrier's own.
 fn assert_eighths(rt: &impl Abort, step: u32, before: u32) {
@@ -199,8 +170,9 @@ fn assert_eighths(rt: &impl Abort, step: u32, before: u32) {
 }
 
 #[test]
-fn eighths_at_extreme_steps(rt: HostRuntime) {
+fn carrier_at_extreme_steps(rt: HostRuntime) {
     for &step in &EXTREME_STEPS {
+        assert_carrier(&rt, step);
         for before in [0, 1, 63] {
             assert_eighths(&rt, step, before);
         }
@@ -280,18 +252,6 @@ fn assert_mask_words(rt: &impl Abort, book: &mut CodeBook, half_chips: u16, step
     }
 }
 
-#[test]
-fn chip_masks_at_extreme_steps(rt: HostRuntime) {
-    let mut book = CodeBook::new();
-    for half_chips in [0, 1, 1_023, 2_045] {
-        for &step in &EXTREME_STEPS {
-            for before in [0, 1, 63] {
-                assert_mask_words(&rt, &mut book, half_chips, step, before);
-            }
-        }
-    }
-}
-
 /// Asserts whether the chips have windows, and the masks that they give.
 fn assert_windows(rt: &impl Abort, book: &mut CodeBook, half_chips: u16, step: u32) {
     let prn = satellite(rt, 19);
@@ -306,11 +266,14 @@ fn assert_windows(rt: &impl Abort, book: &mut CodeBook, half_chips: u16, step: u
 }
 
 #[test]
-fn chip_masks_by_windows(rt: HostRuntime) {
+fn chip_masks_at_extreme_steps(rt: HostRuntime) {
     let mut book = CodeBook::new();
     for half_chips in [0, 1, 1_023, 2_045] {
         for &step in &EXTREME_STEPS {
             assert_windows(&rt, &mut book, half_chips, step);
+            for before in [0, 1, 63] {
+                assert_mask_words(&rt, &mut book, half_chips, step, before);
+            }
         }
     }
 }

@@ -8,15 +8,57 @@ use crate::noise::noise_bytes;
 use sample_planes::*;
 use std::process::Abort;
 
-/// The parts in phase and in quadrature of the first eight samples of `bytes`, as far as there are
-/// any.
-fn values(format: Format, bytes: &[u8]) -> ([i8; 8], [i8; 8])
-    requires { length bytes.now ≤ 2 }
-{
+/// Bytes, the parts in phase and in quadrature of their first eight samples, as far as there are
+/// any, and the codes of the first four.
+static BY_HAND: [(
+    Format,
+    &[u8; 2],
+    ([i8; 8], [i8; 8]),
+    [u8; 4],
+    Option<[u8; 4]>,
+); 4] = [
+    (
+        Format::Real1,
+        &[0xa6, 0],
+        ([-1, 1, -1, 1, 1, -1, -1, 1], [0; 8]),
+        [4, 0, 4, 0],
+        None,
+    ),
+    // 72 is 01 11 00 10: +3, -3, +1, -1.
+    (
+        Format::Real2,
+        &[0x72, 0x1b],
+        ([3, -3, 1, -1, 1, 3, -1, -3], [0; 8]),
+        [8, 12, 0, 4],
+        None,
+    ),
+    // 1B is 00 01 10 11: a sign in phase and one in quadrature each; and 4B is 01 00 10 11.
+    (
+        Format::Iq1,
+        &[0x1b, 0x4b],
+        ([1, 1, -1, -1, 1, 1, -1, -1], [1, -1, 1, -1, -1, 1, 1, -1]),
+        [0, 0, 4, 4],
+        Some([0, 4, 0, 4]),
+    ),
+    // 4B 2D is 0100 1011 0010 1101: (3, 1), (-1, -3), (1, -1), (-3, 3).
+    (
+        Format::Iq2,
+        &[0x4b, 0x2d],
+        ([3, -1, 1, -3, 0, 0, 0, 0], [1, -3, -1, 3, 0, 0, 0, 0]),
+        [8, 4, 0, 12],
+        Some([0, 12, 4, 8]),
+    ),
+];
+
+/// The first eight samples of two bytes, or as many as there are.
+fn first_samples(format: Format, bytes: &[u8; 2]) -> Planes {
+    unpack(format, bytes, 0, (2 * format.per_byte()).min(8))
+}
+
+/// The parts in phase and in quadrature of up to eight samples.
+fn parts(planes: &Planes) -> ([i8; 8], [i8; 8]) {
     let mut in_phase = [0; 8];
     let mut quadrature = [0; 8];
-    let len = (bytes.len() * format.per_byte()).min(8);
-    let planes = unpack(format, bytes, 0, len);
     for i in 0..planes.len().min(8) {
         in_phase[i] = planes.value(i);
         quadrature[i] = planes.value_q(i);
@@ -24,45 +66,32 @@ fn values(format: Format, bytes: &[u8]) -> ([i8; 8], [i8; 8])
     (in_phase, quadrature)
 }
 
-/// Asserts these parts of the first eight samples.
-fn assert_values(rt: &impl Abort, format: Format, bytes: &[u8], expected: ([i8; 8], [i8; 8]))
-    requires { length bytes.now ≤ 2 }
-{
-    assert_same(rt, values(format, bytes), expected);
+/// The codes in the last four lanes, the last first.
+fn last_lanes(codes: [u8; 64]) -> [u8; 4] {
+    [codes[63], codes[62], codes[61], codes[60]]
 }
 
+// Codes have the first sample in the last lane.
 #[test]
-fn one_byte_of_one_bit_samples(rt: HostRuntime) {
-    let in_phase = [-1, 1, -1, 1, 1, -1, -1, 1];
-    assert_values(&rt, Format::Real1, &[0xa6], (in_phase, [0; 8]));
+fn bytes_of_each_packing(rt: HostRuntime) {
+    for &(format, bytes, expected, codes, codes_q) in &BY_HAND {
+        let planes = first_samples(format, bytes);
+        assert_same_at(&rt, format, parts(&planes), expected);
+        let found_q = match planes.codes_q(0) {
+            Some(codes) => Some(last_lanes(codes)),
+            None => None,
+        };
+        let found = last_lanes(planes.codes(0).to_array());
+        assert_same_at(&rt, format, (found, found_q), (codes, codes_q));
+    }
 }
 
-#[test]
-fn two_bytes_of_two_bit_samples(rt: HostRuntime) {
-    // 72 is 01 11 00 10: +3, -3, +1, -1.
-    let in_phase = [3, -3, 1, -1, 1, 3, -1, -3];
-    assert_values(&rt, Format::Real2, &[0x72, 0x1b], (in_phase, [0; 8]));
-}
-
-#[test]
-fn complex_byte(rt: HostRuntime) {
-    // 1B is 00 01 10 11: a sign in phase and one in quadrature each.
-    let parts = ([1, 1, -1, -1, 0, 0, 0, 0], [1, -1, 1, -1, 0, 0, 0, 0]);
-    assert_values(&rt, Format::Iq1, &[0x1b], parts);
-}
-
-#[test]
-fn complex_bytes(rt: HostRuntime) {
-    // 4B 2D is 0100 1011 0010 1101: (3, 1), (-1, -3), (1, -1), (-3, 3).
-    let parts = ([3, -1, 1, -3, 0, 0, 0, 0], [1, -3, -1, 3, 0, 0, 0, 0]);
-    assert_values(&rt, Format::Iq2, &[0x4b, 0x2d], parts);
-}
-
-/// Asserts how many samples there are, and their parts in phase.
+/// Asserts how many samples there are, and their parts in phase; those in quadrature are 0.
 fn assert_samples(rt: &impl Abort, planes: &Planes, expected: &[i8]) {
     assert_same(rt, planes.len(), expected.len());
     for i in 0..planes.len().min(expected.len()) {
-        assert_same_at(rt, i, planes.value(i), expected[i]);
+        let found = (planes.value(i), planes.value_q(i));
+        assert_same_at(rt, i, found, (expected[i], 0));
     }
 }
 
@@ -82,31 +111,6 @@ fn parts_of_two_bits_can_be_3_in_size(rt: HostRuntime) {
     assert_same(&rt, (complex, real), (true, false));
 }
 
-/// Asserts the codes in the last four lanes, the last first.
-fn assert_codes(rt: &impl Abort, codes: [u8; 64], expected: [u8; 4]) {
-    assert_same(rt, [codes[63], codes[62], codes[61], codes[60]], expected);
-}
-
-#[test]
-fn codes_have_the_first_sample_in_the_last_lane(rt: HostRuntime) {
-    // 72 is +3, -3, +1, -1.
-    let planes = unpack(Format::Real2, &[0x72], 0, 4);
-    assert_codes(&rt, planes.codes(0).to_array(), [8, 12, 0, 4]);
-    assert_same(&rt, planes.codes_q(0), None);
-}
-
-#[test]
-fn codes_of_complex_samples(rt: HostRuntime) {
-    let rt = &rt;
-    // 4B 2D is (3, 1), (-1, -3), (1, -1), (-3, 3).
-    let planes = unpack(Format::Iq2, &[0x4b, 0x2d], 0, 4);
-    assert_codes(rt, planes.codes(0).to_array(), [8, 4, 0, 12]);
-    assert_codes(rt, planes.codes_q(0).unwrap_or([1; 64]), [0, 12, 4, 8]);
-    // 1B is (1, 1), (1, -1), (-1, 1), (-1, -1).
-    let planes = unpack(Format::Iq1, &[0x1b], 0, 4);
-    assert_codes(rt, planes.codes_q(0).unwrap_or([1; 64]), [0, 4, 0, 4]);
-}
-
 #[test]
 fn codes_of_the_second_word(rt: HostRuntime) {
     // Of 72 samples the last eight are a6, in the second 64.
@@ -118,7 +122,7 @@ fn codes_of_the_second_word(rt: HostRuntime) {
         (planes.codes(0).to_array(), last),
         ([0; 64], [0, 4, 4, 0]),
     );
-    assert_codes(&rt, codes, [4, 0, 4, 0]);
+    assert_same(&rt, last_lanes(codes), [4, 0, 4, 0]);
 }
 
 /// Asserts two bytes.
@@ -179,37 +183,35 @@ fn a_run_in_parts(rt: HostRuntime) {
     let rt = &rt;
     let run = PackedSamples::new(Format::Real2, &[0xb3, 0x71]);
     let (front, back) = run.split_at(5);
-    let behind = run.split_at(8).1;
-    let lens = [run.len(), front.len(), back.len(), behind.len()];
-    assert_same(rt, lens, [8, 5, 3, 0]);
-    assert_samples(rt, &front.unpack(), &[-1, -3, 1, -3, 3]);
-    assert_samples(rt, &back.unpack(), &[-3, 1, 3]);
+    let lens = [run.len(), run.split_at(8).1.len()];
+    assert_same(rt, lens, [8, 0]);
+    assert_run(rt, &front, &[-1, -3, 1, -3, 3]);
+    assert_run(rt, &back, &[-3, 1, 3]);
     // Within a part, samples are counted from its first one.
-    assert_samples(rt, &back.part(1, 2).unpack(), &[1, 3]);
+    assert_run(rt, &back.part(1, 2), &[1, 3]);
 }
 
-/// Asserts the parts in quadrature of samples.
-fn assert_quadrature(rt: &impl Abort, planes: &Planes, expected: &[i8]) {
-    assert_same(rt, planes.len(), expected.len());
-    for i in 0..planes.len().min(expected.len()) {
-        assert_same_at(rt, i, planes.value_q(i), expected[i]);
-    }
+/// Asserts the samples of a run, and how many it has.
+fn assert_run(rt: &impl Abort, run: &PackedSamples, expected: &[i8])
+    requires { length run.now.samples ≤ MAX_SAMPLES }
+{
+    assert_same(rt, run.len(), expected.len());
+    assert_samples(rt, &run.unpack(), expected);
 }
 
-// 4B 2D is 0100 1011 0010 1101 as in `complex_bytes`, and A6 is 1010 0110.
+// 4B 2D is 0100 1011 0010 1101 as above, and A6 is 1010 0110.
 #[test]
 fn kept_planes_hold_the_last_run_alone(rt: HostRuntime) {
     let rt = &rt;
     let mut planes = Planes::new();
     assert_samples(rt, &planes, &[]);
     PackedSamples::new(Format::Iq2, &[0x4b, 0x2d]).unpack_into(&mut planes);
-    assert_samples(rt, &planes, &[3, -1, 1, -3]);
-    assert_quadrature(rt, &planes, &[1, -3, -1, 3]);
+    let complex = ([3, -1, 1, -3, 0, 0, 0, 0], [1, -3, -1, 3, 0, 0, 0, 0]);
+    assert_same(rt, (planes.len(), parts(&planes)), (4, complex));
     PackedSamples::new(Format::Real1, &[0xa6])
         .part(0, 3)
         .unpack_into(&mut planes);
     assert_samples(rt, &planes, &[-1, 1, -1]);
-    assert_quadrature(rt, &planes, &[0, 0, 0]);
     assert_same(rt, planes.has_sizes(), false);
 }
 
@@ -242,34 +244,41 @@ fn numbered_samples_keep_their_numbers(rt: HostRuntime) {
     assert_samples(rt, &source.planes(1_008, 0), &[]);
 }
 
+/// A packing: the bits of a sample, whether its parts have a size, and whether it has two.
+static PACKINGS: [(Format, usize, bool, bool); 4] = [
+    (Format::Real1, 1, false, false),
+    (Format::Real2, 2, true, false),
+    (Format::Iq1, 2, false, true),
+    (Format::Iq2, 4, true, true),
+];
+
+/// Bit number `place` of some bytes.
+fn bit(bytes: &[u8; 600], place: usize) -> bool {
+    (bytes[place / 8 % 600] >> (7 - place % 8)) & 1 == 1
+}
+
 /// The part that bits number `at` and, where it has a size, `at + 1` of some bytes write.
 fn part_at(bytes: &[u8; 600], at: usize, has_size: bool) -> i8 {
-    let bit = |place: usize| (bytes[place / 8 % 600] >> (7 - place % 8)) & 1;
-    let size = if has_size && bit(at.wrapping_add(1)) == 1 {
+    let size = if has_size && bit(bytes, at.wrapping_add(1)) {
         3
     } else {
         1
     };
-    if bit(at) == 1 { -size } else { size }
+    if bit(bytes, at) { -size } else { size }
 }
 
 /// How many samples of a run differ from a plain reading of its bits.
-fn differing(format: Format, bytes: &[u8; 600], first: usize, len: usize) -> u32
+fn differing(row: &(Format, usize, bool, bool), bytes: &[u8; 600], first: usize, len: usize) -> u32
     requires first { first ≤ 16 }
     requires len { len ≤ MAX_SAMPLES }
 {
-    let (width, has_size, complex) = match format {
-        Format::Real1 => (1, false, false),
-        Format::Real2 => (2, true, false),
-        Format::Iq1 => (2, false, true),
-        Format::Iq2 => (4, true, true),
-    };
+    let &(format, width, has_size, is_complex) = row;
     let planes = unpack(format, bytes, first, len);
     let mut differing = 0u32;
     for i in 0..planes.len() {
-        let at = width * (first + i);
-        let q = if complex {
-            part_at(bytes, at + width / 2, has_size)
+        let at = width.wrapping_mul(first + i);
+        let q = if is_complex {
+            part_at(bytes, at.wrapping_add(width / 2), has_size)
         } else {
             0
         };
@@ -281,22 +290,28 @@ fn differing(format: Format, bytes: &[u8; 600], first: usize, len: usize) -> u32
 }
 
 /// Asserts that a run is read as a plain reading has it.
-fn assert_read(rt: &impl Abort, format: Format, bytes: &[u8; 600], first: usize, len: usize)
+fn assert_read(
+    rt: &impl Abort,
+    row: &(Format, usize, bool, bool),
+    bytes: &[u8; 600],
+    first: usize,
+    len: usize,
+)
     requires first { first ≤ 16 }
     requires len { len ≤ MAX_SAMPLES }
 {
-    assert_same_at(rt, (first, len), differing(format, bytes, first, len), 0);
+    assert_same_at(rt, (first, len), differing(row, bytes, first, len), 0);
 }
 
 #[test]
 fn every_place_of_every_byte(rt: HostRuntime) {
     let bytes = noise_bytes();
-    for format in [Format::Real1, Format::Real2, Format::Iq1, Format::Iq2] {
+    for row in &PACKINGS {
         for first in 0..=16 {
             for len in 0..=70 {
-                assert_read(&rt, format, &bytes, first, len);
+                assert_read(&rt, row, &bytes, first, len);
             }
-            assert_read(&rt, format, &bytes, first, 1024);
+            assert_read(&rt, row, &bytes, first, 1024);
         }
     }
 }

@@ -1,6 +1,6 @@
 //! Plans at the ends of their ranges, and the shifts of their cells.
 
-use crate::asserted::{assert_same, assert_same_at};
+use crate::asserted::{assert_same, assert_same_at, assert_shown};
 use crate::parts::{half_chip, satellite};
 use acquisition::{Cell, Plan, PlanFault, Signal};
 use ca_codes::Prn;
@@ -49,8 +49,7 @@ static TEXTS: [(PlanFault, &str); 4] = [
 #[test]
 fn faults_are_named(rt: HostRuntime) {
     for &(fault, text) in &TEXTS {
-        let printed = format!(in rt.alloc(); "{fault}").expect(&rt, "no memory");
-        assert_same(&rt, printed.as_str(), text);
+        assert_shown(&rt, fault, text);
     }
 }
 
