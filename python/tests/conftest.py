@@ -5,6 +5,7 @@ from __future__ import annotations
 import io
 import os
 import shutil
+import signal
 import subprocess
 import sys
 from functools import lru_cache
@@ -43,6 +44,13 @@ def uncounted() -> None:
     that a test starts count too. Such a start took 1.7 times the seconds."""
     for name in [it for it in os.environ if it.startswith('COV_CORE_')]:
         del os.environ[name]
+
+
+@pytest.fixture(scope='session', autouse=True)
+def interruptible() -> None:
+    """Has Ctrl-C end what tests start also where it is ignored here, as it is in what a shell's
+    script runs in the background."""
+    signal.signal(signal.SIGINT, signal.default_int_handler)
 
 
 @pytest.fixture
