@@ -6,6 +6,7 @@ import subprocess
 import threading
 
 from pack_reference import KINDS, NUMBERS, kind_of, packed, refusal
+from runs_rows.cases import cut, feed
 
 # The most bytes of a read.
 MOST_PIECE = 65536
@@ -16,17 +17,6 @@ AMID = {'u8': ('127.5', '42.5'), 'i8': ('-4.5', '43'), 'i16': ('500', '10923'),
 WHOLE = [kind for kind in KINDS if kind != 'f32']
 UNREAD = ["pack: standard input couldn't be read"]
 NO_NUMBER = ['pack: standard input has a float that is no number']
-
-
-def give(device, pieces):
-    """Gives pieces to a run, and then their end."""
-    with device:
-        try:
-            for piece in pieces:
-                device.send(piece)
-        except ConnectionError:
-            # The run has ended. What it wrote tells whether that was right.
-            pass
 
 
 def outcome(process):
@@ -46,7 +36,7 @@ def in_pieces(program, words, pieces):
     reads, gives = socket.socketpair(socket.AF_UNIX, socket.SOCK_SEQPACKET)
     with reads:
         process = begun(program, words, reads)
-    threading.Thread(target=give, args=(gives, pieces), daemon=True).start()
+    threading.Thread(target=feed, args=(gives, pieces), daemon=True).start()
     return outcome(process)
 
 
@@ -59,11 +49,6 @@ def broken_off(program, words, data):
         gives.send(data)
         gives.close()
         return outcome(begun(program, words, reads))
-
-
-def cut(data, size):
-    """A recording in pieces of a size."""
-    return [data[at:at + size] for at in range(0, len(data), size)]
 
 
 def choices():

@@ -11,12 +11,17 @@ MOST_READ = 16384
 MOST_WRITTEN = 65536
 
 
-def feed(device, samples, piece):
-    """Gives samples to a run, so many bytes a read, and then their end."""
+def cut(data, size):
+    """Bytes in pieces of a size."""
+    return [data[at:at + size] for at in range(0, len(data), size)]
+
+
+def feed(device, pieces):
+    """Gives pieces to a run, one a read, and then their end."""
     with device:
         try:
-            for at in range(0, len(samples), piece):
-                device.send(samples[at:at + piece])
+            for piece in pieces:
+                device.send(piece)
         except ConnectionError:
             # The run has ended. What it wrote tells whether that was right.
             pass
@@ -62,7 +67,7 @@ class Runs:
         takes, writes = socket.socketpair(socket.AF_UNIX, socket.SOCK_SEQPACKET)
         with reads, writes:
             process = subprocess.Popen(self.command(scripts, options), stdin=reads, stdout=writes)
-        threading.Thread(target=feed, args=(gives, samples, piece), daemon=True).start()
+        threading.Thread(target=feed, args=(gives, cut(samples, piece)), daemon=True).start()
         takes.settimeout(HANGS)
         packets = []
         try:

@@ -12,6 +12,7 @@ use std::process::Abort;
 
 /// What the values of some bytes are like. Readings are twice the values, and so are centres,
 /// thresholds and distances.
+#[derive(Clone, Copy)]
 struct Row {
     kind: ValueKind,
     /// Whether the values are pairs, of which the parts in quadrature have their sign turned.
@@ -30,6 +31,23 @@ struct Row {
 const PAIRS: &[u8] = &[
     0x00, 0x02, 0x00, 0x04, 0xff, 0xfe, 0x00, 0x01, 0xff, 0xff, 0x00, 0x02, 0x80, 0x00, 0x7f,
 ];
+
+/// The part in phase of these, about the nearest half to its mean.
+const OF_PAIRS: Row = Row {
+    kind: ValueKind::I16Be,
+    is_paired: true,
+    centres: (-1, 5),
+    is_q: false,
+    threshold: 3,
+    bytes: PAIRS,
+    measure: Measure {
+        count: 3,
+        sum: -2,
+        squares: 35,
+        at_ends: 0,
+        shares: [0, 1, 2, 0],
+    },
+};
 
 static MEASURED: [Row; 5] = [
     // Bytes without a sign about 127.5, the threshold 60, so 255 and 120 in readings. The readings
@@ -60,28 +78,9 @@ static MEASURED: [Row; 5] = [
     // distances are 3, 3 and 1, with the squares 9 + 9 + 1 = 19. Of both parts the mean square is
     // 54/6 = 9, so the threshold is 3, which is 1.5. The sign is turned: 4 is above 2.5, and 1 and
     // 2 are below, all near.
+    OF_PAIRS,
     Row {
-        kind: ValueKind::I16Be,
-        is_paired: true,
-        centres: (-1, 5),
-        is_q: false,
-        threshold: 3,
-        bytes: PAIRS,
-        measure: Measure {
-            count: 3,
-            sum: -2,
-            squares: 35,
-            at_ends: 0,
-            shares: [0, 1, 2, 0],
-        },
-    },
-    Row {
-        kind: ValueKind::I16Be,
-        is_paired: true,
-        centres: (-1, 5),
         is_q: true,
-        threshold: 3,
-        bytes: PAIRS,
         measure: Measure {
             count: 3,
             sum: 14,
@@ -89,16 +88,12 @@ static MEASURED: [Row; 5] = [
             at_ends: 0,
             shares: [2, 0, 1, 0],
         },
+        ..OF_PAIRS
     },
     // Of the whole numbers in 35/3 and 19/3 the mean square would be 17/2, and the threshold 2: by
     // this -2 is far.
     Row {
-        kind: ValueKind::I16Be,
-        is_paired: true,
-        centres: (-1, 5),
-        is_q: false,
         threshold: 2,
-        bytes: PAIRS,
         measure: Measure {
             count: 3,
             sum: -2,
@@ -106,6 +101,7 @@ static MEASURED: [Row; 5] = [
             at_ends: 0,
             shares: [0, 1, 1, 1],
         },
+        ..OF_PAIRS
     },
     // One byte of four values of two bits, the earliest in its low bits: 00 is 1, 01 is 3, 10 is -3
     // and 11 is -1. So the readings are 2, 6, -6 and -2, which add up to 0, with the squares 4 + 36

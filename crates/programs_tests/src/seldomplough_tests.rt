@@ -79,7 +79,7 @@ fn assert_asked(
     }
 }
 
-/// Asserts how many bytes a receiver leaves, and how often it tells of the one dump of client 2.
+/// Asserts how many bytes a receiver leaves, and whether it emits the one dump of client 2.
 fn assert_taken(rt: &impl Abort, receiver: &mut Receiver, bytes: &[u8], left: usize, told: usize) {
     let rest = receiver.take(bytes).expect(rt, "too many samples");
     assert_same(rt, (rest.len(), receiver.events().len()), (left, told));

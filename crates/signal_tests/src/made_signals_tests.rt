@@ -95,3 +95,15 @@ fn first_noise(rt: HostRuntime) {
     }
     assert_same(&rt, values, [-3, -1, 3, 1, -3, -3, -1, 1]);
 }
+
+// The first values of the signal and of the noise are those above. The noise of a stretch goes on
+// after that of the one before, and the signal as if it had been there: the values are 3, -3, -1,
+// 3, 3, 1, -3 and 1.
+#[test]
+fn noise_in_place_of_a_signal(rt: HostRuntime) {
+    let noisy = [(1, 4), (5, 7)];
+    let mut stream = SampleStream::with_noise(MadeSignal::with_tail(&[]), 8, &noisy);
+    let mut bytes = [0; 2];
+    let filled = stream.fill(&mut bytes);
+    assert_same(&rt, (filled, bytes), (2, [0x79, 0x4c]));
+}

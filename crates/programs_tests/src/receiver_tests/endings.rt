@@ -16,6 +16,24 @@ const ONE_BYTE: Case = Case {
     ..Case::PLAIN
 };
 
+/// States over one byte more than the run takes.
+const PAST: Case = Case {
+    script: STATES,
+    reader: (2, ALL),
+    answer: Err(RunFault::TooLong),
+    text: b"1 8 state 0 idle\n",
+    asked: (1, 1, 1),
+    ..ONE_BYTE
+};
+
+/// States over just the byte that it takes.
+const JUST: Case = Case {
+    answer: Ok(8),
+    text: b"1 8 state 0 idle\n1 8 end\n",
+    asked: (2, 2, 1),
+    ..PAST
+};
+
 /// A run with nothing to write, over more than the 512 bytes that it takes.
 const ENDLESS: Case = Case {
     limit: 512,
@@ -39,47 +57,20 @@ static ENDED: [(usize, Case); 18] = [
     (
         2,
         Case {
-            script: STATES,
             reader: (1, ALL),
-            answer: Err(RunFault::TooLong),
-            text: b"1 8 state 0 idle\n",
             asked: (2, 1, 1),
-            ..ONE_BYTE
+            ..PAST
         },
     ),
-    (
-        2,
-        Case {
-            script: STATES,
-            reader: (2, ALL),
-            answer: Err(RunFault::TooLong),
-            text: b"1 8 state 0 idle\n",
-            asked: (1, 1, 1),
-            ..ONE_BYTE
-        },
-    ),
+    (2, PAST),
     (
         1,
         Case {
-            script: STATES,
             reader: (1, ALL),
-            answer: Ok(8),
-            text: b"1 8 state 0 idle\n1 8 end\n",
-            asked: (2, 2, 1),
-            ..ONE_BYTE
+            ..JUST
         },
     ),
-    (
-        1,
-        Case {
-            script: STATES,
-            reader: (2, ALL),
-            answer: Ok(8),
-            text: b"1 8 state 0 idle\n1 8 end\n",
-            asked: (2, 2, 1),
-            ..ONE_BYTE
-        },
-    ),
+    (1, JUST),
     (
         2,
         Case {

@@ -112,10 +112,10 @@ fn runs_over_a_code(rt: HostRuntime) {
 #[test]
 fn readers_that_fail(rt: HostRuntime) {
     let code = code_file();
-    for behind in 0..256 {
+    for until_fault in 0..256 {
         let case = Case {
-            reader: (ALL, behind),
-            asked: (if behind == 0 { 1 } else { 2 }, 1, 1),
+            reader: (ALL, until_fault),
+            asked: (if until_fault == 0 { 1 } else { 2 }, 1, 1),
             ..UNREAD
         };
         follow(&rt, &code, &case);
@@ -126,17 +126,17 @@ fn readers_that_fail(rt: HostRuntime) {
 #[test]
 fn writers_that_fail(rt: HostRuntime) {
     let code = code_file();
-    for behind in 0..FIRST_COUNT_LINES.len() {
-        let reads = match behind {
+    for until_fault in 0..FIRST_COUNT_LINES.len() {
+        let reads = match until_fault {
             0..14 => 0,
             14..62 => 1,
             _ => 2,
         };
         let case = Case {
-            writer: (1, behind),
+            writer: (1, until_fault),
             answer: Err(RunFault::Write),
-            text: &FIRST_COUNT_LINES[..behind],
-            asked: (reads, 1 + behind as u64, 0),
+            text: &FIRST_COUNT_LINES[..until_fault],
+            asked: (reads, 1 + until_fault as u64, 0),
             ..COUNTED
         };
         follow(&rt, &code, &case);
