@@ -2,7 +2,6 @@
 
 use super::cases::{ALL, Case, follow};
 use receiver::RunFault;
-use std::process::Abort;
 
 /// States at sample 8, the first of the second byte, and at sample 9.
 const STATES: &[u8] = b"8 state 0\n9 state 0\n";

@@ -4,7 +4,6 @@ use super::cases::{ALL, Case, follow};
 use super::{FIRST_COUNT, FIRST_COUNT_LINES};
 use made_signals::code_file;
 use receiver::RunFault;
-use std::process::Abort;
 
 /// What the client of the first count gets before the first sample.
 const ANSWERS: &[u8] = b"1 0 ok\n1 0 ok\n";
