@@ -18,31 +18,39 @@ fn prompt(ip: i8, qp: i8) -> Counts
     }
 }
 
+/// The news of the next dump.
+fn take(rt: &impl Abort, loops: &mut Loops, sums: Counts) -> News
+    requires { AreWithin MOST_SUM (counts_in sums) }
+{
+    assert_that(rt, loops.dumps() < 1_220);
+    loops.take(sums)
+}
+
 // Errors of -1 and of -3 rounded toward minus infinity: 160 * floor(-4096 / 3) and 16 * floor(-4096
 // * 3 / 5).
 #[test]
 fn loop_steps(rt: HostRuntime) {
     let rt = &rt;
     let mut loops = Loops::start(0);
-    let news = loops.take(Counts {
+    let sums = Counts {
         ie: 2,
         qe: 0,
         ip: 1,
         qp: 0,
         il: 1,
         ql: 0,
-    });
-    assert_same(rt, news, News::Nothing);
+    };
+    assert_same(rt, take(rt, &mut loops, sums), News::Nothing);
     assert_stand(rt, &loops, (0, 39_312, 1));
-    let news = loops.take(Counts {
+    let sums = Counts {
         ie: 1,
         qe: 0,
         ip: 2,
         qp: -1,
         il: 2,
         ql: 0,
-    });
-    assert_same(rt, news, News::Nothing);
+    };
+    assert_same(rt, take(rt, &mut loops, sums), News::Nothing);
     assert_stand(rt, &loops, (-218_560, -39_328, 2));
 }
 
@@ -51,8 +59,11 @@ fn assert_stand(rt: &impl Abort, loops: &Loops, expected: (i64, i64, u64)) {
     assert_same(rt, (loops.v(), loops.w(), loops.dumps()), expected);
 }
 
-/// Asserts the shift.
-fn assert_shift(rt: &impl Abort, loops: &Loops, expected: i64) {
+/// Asserts the shift after the next dump.
+fn assert_shift(rt: &impl Abort, loops: &mut Loops, sums: Counts, expected: i64)
+    requires { AreWithin MOST_SUM (counts_in sums) }
+{
+    let _ = take(rt, loops, sums);
     assert_same(rt, loops.v(), expected);
 }
 
@@ -71,9 +82,7 @@ fn shift_from_dump_200_on(rt: HostRuntime) {
     let rt = &rt;
     let mut loops = Loops::start(0);
     for dump in 1..202u64 {
-        assert_that(rt, loops.dumps() < 202);
-        let _ = loops.take(prompt(1, 1));
-        assert_shift(rt, &loops, held_shift(dump));
+        assert_shift(rt, &mut loops, prompt(1, 1), held_shift(dump));
     }
 }
 
@@ -131,8 +140,7 @@ fn windows_begin_and_end_the_lock(rt: HostRuntime) {
 fn follow(rt: &impl Abort, good: [u64; 4], is_zero: bool, last: u64, told: [u64; 3]) {
     let mut loops = Loops::start(0);
     for dump in 1..=last {
-        assert_that(rt, loops.dumps() < 1_220);
-        let news = loops.take(sums_at(dump, good, is_zero));
+        let news = take(rt, &mut loops, sums_at(dump, good, is_zero));
         assert_same_at(rt, dump, (news, loops.locked()), lock_at(dump, told));
     }
 }
@@ -143,15 +151,9 @@ fn follow(rt: &impl Abort, good: [u64; 4], is_zero: bool, last: u64, told: [u64;
 fn shift_is_limited(rt: HostRuntime) {
     let rt = &rt;
     let mut loops = Loops::start(1 << 30);
-    let _ = loops.take(prompt(1, 0));
-    let _ = loops.take(prompt(0, 1));
-    assert_shift(rt, &loops, 1 << 30);
-    for _ in 3..210u64 {
-        assert_that(rt, loops.dumps() < 210);
-        let _ = loops.take(prompt(0, 1));
-        assert_shift(rt, &loops, 1 << 30);
+    let _ = take(rt, &mut loops, prompt(1, 0));
+    for _ in 2..210u64 {
+        assert_shift(rt, &mut loops, prompt(0, 1), 1 << 30);
     }
-    assert_that(rt, loops.dumps() < 210);
-    let _ = loops.take(prompt(-1, 1));
-    assert_shift(rt, &loops, (1 << 30) - 12_288 - 348_160);
+    assert_shift(rt, &mut loops, prompt(-1, 1), (1 << 30) - 12_288 - 348_160);
 }
