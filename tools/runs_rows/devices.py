@@ -5,6 +5,7 @@ import resource
 import signal
 import subprocess
 
+from hanging import HANGS
 from .clients import FIRST_COUNT, SUMS
 from .made_signal import code_file
 
@@ -17,16 +18,25 @@ def limit_files(size):
     resource.setrlimit(resource.RLIMIT_FSIZE, (size, size))
 
 
+def ended(command, **streams):
+    """The status and the standard error of a run; nothing of one that hangs."""
+    try:
+        ran = subprocess.run(command, stderr=subprocess.PIPE, timeout=HANGS, **streams)
+    except subprocess.TimeoutExpired:
+        return None, b''
+    return ran.returncode, ran.stderr
+
+
 def files_with_too_little_room(runs):
     """A file has room for every number of bytes that is less than all."""
     path = os.path.join(runs.folder, 'lines')
     command = runs.command([FIRST_COUNT], ())
     for size in range(len(LINES)):
         with open(path, 'w+b') as file:
-            ran = subprocess.run(command, input=code_file(), stdout=file, stderr=subprocess.PIPE,
-                                 preexec_fn=lambda: limit_files(size))
+            how = ended(command, input=code_file(), stdout=file,
+                        preexec_fn=lambda: limit_files(size))
             file.seek(0)
-            came = ran.returncode, ran.stderr, file.read()
+            came = *how, file.read()
         runs.tell(f'room for {size} bytes', came == (1, b'receiver: write\n', LINES[:size]), came)
 
 
@@ -35,9 +45,7 @@ def endless_samples(runs):
     with the first byte."""
     for time in 0, 8:
         with open('/dev/zero', 'rb') as zeros, open('/dev/full', 'wb') as full:
-            ran = subprocess.run(runs.command([f'{time} state 0\n'], ()), stdin=zeros, stdout=full,
-                                 stderr=subprocess.PIPE)
-        came = ran.returncode, ran.stderr
+            came = ended(runs.command([f'{time} state 0\n'], ()), stdin=zeros, stdout=full)
         runs.tell(f'zeros without end, a line at {time}', came == (1, b'receiver: write\n'), came)
 
 

@@ -2,7 +2,7 @@
 from operator import mul
 
 from seldomplough.codes import chips
-from .made_signal import COSINES, CYCLE, VALUES
+from .made_signal import COSINES, CYCLE, VALUES, registers
 
 SINES = COSINES[6:] + COSINES[:6]
 # Each bin, and the steps of the carrier and of the code at its shift, for 2,046,000 samples a
@@ -30,18 +30,10 @@ def strong_samples(runs):
                  '--rate', str(4092000 * bytes_a_chip), '--format', 'real2')
 
 
-def noise():
-    """The bits of a shift register of 16 bits."""
-    register = 0xace1
-    while True:
-        register = register >> 1 ^ (register & 1) * 0xb400
-        yield register & 1
-
-
 def noisy_codes():
     """The codes of 4,160 samples: the signs of satellite 7's signal at 500 Hz, from half chip 777
     on at the search's begin, a quarter of them turned by noise, with sizes of noise."""
-    bits, of_seven = noise(), chips(7)
+    bits, of_seven = (register & 1 for register in registers()), chips(7)
     _, carrier_step, code_step = BINS[2]
     for number in range(FIRST - START, FIRST - START + 4160):
         chip = of_seven[((777 << 31) + number * code_step) % CYCLE >> 32]

@@ -3,7 +3,7 @@ at every sample."""
 import itertools
 from collections import Counter
 
-from .made_signal import code_file
+from .made_signal import code_file, registers
 
 
 def most_bytes(runs):
@@ -41,19 +41,11 @@ def full_buffer(runs):
     runs.tell('writes of a full buffer', lengths == [16371, 16371, 16371, 16371, 2516, 8], lengths)
 
 
-def shifted():
-    """The values of a register of 16 bits, whose low bytes take on every value."""
-    register = 0xace1
-    while True:
-        register = register >> 1 ^ (0xb400 if register & 1 else 0)
-        yield register & 255
-
-
 def any_bytes(runs):
     """Ten thousand runs of 0 to 96 bytes of every value, each followed by a line feed. How often
     each refusal comes was counted by a few lines of Python, written from the rules alone. The last
     line that has a time reads `9`."""
-    values = shifted()
+    values = (register & 255 for register in registers())
     script = b''.join(bytes(itertools.islice(values, run % 97)) + b'\n' for run in range(10000))
     seen = len(script), len(set(script))
     runs.tell('bytes of every value', seen == (489604, 256), seen)

@@ -21,6 +21,15 @@ VALUES = (1, 3, -1, -3)
 CARRIER = bytes({1: 0, 2: 1, -1: 2, -2: 3}[COSINES[top >> 5]] for top in range(256))
 
 
+def registers():
+    """The values of a shift register of 16 bits. Its last bits are noise, and its low bytes take on
+    every value."""
+    register = 0xace1
+    while True:
+        register = register >> 1 ^ (register & 1) * 0xb400
+        yield register
+
+
 def one_bit(bits):
     """Bytes of eight bits each, the earliest in the top bit."""
     return int(''.join(map(str, bits)), 2).to_bytes(len(bits) // 8, 'big')
