@@ -40,6 +40,14 @@ const ENDLESS: Case = Case {
     ..Case::PLAIN
 };
 
+/// A run with a line, whose writer takes three bytes of it and fails with the rest.
+const BROKEN_OFF: Case = Case {
+    reader: (1, ALL),
+    writer: (ALL, 3),
+    answer: Err(RunFault::Write),
+    ..Case::PLAIN
+};
+
 /// Runs over so many bytes.
 static ENDED: [(usize, Case); 18] = [
     // With no sample there is an end at once.
@@ -166,30 +174,23 @@ static ENDED: [(usize, Case); 18] = [
             ..Case::PLAIN
         },
     ),
-    // The writer takes three bytes of the first line, and fails with the rest of it. A line at 0
-    // comes before the first read, one at 8 with the first byte.
+    // A line at 0 comes before the first read, one at 8 with the first byte.
     (
         600,
         Case {
             script: b"0 state 0\n",
-            reader: (1, ALL),
-            writer: (ALL, 3),
-            answer: Err(RunFault::Write),
             text: b"1 0",
             asked: (0, 2, 0),
-            ..Case::PLAIN
+            ..BROKEN_OFF
         },
     ),
     (
         600,
         Case {
             script: b"8 state 0\n",
-            reader: (1, ALL),
-            writer: (ALL, 3),
-            answer: Err(RunFault::Write),
             text: b"1 8",
             asked: (1, 2, 0),
-            ..Case::PLAIN
+            ..BROKEN_OFF
         },
     ),
     // The reader fails, and what was held until then is written and flushed.
