@@ -3,9 +3,10 @@ stand-ins."""
 from __future__ import annotations
 
 import os
+import re
 from typing import Any
 
-from .commands import refused, write
+from .commands import Outcome, refused, run, write
 from .small_checkout import Checkout
 from .stand_ins import INSTALL, Machine
 
@@ -94,6 +95,20 @@ def to_test(rows: Any, folder: str) -> None:
     rows.say('.ci/run', [] if outcome.said == 'gate --setup\n' else [str(outcome)[-300:]])
 
 
+def not_compiled(rows: Any, folder: str) -> None:
+    """While dpkg installs, a file has Python's packages compile no modules that nothing here uses,
+    by lines as py3compile reads them. It doesn't stay."""
+    machine = Machine(folder, known=DEBIAN_12)
+    machine.run('tools/setup')
+    with open(machine.at('hooks'), encoding='utf-8') as file:
+        text = file.read().replace('/usr/share/python3', folder)
+    hooks = dict(re.findall(r'DPkg::(\w+)-Invoke::=((?:.|\n)*?)\n(?=DPkg|\Z)', text))
+    said = run(['sh', '-ec', f'{hooks["Pre"]}\ncat bcep/*\n{hooks["Post"]}\nls bcep'], folder)
+    lines = (f'dir|-|/usr/lib/python3/dist-packages/{it}\n' for it in ('azure', 'sympy'))
+    is_right = said == Outcome(0, ''.join(lines), '')
+    rows.say('tools/setup, modules that are not compiled', [] if is_right else [str(said)])
+
+
 def named(rows: Any, folder: str) -> None:
     """Where there is nothing to build with, ./receiver and ./pack name tools/setup."""
     checkout = Checkout(folder)
@@ -113,4 +128,4 @@ def named(rows: Any, folder: str) -> None:
                  refused(outcome, f'{program}: [^\n]*`python3`[^\n]*: tools/setup [^\n]*', 1))
 
 
-ROWS = (to_build, refusals, to_test, named)
+ROWS = (to_build, refusals, to_test, not_compiled, named)

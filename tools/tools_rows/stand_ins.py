@@ -9,6 +9,12 @@ from .small_checkout import linked_path
 # The stand-ins: each reads and writes files in the folder above its own.
 APT_GET = '''#!/bin/bash
 here="$(dirname "$0")/.."
+words=()
+while (($#)); do
+    if [[ "$1" == -o ]]; then echo "$2" >> "$here/hooks"; shift; else words+=("$1"); fi
+    shift
+done
+set -- "${words[@]}"
 echo "${DEBIAN_FRONTEND-} $*" >> "$here/calls"
 [[ "$*" != "$(cat "$here/fails")"* ]] || exit 100
 case "$1" in
