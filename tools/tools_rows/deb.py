@@ -14,6 +14,17 @@ PARTS = ('docs', 'README.md', 'CHANGELOG.md', 'LICENSE-MIT', 'python')
 # What the tool needs, without which these rows aren't tried.
 NEEDED = ('dpkg', 'dpkg-deb', 'dpkg-shlibdeps', 'git', 'cargo', 'strip', '/usr/bin/python3')
 
+# An author whose name has all that a program of sed would run or garble, and his line.
+ODD = 'x/;1etouch P # & \\1 | $(touch P) `touch P` "\' y'
+ODD_LINE = f'{ODD} <one@example.org>\n'
+
+# What would turn a build.
+TURNING = {'CARGO_BUILD_TARGET': 'no-such-target', 'CARGO_ENCODED_RUSTFLAGS': '--no-such-flag',
+           'CARGO_TARGET_DIR': '/other', 'CDPATH': '/', 'TZ': 'Asia/Tokyo'}
+
+# Why there is none where `rt` has built nothing.
+MISSING = '`rt` hasn\'t built (receiver|packer)_cli of these sources: `tools/build .*'
+
 
 def with_commit(folder, name='Some One', mail='one@example.org'):
     """A small checkout whose last commit has an author. Its quick start prints its version."""
@@ -79,71 +90,77 @@ def words(rows, folder):
     refuses(rows, 'nobody is named', checkout, [], DEBEMAIL=None)
 
 
-def a_package(rows, folder):
-    """A package by an author whose name has all that a program of sed would run or garble. The
-    environment would turn its builds, and its temporary folder has a blank."""
-    if not all(map(shutil.which, NEEDED)):
-        return
-    name = 'x/;1etouch P # & \\1 | $(touch P) `touch P` "\' y'
-    checkout = with_commit(folder, name)
-    to, temporary = (os.path.join(folder, it) for it in ('to here', 'a b'))
+def line_of(why):
+    """The line that says why there is no package of proved programs."""
+    return f"^deb: seldomplough-proved isn't made: {why}$"
+
+
+def a_package(rows, folder, name, top, fault='', **more):
+    """Makes a package in a folder of this name, with a temporary folder whose name has a blank.
+    With a fault that lintian has it end with, it is made where it is called. Gives its path, None
+    where something is wrong, and the outcome."""
+    to, temporary = os.path.join(folder, name), os.path.join(folder, f'a {name}')
     os.makedirs(to)
     os.makedirs(temporary)
-    outcome = deb(checkout, 'to here', TMPDIR=temporary, DEBEMAIL=None,
-                  PATH=lintian_path(folder, 0),
-                  CARGO_BUILD_TARGET='no-such-target', CARGO_ENCODED_RUSTFLAGS='--no-such-flag',
-                  CARGO_TARGET_DIR=os.path.join(folder, 'other'), CDPATH='/')
-    faults = [] if outcome.status == 0 else [f'status {outcome.status}, {outcome.errors[-300:]!r}']
-    for package in os.listdir(to):
-        field = ['dpkg-deb', '-f', os.path.join(to, package), 'Maintainer']
-        said = run(field, folder).said
-        wanted = f'{name} <one@example.org>\n'
-        faults += [f'{said!r} where {wanted!r} had to come'] * (said != wanted)
-    faults += [f'{len(os.listdir(to))} packages'] * (len(os.listdir(to)) != 1)
+    given, at = ([], to) if fault else ([name], folder)
+    outcome = run(['bash', '-c', 'umask 077; exec "$0" "$@"', f'{top}/tools/deb', *given], at,
+                  {'TMPDIR': temporary, 'DEBEMAIL': None,
+                   'PATH': lintian_path(folder, 2 if fault else 0), **more})
+    packages = os.listdir(to)
+    is_right = outcome.status == (2 if fault else 0) and (not fault or outcome.errors == fault)
+    faults = [str(outcome)[-300:]] * (not is_right)
+    faults += [f'{len(packages)} packages'] * (len(packages) != 1)
     left = os.listdir(temporary)
     faults += [f'{left} stay in the temporary folder'] * bool(left)
-    for place in folder, to, checkout.top, temporary:
+    for place in folder, to, top, temporary:
         faults += [f'a command of the name ran in {place}'] * ('P' in os.listdir(place))
-    rows.say('tools/deb, an author of odd letters', faults)
-    outcome = deb(checkout, PATH=lintian_path(folder, 2))
-    rows.say('tools/deb, lintian has an error',
-             [f'status {outcome.status}'] * (outcome.status != 2)
-             + [outcome.errors] * (outcome.errors != 'deb: lintian has an error\n'))
+    rows.say(f'tools/deb, the {name} package', faults)
+    return None if faults else os.path.join(to, packages[0]), outcome
 
 
 def same_bytes(rows, folder):
     """Two checkouts of one commit, in two folders, whose files have other times and modes, give the
-    same package. Another time gives another."""
+    same package, though the environment would turn the builds of one. Another time gives another.
+    An error of lintian is one of the tool, and where nothing is proved one line says so. The author
+    has odd letters."""
     if not all(map(shutil.which, NEEDED)):
         return
-    checkout = with_commit(folder)
+    checkout = with_commit(folder, ODD)
     write(checkout.at('README.md'), 'See [the pages](docs/PLAIN.md), [none](NONE.md), and\n'
           '[docs/pack.1](docs/pack.1).\n')
     other = os.path.join(folder, 'another checkout')
     shutil.copytree(checkout.top, other, copy_function=shutil.copyfile)
     for tool in 'deb', 'plain':
         os.chmod(os.path.join(other, 'tools', tool), 0o700)
-    made = {}
-    for name, top, more in (('first', checkout.top, {}), ('second', other, {'TZ': 'Asia/Tokyo'}),
-                            ('third', other, {'SOURCE_DATE_EPOCH': '1000000000'})):
-        to = os.path.join(folder, name)
-        os.makedirs(to)
-        outcome = run(['bash', '-c', 'umask 077; exec "$0" "$1"', f'{top}/tools/deb', to], folder,
-                      {'TMPDIR': to, 'PATH': lintian_path(folder, 0), **more})
-        packages = [it for it in os.listdir(to) if it.endswith('.deb')]
-        faults = [] if outcome.status == 0 and len(packages) == 1 else [str(outcome)[-300:]]
-        rows.say(f'tools/deb, the {name} package', faults)
-        if faults:
-            return
-        made[name] = os.path.join(to, packages[0])
-    data = {name: contents(os.path.dirname(path)) for name, path in made.items()}
-    rows.say('tools/deb, two checkouts', ['two packages'] * (data['first'] != data['second']))
-    rows.say('tools/deb, another time', ['the same package'] * (data['first'] == data['third']))
-    listed = run(['dpkg-deb', '-c', made['third']], folder, {'TZ': 'UTC'}).said
+    kit = checkout.add_rt('rattle-kit-1 for rows')
+    first, outcome = a_package(rows, folder, 'first', checkout.top, RECEIVER_PLAIN=None,
+                               PATH=f'{kit}:{lintian_path(folder, 0)}')
+    is_told = len(re.findall(line_of(MISSING), outcome.said, re.M)) == 1 and not outcome.errors
+    rows.say('tools/deb, nothing is proved', [str(outcome)[-300:]] * (not is_told))
+    second, _ = a_package(rows, folder, 'second one', other, **TURNING)
+    third, _ = a_package(rows, folder, 'third', other, 'deb: lintian has an error\n',
+                         SOURCE_DATE_EPOCH='1000000000')
+    if not (first and second and third):
+        return
+    data = [contents(os.path.dirname(it)) for it in (first, second, third)]
+    rows.say('tools/deb, two checkouts', ['two packages'] * (data[0] != data[1]))
+    rows.say('tools/deb, another time', ['the same package'] * (data[0] == data[2]))
+    own = run(['dpkg', '--print-architecture'], folder).said.strip()
+    wanted = f'seldomplough_1.0.1_{own}.deb'
+    rows.say('tools/deb, the name', [f'{[*data[0]]}'] * ([*data[0]] != [wanted]))
+    said = run(['dpkg-deb', '-f', first, 'Maintainer'], folder).said
+    rows.say('tools/deb, an author of odd letters',
+             [f'{said!r} where {ODD_LINE!r} had to come'] * (said != ODD_LINE))
+    listed = run(['dpkg-deb', '-c', third], folder, {'TZ': 'UTC'}).said
     faults = [it for it in listed.splitlines() if ' 2001-09-09 01:46 ' not in it]
     rows.say('tools/deb, the times in a package', faults or ['it is empty'] * (not listed))
     root = os.path.join(folder, 'root')
-    run(['dpkg-deb', '-x', made['first'], root], folder)
+    run(['dpkg-deb', '-x', first, root], folder)
+    inside(rows, folder, root)
+
+
+def inside(rows, folder, root):
+    """What an unpacked package has: its pages, the programs beside these, and the companion."""
     docs = os.path.join(root, 'usr/share/doc/seldomplough')
     with open(os.path.join(docs, 'README.md'), encoding='utf-8') as file:
         text = file.read()
@@ -214,4 +231,4 @@ def launcher(rows, folder):
                  [f'{said}, not {wanted}'] * (said != (0, f'{wanted} a b c\n')))
 
 
-ROWS = (words, a_package, same_bytes, launcher)
+ROWS = (words, same_bytes, launcher)
