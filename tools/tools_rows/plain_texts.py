@@ -287,12 +287,17 @@ def all_checked(rows, _):
 
 
 def texts(rows, folder):
-    """Where a text has changed that is put in another way to be fast, one line names it."""
+    """Where a text has changed that is put in another way to be fast, one line names it. Crates
+    with lanes alone have such texts."""
     top = copied(folder, 'tools', 'crates', 'crates.txt', 'LICENSE-MIT', 'LICENSE-APACHE')
     plain = os.path.join(top, 'tools', 'plain')
-    outcome = run([plain, os.path.join(folder, 'first')], folder)
-    rows.say('tools/plain, the sources as they are',
-             [str(outcome)[-300:]] * (outcome.status != 0 or bool(outcome.errors)))
+    texts_of = {crate: '\n'.join(it.values()) for crate, it in read_sources().items()}
+    for name in 'all', 'lanes':
+        outcome = run([plain, os.path.join(folder, name)], folder)
+        rows.say(f'tools/plain, the sources as they are, {name}',
+                 [str(outcome)[-300:]] * (outcome.status != 0 or bool(outcome.errors)))
+        write(os.path.join(top, 'crates.txt'),
+              ''.join(f'{it}:\n' for it, text in texts_of.items() if 'std::simd' in text))
     crates = os.path.join(top, 'crates')
     sources = [os.path.join(at, it) for at, _, files in os.walk(crates) for it in files
                if it.endswith('.rt')]

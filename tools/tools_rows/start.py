@@ -93,13 +93,13 @@ def program(folder, text, *options):
 def refusals(rows, folder):
     """A program begins where the processor is of the level, and else ends with one line and status
     1. So does one that asks for a bit that no processor has, of each answer. A library that no
-    program asks for the feature leaves it. Where only the bit differs, the program has no std."""
+    program asks for the feature leaves it. All programs but those of two cases have no std."""
     if not shutil.which('rustc') or 'x86_64-unknown-linux' not in run(['rustc', '-Vv'], '/').said:
         return
     is_third = level() == THIRD
     first, *others = NEVER
     for names, options, main in (([], START, MAIN), ([first], START, MAIN),
-                                 *(([name], START, BARE) for name in others), ([*NEVER], [], MAIN)):
+                                 *(([name], START, BARE) for name in others), ([*NEVER], [], BARE)):
         asked = ' and '.join(names) or 'as it is'
         top = copied(folder, 'tools/kit/lanes', name=f'asks {len(os.listdir(folder))}')
         path = os.path.join(top, SOURCE)
