@@ -117,11 +117,12 @@ class Sweep:
 
     def faults(self, least, most, step=PAGE, near=PAGE):
         """What was wrong from too little space up to enough, in KiB: by so many at a time up to
-        the first whole run, and by fewer near it, from a step and STACK KiB before it on."""
+        the first whole run, and by fewer near it, from a step and STACK KiB before it on, or from
+        it on where these were tried already."""
         first = next((it for it in range(least, most, step) if self.run(it)), None)
         if first is None:
             return [*self.noted(), 'no run was whole']
-        whole, space = 0, max(least, first - step - STACK)
+        whole, space = 0, first if near == step else max(least, first - step - STACK)
         while whole <= BEHIND // near and space < most + STACK:
             whole += self.run(space)
             space += near
