@@ -7,7 +7,7 @@ from typing import Any
 
 from processor_shares import Shares, shares_since
 
-from .commands import TOP, Outcome, copied, run, write
+from .commands import TOP, Outcome, contents, copied, run, write
 
 # A part: it notes that it begins, by which Python, how many jobs `rt` would take, and that it has
 # ended, waits in between until all have begun that a file names, and has the status that another
@@ -50,6 +50,7 @@ class Gate:
             self.parts = sorted({*re.findall(r"'tools/([a-z-]+)'", text.read())})
         for name in self.parts:
             write(self.at(f'tools/{name}'), PART, 0o755)
+        write(self.at('python/seldomplough/own.py'), '')
         if failing:
             write(self.at(f'tools/{failing}.status'), '3')
 
@@ -89,6 +90,8 @@ def passes(rows: Any, folder: str) -> None:
                if it.split()[0] not in ('gate-times', 'build')}
     rows.say('tools/gate, the Python of the parts',
              [] if len(pythons) == 1 and os.access(min(pythons), os.X_OK) else [str(pythons)])
+    compiled = [it for it in contents(gate.at('python')) if it.endswith('.pyc')]
+    rows.say("tools/gate, the companion's modules", [f'{compiled}'] * (len(compiled) != 1))
     jobs = [it for it in gate.lines('jobs') if re.search(r' \d', it)]
     rows.say('tools/gate, the jobs of its rt ci',
              [] if len(jobs) == 1 and re.match(r'gate-times [1-9]', jobs[0]) else [str(jobs)])
