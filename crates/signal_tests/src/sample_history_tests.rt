@@ -1,14 +1,16 @@
 //! Streams whose bits are computed place by place, taken in pieces of many kinds.
 
-ghost use Rattle.std.specs.Prelude.{◌≤◌, length};
+ghost use Rattle.std.specs.Prelude.{◌≡◌, ◌≤◌, length};
+ghost use Rattle.sample_planes.specs.Packings.{packing_of};
 
 use crate::asserted::{assert_same, assert_same_at, assert_that};
+use crate::parts::assert_samples;
 use sample_history::{MOST_TAKEN, SampleHistory};
-use sample_planes::{Format, PackedSamples, SampleSource};
+use sample_planes::{Format, PackedSamples, Planes, SampleSource};
 use std::alloc::{Alloc, Global};
 use std::process::Abort;
 
-const FORMATS: [Format; 4] = [Format::Real1, Format::Real2, Format::Iq1, Format::Iq2];
+static FORMATS: [Format; 4] = [Format::Real1, Format::Real2, Format::Iq1, Format::Iq2];
 
 /// A bit of the stream.
 fn stream_bit(place: u64) -> u64 {
@@ -81,16 +83,31 @@ fn open(rt: &(impl Abort + Alloc<A = Global>), format: Format, room: usize) -> S
     SampleHistory::open(rt.alloc(), format, room).expect(rt, "memory for a history")
 }
 
+/// The `len` samples of some bytes from sample `first` on.
+fn part_of<'a>(
+    rt: &impl Abort,
+    format: Format,
+    bytes: &'a [u8],
+    first: usize,
+    len: usize,
+) -> PackedSamples<'a>
+    requires { length bytes.now ≤ 520 }
+    ensures { result.packing ≡ packing_of format }
+{
+    let run = PackedSamples::new(format, bytes);
+    assert_that(rt, first <= run.len());
+    assert_that(rt, len <= run.len() - first);
+    run.part(first, len)
+}
+
 /// The history takes `len` samples of some bytes from sample `first` on.
 fn take_part(rt: &impl Abort, history: &mut SampleHistory, bytes: &[u8], first: usize, len: usize)
     requires { length bytes.now ≤ 520 }
 {
-    assert_that(rt, len <= 1024);
+    let run = part_of(rt, history.format(), bytes, first, len);
+    assert_that(rt, run.len() <= 1024);
     assert_that(rt, history.end() <= MOST_TAKEN - 1024);
-    let run = PackedSamples::new(history.format(), bytes);
-    assert_that(rt, first <= run.len());
-    assert_that(rt, len <= run.len() - first);
-    history.take(&run.part(first, len));
+    history.take(&run);
 }
 
 /// The history takes the next `len` samples of the stream, which begin at place `first` of a byte.
@@ -99,13 +116,18 @@ fn take_next(rt: &impl Abort, history: &mut SampleHistory, first: usize, len: us
     take_part(rt, history, &bytes, first, len);
 }
 
-/// Asserts that the history reads `len` samples from sample `n` on as those of the stream.
-fn assert_reads(rt: &impl Abort, history: &SampleHistory, n: u64, len: usize) {
+/// The `len` samples of the history from sample `n` on.
+fn read(rt: &impl Abort, history: &SampleHistory, n: u64, len: usize) -> Planes {
     assert_that(rt, len <= 1024);
     assert_that(rt, history.first() <= n);
     assert_that(rt, n <= history.end());
     assert_that(rt, len as u64 <= history.end() - n);
-    let planes = history.planes(n, len);
+    history.planes(n, len)
+}
+
+/// Asserts that the history reads `len` samples from sample `n` on as those of the stream.
+fn assert_reads(rt: &impl Abort, history: &SampleHistory, n: u64, len: usize) {
+    let planes = read(rt, history, n, len);
     assert_same(rt, planes.len(), len);
     for i in 0..planes.len() {
         let expected = sample(history.format(), n.wrapping_add(i as u64));
@@ -124,25 +146,6 @@ fn assert_reads_all(rt: &impl Abort, history: &SampleHistory) {
     assert_same(rt, n, history.end());
 }
 
-/// Asserts which samples the history holds: from which on, and up to which one, and that it reads
-/// them as those of the stream.
-fn assert_holds(rt: &impl Abort, history: &SampleHistory, first: u64, end: u64) {
-    assert_same(rt, (history.first(), history.end()), (first, end));
-    assert_reads_all(rt, history);
-}
-
-/// The first six values in phase of a history that has so many.
-fn first_six(rt: &impl Abort, history: &SampleHistory) -> [i8; 6] {
-    assert_that(rt, history.first() == 0);
-    assert_that(rt, history.end() == 6);
-    let planes = history.planes(0, 6);
-    let mut values = [0; 6];
-    for i in 0..planes.len().min(6) {
-        values[i] = planes.value(i);
-    }
-    values
-}
-
 // Sample 5 of 00000101 is -1, then come +1 and -1; the next three are the first ones of 01100000.
 #[test]
 fn two_runs_share_a_byte(rt: HostRuntime) {
@@ -150,7 +153,8 @@ fn two_runs_share_a_byte(rt: HostRuntime) {
     let mut history = open(rt, Format::Real1, 16);
     take_part(rt, &mut history, &[0x05], 5, 3);
     take_part(rt, &mut history, &[0x60], 0, 3);
-    assert_same(rt, first_six(rt, &history), [-1, 1, -1, 1, -1, -1]);
+    assert_same(rt, (history.first(), history.end()), (0, 6));
+    assert_samples(rt, &read(rt, &history, 0, 6), &[-1, 1, -1, 1, -1, -1]);
 }
 
 /// A history takes so many runs of `len` samples each, from place `first` of a byte on.
@@ -168,30 +172,17 @@ fn assert_runs(
     assert_reads_all(rt, &history);
 }
 
-#[test]
-fn runs_of_any_length_at_any_place(rt: HostRuntime) {
-    for format in FORMATS {
-        for first in 0..format.per_byte() {
-            for (len, runs) in [(1, 40), (3, 40), (1024, 4)] {
-                assert_runs(&rt, format, first, len, runs);
-            }
-        }
+/// Histories take runs of many lengths, from each place of a byte on.
+fn runs_of_any_length_at_any_place(rt: &(impl Abort + Alloc<A = Global>), format: Format) {
+    for first in 0..format.per_byte() {
+        assert_runs(rt, format, first, 1, 40);
+        assert_runs(rt, format, first, 3, 40);
+        assert_runs(rt, format, first, 1024, 4);
     }
-}
-
-// The ring has 4 bytes of 4 samples. After 21 samples 5 bytes were full, so the first is gone.
-#[test]
-fn the_oldest_byte_goes_first(rt: HostRuntime) {
-    let rt = &rt;
-    let mut history = open(rt, Format::Real2, 10);
-    for len in [13, 0, 6, 2] {
-        take_next(rt, &mut history, 1, len);
-    }
-    assert_holds(rt, &history, 4, 21);
 }
 
 /// A history of at least 10 samples takes 300 runs of up to 23.
-fn assert_turns(rt: &(impl Abort + Alloc<A = Global>), format: Format) {
+fn a_small_ring_goes_round_many_times(rt: &(impl Abort + Alloc<A = Global>), format: Format) {
     let mut history = open(rt, format, 10);
     for turn in 0..300usize {
         take_next(rt, &mut history, turn % format.per_byte(), 1 + turn % 23);
@@ -200,40 +191,71 @@ fn assert_turns(rt: &(impl Abort + Alloc<A = Global>), format: Format) {
     }
 }
 
-#[test]
-fn a_small_ring_goes_round_many_times(rt: HostRuntime) {
-    for format in FORMATS {
-        assert_turns(&rt, format);
-    }
-}
-
 /// A history of at least 30 samples reads every part of them.
-fn assert_parts(rt: &(impl Abort + Alloc<A = Global>), format: Format) {
+fn reads_of_every_length_at_every_place(rt: &(impl Abort + Alloc<A = Global>), format: Format) {
     let mut history = open(rt, format, 30);
     for _ in 0..9 {
         take_next(rt, &mut history, 1, 11);
     }
     for n in history.first()..history.end() {
-        for len in 0..(history.end() - n) as usize {
-            assert_reads(rt, &history, n, len + 1);
-        }
+        assert_reads_from(rt, &history, n);
+    }
+}
+
+/// Asserts that the history reads every number of samples from sample `n` on.
+fn assert_reads_from(rt: &impl Abort, history: &SampleHistory, n: u64) {
+    for len in 0..history.end().saturating_sub(n) {
+        assert_reads(rt, history, n, len as usize + 1);
     }
 }
 
 #[test]
-fn reads_of_every_length_at_every_place(rt: HostRuntime) {
-    for format in FORMATS {
-        assert_parts(&rt, format);
+fn histories_of_every_packing(rt: HostRuntime) {
+    let rt = &rt;
+    for &format in &FORMATS {
+        runs_of_any_length_at_any_place(rt, format);
+        a_small_ring_goes_round_many_times(rt, format);
+        reads_of_every_length_at_every_place(rt, format);
     }
 }
+
+/// A packing, how many samples a history holds at least, the place of a byte where each of its runs
+/// begins and its length, and from which sample on and up to which one the history holds them then.
+type Kept = (Format, usize, &'static [(usize, usize)], (u64, u64));
+
+// The ring has 4 bytes of 4 samples. After 21 samples 5 bytes were full, so the first is gone.
+static OLDEST_GONE: Kept = (
+    Format::Real2,
+    10,
+    &[(1, 13), (1, 0), (1, 6), (1, 2)],
+    (4, 21),
+);
 
 // One byte of two samples, and the one that was begun.
-#[test]
-fn a_history_of_no_room_holds_the_last_samples(rt: HostRuntime) {
-    let rt = &rt;
-    let mut history = open(rt, Format::Iq2, 0);
-    for (first, len) in [(1, 1024), (1, 1024), (1, 1024), (0, 1)] {
+static NO_ROOM: Kept = (
+    Format::Iq2,
+    0,
+    &[(1, 1024), (1, 1024), (1, 1024), (0, 1)],
+    (3_070, 3_073),
+);
+
+/// Asserts which samples a history holds after its runs, and that it reads them as those of the
+/// stream.
+fn assert_kept(rt: &(impl Abort + Alloc<A = Global>), &(format, room, runs, ends): &Kept) {
+    let mut history = open(rt, format, room);
+    for &(first, len) in runs {
         take_next(rt, &mut history, first, len);
     }
-    assert_holds(rt, &history, 3070, 3073);
+    assert_same(rt, (history.first(), history.end()), ends);
+    assert_reads_all(rt, &history);
+}
+
+#[test]
+fn the_oldest_byte_goes_first(rt: HostRuntime) {
+    assert_kept(&rt, &OLDEST_GONE);
+}
+
+#[test]
+fn a_history_of_no_room_holds_the_last_samples(rt: HostRuntime) {
+    assert_kept(&rt, &NO_ROOM);
 }

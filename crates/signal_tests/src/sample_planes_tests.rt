@@ -1,52 +1,46 @@
 //! Bytes whose samples were worked out by hand from the packings, and a plain reading of bits.
 
-ghost use Rattle.std.specs.Prelude.{◌≤◌, length};
+ghost use Rattle.std.specs.Prelude.{◌≡◌, ◌≤◌, length};
 ghost use Rattle.sample_planes.specs.declared.planes.TheConstants.{MAX_SAMPLES};
 
-use crate::asserted::{assert_same, assert_same_at};
+use crate::asserted::{assert_same, assert_same_at, assert_that};
 use crate::noise::noise_bytes;
+use crate::parts::assert_samples;
 use sample_planes::*;
 use std::process::Abort;
 
+/// The codes of parts in phase, and of those in quadrature where there are any.
+type Codes = ([u8; 4], Option<[u8; 4]>);
+
 /// Bytes, the parts in phase and in quadrature of their first eight samples, as far as there are
 /// any, and the codes of the first four.
-static BY_HAND: [(
-    Format,
-    &[u8; 2],
-    ([i8; 8], [i8; 8]),
-    [u8; 4],
-    Option<[u8; 4]>,
-); 4] = [
+static BY_HAND: [(Format, &[u8; 2], ([i8; 8], [i8; 8]), Codes); 4] = [
     (
         Format::Real1,
         &[0xa6, 0],
         ([-1, 1, -1, 1, 1, -1, -1, 1], [0; 8]),
-        [4, 0, 4, 0],
-        None,
+        ([4, 0, 4, 0], None),
     ),
     // 72 is 01 11 00 10: +3, -3, +1, -1.
     (
         Format::Real2,
         &[0x72, 0x1b],
         ([3, -3, 1, -1, 1, 3, -1, -3], [0; 8]),
-        [8, 12, 0, 4],
-        None,
+        ([8, 12, 0, 4], None),
     ),
     // 1B is 00 01 10 11: a sign in phase and one in quadrature each; and 4B is 01 00 10 11.
     (
         Format::Iq1,
         &[0x1b, 0x4b],
         ([1, 1, -1, -1, 1, 1, -1, -1], [1, -1, 1, -1, -1, 1, 1, -1]),
-        [0, 0, 4, 4],
-        Some([0, 4, 0, 4]),
+        ([0, 0, 4, 4], Some([0, 4, 0, 4])),
     ),
     // 4B 2D is 0100 1011 0010 1101: (3, 1), (-1, -3), (1, -1), (-3, 3).
     (
         Format::Iq2,
         &[0x4b, 0x2d],
         ([3, -1, 1, -3, 0, 0, 0, 0], [1, -3, -1, 3, 0, 0, 0, 0]),
-        [8, 4, 0, 12],
-        Some([0, 12, 4, 8]),
+        ([8, 4, 0, 12], Some([0, 12, 4, 8])),
     ),
 ];
 
@@ -71,27 +65,21 @@ fn last_lanes(codes: [u8; 64]) -> [u8; 4] {
     [codes[63], codes[62], codes[61], codes[60]]
 }
 
-// Codes have the first sample in the last lane.
-#[test]
-fn bytes_of_each_packing(rt: HostRuntime) {
-    for &(format, bytes, expected, codes, codes_q) in &BY_HAND {
-        let planes = first_samples(format, bytes);
-        assert_same_at(&rt, format, parts(&planes), expected);
-        let found_q = match planes.codes_q(0) {
-            Some(codes) => Some(last_lanes(codes)),
-            None => None,
-        };
-        let found = last_lanes(planes.codes(0).to_array());
-        assert_same_at(&rt, format, (found, found_q), (codes, codes_q));
-    }
+/// The codes of the first four samples, of which the first is in the last lane.
+fn first_codes(planes: &Planes) -> Codes {
+    let in_quadrature = match planes.codes_q(0) {
+        Some(codes) => Some(last_lanes(codes)),
+        None => None,
+    };
+    (last_lanes(planes.codes(0).to_array()), in_quadrature)
 }
 
-/// Asserts how many samples there are, and their parts in phase; those in quadrature are 0.
-fn assert_samples(rt: &impl Abort, planes: &Planes, expected: &[i8]) {
-    assert_same(rt, planes.len(), expected.len());
-    for i in 0..planes.len().min(expected.len()) {
-        let found = (planes.value(i), planes.value_q(i));
-        assert_same_at(rt, i, found, (expected[i], 0));
+#[test]
+fn bytes_of_each_packing(rt: HostRuntime) {
+    for &(format, bytes, expected, codes) in &BY_HAND {
+        let planes = first_samples(format, bytes);
+        let found = (parts(&planes), first_codes(&planes));
+        assert_same_at(&rt, format, found, (expected, codes));
     }
 }
 
@@ -111,55 +99,52 @@ fn parts_of_two_bits_can_be_3_in_size(rt: HostRuntime) {
     assert_same(&rt, (complex, real), (true, false));
 }
 
+/// Of 72 samples the last eight are a6, in the second 64.
+static SECOND_WORD: [u8; 9] = [0, 0, 0, 0, 0, 0, 0, 0, 0xa6];
+
 #[test]
 fn codes_of_the_second_word(rt: HostRuntime) {
-    // Of 72 samples the last eight are a6, in the second 64.
-    let planes = unpack(Format::Real1, &[0, 0, 0, 0, 0, 0, 0, 0, 0xa6], 0, 72);
+    let planes = unpack(Format::Real1, &SECOND_WORD, 0, 72);
     let codes = planes.codes(1).to_array();
-    let last = [codes[59], codes[58], codes[57], codes[56]];
+    let next = [codes[59], codes[58], codes[57], codes[56]];
     assert_same(
         &rt,
-        (planes.codes(0).to_array(), last),
-        ([0; 64], [0, 4, 4, 0]),
+        (planes.codes(0).to_array(), last_lanes(codes), next),
+        ([0; 64], [4, 0, 4, 0], [0, 4, 4, 0]),
     );
-    assert_same(&rt, last_lanes(codes), [4, 0, 4, 0]);
 }
 
-/// Asserts two bytes.
-fn assert_bytes(rt: &impl Abort, found: [u8; 2], expected: [u8; 2]) {
-    assert_same(rt, found, expected);
-}
+/// A packing, a byte and a place in it, the bytes from which a sample is put there, the number of
+/// that sample, and the byte that comes of it.
+type Put = (Format, u8, usize, &'static [u8; 2], usize, u8);
 
-#[test]
-fn a_real_sample_is_put_among_others(rt: HostRuntime) {
+static PUTS: [Put; 8] = [
     // Sample 9 of 00 40 is the only -1; it is put at place 2.
-    let written = [
-        Format::Real1.put(0x00, 2, &[0x00, 0x40], 9),
-        Format::Real1.put(0xff, 2, &[0x00, 0x40], 8),
-    ];
-    assert_bytes(&rt, written, [0x20, 0xdf]);
+    (Format::Real1, 0x00, 2, &[0x00, 0x40], 9, 0x20),
+    (Format::Real1, 0xff, 2, &[0x00, 0x40], 8, 0xdf),
     // Sample 1 of 72 is 11; it is put at place 3.
-    let written = [
-        Format::Real2.put(0x00, 3, &[0x72], 1),
-        Format::Real2.put(0xff, 0, &[0x72], 2),
-    ];
-    assert_bytes(&rt, written, [0x03, 0x3f]);
+    (Format::Real2, 0x00, 3, &[0x72, 0x00], 1, 0x03),
+    (Format::Real2, 0xff, 0, &[0x72, 0x00], 2, 0x3f),
+    // Sample 2 of 1B is 10; it is put at place 1.
+    (Format::Iq1, 0x00, 1, &[0x1b, 0x00], 2, 0x20),
+    (Format::Iq1, 0xff, 1, &[0x1b, 0x00], 2, 0xef),
+    // Sample 3 of 4B 2D is 1101; it is put at either place.
+    (Format::Iq2, 0x00, 0, &[0x4b, 0x2d], 3, 0xd0),
+    (Format::Iq2, 0x4b, 1, &[0x4b, 0x2d], 3, 0x4d),
+];
+
+/// Asserts which byte comes of a sample that is put in it.
+fn assert_put(rt: &impl Abort, &(format, byte, place, bytes, n, expected): &Put) {
+    assert_that(rt, place < format.per_byte());
+    assert_that(rt, n < 2 * format.per_byte());
+    assert_same_at(rt, (format, n), format.put(byte, place, bytes, n), expected);
 }
 
 #[test]
-fn a_complex_sample_is_put_among_others(rt: HostRuntime) {
-    // Sample 2 of 1B is 10; it is put at place 1.
-    let written = [
-        Format::Iq1.put(0x00, 1, &[0x1b], 2),
-        Format::Iq1.put(0xff, 1, &[0x1b], 2),
-    ];
-    assert_bytes(&rt, written, [0x20, 0xef]);
-    // Sample 3 of 4B 2D is 1101; it is put at either place.
-    let written = [
-        Format::Iq2.put(0x00, 0, &[0x4b, 0x2d], 3),
-        Format::Iq2.put(0x4b, 1, &[0x4b, 0x2d], 3),
-    ];
-    assert_bytes(&rt, written, [0xd0, 0x4d]);
+fn a_sample_is_put_among_others(rt: HostRuntime) {
+    for row in &PUTS {
+        assert_put(&rt, row);
+    }
 }
 
 #[test]
@@ -177,11 +162,20 @@ fn bytes_hold_eight_four_or_two(rt: HostRuntime) {
     assert_same(&rt, MAX_SAMPLES, 1024);
 }
 
-// b3 71 is 10 11 00 11 01 11 00 01: -1, -3, +1, -3, +3, -3, +1, +3.
+/// Eight samples: 10 11 00 11 01 11 00 01 are -1, -3, +1, -3, +3, -3, +1, +3.
+static EIGHT_SAMPLES: [u8; 2] = [0xb3, 0x71];
+
+/// The run of these.
+fn eight_samples() -> PackedSamples<'static>
+    ensures { length result.samples ≡ 8 }
+{
+    PackedSamples::new(Format::Real2, &EIGHT_SAMPLES)
+}
+
 #[test]
 fn a_run_in_parts(rt: HostRuntime) {
     let rt = &rt;
-    let run = PackedSamples::new(Format::Real2, &[0xb3, 0x71]);
+    let run = eight_samples();
     let (front, back) = run.split_at(5);
     let lens = [run.len(), run.split_at(8).1.len()];
     assert_same(rt, lens, [8, 0]);
@@ -192,10 +186,9 @@ fn a_run_in_parts(rt: HostRuntime) {
 }
 
 /// Asserts the samples of a run, and how many it has.
-fn assert_run(rt: &impl Abort, run: &PackedSamples, expected: &[i8])
-    requires { length run.now.samples ≤ MAX_SAMPLES }
-{
+fn assert_run(rt: &impl Abort, run: &PackedSamples, expected: &[i8]) {
     assert_same(rt, run.len(), expected.len());
+    assert_that(rt, run.len() <= 1024);
     assert_samples(rt, &run.unpack(), expected);
 }
 
@@ -219,26 +212,23 @@ fn kept_planes_hold_the_last_run_alone(rt: HostRuntime) {
 #[test]
 fn a_run_tells_where_it_lies(rt: HostRuntime) {
     let rt = &rt;
-    let run = PackedSamples::new(Format::Real2, &[0xb3, 0x71]);
-    assert_place(rt, &run, &[0xb3, 0x71], 0);
-    assert_place(rt, &run.part(3, 5), &[0xb3, 0x71], 3);
+    let run = eight_samples();
+    assert_place(rt, &run, &EIGHT_SAMPLES, 0);
+    assert_place(rt, &run.part(3, 5), &EIGHT_SAMPLES, 3);
     // From sample 4 on the first byte is passed over.
     assert_place(rt, &run.part(5, 2), &[0x71], 1);
 }
 
 /// Asserts the bytes in which a run lies, and the place of its first sample.
 fn assert_place(rt: &impl Abort, run: &PackedSamples, bytes: &[u8], first: usize) {
-    let place = run.place();
-    assert_same(rt, place.0, bytes);
-    assert_same(rt, place.1, first);
+    assert_same(rt, run.place(), (bytes, first));
 }
 
 // The same samples, the first of them being number 1,000.
 #[test]
 fn numbered_samples_keep_their_numbers(rt: HostRuntime) {
     let rt = &rt;
-    let samples = PackedSamples::new(Format::Real2, &[0xb3, 0x71]);
-    let source = NumberedSamples::new(samples, 1_000);
+    let source = NumberedSamples::new(eight_samples(), 1_000);
     assert_same(rt, (source.first(), source.end()), (1_000, 1_008));
     assert_samples(rt, &source.planes(1_003, 3), &[-3, 3, -3]);
     assert_samples(rt, &source.planes(1_008, 0), &[]);
