@@ -31,21 +31,24 @@ fn each_code_begins_as_listed(rt: HostRuntime) {
     }
 }
 
+/// Chips of satellite 1, and whether they are 1. 4,294,967,295 is 4,198,404 times 1,023 and 3 more.
+static CHIPS: [(u32, bool); 5] = [
+    (1021, false),
+    (1022, false),
+    (u32::MAX - 2, true),
+    (u32::MAX - 1, false),
+    (u32::MAX, false),
+];
+
 #[test]
 fn a_code_repeats_after_1023_chips(rt: HostRuntime) {
     let rt = &rt;
     let mut book = CodeBook::new();
     let prn = satellite(rt, 1);
     assert_same(rt, first_ten_chips(&mut book, prn, 1023), 0o1440);
-    // 4,294,967,295 is 4,198,404 times 1,023 and 3 more.
-    let chips = [
-        book.chip(prn, 1021),
-        book.chip(prn, 1022),
-        book.chip(prn, u32::MAX - 2),
-        book.chip(prn, u32::MAX - 1),
-        book.chip(prn, u32::MAX),
-    ];
-    assert_same(rt, chips, [false, false, true, false, false]);
+    for &(place, is_one) in &CHIPS {
+        assert_same_at(rt, place, book.chip(prn, place), is_one);
+    }
 }
 
 #[test]
@@ -75,7 +78,7 @@ fn window_wraps(rt: HostRuntime) {
 }
 
 /// The first ten chips of two satellites, which a book is asked for in this order.
-fn first_chips_of(book: &mut CodeBook, first: Prn, second: Prn) -> (u64, u64) {
+fn first_chips_of(mut book: CodeBook, first: Prn, second: Prn) -> (u64, u64) {
     (book.window(first, 0) >> 54, book.window(second, 0) >> 54)
 }
 
@@ -85,7 +88,7 @@ fn either_order_fills_the_book(rt: HostRuntime) {
     let (low, high) = (satellite(rt, 3), satellite(rt, 19));
     // The first ten chips of both are those of the standard's table, whichever of them the book was
     // asked for first.
-    let upward = first_chips_of(&mut CodeBook::new(), low, high);
-    let downward = first_chips_of(&mut CodeBook::default(), high, low);
+    let upward = first_chips_of(CodeBook::new(), low, high);
+    let downward = first_chips_of(CodeBook::default(), high, low);
     assert_same(rt, (upward, downward), ((0o1710, 0o1633), (0o1633, 0o1710)));
 }

@@ -142,9 +142,11 @@ fn assert_agreeing(rt: &impl Abort, format: Format) {
 
 #[test]
 fn sums_of_every_packing(rt: HostRuntime) {
-    for format in [Format::Real1, Format::Real2, Format::Iq1, Format::Iq2] {
-        assert_agreeing(&rt, format);
-    }
+    let rt = &rt;
+    assert_agreeing(rt, Format::Real1);
+    assert_agreeing(rt, Format::Real2);
+    assert_agreeing(rt, Format::Iq1);
+    assert_agreeing(rt, Format::Iq2);
 }
 
 /// The prompt sums over samples of +1, at a quarter of a cycle a sample, with chip 2 of satellite

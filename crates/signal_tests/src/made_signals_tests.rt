@@ -1,6 +1,6 @@
 //! The first bytes of signals and files.
 
-use crate::asserted::assert_same;
+use crate::asserted::{assert_same, assert_same_at};
 use made_signals::chip_signs::ChipSigns;
 use made_signals::noise::Noise;
 use made_signals::{MadeSignal, SampleStream, code_file};
@@ -36,6 +36,13 @@ fn code_file_begins_with_the_code(rt: HostRuntime) {
     );
 }
 
+/// How many of twenty bytes a stream fills, and the bytes.
+fn filled(stream: &mut SampleStream) -> (usize, [u8; 20]) {
+    let mut bytes = [0; 20];
+    let count = stream.fill(&mut bytes);
+    (count, bytes)
+}
+
 /// What `first_bytes` finds.
 static FIRST_BYTES: [u8; 20] = [
     0x4e, 0x64, 0x4e, 0x66, 0x44, 0x4f, 0x33, 0x11, 0x1b, 0x31, 0xbb, 0xbb, 0x93, 0x99, 0x39, 0x39,
@@ -48,25 +55,19 @@ static FIRST_BYTES: [u8; 20] = [
 // and the first data bit is 0. So the values are 3, 1, -3 and -1.
 #[test]
 fn first_bytes(rt: HostRuntime) {
+    let rt = &rt;
     let mut stream = SampleStream::new(MadeSignal::with_tail(&[]), 64);
-    let mut bytes = [0; 20];
-    let filled = stream.fill(&mut bytes);
-    assert_same(&rt, (filled, bytes), (16, FIRST_BYTES));
-    assert_same(
-        &rt,
-        (stream.fill(&mut bytes), stream.next_value()),
-        (0, None),
-    );
+    assert_same(rt, filled(&mut stream), (16, FIRST_BYTES));
+    assert_same(rt, filled(&mut stream).0, 0);
+    assert_same(rt, stream.next_value(), None);
 }
 
 /// Eight values of a signal of satellite 7, from a sample's number on.
 fn eight_values(signal: &MadeSignal, first: u64) -> [i32; 8] {
     let signs = ChipSigns::of(7);
     let mut values = [0; 8];
-    let mut number = first;
-    for value in values.iter_mut() {
-        *value = signal.value(&signs, number);
-        number = number.wrapping_add(1);
+    for i in 0..8 {
+        values[i] = signal.value(&signs, first.wrapping_add(i as u64));
     }
     values
 }
@@ -85,16 +86,22 @@ fn data_bits_turn_the_values(rt: HostRuntime) {
     assert_same(&rt, values, expected);
 }
 
+/// What `first_noise` finds.
+static FIRST_NOISE: [i32; 8] = [-3, -1, 3, 1, -3, -3, -1, 1];
+
 // By the same program.
 #[test]
 fn first_noise(rt: HostRuntime) {
     let mut noise = Noise::new();
-    let mut values = [0; 8];
-    for value in values.iter_mut() {
-        *value = noise.next_value();
+    for i in 0..8 {
+        assert_same_at(&rt, i, noise.next_value(), FIRST_NOISE[i]);
     }
-    assert_same(&rt, values, [-3, -1, 3, 1, -3, -3, -1, 1]);
 }
+
+/// What `noise_in_place_of_a_signal` finds.
+static NOISY_BYTES: [u8; 20] = [
+    0x79, 0x4c, 0, 0, 0, 0, 0, 0, 0, 0, 0, 0, 0, 0, 0, 0, 0, 0, 0, 0,
+];
 
 // The first values of the signal and of the noise are those above. The noise of a stretch goes on
 // after that of the one before, and the signal as if it had been there: the values are 3, -3, -1,
@@ -103,7 +110,5 @@ fn first_noise(rt: HostRuntime) {
 fn noise_in_place_of_a_signal(rt: HostRuntime) {
     let noisy = [(1, 4), (5, 7)];
     let mut stream = SampleStream::with_noise(MadeSignal::with_tail(&[]), 8, &noisy);
-    let mut bytes = [0; 2];
-    let filled = stream.fill(&mut bytes);
-    assert_same(&rt, (filled, bytes), (2, [0x79, 0x4c]));
+    assert_same(&rt, filled(&mut stream), (2, NOISY_BYTES));
 }

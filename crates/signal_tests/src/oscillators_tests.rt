@@ -2,7 +2,7 @@
 
 ghost use Rattle.std.specs.Prelude.{◌≤◌};
 
-use crate::asserted::{assert_same, assert_same_at, assert_shown};
+use crate::asserted::{assert_same, assert_same_at, assert_shown, assert_that};
 use crate::parts::{half_chip, satellite};
 use ca_codes::{CodeBook, Prn};
 use oscillators::*;
@@ -64,19 +64,30 @@ fn stated_limits(rt: HostRuntime) {
     }
 }
 
+/// Numbers of Hz, and the shifts that have them.
+static SHIFTS: [(i32, Option<i32>); 5] = [
+    (-16_001, None),
+    (-16_000, Some(-16_000)),
+    (-1_000, Some(-1_000)),
+    (16_000, Some(16_000)),
+    (16_001, None),
+];
+
+/// The shift that has this number of Hz, where there is one.
+fn shift(hz: i32) -> Option<i32> {
+    match Doppler::new(hz) {
+        Some(shift) => Some(shift.get()),
+        None => None,
+    }
+}
+
 #[test]
 fn shifts_have_ranges_and_an_order(rt: HostRuntime) {
-    let valid = [
-        Doppler::new(-16_001).is_some(),
-        Doppler::new(16_000).is_some(),
-        Doppler::new(16_001).is_some(),
-        Doppler::new(-1) < Doppler::new(0),
-    ];
-    assert_same(&rt, valid, [false, true, false, true]);
-    for hz in [-16_000, -1_000] {
-        let shift = Doppler::new(hz).expect(&rt, "a shift");
-        assert_same(&rt, shift.get(), hz);
+    let rt = &rt;
+    for &(hz, expected) in &SHIFTS {
+        assert_same_at(rt, hz, shift(hz), expected);
     }
+    assert_that(rt, Doppler::new(-1) < Doppler::new(0));
 }
 
 #[test]
@@ -133,6 +144,11 @@ static VALUES: [(i8, i8); 8] = [
     (2, -1),
 ];
 
+/// A phase, in units of 2^-32, so many samples later.
+fn phase_after(phase: u128, samples: u64, step: u32) -> u128 {
+    phase % CYCLE + u128::from(samples) * u128::from(step)
+}
+
 /// A carrier at the phase 0xb000_0003, with this step.
 fn carrier(step: u32) -> CarrierOsc {
     let mut osc = CarrierOsc::new(0x9000_0001);
@@ -146,7 +162,7 @@ fn assert_carrier(rt: &impl Abort, step: u32) {
     let planes = carrier(step).planes(130);
     assert_same(rt, planes.len(), 130);
     for i in 0..130 {
-        let phase = (3 * 0x9000_0001 + i as u128 * step as u128) % 0x1_0000_0000;
+        let phase = phase_after(0xb000_0003, i as u64, step) % 0x1_0000_0000;
         let expected = VALUES[(phase / 0x2000_0000) as usize];
         assert_same_at(rt, (i, step), (planes.cos(i), planes.sin(i)), expected);
     }
@@ -171,11 +187,12 @@ fn assert_eighths(rt: &impl Abort, step: u32, before: u32) {
 
 #[test]
 fn carrier_at_extreme_steps(rt: HostRuntime) {
+    let rt = &rt;
     for &step in &EXTREME_STEPS {
-        assert_carrier(&rt, step);
-        for before in [0, 1, 63] {
-            assert_eighths(&rt, step, before);
-        }
+        assert_carrier(rt, step);
+        assert_eighths(rt, step, 0);
+        assert_eighths(rt, step, 1);
+        assert_eighths(rt, step, 63);
     }
 }
 
@@ -190,12 +207,17 @@ fn sign(book: &mut CodeBook, prn: Prn, phase: u128) -> i8 {
 
 /// The signs of the early, the prompt and the late chip at a phase of any number of cycles.
 fn signs(book: &mut CodeBook, prn: Prn, phase: u128) -> (i8, i8, i8) {
-    let late = phase % CYCLE + CYCLE - 0x8000_0000;
+    let phase = phase % CYCLE;
     (
-        sign(book, prn, phase % CYCLE + 0x8000_0000),
+        sign(book, prn, phase + 0x8000_0000),
         sign(book, prn, phase),
-        sign(book, prn, late),
+        sign(book, prn, phase + CYCLE - 0x8000_0000),
     )
+}
+
+/// The phase at a half chip.
+fn half_phase(half_chips: u16) -> u128 {
+    u128::from(half_chips) * 0x8000_0000
 }
 
 /// Asserts the signs of 130 samples of satellite 19, at a half chip and with a step.
@@ -204,7 +226,7 @@ fn assert_code(rt: &impl Abort, book: &mut CodeBook, half_chips: u16, step: u32)
     let planes = CodeOsc::new(half_chip(rt, half_chips), step).planes(130, book, prn);
     assert_same(rt, planes.len(), 130);
     for i in 0..130 {
-        let phase = half_chips as u128 * 0x8000_0000 + i as u128 * step as u128;
+        let phase = phase_after(half_phase(half_chips), i as u64, step);
         assert_same_at(
             rt,
             (i, half_chips, step),
@@ -246,8 +268,8 @@ fn assert_mask_words(rt: &impl Abort, book: &mut CodeBook, half_chips: u16, step
     for w in 0..2u32 {
         let lanes = words.next_lanes(book.table(prn));
         // A whole number of cycles more, so that no phase is below 0.
-        let first = (half_chips as u128 * 0x8000_0000
-            + 64 * (w as u128 + CYCLE) * step as u128).wrapping_sub(before as u128 * step as u128);
+        let samples = 64 * (u64::from(w) + CYCLE as u64) - u64::from(before);
+        let first = phase_after(half_phase(half_chips), samples, step);
         assert_masks(rt, book, &lanes, first, step);
     }
 }
@@ -260,22 +282,28 @@ fn assert_windows(rt: &impl Abort, book: &mut CodeBook, half_chips: u16, step: u
     assert_same_at(rt, step, words.has_windows(), step <= 0xe666_6666);
     if words.has_windows() {
         let lanes = words.next_lanes_by_windows(book.table(prn));
-        let first = half_chips as u128 * 0x8000_0000;
-        assert_masks(rt, book, &lanes, first, step);
+        assert_masks(rt, book, &lanes, half_phase(half_chips), step);
+    }
+}
+
+/// Asserts the masks at a half chip and with each extreme step.
+fn assert_all_masks(rt: &impl Abort, half_chips: u16) {
+    let mut book = CodeBook::new();
+    for &step in &EXTREME_STEPS {
+        assert_windows(rt, &mut book, half_chips, step);
+        assert_mask_words(rt, &mut book, half_chips, step, 0);
+        assert_mask_words(rt, &mut book, half_chips, step, 1);
+        assert_mask_words(rt, &mut book, half_chips, step, 63);
     }
 }
 
 #[test]
 fn chip_masks_at_extreme_steps(rt: HostRuntime) {
-    let mut book = CodeBook::new();
-    for half_chips in [0, 1, 1_023, 2_045] {
-        for &step in &EXTREME_STEPS {
-            assert_windows(&rt, &mut book, half_chips, step);
-            for before in [0, 1, 63] {
-                assert_mask_words(&rt, &mut book, half_chips, step, before);
-            }
-        }
-    }
+    let rt = &rt;
+    assert_all_masks(rt, 0);
+    assert_all_masks(rt, 1);
+    assert_all_masks(rt, 1_023);
+    assert_all_masks(rt, 2_045);
 }
 
 /// The masks of 64 samples of satellite 19, the first of them at a phase, are those of its chips.
@@ -285,7 +313,7 @@ fn assert_masks(rt: &impl Abort, book: &mut CodeBook, lanes: &ChipLanes, first: 
     let prompt = lanes.prompt.to_array();
     let late = lanes.late.to_array();
     for j in 0..64 {
-        let phase = first % CYCLE + j as u128 * step as u128;
+        let phase = phase_after(first, j as u64, step);
         assert_same_at(
             rt,
             (j, first, step),

@@ -3,8 +3,8 @@
 use crate::asserted::{assert_same, assert_same_at, assert_shown};
 use crate::parts::{half_chip, satellite};
 use acquisition::{Cell, Plan, PlanFault, Signal};
-use ca_codes::Prn;
 use oscillators::HalfChip;
+use std::process::Abort;
 
 /// Centres, bins, dwells and thresholds at the ends of their ranges, and what is wrong with them.
 static LIMITS: [(i32, u32, u32, u32, Option<PlanFault>); 13] = [
@@ -53,15 +53,22 @@ fn faults_are_named(rt: HostRuntime) {
     }
 }
 
+/// A plan for satellite 9, over a dwell of three periods.
+fn new_plan(rt: &impl Abort, centre: i32, bins: u32) -> Plan {
+    Plan::new(satellite(rt, 9), centre, bins, 3, 25).expect(rt, "a plan")
+}
+
+/// How many bins a plan has to each side, and how many cells.
+static CELLS: [(u32, u64); 3] = [(0, 2_046), (1, 6_138), (40, 165_726)];
+
 #[test]
 fn plans_tell_their_parts(rt: HostRuntime) {
     let rt = &rt;
-    let prn = satellite(rt, 9);
-    for (bins, cells) in [(0, 2_046), (1, 6_138), (40, 165_726)] {
-        let plan = Plan::new(prn, -5_999, bins, 3, 25).expect(rt, "a plan");
-        let signal = (plan.prn(), plan.centre(), plan.bins());
+    for &(bins, cells) in &CELLS {
+        let plan = new_plan(rt, -5_999, bins);
+        let signal = (plan.prn().get(), plan.centre(), plan.bins());
         let told = (signal, plan.cells(), plan.dwell(), plan.threshold());
-        assert_same(rt, told, ((prn, -5_999, bins), cells, 3, 25));
+        assert_same(rt, told, ((9, -5_999, bins), cells, 3, 25));
     }
 }
 
@@ -77,10 +84,13 @@ static SHIFTS: [(i32, u32, i32, Option<i32>); 8] = [
     (0, 40, i32::MAX, None),
 ];
 
-/// The satellite, the shift and the half chip of a signal.
-fn parts(signal: Option<Signal>) -> Option<(Prn, i32, HalfChip)> {
+/// The shift of a signal of satellite 9 at a half chip.
+fn shift_of(rt: &impl Abort, signal: Option<Signal>, half: HalfChip) -> Option<i32> {
     match signal {
-        Some(signal) => Some((signal.prn, signal.doppler.get(), signal.half)),
+        Some(signal) => {
+            assert_same(rt, (signal.prn.get(), signal.half), (9, half));
+            Some(signal.doppler.get())
+        }
         None => None,
     }
 }
@@ -89,20 +99,15 @@ fn parts(signal: Option<Signal>) -> Option<(Prn, i32, HalfChip)> {
 #[test]
 fn signals_of_cells(rt: HostRuntime) {
     let rt = &rt;
-    let prn = satellite(rt, 9);
     let half = half_chip(rt, 2_045);
     for &(centre, bins, bin, shift) in &SHIFTS {
-        let plan = Plan::new(prn, centre, bins, 1, 10).expect(rt, "a plan");
         let cell = Cell {
             bin,
             half,
             power: 0,
             found: false,
         };
-        let expected = match shift {
-            Some(hz) => Some((prn, hz, half)),
-            None => None,
-        };
-        assert_same_at(rt, (centre, bins, bin), parts(plan.signal(&cell)), expected);
+        let signal = new_plan(rt, centre, bins).signal(&cell);
+        assert_same_at(rt, (centre, bins, bin), shift_of(rt, signal, half), shift);
     }
 }
