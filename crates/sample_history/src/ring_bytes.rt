@@ -81,8 +81,8 @@ pub(crate) fn copy_out(ring: &HeapCircularBuffer<u8>, at: usize, to: &mut [u8])
         let at = at - front.len();
         to.copy_from_slice(&back[at..at + len]);
     } else {
-        let cut = front.len() - at;
-        to[..cut].copy_from_slice(&front[at..]);
-        to[cut..].copy_from_slice(&back[..len - cut]);
+        let (first, rest) = to.split_at_mut(front.len() - at);
+        first.copy_from_slice(&front[at..]);
+        rest.copy_from_slice(&back[..rest.len()]);
     }
 }
