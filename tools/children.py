@@ -4,9 +4,11 @@ import signal
 import subprocess
 import threading
 
-# The commands that run, each in a process group of its own, and the signal that came.
+# The commands that run, each in a process group of its own, and the signal that came. A command is
+# started and noted in one, so that no signal comes between: threads start them.
 RUNNING = set()
 ENDING = []
+STARTING = threading.RLock()
 
 
 class Ended(Exception):
@@ -23,7 +25,8 @@ def end(process):
 
 def end_all(number, _):
     """Ends all commands, and this process by what is raised."""
-    ENDING.append(number)
+    with STARTING:
+        ENDING.append(number)
     for process in list(RUNNING):
         end(process)
     raise Ended(number)
@@ -49,15 +52,22 @@ def end_with_reader(stream=1):
     threading.Thread(target=watch, daemon=True).start()
 
 
+def start(words, folder, **more):
+    """Starts a command and notes it, where no signal has come."""
+    streams = {'stdin': subprocess.DEVNULL, 'stdout': subprocess.PIPE, 'stderr': subprocess.PIPE}
+    with STARTING:
+        if ENDING:
+            raise Ended(ENDING[0])
+        process = subprocess.Popen(words, cwd=folder, start_new_session=True, encoding='utf-8',
+                                   errors='replace', **{**streams, **more})
+        RUNNING.add(process)
+    return process
+
+
 def run(words, folder, **more):
     """Runs a command to its end. Gives its status, what it printed, and its standard error."""
-    streams = {'stdin': subprocess.DEVNULL, 'stdout': subprocess.PIPE, 'stderr': subprocess.PIPE}
-    with subprocess.Popen(words, cwd=folder, start_new_session=True, encoding='utf-8',
-                          errors='replace', **{**streams, **more}) as process:
-        RUNNING.add(process)
+    with start(words, folder, **more) as process:
         try:
-            if ENDING:
-                end(process)
             said, errors = process.communicate()
         finally:
             RUNNING.discard(process)

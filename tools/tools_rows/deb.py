@@ -18,9 +18,9 @@ NEEDED = ('dpkg', 'dpkg-deb', 'dpkg-shlibdeps', 'git', 'cargo', 'strip', '/usr/b
 ODD = 'x/;1etouch P # & \\1 | $(touch P) `touch P` "\' y'
 ODD_LINE = f'{ODD} <one@example.org>\n'
 
-# What would turn a build.
+# What would turn a build, beside another folder of what cargo makes.
 TURNING = {'CARGO_BUILD_TARGET': 'no-such-target', 'CARGO_ENCODED_RUSTFLAGS': '--no-such-flag',
-           'CARGO_TARGET_DIR': '/other', 'CDPATH': '/', 'TZ': 'Asia/Tokyo'}
+           'CDPATH': '/', 'TZ': 'Asia/Tokyo'}
 
 # Why there is none where `rt` has built nothing.
 MISSING = '`rt` hasn\'t built (receiver|packer)_cli of these sources: `tools/build .*'
@@ -137,7 +137,8 @@ def same_bytes(rows, folder):
                                PATH=f'{kit}:{lintian_path(folder, 0)}')
     is_told = len(re.findall(line_of(MISSING), outcome.said, re.M)) == 1 and not outcome.errors
     rows.say('tools/deb, nothing is proved', [str(outcome)[-300:]] * (not is_told))
-    second, _ = a_package(rows, folder, 'second one', other, **TURNING)
+    second, _ = a_package(rows, folder, 'second one', other, **TURNING,
+                          CARGO_TARGET_DIR=os.path.join(folder, 'elsewhere'))
     third, _ = a_package(rows, folder, 'third', other, 'deb: lintian has an error\n',
                          SOURCE_DATE_EPOCH='1000000000')
     if not (first and second and third):

@@ -3,12 +3,38 @@ import fcntl
 import os
 import signal
 import subprocess
+import sys
 import time
 
 from hanging import HANGS
 
-from .commands import write
+from .commands import TOP, run, write
 from .small_checkout import Checkout
+
+# A program to which a signal comes while one of its threads starts a command: it has begun, and is
+# not noted yet. It prints the command's number, and ends by the signal.
+STARTS = f"""
+import os, signal, subprocess, sys, threading, time
+sys.path.insert(0, {os.path.join(TOP, 'tools')!r})
+import children
+
+class Slow(subprocess.Popen):
+    def __init__(self, *words, **more):
+        super().__init__(*words, **more)
+        print(self.pid, flush=True)
+        os.kill(os.getpid(), signal.SIGTERM)
+        time.sleep(1)
+
+subprocess.Popen = Slow
+children.end_with_signals()
+command = ['sleep', '{2 * HANGS}'], '/'
+threading.Thread(target=children.run, args=command, daemon=True).start()
+try:
+    time.sleep({HANGS})
+except children.Ended as ended:
+    signal.signal(ended.args[0], signal.SIG_DFL)
+    os.kill(os.getpid(), ended.args[0])
+"""
 
 
 def until(holds):
@@ -137,6 +163,17 @@ def signal_to_cargo(rows, folder):
     rows.say('tools/build by cargo, SIGTERM', faults)
 
 
+def signal_at_start(rows, folder):
+    """A signal that comes while a thread starts a command ends this too."""
+    outcome = run([sys.executable, '-B', '-c', STARTS], folder)
+    faults = [str(outcome)] * (outcome.status != -signal.SIGTERM)
+    command = int(outcome.said)
+    if not until(lambda: not is_alive(command)):
+        os.kill(command, signal.SIGKILL)
+        faults.append('the command goes on')
+    rows.say('a signal while a command starts', faults)
+
+
 def killed(rows, folder):
     """What a build leaves that is killed is cleared by the next one, and nothing else."""
     checkout, waits = with_kit(folder, True)
@@ -172,4 +209,4 @@ def without_git(rows, folder):
     rows.say('./receiver of a tar file', [] if outcome.said == 'proved\n' else [str(outcome)])
 
 
-ROWS = (no_lock, waiting, signals, signal_to_cargo, killed, without_git)
+ROWS = (no_lock, waiting, signals, signal_to_cargo, signal_at_start, killed, without_git)
