@@ -4,6 +4,8 @@
 #![tactic(auto)]
 
 #[cfg(test)]
+mod almanacs;
+#[cfg(test)]
 mod asserted;
 #[cfg(test)]
 mod bit_sync_tests;

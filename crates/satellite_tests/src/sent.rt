@@ -12,11 +12,23 @@ pub const TELEMETRY: u32 = 0x22c0_0012;
 /// The handover word of subframe 1 after it, at the time count 1.
 pub const HANDOVER: u32 = 0x0000_2104;
 
+/// The handover word of subframe 5 after it, at the time count 1.
+pub const FIFTH_HANDOVER: u32 = 0x2528;
+
 /// The data of that telemetry word.
 pub const TELEMETRY_DATA: u32 = 0x8b_0000;
 
 /// The data of that handover word.
 pub const HANDOVER_DATA: u32 = 0x84;
+
+/// The data of that telemetry word, where it passes.
+pub const FIRST: Option<u32> = Some(TELEMETRY_DATA);
+
+/// The data of that handover word, where it passes.
+pub const SECOND: Option<u32> = Some(HANDOVER_DATA);
+
+/// The data of a word of zeros, where it passes.
+pub const ZERO: Option<u32> = Some(0);
 
 /// The word with these data, of which d23 and d24 are such that it ends in 0, 0.
 pub fn ended(known: u32, prior: u8) -> u32

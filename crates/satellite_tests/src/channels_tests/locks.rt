@@ -3,17 +3,14 @@
 ghost use Rattle.std.specs.Prelude.{◌≤◌};
 ghost use Rattle.channels.specs.LockedMessages.{bit_count};
 
+use crate::almanacs::Almanac;
 use crate::asserted::{assert_same, assert_same_at, assert_that};
+use crate::sent::{FIFTH_HANDOVER, TELEMETRY};
 use channels::LockedMessage;
-use data_sets::{AlmanacSet, Report};
+use data_sets::AlmanacSet;
 use lane_correlator::Counts;
 use nav_message::{MOST_BITS, MessageNews};
-use nav_parity::encode;
 use std::process::Abort;
-
-/// The telemetry word after two bits 0, and the handover word of a subframe 5 after it. They were
-/// worked out by the parity equations (IS-GPS-200, section 20.3.5).
-const HEADER: [u32; 2] = [0x22c0_0012, 0x2528];
 
 /// The almanacs of all satellites for time 5, whose other values are 0.
 const ALMANACS: AlmanacSet = AlmanacSet {
@@ -86,65 +83,36 @@ impl Reading {
         news
     }
 
-    /// Takes a word that brings no news.
-    fn take_bare_word(&mut self, rt: &impl Abort, word: u32) {
-        assert_same(rt, self.take_word(rt, word), MessageNews::Nothing);
+    /// Takes words that bring no news.
+    fn take_bare_words(&mut self, rt: &impl Abort, words: &[u32]) {
+        for word in words {
+            assert_same(rt, self.take_word(rt, *word), MessageNews::Nothing);
+        }
     }
 
-    /// Takes the subframe of a satellite's almanac, and sees that it is reported. Gives the set
-    /// that it completes.
-    fn take_almanac(&mut self, rt: &impl Abort, satellite: u8) -> Option<AlmanacSet> {
-        let mut news = MessageNews::Nothing;
-        for word in almanac_words(satellite) {
-            assert_same(rt, news, MessageNews::Nothing);
-            news = self.take_word(rt, word);
-        }
-        let MessageNews::Frame { reports, .. } = news else {
-            panic!(rt; "no subframe");
+    /// Takes the subframe of a satellite's almanac for time 5, whose other values are 0, and sees
+    /// that it is reported, with this set.
+    fn take_almanac(&mut self, rt: &impl Abort, satellite: u8, set: Option<AlmanacSet>) {
+        let almanac = Almanac {
+            satellite,
+            toa: 5,
+            health: 0,
         };
-        let page = Report::Alm([1, satellite.into(), 0, 5, 0, 0, 0, 0, 0, 0, 0, 0, 0]);
-        assert_same(rt, reports.page, Some(page));
-        reports.set
+        let words = almanac.words();
+        self.take_bare_words(rt, &words[..9]);
+        let news = self.take_word(rt, words[9]);
+        almanac.assert_reported(rt, &news, set);
     }
 
-    /// Takes the almanacs of satellites 1 to `last`, which complete no set.
-    fn take_almanacs_to(&mut self, rt: &impl Abort, last: u8) {
-        for satellite in 1..=last {
-            self.take_set(rt, satellite, None);
+    /// Takes the almanacs of so many satellites, of which number 1 comes after number 32, from the
+    /// one after `before` on. The last of them completes the set, or none does.
+    fn take_almanacs(&mut self, rt: &impl Abort, before: u8, count: u8, is_set: bool) {
+        for k in 0..count {
+            let satellite = before.wrapping_add(k) % 32 + 1;
+            let is_last = k + 1 == count;
+            self.take_almanac(rt, satellite, (is_set && is_last).then_some(ALMANACS));
         }
     }
-
-    /// Takes the almanac of a satellite, and sees which set it completes.
-    fn take_set(&mut self, rt: &impl Abort, satellite: u8, expected: Option<AlmanacSet>) {
-        let set = self.take_almanac(rt, satellite);
-        assert_same_at(rt, satellite, set, expected);
-    }
-}
-
-/// The words of a satellite's almanac, as they are sent. The satellite stands in word 3 after the
-/// data ID 1, and the time in word 4. The last two data bits are such that the subframe ends in two
-/// bits 0.
-fn almanac_words(satellite: u8) -> [u32; 10] {
-    let mut words = [0; 10];
-    words[0] = HEADER[0];
-    words[1] = HEADER[1];
-    words[2] = behind(0x40_0000 | u32::from(satellite) << 16, words[1]);
-    words[3] = behind(0x05_0000, words[2]);
-    for k in 4..9usize {
-        words[k] = behind(0, words[k - 1]);
-    }
-    for end in 0..4 {
-        let word = behind(end, words[8]);
-        if word % 4 == 0 {
-            words[9] = word;
-        }
-    }
-    words
-}
-
-/// The word with these data after another one.
-fn behind(source: u32, before: u32) -> u32 {
-    encode(source & 0xff_ffff, (before % 4) as u8)
 }
 
 // The header and 90 bits of a subframe come before the unlock, and 300 bits after it. The subframe
@@ -154,31 +122,24 @@ fn start_ends_with_the_lock(rt: HostRuntime) {
     let rt = &rt;
     let mut reading = Reading::new();
     reading.lock(rt);
-    for word in [HEADER[0], HEADER[1], 0, 0, 0] {
-        reading.take_bare_word(rt, word);
-    }
+    reading.take_bare_words(rt, &[TELEMETRY, FIFTH_HANDOVER, 0, 0, 0]);
     reading.unlock(rt);
     reading.lock(rt);
-    for _ in 0..10 {
-        reading.take_bare_word(rt, 0);
-    }
+    reading.take_bare_words(rt, &[0; 10]);
 }
+
+/// After which satellite the almanacs of a lock begin, how many come, and whether the last of them
+/// completes the set.
+static LOCKS: [(u8, u8, bool); 3] = [(0, 31, false), (31, 32, true), (0, 32, true)];
 
 // The almanacs before the first unlock count no more, so the set is whole with that of satellite
 // 31. After the second unlock the same set is reported again.
 #[test]
 fn almanacs_end_with_the_lock(rt: HostRuntime) {
-    let rt = &rt;
     let mut reading = Reading::new();
-    reading.lock(rt);
-    reading.take_almanacs_to(rt, 31);
-    reading.unlock(rt);
-    reading.lock(rt);
-    reading.take_set(rt, 32, None);
-    reading.take_almanacs_to(rt, 30);
-    reading.take_set(rt, 31, Some(ALMANACS));
-    reading.unlock(rt);
-    reading.lock(rt);
-    reading.take_almanacs_to(rt, 31);
-    reading.take_set(rt, 32, Some(ALMANACS));
+    for &(before, count, is_set) in &LOCKS {
+        reading.lock(&rt);
+        reading.take_almanacs(&rt, before, count, is_set);
+        reading.unlock(&rt);
+    }
 }

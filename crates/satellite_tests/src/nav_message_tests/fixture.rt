@@ -4,8 +4,31 @@ ghost use Rattle.std.specs.Prelude.{◌≤◌};
 ghost use Rattle.nav_message.specs.Standing.{bit_count};
 
 use crate::asserted::{assert_same_at, assert_that};
+use crate::sent::subframe;
+use data_sets::{Report, Reports};
+use frame_sync::Found;
 use nav_message::{MOST_BITS, Message, MessageNews};
 use std::process::Abort;
+
+/// So many bits 0 and the words of a subframe, as they are sent, and what the last bit makes
+/// reported: the data of the words, the gap, and what the page brings, but no set of almanacs.
+#[derive(Clone, Copy)]
+pub struct Step {
+    pub name: &'static str,
+    pub zeros: u32,
+    pub sent: [u32; 10],
+    pub words: [Option<u32>; 10],
+    pub gap: Option<u64>,
+    pub page: Option<Report>,
+}
+
+/// Asserts what each of these steps makes reported, after two bits 0.
+pub fn follow(rt: &impl Abort, steps: &[Step]) {
+    let mut pushed = Pushed::behind_two_zeros(rt);
+    for step in steps {
+        pushed.assert_step(rt, step);
+    }
+}
 
 /// A message, and how many prompt sums were pushed.
 #[derive(Drop)]
@@ -56,10 +79,20 @@ impl Pushed {
         }
     }
 
-    /// Pushes words, and asserts what the last of their bits makes reported.
-    pub fn assert_words(&mut self, rt: &impl Abort, words: &[u32; 10], expected: &MessageNews) {
-        let news = self.push_words(rt, words);
-        self.assert_news(rt, &news, expected);
+    /// Pushes the bits of a step, and asserts what the last of them makes reported.
+    pub fn assert_step(&mut self, rt: &impl Abort, step: &Step) {
+        self.push_zeros(rt, step.zeros);
+        let news = self.push_words(rt, &step.sent);
+        let found = Found {
+            subframe: subframe(rt, step.words),
+            gap: step.gap,
+        };
+        let reports = Reports {
+            page: step.page,
+            set: None,
+        };
+        let expected = MessageNews::Frame { found, reports };
+        assert_same_at(rt, (step.name, self.pushes), news, expected);
     }
 
     /// Pushes the bits of words of 30, the highest first. Only the last of them may make something
