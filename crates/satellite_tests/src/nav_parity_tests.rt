@@ -4,23 +4,29 @@ ghost use Rattle.std.specs.Prelude.{◌≡◌, ◌<◌, ◌≤◌, Some, IfSome}
 ghost use Rattle.nav_parity.specs.declared.parity.TheConstants.{WORD_LIMIT, DATA_LIMIT};
 ghost use Rattle.nav_parity.specs.declared.parity.TheConstants.{PRIOR_LIMIT};
 
-use crate::asserted::assert_same;
+use crate::asserted::{assert_same, assert_same_at};
 use crate::sent::{HANDOVER, HANDOVER_DATA, TELEMETRY, TELEMETRY_DATA};
 use nav_parity::{DATA_LIMIT, PRIOR_LIMIT, WORD_LIMIT, check, encode};
+use std::process::Abort;
 
 // The telemetry word comes after 00, and the handover word after 10.
 #[test]
 fn parity_words(rt: HostRuntime) {
     let rt = &rt;
-    assert_same(rt, check(TELEMETRY, 0), Some(TELEMETRY_DATA));
     assert_same(rt, encode(TELEMETRY_DATA, 0), TELEMETRY);
-    assert_same(rt, check(HANDOVER, 2), Some(HANDOVER_DATA));
+    assert_data(rt, TELEMETRY, 0, TELEMETRY_DATA);
+    assert_data(rt, HANDOVER, 2, HANDOVER_DATA);
+    // words of zeros, sent inverted
+    assert_data(rt, 0x3fff_ffd6, 1, 0);
+    assert_data(rt, 0x3fff_ffff, 3, 0);
 }
 
-#[test]
-fn inverted_parity(rt: HostRuntime) {
-    assert_same(&rt, check(0x3fff_ffd6, 1), Some(0));
-    assert_same(&rt, check(0x3fff_ffff, 3), Some(0));
+/// Asserts the data of a word after two bits.
+fn assert_data(rt: &impl Abort, word: u32, prior: u8, expected: u32)
+    requires is_word { word < WORD_LIMIT }
+    requires is_prior { prior < PRIOR_LIMIT }
+{
+    assert_same_at(rt, word, check(word, prior), Some(expected));
 }
 
 #[test]

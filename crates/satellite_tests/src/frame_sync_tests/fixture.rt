@@ -2,16 +2,51 @@
 
 ghost use Rattle.std.specs.Prelude.{◌≤◌};
 
-use crate::asserted::{assert_same, assert_that};
+use crate::asserted::{assert_same, assert_same_at, assert_that};
 use crate::sent::subframe;
 use frame_sync::{Found, FrameSync};
 use std::process::Abort;
 
-/// What has to be found with the bit of a number, from 1: the words, and the gap before them.
-pub type Row = (u64, [Option<u32>; 10], Option<u64>);
+/// What has to be found with the bit of a number, from 1: the words, and the gap before them. Its
+/// name comes first.
+pub type Row = (&'static str, u64, [Option<u32>; 10], Option<u64>);
 
 /// A number that no bit has.
 pub const NEVER: u64 = u64::MAX;
+
+/// Bits as they are sent: two bits 0, words, so many bits 0 and words again. All that is found
+/// among them are the rows.
+#[derive(Clone, Copy)]
+pub struct Case<'a> {
+    pub words: &'a [u32],
+    pub zeros: u32,
+    pub more: &'a [u32],
+    /// From this bit on, from 0, all are inverted.
+    pub tail: u64,
+    pub rows: &'a [Row],
+}
+
+impl Case<'_> {
+    /// No words, and nothing to find.
+    pub const PLAIN: Case<'static> = Case {
+        words: &[],
+        zeros: 0,
+        more: &[],
+        tail: NEVER,
+        rows: &[],
+    };
+}
+
+/// Pushes the bits of a case, and asserts what is found among them.
+pub fn follow(rt: &impl Abort, case: &Case) {
+    let mut pushed = Pushed::new(case.rows, case.tail);
+    pushed.push_bits(rt, 0, 2);
+    pushed.push_words(rt, case.words);
+    assert_that(rt, case.zeros <= 32);
+    pushed.push_bits(rt, 0, case.zeros);
+    pushed.push_words(rt, case.more);
+    pushed.assert_all(rt);
+}
 
 /// Bits that were pushed, and what has to be found among them and those that follow.
 #[derive(Drop)]
@@ -38,10 +73,20 @@ impl<'a> Pushed<'a> {
         assert_that(rt, self.sync.pushed() < 1 << 40);
         let is_inverted = self.tail <= self.sync.pushed();
         if let Some(found) = self.sync.push(bit ^ is_inverted) {
-            let row = self.rows.get(self.found).expect(rt, "nothing more to find");
-            assert_row(rt, self.sync.pushed(), found, row);
-            self.found = self.found.wrapping_add(1);
+            self.assert_next(rt, found);
         }
+    }
+
+    /// Asserts that what was found with the last bit is that of the next row.
+    fn assert_next(&mut self, rt: &impl Abort, found: Found) {
+        let row = self.rows.get(self.found).expect(rt, "nothing more to find");
+        let (name, push, words, gap) = *row;
+        let expected = Found {
+            subframe: subframe(rt, words),
+            gap,
+        };
+        assert_same_at(rt, name, (self.sync.pushed(), found), (push, expected));
+        self.found = self.found.wrapping_add(1);
     }
 
     /// Pushes the low bits of a number, the highest of them first.
@@ -62,25 +107,6 @@ impl<'a> Pushed<'a> {
 
     /// Asserts that all rows were found.
     pub fn assert_all(&self, rt: &impl Abort) {
-        assert_that(rt, self.found == self.rows.len());
+        assert_same(rt, self.found, self.rows.len());
     }
-}
-
-/// Asserts that what was found with the bit of a number is that of a row.
-fn assert_row(rt: &impl Abort, push: u64, found: Found, row: &Row) {
-    let (expected_push, words, gap) = *row;
-    let expected = Found {
-        subframe: subframe(rt, words),
-        gap,
-    };
-    assert_same(rt, (push, found), (expected_push, expected));
-}
-
-/// Asserts that this is all that is found among two bits 0 and these words, of which all bits are
-/// inverted from bit number `tail` on.
-pub fn assert_found(rt: &impl Abort, words: &[u32], tail: u64, rows: &[Row]) {
-    let mut pushed = Pushed::new(rows, tail);
-    pushed.push_bits(rt, 0, 2);
-    pushed.push_words(rt, words);
-    pushed.assert_all(rt);
 }

@@ -81,15 +81,18 @@ impl Mixture {
             _ => self.add_bits(rt, 0, 2),
         }
         let damage = self.damage(kind);
-        let id = if kind == 8 {
-            [0, 6, 7][self.below(3) as usize]
-        } else {
-            id
-        };
+        let id = if kind == 8 { self.false_id() } else { id };
         self.add_subframe(rt, id, damage);
         if kind == 6 {
             self.add_noise(rt, 200);
         }
+    }
+
+    /// An ID that no subframe has.
+    fn false_id(&mut self) -> u32
+        ensures { result < 8 }
+    {
+        [0, 6, 7][self.below(3) as usize]
     }
 
     /// What is done to a subframe of a kind.
@@ -154,12 +157,10 @@ impl Mixture {
     {
         let mut words = [TELEMETRY; 10];
         words[1] = ended(self.below(1 << 17) * 128 + id * 4, 2);
-        let mut last = 0;
-        for word in words[2..9].iter_mut() {
-            *word = encode(self.below(1 << 24), (last % 4) as u8);
-            last = *word;
+        for k in 2..9usize {
+            words[k] = encode(self.below(1 << 24), (words[k - 1] % 4) as u8);
         }
-        words[9] = ended(self.below(1 << 22) * 4, (last % 4) as u8);
+        words[9] = ended(self.below(1 << 22) * 4, (words[8] % 4) as u8);
         words
     }
 }

@@ -21,8 +21,13 @@ fn least_candidates(rt: HostRuntime) {
     let rows = candidates(rt, &bits);
     // As a search in another language, over the same stream, has them.
     assert_same(rt, kinds(rt, &rows), (191, 70, 7));
-    let mut pushed = Pushed::new(&rows, NEVER);
-    for bit in &bits {
+    assert_found(rt, &bits, &rows);
+}
+
+/// Asserts that the rows are all that is found among bits.
+fn assert_found(rt: &impl Abort, bits: &[bool], rows: &[Row]) {
+    let mut pushed = Pushed::new(rows, NEVER);
+    for bit in bits {
         pushed.push(rt, *bit);
     }
     pushed.assert_all(rt);
@@ -36,24 +41,34 @@ fn candidates(rt: &(impl Abort + Alloc<A = Global>), bits: &[bool]) -> Vec<Row>
     let mut from = 0;
     for place in 2..LENGTH - 299 {
         if from <= place && is_candidate(bits, place) {
-            let gap = if rows.is_empty() || place == from {
-                None
-            } else {
-                Some((place - from) as u64)
-            };
-            from = place + 300;
-            let row = (from as u64, words_at(bits, place), gap);
+            let row = row_at(bits, place, from);
             rows.push(row).expect(rt, "no memory");
+            from = place + 300;
         }
     }
     rows
+}
+
+/// The row of a candidate, where the one before it ends before bit `from`. Before the first there
+/// is none, and `from` is 0.
+fn row_at(bits: &[bool], place: usize, from: usize) -> Row
+    requires second { 2 ≤ place }
+    requires later { from ≤ place }
+    requires within { place + 300 ≤ length bits.now }
+{
+    let gap = if from == 0 || place == from {
+        None
+    } else {
+        Some((place - from) as u64)
+    };
+    ("a stream", (place + 300) as u64, words_at(bits, place), gap)
 }
 
 /// How many subframes were found, how many of them are complete, and how many come at once.
 fn kinds(rt: &impl Abort, rows: &[Row]) -> (usize, usize, usize) {
     let mut whole = 0usize;
     let mut at_once = 0usize;
-    for (_, words, gap) in rows {
+    for (_, _, words, gap) in rows {
         whole = whole.wrapping_add(usize::from(subframe(rt, *words).complete()));
         at_once = at_once.wrapping_add(usize::from(gap.is_none()));
     }

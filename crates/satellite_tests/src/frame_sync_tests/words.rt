@@ -1,15 +1,22 @@
 //! The words of a subframe, and those that are none.
 
-use super::{DATA, without_word};
+ghost use Rattle.std.specs.Prelude.{◌<◌};
+
+use super::DATA;
 use crate::asserted::{assert_same, assert_same_at, assert_that};
-use crate::sent::subframe;
+use crate::sent::{FIRST, SECOND, ZERO, subframe};
 use frame_sync::Subframe;
 use std::process::Abort;
+
+/// The data of `WORDS` without word 10.
+const WITHOUT_TEN: [Option<u32>; 10] = [
+    FIRST, SECOND, ZERO, ZERO, ZERO, ZERO, ZERO, ZERO, ZERO, None,
+];
 
 #[test]
 fn words_of_a_subframe(rt: HostRuntime) {
     assert_words(&rt, DATA, true);
-    assert_words(&rt, without_word(9), false);
+    assert_words(&rt, WITHOUT_TEN, false);
 }
 
 static NO_SUBFRAME: [(usize, Option<u32>); 8] = [
@@ -36,8 +43,15 @@ fn assert_words(rt: &impl Abort, words: [Option<u32>; 10], is_complete: bool) {
     let told = (subframe.id(), subframe.tow(), subframe.complete());
     assert_same(rt, told, (1, 1, is_complete));
     for place in 0..10usize {
-        assert_same_at(rt, place, subframe.word(place + 1), words[place]);
+        assert_word(rt, &subframe, place, words[place]);
     }
+}
+
+/// Asserts the data of the word after so many.
+fn assert_word(rt: &impl Abort, subframe: &Subframe, place: usize, expected: Option<u32>)
+    requires { place < 10 }
+{
+    assert_same_at(rt, place, subframe.word(place + 1), expected);
 }
 
 /// Asserts that those of `DATA` with this one at a place are none.
