@@ -28,27 +28,60 @@ enum Issue {
 /// A page, and where it makes a set reported, the issues of the clock page and of the two others.
 type Row = (Issue, Option<[i64; 2]>);
 
-static MATCHING: [Row; 6] = [
-    (Issue::Clock(7), None),
-    (Issue::Eph2(7), None),
-    (Issue::Eph3(8), None),
-    (Issue::Eph2(8), None),
-    (Issue::Clock(8), Some([8, 8])),
-    (Issue::Clock(8), None),
+static COURSES: [&[Row]; 3] = [
+    // Three pages are a set where their issues match.
+    &[
+        (Issue::Clock(7), None),
+        (Issue::Eph2(7), None),
+        (Issue::Eph3(8), None),
+        (Issue::Eph2(8), None),
+        (Issue::Clock(8), Some([8, 8])),
+        (Issue::Clock(8), None),
+    ],
+    // A set is compared with the one reported last, and not with those before: one issue, another
+    // and the first again are three reports.
+    &[
+        (Issue::Clock(7), None),
+        (Issue::Eph2(7), None),
+        (Issue::Eph3(7), Some([7, 7])),
+        (Issue::Eph2(7), None),
+        (Issue::Clock(8), None),
+        (Issue::Eph2(8), None),
+        (Issue::Eph3(8), Some([8, 8])),
+        (Issue::Eph2(8), None),
+        (Issue::Clock(7), None),
+        (Issue::Eph2(7), None),
+        (Issue::Eph3(7), Some([7, 7])),
+        (Issue::Eph2(7), None),
+    ],
+    // The clock's issue has ten bits, of which the low eight decide: 263 is 256 + 7. The high two
+    // are numbers of the set like others.
+    &[
+        (Issue::Eph3(7), None),
+        (Issue::Eph2(7), None),
+        (Issue::Clock(263), Some([263, 7])),
+        (Issue::Clock(7), Some([7, 7])),
+        (Issue::Clock(775), Some([775, 7])),
+        (Issue::Clock(776), None),
+        (Issue::Clock(775), None),
+    ],
 ];
 
 #[test]
-fn matching_issues(rt: HostRuntime) {
-    assert_issues(&rt, &mut DataSets::new(), &MATCHING);
+fn issues_decide(rt: HostRuntime) {
+    for rows in &COURSES {
+        assert_issues(&rt, &mut DataSets::new(), rows);
+    }
 }
 
-/// The first two pages of a set, and twice the third.
-static IN_ORDER: [Row; 4] = [
-    (Issue::Clock(7), None),
-    (Issue::Eph2(7), None),
-    (Issue::Eph3(7), Some([7, 7])),
-    (Issue::Eph3(7), None),
-];
+/// The first two pages of a set.
+static FIRST_TWO: [Row; 2] = [(Issue::Clock(7), None), (Issue::Eph2(7), None)];
+
+/// The third of them.
+static THIRD: [Row; 1] = [(Issue::Eph3(7), Some([7, 7]))];
+
+/// The third of them again.
+static AGAIN: [Row; 1] = [(Issue::Eph3(7), None)];
 
 // The subframe 3 whose word 5 is missing makes no page, so that there is nothing to take.
 #[test]
@@ -61,7 +94,7 @@ fn incomplete_page(rt: HostRuntime) {
     let last = Some(0x07_0000);
     let page = page(rt, 0x8c, [zero, zero, zero, zero, zero, zero, zero, last]);
     let mut sets = DataSets::new();
-    assert_issues(rt, &mut sets, &IN_ORDER[..2]);
+    assert_issues(rt, &mut sets, &FIRST_TWO);
     assert_report(rt, &mut sets, &page, set_of(Some([7, 7])));
     assert_report(rt, &mut sets, &page, None);
 }
@@ -76,65 +109,40 @@ fn zero_subframes(rt: HostRuntime) {
     }
 }
 
-static RETURNING: [Row; 12] = [
-    (Issue::Clock(7), None),
-    (Issue::Eph2(7), None),
-    (Issue::Eph3(7), Some([7, 7])),
-    (Issue::Eph2(7), None),
-    (Issue::Clock(8), None),
-    (Issue::Eph2(8), None),
-    (Issue::Eph3(8), Some([8, 8])),
-    (Issue::Eph2(8), None),
-    (Issue::Clock(7), None),
-    (Issue::Eph2(7), None),
-    (Issue::Eph3(7), Some([7, 7])),
-    (Issue::Eph2(7), None),
-];
-
-// A set is compared with the one reported last, and not with those before: one issue, another and
-// the first again are three reports.
-#[test]
-fn returning_issue(rt: HostRuntime) {
-    assert_issues(&rt, &mut DataSets::new(), &RETURNING);
-}
-
 // The numbers of an issue that change, its own number apart, make a new set with the one page that
 // brings them.
 #[test]
 fn changed_values(rt: HostRuntime) {
     let rt = &rt;
     let mut sets = DataSets::new();
-    assert_issues(rt, &mut sets, &IN_ORDER[..3]);
-    for crs in [1, -1, 0] {
-        let changed = Page::Eph2([7, crs, 0, 0, 0, 0, 0, 0, 0, 0, 0]);
-        let mut numbers = set_numbers(7, 7);
-        numbers[IODE + 1] = crs;
-        assert_report(rt, &mut sets, &changed, Some(Report::Eph(numbers)));
-        assert_report(rt, &mut sets, &changed, None);
-    }
+    assert_issues(rt, &mut sets, &FIRST_TWO);
+    assert_issues(rt, &mut sets, &THIRD);
+    assert_changed(rt, &mut sets, 1);
+    assert_changed(rt, &mut sets, -1);
+    assert_changed(rt, &mut sets, 0);
 }
 
-static LOW_BITS: [Row; 7] = [
-    (Issue::Eph3(7), None),
-    (Issue::Eph2(7), None),
-    (Issue::Clock(263), Some([263, 7])),
-    (Issue::Clock(7), Some([7, 7])),
-    (Issue::Clock(775), Some([775, 7])),
-    (Issue::Clock(776), None),
-    (Issue::Clock(775), None),
-];
-
-// The clock's issue has ten bits, of which the low eight decide: 263 is 256 + 7. The high two are
-// numbers of the set like others.
-#[test]
-fn low_bits_of_the_issue(rt: HostRuntime) {
-    assert_issues(&rt, &mut DataSets::new(), &LOW_BITS);
+/// Asserts that the page of subframe 2 with this crs makes a set reported, and not again.
+fn assert_changed(rt: &impl Abort, sets: &mut DataSets, crs: i64) {
+    let changed = Page::Eph2([7, crs, 0, 0, 0, 0, 0, 0, 0, 0, 0]);
+    let mut numbers = set_numbers(7, 7);
+    numbers[IODE + 1] = crs;
+    assert_report(rt, sets, &changed, Some(Report::Eph(numbers)));
+    assert_report(rt, sets, &changed, None);
 }
 
-/// Three pages, the first of all, and whether they are a set.
+/// Three pages, the first of all, and whether they are a set: then the third alone makes something
+/// reported, and else none does.
 type Three = (Issue, Issue, Issue, bool);
 
-static BELOW_ZERO: [Three; 4] = [
+static THREES: [Three; 8] = [
+    // Neither of two issues decides alone: the third page has to be of the same.
+    (Issue::Eph3(7), Issue::Clock(7), Issue::Eph2(7), true),
+    (Issue::Eph3(7), Issue::Clock(8), Issue::Eph2(7), false),
+    (Issue::Eph3(7), Issue::Clock(7), Issue::Eph2(8), false),
+    (Issue::Eph3(8), Issue::Clock(7), Issue::Eph2(7), false),
+    // No subframe holds an issue below zero, but a page made by hand may. -249 is 7 less 256, so
+    // its low eight bits are 7; and of pages that hold 0, -5 and 0 the second is of another issue.
     (Issue::Clock(-249), Issue::Eph2(7), Issue::Eph3(7), true),
     (Issue::Clock(0), Issue::Eph2(-5), Issue::Eph3(0), false),
     (Issue::Clock(-1), Issue::Eph2(0), Issue::Eph3(0), false),
@@ -146,24 +154,12 @@ static BELOW_ZERO: [Three; 4] = [
     ),
 ];
 
-// No subframe holds an issue below zero, but a page made by hand may. -249 is 7 less 256, so its
-// low eight bits are 7; and of pages that hold 0, -5 and 0 the second is of another issue.
 #[test]
-fn issues_below_zero(rt: HostRuntime) {
-    assert_third(&rt, &BELOW_ZERO);
-}
-
-static TWO_OF_THREE: [Three; 4] = [
-    (Issue::Eph3(7), Issue::Clock(7), Issue::Eph2(7), true),
-    (Issue::Eph3(7), Issue::Clock(8), Issue::Eph2(7), false),
-    (Issue::Eph3(7), Issue::Clock(7), Issue::Eph2(8), false),
-    (Issue::Eph3(8), Issue::Clock(7), Issue::Eph2(7), false),
-];
-
-// Neither of two issues decides alone: the third page has to be of the same.
-#[test]
-fn two_of_three(rt: HostRuntime) {
-    assert_third(&rt, &TWO_OF_THREE);
+fn three_pages(rt: HostRuntime) {
+    for (first, second, third, is_set) in &THREES {
+        let found = are_reported(first, second, third);
+        assert_same(&rt, found, [false, false, *is_set]);
+    }
 }
 
 const ALMANAC: [i64; 13] = [1, 5, 0, 7, -1, 0, 63, 0, 0, 0, -8_388_608, 0, 1];
@@ -189,12 +185,17 @@ static OTHERS: [(Page, Report); 4] = [
 fn other_pages_each_time(rt: HostRuntime) {
     let rt = &rt;
     let mut sets = DataSets::new();
-    assert_issues(rt, &mut sets, &IN_ORDER[..2]);
+    assert_issues(rt, &mut sets, &FIRST_TWO);
     assert_reports(rt, &mut sets, &OTHERS);
     assert_reports(rt, &mut sets, &OTHERS);
-    assert_issues(rt, &mut sets, &IN_ORDER[2..3]);
-    assert_reports(rt, &mut sets, &OTHERS[..1]);
-    assert_issues(rt, &mut sets, &IN_ORDER[3..]);
+    assert_issues(rt, &mut sets, &THIRD);
+    assert_report(
+        rt,
+        &mut sets,
+        &Page::Almanac(ALMANAC),
+        Some(Report::Alm(ALMANAC)),
+    );
+    assert_issues(rt, &mut sets, &AGAIN);
 }
 
 /// Asserts what each of these pages, one after another, makes reported.
@@ -214,15 +215,6 @@ fn assert_reports(rt: &impl Abort, sets: &mut DataSets, rows: &[(Page, Report)])
 /// Asserts what a page makes reported.
 fn assert_report(rt: &impl Abort, sets: &mut DataSets, page: &Page, expected: Option<Report>) {
     assert_same_at(rt, page, sets.take(page).page, expected);
-}
-
-/// Asserts which of three pages, the first of all, make something reported: the third alone, where
-/// they are a set.
-fn assert_third(rt: &impl Abort, rows: &[Three]) {
-    for (first, second, third, is_set) in rows {
-        let found = are_reported(first, second, third);
-        assert_same(rt, found, [false, false, *is_set]);
-    }
 }
 
 /// Whether each of three pages, the first of all, makes something reported.

@@ -1,52 +1,72 @@
 //! Sets of almanacs. What is expected was worked out by hand from the rules.
 
-use crate::asserted::assert_same_at;
+use crate::asserted::{assert_same_at, assert_that};
 use data_sets::{AlmanacSet, DataSets, Report, Reports};
 use std::process::Abort;
 use subframes::Page;
 
-// The row of the specification: each almanac is reported, the last of 32 makes the set, another
-// time of applicability takes it away, the same set isn't reported again, and a changed health is.
-#[test]
-fn almanac_set(rt: HostRuntime) {
-    let rt = &rt;
-    let mut sets = sets_of_32(rt);
-    assert_told(rt, &mut sets, [3, 6, 0], None);
-    assert_told(rt, &mut sets, [3, 5, 0], None);
-    let mut health = [0; 32];
-    health[2] = 1;
-    assert_told(rt, &mut sets, [3, 5, 1], Some(health));
-}
+/// The almanacs of satellites from the first of these to the last, with a time of applicability and
+/// a health, whose other numbers are 0. The last of them makes a set of that time, or none does.
+/// The healths of the set are 0, but that at a place, from 0, is given.
+type Step = ([i64; 2], i64, i64, Option<(usize, i64)>);
 
-// Whichever almanac is missing, the others make no set, however often they come.
+const FIRST_31: Step = ([1, 31], 5, 0, None);
+
+const LAST: Step = ([32, 32], 5, 0, Some((31, 0)));
+
+static COURSES: [&[Step]; 3] = [
+    // The row of the specification: each almanac is reported, the last of 32 makes the set, another
+    // time of applicability takes it away, the same set isn't reported again, and a changed health
+    // is.
+    &[
+        FIRST_31,
+        LAST,
+        ([3, 3], 6, 0, None),
+        ([3, 3], 5, 0, None),
+        ([3, 3], 5, 1, Some((2, 1))),
+    ],
+    // All almanacs for another time are another set, which comes with the last of them.
+    &[
+        FIRST_31,
+        LAST,
+        ([1, 31], 6, 0, None),
+        ([32, 32], 6, 0, Some((31, 0))),
+    ],
+    // An almanac of no satellite from 1 to 32, which no subframe holds, is reported and changes
+    // nothing.
+    &[
+        FIRST_31,
+        ([-1, 0], 5, 1, None),
+        ([33, 33], 5, 1, None),
+        ([64, 64], 5, 1, None),
+        ([i64::MIN, i64::MIN], 5, 1, None),
+        ([i64::MAX, i64::MAX], 5, 1, None),
+        LAST,
+        ([-1, 0], 6, 1, None),
+        ([33, 33], 6, 1, None),
+        ([64, 64], 6, 1, None),
+        ([i64::MIN, i64::MIN], 6, 1, None),
+        ([i64::MAX, i64::MAX], 6, 1, None),
+        ([32, 32], 5, 0, None),
+    ],
+];
+
 #[test]
-fn one_missing(rt: HostRuntime) {
-    for missing in 1..=32i64 {
-        let mut sets = DataSets::new();
-        for sv in 1..=64i64 {
-            assert_not_last(&rt, &mut sets, sv % 32 + 1, missing);
-        }
-        assert_told(&rt, &mut sets, [missing, 5, 0], Some([0; 32]));
+fn almanac_sets(rt: HostRuntime) {
+    for steps in &COURSES {
+        follow(&rt, &mut DataSets::new(), steps);
     }
 }
 
-/// Asserts that an almanac makes no set, but for the missing one, which isn't taken.
-fn assert_not_last(rt: &impl Abort, sets: &mut DataSets, sv: i64, missing: i64) {
-    if sv != missing {
-        assert_told(rt, sets, [sv, 5, 0], None);
-    }
-}
-
-// All almanacs for another time are another set, which comes with the last of them.
-#[test]
-fn next_time(rt: HostRuntime) {
-    let rt = &rt;
-    let mut sets = sets_of_32(rt);
-    for sv in 1..=31i64 {
-        assert_told(rt, &mut sets, [sv, 6, 0], None);
-    }
-    assert_told(rt, &mut sets, [32, 6, 0], Some([0; 32]));
-}
+/// The set again and again, with one health that changes and changes back.
+static CHANGING: [Step; 6] = [
+    FIRST_31,
+    LAST,
+    ([32, 32], 5, 63, Some((31, 63))),
+    ([32, 32], 5, 63, None),
+    ([32, 32], 5, 0, Some((31, 0))),
+    ([32, 32], 5, 0, None),
+];
 
 static DRIFTING: Page = Page::Almanac([1, 7, 0, 5, 0, 0, 0, 0, 0, 0, 0, 0, -1]);
 
@@ -60,34 +80,53 @@ const WELL: AlmanacSet = AlmanacSet {
 #[test]
 fn changes_and_back(rt: HostRuntime) {
     let rt = &rt;
-    let mut sets = sets_of_32(rt);
-    let mut health = [0; 32];
-    for sick in [63, 0] {
-        health[31] = sick;
-        assert_told(rt, &mut sets, [32, 5, sick], Some(health));
-        assert_told(rt, &mut sets, [32, 5, sick], None);
-    }
+    let mut sets = DataSets::new();
+    follow(rt, &mut sets, &CHANGING);
     assert_set(rt, &mut sets, &DRIFTING, Some(WELL));
 }
 
-// An almanac of no satellite from 1 to 32, which no subframe holds, is reported and changes
-// nothing.
-#[test]
-fn no_satellite(rt: HostRuntime) {
-    let rt = &rt;
-    let mut sets = sets_but_32(rt);
-    assert_ignored(rt, &mut sets, 5);
-    assert_told(rt, &mut sets, [32, 5, 0], Some([0; 32]));
-    assert_ignored(rt, &mut sets, 6);
-    assert_told(rt, &mut sets, [32, 5, 0], None);
+/// Asserts what the almanacs of each step make reported.
+fn follow(rt: &impl Abort, sets: &mut DataSets, steps: &[Step]) {
+    for step in steps {
+        assert_step(rt, sets, step);
+    }
 }
 
-static NO_SATELLITES: [i64; 6] = [0, 33, -1, 64, i64::MIN, i64::MAX];
+/// Asserts what the almanacs of a step make reported.
+fn assert_step(rt: &impl Abort, sets: &mut DataSets, step: &Step) {
+    let ([first, last], toa, health, sick) = *step;
+    let set = set_of(rt, toa, sick);
+    for sv in first..=last {
+        let told = if sv == last { set } else { None };
+        assert_told(rt, sets, [sv, toa, health], told);
+    }
+}
 
-/// Asserts that almanacs of no satellites for a time, with health 1, make no set.
-fn assert_ignored(rt: &impl Abort, sets: &mut DataSets, toa: i64) {
-    for sv in &NO_SATELLITES {
-        assert_told(rt, sets, [*sv, toa, 1], None);
+/// The set of a time whose healths are 0, but for the one at this place.
+fn set_of(rt: &impl Abort, toa: i64, sick: Option<(usize, i64)>) -> Option<AlmanacSet> {
+    let (place, value) = sick?;
+    assert_that(rt, place < 32);
+    let mut health = [0; 32];
+    health[place] = value;
+    Some(AlmanacSet { toa, health })
+}
+
+// Whichever almanac is missing, the others make no set, however often they come.
+#[test]
+fn one_missing(rt: HostRuntime) {
+    for missing in 1..=32i64 {
+        let mut sets = DataSets::new();
+        for sv in 1..=64i64 {
+            assert_not_last(&rt, &mut sets, sv % 32 + 1, missing);
+        }
+        assert_told(&rt, &mut sets, [missing, 5, 0], Some(WELL));
+    }
+}
+
+/// Asserts that an almanac makes no set, but for the missing one, which isn't taken.
+fn assert_not_last(rt: &impl Abort, sets: &mut DataSets, sv: i64, missing: i64) {
+    if sv != missing {
+        assert_told(rt, sets, [sv, 5, 0], None);
     }
 }
 
@@ -101,50 +140,25 @@ fn between_other_pages(rt: HostRuntime) {
         assert_set(rt, &mut sets, &Page::Utc([sv; 18]), None);
         assert_set(rt, &mut sets, &Page::Clock([sv; 11]), None);
     }
-    assert_told(rt, &mut sets, [32, 5, 0], Some([0; 32]));
+    assert_told(rt, &mut sets, [32, 5, 0], Some(WELL));
     assert_set(rt, &mut sets, &Page::Health([1; 28]), None);
 }
 
 /// Asserts that the almanac of a satellite with a time of applicability and a health, whose other
-/// numbers are 0, is reported, and makes a set of these healths.
+/// numbers are 0, is reported, and makes this set.
 fn assert_told(
     rt: &impl Abort,
     sets: &mut DataSets,
-    almanac: [i64; 3],
-    healths: Option<[i64; 32]>,
+    [sv, toa, health]: [i64; 3],
+    set: Option<AlmanacSet>,
 ) {
-    let [sv, toa, health] = almanac;
     let numbers = [0, sv, 0, toa, 0, 0, health, 0, 0, 0, 0, 0, 0];
-    let told = Reports {
-        page: Some(Report::Alm(numbers)),
-        set: set_of(toa, healths),
-    };
-    assert_same_at(rt, almanac, sets.take(&Page::Almanac(numbers)), told);
-}
-
-fn set_of(toa: i64, healths: Option<[i64; 32]>) -> Option<AlmanacSet> {
-    let health = healths?;
-    Some(AlmanacSet { toa, health })
+    let page = Some(Report::Alm(numbers));
+    let found = sets.take(&Page::Almanac(numbers));
+    assert_same_at(rt, (sv, toa, health), found, Reports { page, set });
 }
 
 /// Asserts which set of almanacs a page brings.
 fn assert_set(rt: &impl Abort, sets: &mut DataSets, page: &Page, expected: Option<AlmanacSet>) {
     assert_same_at(rt, page, sets.take(page).set, expected);
-}
-
-/// What almanacs of satellites 1 to 31 leave, for time of applicability 5, all other numbers 0.
-/// None of them makes a set.
-fn sets_but_32(rt: &impl Abort) -> DataSets {
-    let mut sets = DataSets::new();
-    for sv in 1..=31i64 {
-        assert_told(rt, &mut sets, [sv, 5, 0], None);
-    }
-    sets
-}
-
-/// What these almanacs and that of satellite 32 leave, which makes a set.
-fn sets_of_32(rt: &impl Abort) -> DataSets {
-    let mut sets = sets_but_32(rt);
-    assert_told(rt, &mut sets, [32, 5, 0], Some([0; 32]));
-    sets
 }
