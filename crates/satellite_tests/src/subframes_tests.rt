@@ -25,6 +25,9 @@ const WORDS: [u32; 8] = [0x45_0000, 0x07_0000, 0, 0, 0, 0, 0, 0x80_0004];
 /// Its numbers, in the order of the table.
 const VALUES: [i64; 13] = [1, 5, 0, 7, 0, 0, 0, 0, 0, 0, 0, -1_023, 0];
 
+/// Its page.
+const PAGE: Page = Page::Almanac(VALUES);
+
 const EPHEMERIS: [u32; 8] = [0, 0x80, 0, 0xff, 0xff_ffff, 0, 0, 0];
 
 /// The words of subframes from word 2 on, and what they have at a field.
@@ -125,7 +128,7 @@ fn assert_kind(rt: &impl Abort, handover: u32, begun: u32, expected: Option<Kind
 #[test]
 fn values_in_table_order(rt: HostRuntime) {
     let page = Page::read(&subframe(&rt, 0x94, WORDS));
-    assert_same(&rt, page, Some(Page::Almanac(VALUES)));
+    assert_same(&rt, page, Some(PAGE));
 }
 
 static BY_NAME: [(Field, Option<i64>); 9] = [
@@ -144,7 +147,7 @@ static BY_NAME: [(Field, Option<i64>); 9] = [
 #[test]
 fn values_by_name(rt: HostRuntime) {
     let rt = &rt;
-    let page = Page::read(&subframe(rt, 0x94, WORDS)).expect(rt, "a page");
+    let page = PAGE;
     for (field, expected) in &BY_NAME {
         assert_value(rt, &page, *field, *expected);
     }

@@ -8,7 +8,7 @@ use super::{new_window, open_to};
 use crate::asserted::{assert_same, assert_same_at, assert_that};
 use channels::Window;
 use made_signals::RECORDING;
-use sample_planes::{Format, SampleSource};
+use sample_planes::{Format, MAX_SAMPLES, SampleSource};
 use std::process::Abort;
 
 /// Asserts how many samples there were, and that so many more can be open and not one beside them.
@@ -23,28 +23,37 @@ fn assert_room(rt: &impl Abort, window: &Window, end: u64, room: usize)
     assert_same(rt, found, (end, true, false));
 }
 
+/// Whether the window is closed, up to which sample it is opened then, and for how many more there
+/// is room.
+static ROOMS: [(bool, u64, usize); 7] = [
+    (false, 1_000, 24),
+    (false, 1_023, 1),
+    (false, 1_024, 0),
+    (true, 1_024, 1_024),
+    (true, 1_025, 1_023),
+    (true, 1_025, 1_024),
+    (false, 2_049, 0),
+];
+
 // At most 1,024 samples are open, a full window has room for an empty run alone, and a window that
 // is closed for as many again.
 #[test]
 fn a_window_has_room_for_1_024_samples(rt: HostRuntime) {
-    let rt = &rt;
-    let mut window = new_window(rt, Format::Real1);
-    assert_room(rt, &window, 0, 1_024);
-    open_to(rt, &mut window, &RECORDING, 1_000);
-    assert_room(rt, &window, 1_000, 24);
-    open_to(rt, &mut window, &RECORDING, 1_023);
-    assert_room(rt, &window, 1_023, 1);
-    open_to(rt, &mut window, &RECORDING, 1_024);
-    assert_room(rt, &window, 1_024, 0);
-    window.close();
-    assert_room(rt, &window, 1_024, 1_024);
-    window.close();
-    open_to(rt, &mut window, &RECORDING, 1_025);
-    assert_room(rt, &window, 1_025, 1_023);
-    window.close();
-    assert_room(rt, &window, 1_025, 1_024);
-    open_to(rt, &mut window, &RECORDING, 2_049);
-    assert_room(rt, &window, 2_049, 0);
+    let mut window = new_window(&rt, Format::Real1);
+    assert_room(&rt, &window, 0, 1_024);
+    for &(is_closed, end, room) in &ROOMS {
+        assert_opened(&rt, &mut window, is_closed, end, room);
+    }
+}
+
+/// Opens a window up to a sample, where it says so after it is closed, and asserts its room.
+fn assert_opened(rt: &impl Abort, window: &mut Window, is_closed: bool, end: u64, room: usize) {
+    if is_closed {
+        window.close();
+    }
+    open_to(rt, window, &RECORDING, end);
+    assert_that(rt, room <= MAX_SAMPLES);
+    assert_room(rt, window, end, room);
 }
 
 // The history of a window holds all its samples while it has room, and those that are open always.
