@@ -3,7 +3,6 @@
 
 use crate::sent::{FIFTH_HANDOVER, FIRST, HANDOVER, SECOND, TELEMETRY, ZERO};
 use data_sets::Report;
-use std::process::Abort;
 
 mod almanacs;
 mod damage;

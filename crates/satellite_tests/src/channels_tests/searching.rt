@@ -85,7 +85,7 @@ fn one_cell_with_four_samples(rt: HostRuntime) {
     }
     assert_same(rt, search.take(10_240, &source, &mut book), Some(named(rt)));
     assert_found(rt, &search.follow(&named(rt)).expect(rt, "no signal"));
-    search.into_room();
+    let _ = search.into_room();
 }
 
 // No cell has more power than another where the samples are all alike, so that the mean is what
