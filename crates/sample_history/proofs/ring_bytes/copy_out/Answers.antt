@@ -1,5 +1,5 @@
-use Rattle.std.proofs.Common.{◌≡◌, ℕ, ◌+◌, ◌-◌, ◌≤◌, ◌<◌, List, ◌++◌, length, take, drop, slice_range}
-use Rattle.std.proofs.Common.{sym, ap, ◌∙◌, arith, take_all}
+use Rattle.std.proofs.Common.{◌≡◌, ℕ, ◌+◌, ◌-◌, ◌≤◌, ◌<◌, List, ◌++◌, length, take, drop}
+use Rattle.std.proofs.Common.{slice_range, sym, ap, ◌∙◌, arith, take_all}
 use Rattle.std.proofs.lemmas.List.{take-append-le, drop-append-le, length-drop}
 use Rattle.std.proofs.Math.Seq.{drop-append-add, take-append-add}
 use Rattle.sample_history.proofs.ring_bytes.copy_out.Goals as goal
@@ -40,8 +40,8 @@ across front back at more begins =
 
 pub returns-then-at-len : goal.returns-then-at-len
 returns-then-at-len c =
-    c.copy_from_slice.ensures.after ∙ sym (in-front c.as_slices.result.0.now c.as_slices.result.1.now
-    c.args.at (length c.args.to.now) c.if-at-len.true)
+    c.copy_from_slice.ensures.after ∙ sym (in-front c.as_slices.result.0.now
+    c.as_slices.result.1.now c.args.at (length c.args.to.now) c.if-at-len.true)
     ∙ ap (λ (xs : List ℕ). slice_range xs c.args.at (c.args.at + length c.args.to.now))
     c.as_slices.ensures
 
