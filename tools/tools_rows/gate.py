@@ -9,14 +9,15 @@ from processor_shares import Shares, shares_since
 
 from .commands import TOP, Outcome, contents, copied, run, write
 
-# A part: it notes that it begins, by which Python, how many jobs `rt` would take, and that it has
-# ended, waits in between until all have begun that a file names, and has the status that another
-# says.
+# A part: it notes that it begins, by which Python, how many modules are compiled for that, how many
+# jobs `rt` would take, and that it has ended, waits in between until all have begun that a file
+# names, and has the status that another says.
 PART = '''#!/bin/bash
 here="$(dirname "$0")"
 name="${0##*/}"
 echo "$name $*" >> "$here/../began"
 echo "$name $(readlink "$(command -v python3)")" >> "$here/../pythons"
+echo "$name $(find "$PYTHONPYCACHEPREFIX" -name '*.pyc' 2> /dev/null | wc -l)" >> "$here/../modules"
 echo "$name ${RT_JOBS-}" >> "$here/../jobs"
 for ((at = 0; at < 20000; at++)); do
     [[ -s "$here/$name.waits" ]] || break
@@ -86,12 +87,13 @@ def passes(rows: Any, folder: str) -> None:
     began = gate.lines('began')
     rows.say('tools/gate', faults + ['it installs'] * (SETUP in began))
     said = re.findall(r'^== tools/(.*)\nwords of (.*)$', outcome.said, re.M)
-    pythons = {it.split()[1] for it in gate.lines('pythons')
-               if it.split()[0] not in ('gate-times', 'build')}
+    pythons, modules = ({it.split()[1] for it in gate.lines(name)
+                         if it.split()[0] not in ('gate-times', 'build')}
+                        for name in ('pythons', 'modules'))
     rows.say('tools/gate, the Python of the parts',
              [] if len(pythons) == 1 and os.access(min(pythons), os.X_OK) else [str(pythons)])
-    compiled = [it for it in contents(gate.at('python')) if it.endswith('.pyc')]
-    rows.say("tools/gate, the companion's modules", [f'{compiled}'] * (len(compiled) != 1))
+    left = [it for it in contents(gate.top) if it.endswith('.pyc')]
+    rows.say("tools/gate, the companion's modules", [f'{modules}'] * (modules != {'1'}) + left)
     jobs = [it for it in gate.lines('jobs') if re.search(r' \d', it)]
     rows.say('tools/gate, the jobs of its rt ci',
              [] if len(jobs) == 1 and re.match(r'gate-times [1-9]', jobs[0]) else [str(jobs)])

@@ -291,13 +291,16 @@ def texts(rows, folder):
     with lanes alone have such texts."""
     top = copied(folder, 'tools', 'crates', 'crates.txt', 'LICENSE-MIT', 'LICENSE-APACHE')
     plain = os.path.join(top, 'tools', 'plain')
-    texts_of = {crate: '\n'.join(it.values()) for crate, it in read_sources().items()}
-    for name in 'all', 'lanes':
+    path = os.path.join(top, 'crates.txt')
+    with open(path, encoding='utf-8') as file:
+        every = file.read()
+    lanes = ''.join(f'{crate}:\n' for crate, texts_of in read_sources().items()
+                    if any('std::simd' in it for it in texts_of.values()))
+    for name, named in ('all', every), ('lanes', lanes):
+        write(path, named)
         outcome = run([plain, os.path.join(folder, name)], folder)
         rows.say(f'tools/plain, the sources as they are, {name}',
                  [str(outcome)[-300:]] * (outcome.status != 0 or bool(outcome.errors)))
-        write(os.path.join(top, 'crates.txt'),
-              ''.join(f'{it}:\n' for it, text in texts_of.items() if 'std::simd' in text))
     crates = os.path.join(top, 'crates')
     sources = [os.path.join(at, it) for at, _, files in os.walk(crates) for it in files
                if it.endswith('.rt')]

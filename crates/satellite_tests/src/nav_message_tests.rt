@@ -10,6 +10,12 @@ mod fixture;
 
 use fixture::{Pushed, Step, follow};
 
+/// The data of the handover word of subframe 2, at the time count 1, where it passes.
+const OF_TWO: Option<u32> = Some(0x8a);
+
+/// Those of subframe 3.
+const OF_THREE: Option<u32> = Some(0x8f);
+
 /// Subframe 1 of zeros, which waits for the two others of its set.
 const ONE: Step = Step {
     name: "subframe 1",
@@ -27,16 +33,7 @@ const TWO: Step = Step {
     name: "subframe 2",
     sent: [TELEMETRY, 0x22bc, 0, 0, 0, 0, 0, 0, 0, 0],
     words: [
-        FIRST,
-        Some(0x8a),
-        ZERO,
-        ZERO,
-        ZERO,
-        ZERO,
-        ZERO,
-        ZERO,
-        ZERO,
-        ZERO,
+        FIRST, OF_TWO, ZERO, ZERO, ZERO, ZERO, ZERO, ZERO, ZERO, ZERO,
     ],
     ..ONE
 };
@@ -46,16 +43,7 @@ const THREE: Step = Step {
     name: "subframe 3",
     sent: [TELEMETRY, 0x23e4, 0, 0, 0, 0, 0, 0, 0, 0],
     words: [
-        FIRST,
-        Some(0x8f),
-        ZERO,
-        ZERO,
-        ZERO,
-        ZERO,
-        ZERO,
-        ZERO,
-        ZERO,
-        ZERO,
+        FIRST, OF_THREE, ZERO, ZERO, ZERO, ZERO, ZERO, ZERO, ZERO, ZERO,
     ],
     ..ONE
 };

@@ -46,7 +46,7 @@ fn a_window_has_room_for_1_024_samples(rt: HostRuntime) {
     }
 }
 
-/// Opens a window up to a sample, where it says so after it is closed, and asserts its room.
+/// Closes a window, where that is asked for, opens it up to a sample, and asserts its room.
 fn assert_opened(rt: &impl Abort, window: &mut Window, is_closed: bool, end: u64, room: usize) {
     if is_closed {
         window.close();

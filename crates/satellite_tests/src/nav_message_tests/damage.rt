@@ -2,7 +2,7 @@
 //! equations (IS-GPS-200, section 20.3.5).
 
 use super::fixture::{Pushed, Step, follow};
-use super::{ONE, THREE, THREE_WITH_SET, TWO};
+use super::{OF_THREE, ONE, THREE, THREE_WITH_SET, TWO};
 use crate::sent::{FIRST, HANDOVER, SECOND, TELEMETRY, ZERO};
 use std::process::Abort;
 
@@ -19,16 +19,7 @@ static DAMAGED: [&[Step]; 4] = [
             name: "a damaged bit",
             sent: [TELEMETRY, 0x23e4, 0, 0, 0, 0, 1 << 20, 0, 0, 0],
             words: [
-                FIRST,
-                Some(0x8f),
-                ZERO,
-                ZERO,
-                ZERO,
-                ZERO,
-                None,
-                ZERO,
-                ZERO,
-                ZERO,
+                FIRST, OF_THREE, ZERO, ZERO, ZERO, ZERO, None, ZERO, ZERO, ZERO,
             ],
             ..THREE
         },
