@@ -1,0 +1,150 @@
+"""Figures of the pages that a program can compare without a build: revisions with those that git
+has, and numbers of edits, rows, tests, packages and the like with a count of them in the sources.
+Those that only a long run gives, as times and most numbers of lines, aren't looked at."""
+from __future__ import annotations
+
+import glob
+import os
+import re
+import subprocess
+import sys
+from typing import Callable, Iterator, NamedTuple, Optional
+
+sys.path.insert(0, os.path.dirname(os.path.realpath(__file__)))
+from pack_pieces import choices
+from pack_reference import kind_of
+from pack_rows import by_hand
+from page_text import CHOSEN
+
+# The pages that may name revisions.
+PAGES = ('*.md', 'docs/*.md', 'docs/*.1', 'python/README.md', 'examples/*/README.md')
+REVISION = re.compile(r'\brevisions?\s+`?([0-9a-f]{7,40})\b')
+NUMBERS = 'no one two three four five six seven eight nine ten eleven twelve'.split()
+
+# Definitions and their rows are no packages. `arrayvec` and `thiserror` may be those of crates.io.
+PROVED_ALONE = 2
+OF_CRATES_IO = 2
+
+
+class Figure(NamedTuple):
+    """A figure: the page, a pattern whose group is the number, and what counts it below a path."""
+
+    page: str
+    pattern: str
+    counted: Callable[[str], int]
+
+
+def text_of(*parts: str) -> str:
+    """The text of a file."""
+    with open(os.path.join(*parts), encoding='utf-8') as file:
+        return file.read()
+
+
+def files(*patterns: str) -> Callable[[str], int]:
+    """What counts the files of some patterns."""
+    return lambda top: sum(len(glob.glob(os.path.join(top, it))) for it in patterns)
+
+
+def matches(top: str, pattern: str, paths: str) -> list[str]:
+    """What matches a pattern in the files of another."""
+    texts = map(text_of, glob.glob(os.path.join(top, paths)))
+    return [it for text in texts for it in re.findall(pattern, text, re.M)]
+
+
+def packages(top: str) -> int:
+    """The packages that `tools/plain` writes: those of crates, and those of the kit beside them."""
+    crates = matches(top, r'^\w+:', 'crates.txt')
+    return len(crates) - PROVED_ALONE + files('tools/kit/*/Cargo.toml')(top)
+
+
+def runs_of_examples(top: str) -> int:
+    """The runs of `tools/examples-check`: one for each script, and those that it names."""
+    named = matches(top, '^(?:judge|refused) ', 'tools/examples-check')
+    return files('examples/*.script')(top) + len(named)
+
+
+def recordings_in_pieces(_: str) -> int:
+    """Those that `tools/pack-check` gives so: a long one of each kind, pairs in `iq1` by five sizes
+    too, and two more."""
+    asked = list(choices())
+    paired = [it for it in asked if kind_of(it)[1] and it['to'] == 'iq1']
+    return len(asked) + 5 * len(paired) + 2
+
+
+def compared(place: int) -> Callable[[str], int]:
+    """What reads a word of `runs N lines N ..`, as is stored of the receivers that are compared."""
+    return lambda top: int(text_of(top, 'tools', 'second_receiver', 'stdout').split()[place])
+
+
+def turned(column: int) -> Callable[[str], int]:
+    """What adds up a column of the table of `tools/turned` in docs/PROOFS.md."""
+    def total(top: str) -> int:
+        table = text_of(top, 'docs', 'PROOFS.md').partition('| Module | Turned |')[2]
+        rows = table.partition('\n\n')[0].split('\n')[2:]
+        return sum(int(row.split('|')[column]) for row in rows)
+    return total
+
+
+EDITS = files('edits/*/*.edit', 'crates/*/must-fail/*.edit')
+MUST_FAIL = files('crates/*/must-fail/*.edit')
+
+# A blank of a pattern is any between words.
+FIGURES = (
+    Figure('docs/PROOFS.md', r'There are (\S+) edits\.', EDITS),
+    Figure('docs/PROOFS.md', r'tries the (\S+) in `must-fail`', MUST_FAIL),
+    Figure('CONTRIBUTING.md', r'Of the (\S+) edits', EDITS),
+    Figure('CONTRIBUTING.md', r'the (\S+) in `must-fail` are', MUST_FAIL),
+    Figure('docs/PLAIN.md', r'made and built (\S+) packages', packages),
+    Figure('docs/PLAIN.md', r'With crates of crates\.io there are (\S+)\.',
+           lambda top: packages(top) - OF_CRATES_IO),
+    Figure('docs/PLAIN.md', r'loop by (\S+) tests',
+           lambda top: len(matches(top, r'^\s*#\[test\]', 'tools/kit/lanes/src/*.rs'))),
+    Figure('docs/PROOFS.md', r'over `examples` in (\S+) runs', runs_of_examples),
+    Figure('docs/PROOFS.md', r'built `pack` over (\S+) recordings',
+           lambda top: int(matches(top, r'in range\((\d+)\)', 'tools/pack-check')[0])),
+    Figure('docs/PROOFS.md', r'It has (\S+) rows by hand', lambda _: len(list(by_hand()))),
+    Figure('docs/PROOFS.md', r'and (\S+) recordings in pieces', recordings_in_pieces),
+    Figure('docs/PROOFS.md', r'both receivers over (\S+) cases', compared(1)),
+    Figure('docs/PROOFS.md', r'cases with (\S+) lines, and fails', compared(3)),
+    Figure('docs/PROOF-IN-ONE-PAGE.md', r'definitions at (\S+) places', turned(2)),
+    Figure('docs/PROOF-IN-ONE-PAGE.md', r'examples refused (\S+)\.', turned(3)),
+    Figure('docs/PAGE.md', r'runs all (\S+) examples', files('examples/*.expected')),
+    Figure('docs/PAGE.md', r'the (\S+) bundled examples', lambda _: len(CHOSEN)),
+)
+
+
+def number_of(word: str) -> Optional[int]:
+    """The number of a word, as `1,500` or `eight`."""
+    digits = word.replace(',', '')
+    return int(digits) if digits.isdigit() else NUMBERS.index(word) if word in NUMBERS else None
+
+
+def differences_in(figure: Figure, text: str, top: str) -> Iterator[str]:
+    """How the text of a page differs from what is counted below a path."""
+    found, said = figure.counted(top), 0
+    for said, it in enumerate(re.finditer(figure.pattern.replace(' ', r'\s+'), text), 1):
+        if number_of(it[1]) != found:
+            yield f"{figure.page} says '{' '.join(it[0].split())}', and there are {found}"
+    if not said:
+        yield f'{figure.page} has nothing like {figure.pattern}'
+
+
+def revisions(top: str) -> Optional[list[str]]:
+    """The revisions up to this one; None where git doesn't have all of them."""
+    def said(*words: str) -> str:
+        return subprocess.run(['git', '-C', top, *words], stdout=subprocess.PIPE, text=True,
+                              stderr=subprocess.DEVNULL, check=True).stdout
+    try:
+        asked = said('rev-parse', '--is-shallow-repository', '--show-toplevel').splitlines()
+        is_whole = asked[0] == 'false' and os.path.samefile(asked[1], top)
+        return said('rev-list', 'HEAD').split() if is_whole else None
+    except (OSError, subprocess.CalledProcessError):
+        return None
+
+
+def unknown_revisions(top: str, known: list[str]) -> Iterator[str]:
+    """The revisions that pages name and git doesn't have."""
+    for path in sorted(path for it in PAGES for path in glob.glob(os.path.join(top, it))):
+        for name in REVISION.findall(text_of(path)):
+            if not any(it.startswith(name) for it in known):
+                yield f'{os.path.relpath(path, top)} names revision {name}, which git has not'
