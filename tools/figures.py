@@ -22,12 +22,12 @@ REVISION = re.compile(r'\brevisions?\s+`?([0-9a-f]{7,40})\b')
 NUMBERS = 'no one two three four five six seven eight nine ten eleven twelve'.split()
 
 # Definitions and their rows are no packages. `arrayvec` and `thiserror` may be those of crates.io.
-PROVED_ALONE = 2
-OF_CRATES_IO = 2
+PROVED_ALONE, OF_CRATES_IO = 2, 2
 
 
 class Figure(NamedTuple):
-    """A figure: the page, a pattern whose group is the number, and what counts it below a path."""
+    """A figure: the page, a pattern (any blank for a blank, the number as its group), and what counts
+    it below a path."""
 
     page: str
     pattern: str
@@ -41,7 +41,7 @@ def text_of(*parts: str) -> str:
 
 
 def files(*patterns: str) -> Callable[[str], int]:
-    """What counts the files of some patterns."""
+    """What counts files."""
     return lambda top: sum(len(glob.glob(os.path.join(top, it))) for it in patterns)
 
 
@@ -59,8 +59,8 @@ def packages(top: str) -> int:
 
 def runs_of_examples(top: str) -> int:
     """The runs of `tools/examples-check`: one for each script, and those that it names."""
-    named = matches(top, '^(?:judge|refused) ', 'tools/examples-check')
-    return files('examples/*.script')(top) + len(named)
+    named = len(matches(top, '^(?:judge|refused) ', 'tools/examples-check'))
+    return named + files('examples/*.script')(top)
 
 
 def recordings_in_pieces(_: str) -> int:
@@ -71,28 +71,27 @@ def recordings_in_pieces(_: str) -> int:
     return len(asked) + 5 * len(paired) + 2
 
 
-def compared(place: int) -> Callable[[str], int]:
-    """What reads a word of `runs N lines N ..`, as is stored of the receivers that are compared."""
-    return lambda top: int(text_of(top, 'tools', 'second_receiver', 'stdout').split()[place])
+def compared(top: str, place: int) -> int:
+    """A word of `runs N lines N ..`, which is stored of the two receivers that are compared."""
+    return int(text_of(top, 'tools', 'second_receiver', 'stdout').split()[place])
 
 
-def turned(column: int) -> Callable[[str], int]:
-    """What adds up a column of the table of `tools/turned` in docs/PROOFS.md."""
-    def total(top: str) -> int:
-        table = text_of(top, 'docs', 'PROOFS.md').partition('| Module | Turned |')[2]
-        rows = table.partition('\n\n')[0].split('\n')[2:]
-        return sum(int(row.split('|')[column]) for row in rows)
-    return total
+def turned(top: str, column: int) -> int:
+    """The sum of a column of the table of `tools/turned` in docs/PROOFS.md."""
+    table = text_of(top, 'docs', 'PROOFS.md').partition('| Module | Turned |')[2]
+    rows = table.partition('\n\n')[0].split('\n')[2:]
+    return sum(int(row.split('|')[column]) for row in rows)
 
 
 EDITS = files('edits/*/*.edit', 'crates/*/must-fail/*.edit')
 MUST_FAIL = files('crates/*/must-fail/*.edit')
 
-# A blank of a pattern is any between words.
 FIGURES = (
     Figure('docs/PROOFS.md', r'There are (\S+) edits\.', EDITS),
     Figure('docs/PROOFS.md', r'tries the (\S+) in `must-fail`', MUST_FAIL),
     Figure('CONTRIBUTING.md', r'Of the (\S+) edits', EDITS),
+    Figure('docs/DECISIONS.md', r'the (\S+) edits of `definitions`',
+           files('edits/definitions/*.edit')),
     Figure('CONTRIBUTING.md', r'the (\S+) in `must-fail` are', MUST_FAIL),
     Figure('docs/PLAIN.md', r'made and built (\S+) packages', packages),
     Figure('docs/PLAIN.md', r'With crates of crates\.io there are (\S+)\.',
@@ -104,10 +103,10 @@ FIGURES = (
            lambda top: int(matches(top, r'in range\((\d+)\)', 'tools/pack-check')[0])),
     Figure('docs/PROOFS.md', r'It has (\S+) rows by hand', lambda _: len(list(by_hand()))),
     Figure('docs/PROOFS.md', r'and (\S+) recordings in pieces', recordings_in_pieces),
-    Figure('docs/PROOFS.md', r'both receivers over (\S+) cases', compared(1)),
-    Figure('docs/PROOFS.md', r'cases with (\S+) lines, and fails', compared(3)),
-    Figure('docs/PROOF-IN-ONE-PAGE.md', r'definitions at (\S+) places', turned(2)),
-    Figure('docs/PROOF-IN-ONE-PAGE.md', r'examples refused (\S+)\.', turned(3)),
+    Figure('docs/PROOFS.md', r'both receivers over (\S+) cases', lambda it: compared(it, 1)),
+    Figure('docs/PROOFS.md', r'cases with (\S+) lines, and fails', lambda it: compared(it, 3)),
+    Figure('docs/PROOF-IN-ONE-PAGE.md', r'definitions at (\S+) places', lambda it: turned(it, 2)),
+    Figure('docs/PROOF-IN-ONE-PAGE.md', r'examples refused (\S+)\.', lambda it: turned(it, 3)),
     Figure('docs/PAGE.md', r'runs all (\S+) examples', files('examples/*.expected')),
     Figure('docs/PAGE.md', r'the (\S+) bundled examples', lambda _: len(CHOSEN)),
 )

@@ -121,7 +121,7 @@ def _entry(row: int, cells: Mapping[str, str], folder: str) -> Entry:
 
 
 def _recording(path: str, cells: Mapping[str, str]) -> Recording:
-    """The recording of a row, turned round where the row says that it is mirrored."""
+    """The recording of a row, with its spectrum inverted where the row says `mirrored`."""
     kind: Optional[str] = cells['kind']
     rate = _value(cells, 'rate', numbers.rate)
     offset = _value(cells, 'offset', numbers.offset)
@@ -146,7 +146,7 @@ def _recording(path: str, cells: Mapping[str, str]) -> Recording:
 
 
 def _mirrored(recording: Recording) -> Recording:
-    """A recording with its spectrum turned round, where `pack` can do that."""
+    """A recording with its spectrum inverted, where `pack` can do that."""
     turned = mirrored(recording)
     if turned.kind is None and recording.format.startswith(PAIRS):
         raise Failure(f'mirrored: {recording.format} is packed already and can not be turned round')

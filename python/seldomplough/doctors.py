@@ -1,7 +1,7 @@
-"""Looks for what is wrong with a recording or with what one believes of it.
+"""Finds out whether a recording or the settings for it are wrong.
 
-It tries what is believed first, and then what most often is wrong: the kind of the values, the sign
-of the offset, a mirrored spectrum, a crystal that is off, another rate."""
+It tries the settings first, and then what most often is wrong: the kind of the values, the sign
+of the offset, an inverted spectrum, a crystal that is off, another rate."""
 
 from __future__ import annotations
 
@@ -35,7 +35,7 @@ Plan = Iterator[Tuple[Trial, float]]
 
 @dataclass(frozen=True)
 class Belief:
-    """What one believes of a recording; None where one doesn't know. The offset is in Hz."""
+    """The settings for a recording; None where they aren't known. The offset is in Hz."""
 
     name: str
     kind: Optional[str] = None

@@ -1,4 +1,4 @@
-"""Printed lines as frames of pandas, one for each kind of line.
+"""Printed lines as pandas DataFrames, one for each kind of line.
 
     from seldomplough.frames import frames
     states = frames('my.lines', rate=4092000)['state']

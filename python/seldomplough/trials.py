@@ -1,9 +1,9 @@
 """Tries of a recording: under which assumptions its satellites have bits.
 
-The code is real, so that a search finds satellites in a mirrored spectrum too, at the mirrored
-frequency. Only their codes run the wrong way there. So what a search finds is tracked twice, as it
-stands and mirrored. The right one is that with more `bits`; of equals, that whose loops have to
-correct the code less."""
+The code is real, so that a search finds satellites in an inverted spectrum too, at the frequency of
+the other sign. Only their codes run the wrong way there. So what a search finds is tracked twice,
+as it stands and inverted. The right one is that with more `bits`; of equals, that whose loops have
+to correct the code less."""
 
 from __future__ import annotations
 
@@ -132,7 +132,7 @@ def better(plain: Outcome, turned: Outcome) -> Optional[Outcome]:
 
 
 def mirrored(recording: Recording) -> Recording:
-    """The recording with its spectrum turned round: a frequency F becomes -F."""
+    """The recording with its spectrum inverted: a frequency F becomes -F."""
     tuning = Tuning(recording.tuning.rate, -recording.tuning.offset)
     packing, kind = recording.packing, recording.kind
     if kind is None and recording.format.startswith(PAIRS):
@@ -147,6 +147,6 @@ def mirrored(recording: Recording) -> Recording:
 
 
 def conjugate(packed: bytes, form: str) -> bytes:
-    """Packed pairs with the sign of the part in quadrature turned, as `pack --conjugate` does."""
+    """Packed pairs with the sign of the part in quadrature inverted, as `pack --conjugate` does."""
     signs = 0x55 if form == 'iq1' else 0x22
     return packed.translate(bytes(it ^ signs for it in range(256)))

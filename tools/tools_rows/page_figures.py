@@ -24,13 +24,14 @@ SMALL = {
     'tools/second_receiver/stdout': 'runs 7 lines 4321 differences 0\nok 5\n',
     'tools/pack-check': 'for number in range(33):\n',
     'edits/bits/one.edit': '', 'edits/words/two.edit': '', 'edits/words/notes': '',
+    'edits/definitions/four.edit': '',
     'crates/bits/must-fail/three.edit': '', 'examples/a.script': '', 'examples/a.expected': '',
     'examples/b.expected': '',
     'docs/PROOFS.md': '| Module | Turned | Refused by rows | Left |\n|---|---|---|---|\n'
                       '| A | 30 | 20 | ten |\n| B | 4 | 4 | |\n\n| C | 9 | 9 | |\n',
 }
 WANTED = {
-    'There are': 3, 'tries the': 1, 'Of the': 3, 'in `must-fail` are': 1, 'made and built': 4,
+    'There are': 4, 'edits of': 1, 'tries the': 1, 'Of the': 4, 'in `must-fail` are': 1, 'made and built': 4,
     'With crates of': 2, 'loop by': 2, 'over `examples` in': 3, 'built `pack`': 33,
     'both receivers': 7, 'lines, and fails': 4321, 'definitions at': 34, 'examples refused': 24,
     'runs all': 2,

@@ -1,11 +1,11 @@
-"""Says what is wrong with a recording, or with what one believes of it.
+"""Finds out whether a recording or the settings for it are wrong.
 
-Give what you believe: the kind, the rate, the offset, or nothing. It looks at the bytes, measures
-their level, and searches for satellites: with what you believe first, then with other kinds, the
-other sign of the offset, the offset 0, the crystal off by up to 50 ppm, and other rates. What it
-finds is tracked as it stands and with the spectrum mirrored. Only a satellite with `bits` counts.
-It ends with the command that works, or with what it tried, and the status 1. It uses the first two
-seconds of a recording, so that these have to be whole. Nothing is written but its lines.
+Give the settings that you have: the kind, the rate, the offset, or nothing. It looks at the bytes,
+measures their level, and searches for satellites: with your settings first, then with other kinds,
+the other sign of the offset, the offset 0, the crystal off by up to 50 ppm, and other rates. What
+it finds is tracked as it stands and with the spectrum inverted. Only a satellite with `bits`
+counts. It ends with the command that works, or with what it tried, and the status 1. It uses the
+first two seconds of a recording, so that these have to be whole. Nothing is written but its lines.
 
     seldomplough doctor rtl.u8
     seldomplough doctor --kind iq-i8 --rate 4000000 --offset 500000 capture.i8

@@ -1,4 +1,4 @@
-"""Shows the frames of pandas that printed lines become, or writes them.
+"""Shows the pandas DataFrames that printed lines become, or writes them.
 
 It prints a line for each kind: its rows and its columns. With --csv or --parquet it writes them,
 one file KIND.csv or KIND.parquet for each kind in a folder. A file that is there already isn't

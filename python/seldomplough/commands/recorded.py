@@ -44,7 +44,7 @@ def add(parser: argparse.ArgumentParser) -> None:
     )
     for name, what in (
         ('swap', 'the part in quadrature stands first'),
-        ('conjugate', 'turns the sign of the part in quadrature: a mirrored spectrum'),
+        ('conjugate', 'inverts the sign of the part in quadrature: an inverted spectrum'),
     ):
         packing.add_argument(f'--{name}', action='store_true', help=what)
 
