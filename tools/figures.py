@@ -26,8 +26,7 @@ PROVED_ALONE, OF_CRATES_IO = 2, 2
 
 
 class Figure(NamedTuple):
-    """A figure: the page, a pattern (any blank for a blank, the number as its group), and what counts
-    it below a path."""
+    """A figure: its page, a pattern with the number as a group, and what counts it below a path."""
 
     page: str
     pattern: str
@@ -45,27 +44,26 @@ def files(*patterns: str) -> Callable[[str], int]:
     return lambda top: sum(len(glob.glob(os.path.join(top, it))) for it in patterns)
 
 
-def matches(top: str, pattern: str, paths: str) -> list[str]:
-    """What matches a pattern in the files of another."""
-    texts = map(text_of, glob.glob(os.path.join(top, paths)))
-    return [it for text in texts for it in re.findall(pattern, text, re.M)]
+def lines(pattern: str, paths: str) -> Callable[[str], int]:
+    """What counts the lines of files that begin with a pattern."""
+    return lambda top: sum(len(re.findall(f'^{pattern}', text_of(it), re.M))
+                           for it in glob.glob(os.path.join(top, paths)))
 
 
 def packages(top: str) -> int:
     """The packages that `tools/plain` writes: those of crates, and those of the kit beside them."""
-    crates = matches(top, r'^\w+:', 'crates.txt')
-    return len(crates) - PROVED_ALONE + files('tools/kit/*/Cargo.toml')(top)
+    crates = lines(r'\w+:', 'crates.txt')(top)
+    return crates - PROVED_ALONE + files('tools/kit/*/Cargo.toml')(top)
 
 
 def runs_of_examples(top: str) -> int:
     """The runs of `tools/examples-check`: one for each script, and those that it names."""
-    named = len(matches(top, '^(?:judge|refused) ', 'tools/examples-check'))
+    named = lines('(?:judge|refused) ', 'tools/examples-check')(top)
     return named + files('examples/*.script')(top)
 
 
 def recordings_in_pieces(_: str) -> int:
-    """Those that `tools/pack-check` gives so: a long one of each kind, pairs in `iq1` by five sizes
-    too, and two more."""
+    """Those of `tools/pack-check`: a long one of each kind, pairs as `iq1` by five sizes, two."""
     asked = list(choices())
     paired = [it for it in asked if kind_of(it)[1] and it['to'] == 'iq1']
     return len(asked) + 5 * len(paired) + 2
@@ -73,12 +71,12 @@ def recordings_in_pieces(_: str) -> int:
 
 def compared(top: str, place: int) -> int:
     """A word of `runs N lines N ..`, which is stored of the two receivers that are compared."""
-    return int(text_of(top, 'tools', 'second_receiver', 'stdout').split()[place])
+    return int(text_of(top, 'tools/second_receiver/stdout').split()[place])
 
 
 def turned(top: str, column: int) -> int:
     """The sum of a column of the table of `tools/turned` in docs/PROOFS.md."""
-    table = text_of(top, 'docs', 'PROOFS.md').partition('| Module | Turned |')[2]
+    table = text_of(top, 'docs/PROOFS.md').partition('| Module | Turned |')[2]
     rows = table.partition('\n\n')[0].split('\n')[2:]
     return sum(int(row.split('|')[column]) for row in rows)
 
@@ -97,10 +95,12 @@ FIGURES = (
     Figure('docs/PLAIN.md', r'With crates of crates\.io there are (\S+)\.',
            lambda top: packages(top) - OF_CRATES_IO),
     Figure('docs/PLAIN.md', r'loop by (\S+) tests',
-           lambda top: len(matches(top, r'^\s*#\[test\]', 'tools/kit/lanes/src/*.rs'))),
+           lines(r' *#\[test\]', 'tools/kit/lanes/src/*.rs')),
+    Figure('docs/PROOFS.md', r'\): (\S+) refused lines',
+           lines(r"    \('.*', \d+\),$", 'tools/runs_rows/scripts.py')),
     Figure('docs/PROOFS.md', r'over `examples` in (\S+) runs', runs_of_examples),
     Figure('docs/PROOFS.md', r'built `pack` over (\S+) recordings',
-           lambda top: int(matches(top, r'in range\((\d+)\)', 'tools/pack-check')[0])),
+           lambda top: int(re.findall(r'in range\((\d+)', text_of(top, 'tools/pack-check'))[0])),
     Figure('docs/PROOFS.md', r'It has (\S+) rows by hand', lambda _: len(list(by_hand()))),
     Figure('docs/PROOFS.md', r'and (\S+) recordings in pieces', recordings_in_pieces),
     Figure('docs/PROOFS.md', r'both receivers over (\S+) cases', lambda it: compared(it, 1)),

@@ -22,6 +22,8 @@ SMALL = {
     'tools/kit/lanes/src/tests.rs': '#[test]\nfn a() {}\n    #[test]\n    fn b() {}\n// #[test]\n',
     'tools/examples-check': "judge() {\n}\nfor a in b; do\n    judge a\ndone\njudge c\nrefused 1\n",
     'tools/second_receiver/stdout': 'runs 7 lines 4321 differences 0\nok 5\n',
+    'tools/runs_rows/scripts.py': "ROWS = (\n    ('0 a', 7),\n    (0, 'b', 8),\n"
+                                  "    ('c (d)', 1),\n)\n",
     'tools/pack-check': 'for number in range(33):\n',
     'edits/bits/one.edit': '', 'edits/words/two.edit': '', 'edits/words/notes': '',
     'edits/definitions/four.edit': '',
@@ -31,10 +33,10 @@ SMALL = {
                       '| A | 30 | 20 | ten |\n| B | 4 | 4 | |\n\n| C | 9 | 9 | |\n',
 }
 WANTED = {
-    'There are': 4, 'edits of': 1, 'tries the': 1, 'Of the': 4, 'in `must-fail` are': 1, 'made and built': 4,
-    'With crates of': 2, 'loop by': 2, 'over `examples` in': 3, 'built `pack`': 33,
-    'both receivers': 7, 'lines, and fails': 4321, 'definitions at': 34, 'examples refused': 24,
-    'runs all': 2,
+    'There are': 4, 'edits of': 1, 'tries the': 1, 'Of the': 4, 'in `must-fail` are': 1,
+    'made and built': 4, 'With crates of': 2, 'loop by': 2, 'over `examples` in': 3,
+    'built `pack`': 33, 'both receivers': 7, 'lines, and fails': 4321, 'definitions at': 34,
+    'examples refused': 24, 'runs all': 2, 'refused lines': 2,
 }
 
 
