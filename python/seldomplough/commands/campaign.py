@@ -1,8 +1,9 @@
 """Does a step of a campaign: many recordings, with the same scripts for each.
 
 TABLE is CSV with a header. Its columns are path, kind (as `pack --from`, or a packing of the
-receiver), rate, offset (where 1575.42 MHz lies in the file as it is) and mirrored (yes or no).
-name, threshold (for two bits a part) and samples (how many it ought to have) may be there too.
+receiver), rate, offset (where 1575.42 MHz lies in the file as it is) and mirrored (yes where the
+spectrum is inverted, else no). name, threshold (for two bits a part) and samples (how many it ought
+to have) may be there too.
 Paths begin at the table's folder, and names are those of the files if not given.
 
     plan      prints the jobs: each recording with its groups of scripts, what they cost in seconds
