@@ -112,6 +112,13 @@ impl BinPowers {
         }
     }
 
+    /// The powers of all cells so far.
+    pub(crate) fn all(&self) -> [u64; BIN_CELLS]
+        ensures { result ≡ self.now.powers }
+    {
+        self.powers
+    }
+
     /// The power of cell `i` so far.
     pub(crate) fn power(&self, i: usize) -> u64
         requires { i < BIN_CELLS }

@@ -3,18 +3,19 @@
 ghost use Rattle.std.specs.Prelude.{◌≡◌, ◌+◌, ◌*◌, ◌<◌, ◌≤◌, ℕ, length};
 ghost use Rattle.std.specs.Prelude.{true, ◌↔◌};
 ghost use Rattle.definitions.specs.Oscillators.{code_cycle};
-ghost use Rattle.definitions.specs.Samples.{Sample, sample_at};
+ghost use Rattle.definitions.specs.Samples.{Sample};
 ghost use Rattle.bit_planes.specs.declared.plane.TheConstants.{WORD_PLACES};
 ghost use Rattle.acquisition.specs.declared.dwell.TheConstants.{MOST_START};
 ghost use Rattle.acquisition.specs.declared.half_chip_table.TheConstants.{HALF_CHIPS};
 ghost use Rattle.oscillators.specs.declared.settings.TheConstants.{MOST_PER_MS};
 
+use crate::bin_steps::Steps;
 use crate::half_chip_table::{HALF_CHIPS, HalfChipTable};
 use crate::half_chip_walk::HalfChipWalk;
 use crate::sums::Sums;
 use lane_correlator::{MOST_AT_ONCE, Products};
-use oscillators::{CarrierOsc, CodeOsc};
-use sample_planes::{MAX_SAMPLES, Planes, SampleSource};
+use oscillators::{CarrierOsc, CodeOsc, HalfChip};
+use sample_planes::{MAX_SAMPLES, NEAR_BYTES, Planes, SampleSource};
 
 /// The greatest sum in size whose half, rounded down, fits in 16 bits.
 pub(crate) const MOST_SMALL: u32 = (1 << 16) - 1;
@@ -28,17 +29,15 @@ pub(crate) struct Fold {
 }
 
 impl Fold {
-    ghost use Rattle.definitions.specs.Oscillators.{code_phase_after, carrier_phase_after};
-    ghost use Rattle.acquisition.specs.FoldStates.{IsFold, IsSmall, IsWhole, HasRoom};
-    ghost use Rattle.acquisition.specs.FoldStates.{AreWiped};
+    ghost use Rattle.definitions.specs.Oscillators.{code_phase_after};
+    ghost use Rattle.acquisition.specs.FoldStates.{IsFold, IsNew, IsSmall, IsWhole, HasRoom};
+    ghost use Rattle.acquisition.specs.FoldStates.{TakesRun, AreHeld, AreWiped};
     ghost use Rattle.acquisition.specs.Walks.{IsAt};
 
     /// The sums over no samples.
     #[inline(always)]
     pub(crate) fn new() -> Fold
-        ensures fold { (x : ℕ → Sample) (step carrier_step from : ℕ)
-            → IsFold x step carrier_step from 0 result }
-        ensures room { HasRoom MOST_PER_MS result }
+        ensures { IsNew result }
     {
         Fold {
             in_phase: HalfChipTable::new(),
@@ -46,35 +45,36 @@ impl Fold {
         }
     }
 
-    /// Makes the fold that of samples `first` to `first + len - 1` of a source, for a code and a
-    /// carrier that stand at the first of them; `len` is at most `MOST_PER_MS`. The code, which
-    /// began at phase 0, goes on by `code_step`.
+    /// Makes the fold, which is of no samples, that of samples `first` to `first + len - 1` of a
+    /// source, for a code and a carrier that began at phase 0 so many samples before and go by
+    /// these steps; `len` is at most `MOST_PER_MS`.
     pub(crate) fn fill<S: SampleSource>(
         &mut self,
         source: &S,
         first: u64,
+        before: u64,
         len: usize,
-        mut code: CodeOsc,
-        code_step: u32,
-        mut carrier: CarrierOsc,
+        steps: Steps,
     )
+        requires none { IsNew self.old }
         requires from { S.from source.now ≤ first }
         requires to { first + len ≤ S.to source.now }
         requires early { first ≤ 2 * MOST_START }
         requires short { len ≤ MOST_PER_MS }
-        requires step { code.step ≡ code_step }
-        requires moving { 0 < code_step }
-        ensures { (x : ℕ → Sample) (from : ℕ) → code.phase ≡ code_phase_after 0 code_step from
-            → carrier.phase ≡ carrier_phase_after 0 carrier.step from
-            → ((j : ℕ) → j < len → S.held source.now (first + j) ≡ x (from + j))
-            → IsFold x code_step carrier.step from len self.new }
+        requires moving { 0 < steps.code }
+        ensures { (x : ℕ → Sample) → AreHeld (S.held source.now) first x before len
+            → IsFold x steps.code steps.carrier before len self.new }
     {
-        *self = Fold::new();
+        let mut code = CodeOsc::new(HalfChip::new(0).unwrap(), steps.code);
+        let mut carrier = CarrierOsc::new(steps.carrier);
+        code.jump(before);
+        carrier.advance(before);
+        let (mut near, mut samples) = ([0; NEAR_BYTES], Planes::new());
         let mut done = 0;
         while done < len {
             let count = (len - done).min(MAX_SAMPLES);
-            let samples = source.planes(first + done as u64, count);
-            self.take(&samples, code.phase(), code_step, &carrier);
+            source.unpack_into(first + done as u64, count, &mut near, &mut samples);
+            self.take(&samples, code.phase(), steps.code, &carrier);
             code.jump(count as u64);
             carrier.advance(count as u64);
             done += count;
@@ -87,13 +87,7 @@ impl Fold {
         requires code { code < code_cycle }
         requires moving { 0 < step }
         requires room { HasRoom (length samples.now) self.old }
-        ensures fold { (x : ℕ → Sample) (from n : ℕ)
-            → IsFold x step carrier.now.step from n self.old
-            → code ≡ code_phase_after 0 step (from + n)
-            → carrier.now.phase ≡ carrier_phase_after 0 carrier.now.step (from + n)
-            → ((j : ℕ) → j < length samples.now → sample_at samples.now j ≡ x (from + n + j))
-            → IsFold x step carrier.now.step from (n + length samples.now) self.new }
-        ensures room { (n : ℕ) → HasRoom (length samples.now + n) self.old → HasRoom n self.new }
+        ensures { TakesRun code step carrier.now samples.now self.old self.new }
     {
         let mut words = carrier.words(0);
         let mut walk = HalfChipWalk::new(code, step);

@@ -29,6 +29,7 @@
 //!     }
 #![tactic(auto)]
 
+mod bin_grid;
 mod bin_powers;
 mod bin_steps;
 mod cell;
@@ -52,6 +53,7 @@ mod signal;
 mod sums;
 mod tally;
 
+pub use bin_grid::powers_of_bin;
 pub use cell::Cell;
 pub use dwell::MOST_START;
 pub use plan::{

@@ -12,12 +12,12 @@ ghost use Rattle.acquisition.specs.declared.half_chip_table.TheConstants.{HALF_C
 ghost use Rattle.acquisition.specs.declared.sums.TheConstants.{MOST_PERIOD_SUM, MOST_PERIOD_POWER};
 ghost use Rattle.oscillators.specs.declared.settings.TheConstants.{MOST_PER_MS};
 
+use crate::bin_steps::Steps;
 use crate::chip_ring::CELLS_AT_ONCE;
 use crate::fold::Fold;
 use crate::ones::Ones;
 use crate::ring_by_twos::RingByTwos;
 use crate::sums::Sums;
-use oscillators::{CarrierOsc, CodeOsc};
 use sample_planes::SampleSource;
 
 /// The sums over a period's samples without their carrier: over a chip wherever it begins, and over
@@ -40,7 +40,7 @@ pub(crate) struct PeriodSums {
 }
 
 impl PeriodSums {
-    ghost use Rattle.definitions.specs.Oscillators.{code_phase_after, carrier_phase_after};
+    ghost use Rattle.acquisition.specs.FoldStates.{AreHeld};
     ghost use Rattle.acquisition.specs.PeriodStates.{ArePowersOf, AreSumsOf};
 
     /// The sums over no samples.
@@ -59,24 +59,20 @@ impl PeriodSums {
         &mut self,
         source: &S,
         first: u64,
+        before: u64,
         len: usize,
-        code: CodeOsc,
-        code_step: u32,
-        carrier: CarrierOsc,
+        steps: Steps,
     )
         requires from { S.from source.now ≤ first }
         requires to { first + len ≤ S.to source.now }
         requires early { first ≤ 2 * MOST_START }
         requires short { len ≤ MOST_PER_MS }
-        requires step { code.step ≡ code_step }
-        requires moving { 0 < code_step }
-        ensures { (x : ℕ → Sample) (from : ℕ) → code.phase ≡ code_phase_after 0 code_step from
-            → carrier.phase ≡ carrier_phase_after 0 carrier.step from
-            → ((j : ℕ) → j < len → S.held source.now (first + j) ≡ x (from + j))
-            → AreSumsOf x code_step carrier.step from len self.new }
+        requires moving { 0 < steps.code }
+        ensures { (x : ℕ → Sample) → AreHeld (S.held source.now) first x before len
+            → AreSumsOf x steps.code steps.carrier before len self.new }
     {
         let mut fold = Fold::new();
-        fold.fill(source, first, len, code, code_step, carrier);
+        fold.fill(source, first, before, len, steps);
         self.whole = fold.whole();
         self.is_small = fold.is_small();
         set_rings(&mut self.first, &mut self.second, &fold, self.is_small);

@@ -2,8 +2,8 @@
 use Rattle.std.proofs.Common.{◌≡◌, ℕ, zero, suc, ◌<◌, List, length-set, []}
 use Rattle.std.proofs.Common.{◌∷◌, ◌++◌, length, refl, sym, ap, ◌∙◌, arith, get_or, slice_set}
 use Rattle.std.specs.Prelude.{Bool, true, false, nat_eq, Option, unwrap_or}
-use Rattle.std.specs.List.{AllByRecursion, list_all}
-use Rattle.std.proofs.lemmas.Bool.{ne_eqb, eqb-true, true_from_ne_false, eqb-false, and_parts}
+use Rattle.std.specs.List.{AllByRecursion}
+use Rattle.std.proofs.lemmas.Bool.{ne_eqb, eqb-true, true_from_ne_false, eqb-false}
 use Rattle.definitions.specs.Oscillators.{Settings}
 use Rattle.definitions.specs.Commands.{TimedRequest, Request}
 use Rattle.definitions.specs.Samples.{Sample}
@@ -161,17 +161,6 @@ set-keeps P ps i p q b is keeps all =
     each-set P ps i q all (keeps (rw (sym is) at (each-at P ps i p b all)))
 
 -- the same by a test
-pub set-keeps-tested : (test : Seat → Bool) (ps : List Seat) (i : ℕ) (p q : Seat)
-    → p ≡ get_or ps i p → (test p ≡ true → test q ≡ true) → list_all test ps ≡ true
-    → list_all test (slice_set ps i q) ≡ true
-set-keeps-tested test [] i p q is keeps all = refl
-set-keeps-tested test (x ∷ ps) zero p q is keeps all =
-    let parts = and_parts (test x) (list_all test ps) all in
-    rw (keeps (rw is parts.0)) parts.1
-set-keeps-tested test (x ∷ ps) (suc i) p q is keeps all =
-    let parts = and_parts (test x) (list_all test ps) all in
-    rw parts.0 (set-keeps-tested test ps i p q is keeps parts.1)
-
 -- what the bank keeps of itself
 pub record Keeps (ps qs : List Seat) : Type 0 where
   pub size : length qs ≡ length ps

@@ -20,7 +20,7 @@ use Rattle.channels.specs.declared.window.Window.{Window}
 use Rattle.channels.specs.Windows.{IsOver, end_of}
 use Rattle.channel_slots.specs.declared.seat.Seat.{Seat}
 use Rattle.channel_slots.specs.Orders.{put_all}
-use Rattle.channel_slots.specs.Slots.{StandsFor, Emits, IsSound, next_event}
+use Rattle.channel_slots.specs.Slots.{StandsFor, Emits, IsReadyIn, next_event}
 use Rattle.channel_slots.specs.Banks.{SeatGoes, SeatHasEmitted, slot_emits}
 use Rattle.channel_slots.specs.Timelines.{event_at}
 use Rattle.channel_slots.proofs.OrderLemmas.{put_all-append}
@@ -54,20 +54,13 @@ pub record HasGoneBy (settings : Settings) (xs ys : List Sample) (commands : Lis
   pub within : count ≤ length ys
   pub emitted : SeatHasEmitted settings xs (take count ys) commands p q events
 
--- it has come to a time within the window
-pub record HasReached (w : Window) (reach : ℕ) (q : Seat) : Type 0 where
-  pub time : ℕ
-  pub within : time ≤ end_of w
-  pub sound : IsSound w time reach q.slot
-
 -- it has done so far as it has gone, and its events are inserted by time
 pub record HasGone (w : Window) (p q : Seat) (before after : List SlotEvent) : Type 0 where
   pub events : List SlotEvent
   pub client : q.client ≡ p.client
   pub number : q.number ≡ p.number
   pub added : after ≡ put_all time_in before events
-  pub sound : (time reach : ℕ) → time ≤ end_of w → IsSound w time reach p.slot
-      → HasReached w reach q
+  pub ready : IsReadyIn w (end_of w) p.slot → IsReadyIn w (end_of w) q.slot
   pub tells : (settings : Settings) (xs ys : List Sample) (commands : List TimedRequest)
       → length (xs ++ ys) ≡ end_of w → IsOver (xs ++ ys) w
       → StandsFor settings xs commands p.slot
@@ -80,7 +73,7 @@ begins w p before = record {
   client = refl;
   number = refl;
   added = refl;
-  sound = λ time reach within sound. record { time = time; within = within; sound = sound };
+  ready = λ ready. ready;
   tells = λ settings xs ys commands now over s. record {
     count = 0;
     within = omega arith;
@@ -130,7 +123,7 @@ module _ (w : Window) (p q r : Seat) (before mid after : List SlotEvent) (es : L
     → StandsFor settings xs commands q.slot → Emits settings xs ys commands r.slot es)
     (stands-before : (settings : Settings) (xs : List Sample) (commands : List TimedRequest)
     → StandsFor settings xs commands q.slot → length xs < next_event q.slot)
-    (sound : (time reach : ℕ) → IsSound w time reach q.slot → IsSound w to reach r.slot)
+    (ready : IsReadyIn w (end_of w) q.slot → IsReadyIn w (end_of w) r.slot)
     (client : r.client ≡ q.client) (number : r.number ≡ q.number)
     (added : after ≡ put_all time_in mid (map (event_at q.client q.number to) es)) where
   tells-on : (settings : Settings) (xs ys : List Sample) (commands : List TimedRequest)
@@ -181,9 +174,7 @@ module _ (w : Window) (p q r : Seat) (before mid after : List SlotEvent) (es : L
         added ∙ ap (λ (l : List SlotEvent). put_all time_in l
         (map (event_at q.client q.number to) es)) g.added
         ∙ sym (put_all-append time_in before g.events (map (event_at q.client q.number to) es));
-    sound = λ time reach early known.
-        let come = g.sound time reach early known in
-        record { time = to; within = within; sound = sound come.time reach come.sound };
+    ready = λ known. ready (g.ready known);
     tells = tells-on;
   }
 
@@ -192,19 +183,15 @@ pub goes : (w : Window) (p q : Seat) (before after : List SlotEvent) → HasGone
     → length after ≤ length before + 7
     → ((settings : Settings) (xs ys : List Sample) (commands : List TimedRequest)
     → StandsFor settings xs commands q.slot → 0 < length ys → length (xs ++ ys) ≡ end_of w
-    → Emits settings xs ys commands q.slot [])
-    → ((time reach : ℕ) → time ≤ end_of w → IsSound w time reach q.slot
-    → IsSound w (end_of w) reach q.slot) → SeatGoes w p q before after
+    → Emits settings xs ys commands q.slot []) → SeatGoes w p q before after
 unfolding at_each_sample
-goes w p q before after g few quiet rests = record {
+goes w p q before after g few quiet = record {
   events = g.events;
   client = g.client;
   number = g.number;
   few = few;
   added = g.added;
-  sound = λ time reach early known.
-      let come = g.sound time reach early known in
-      rests come.time reach come.within come.sound;
+  ready = g.ready;
   tells = λ settings xs ys commands now over s. by_rest settings xs ys commands now
       (g.tells settings xs ys commands now over s);
 }

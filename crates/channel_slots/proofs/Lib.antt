@@ -17,7 +17,6 @@ pub mod SeatLemmas
 pub mod SettledLemmas
 pub mod ShareLemmas
 pub mod SlotLemmas
-pub mod SoundLemmas
 pub mod StageLemmas
 pub mod StayLemmas
 pub mod SteeredLemmas

@@ -24,7 +24,7 @@ module _ (settings : Settings) (time : ℕ) (slot : Slot) where
     stands = λ xs commands now s. keeps-on settings xs commands slot s busy (begin start)
         (λ life. refl);
     refused = λ _. refl;
-    sound = λ first later sound. sound;
+    ready = λ held first early begun ready. ready;
     waits = λ before. before;
   }
 
@@ -39,7 +39,7 @@ module _ (settings : Settings) (time : ℕ) (slot : Slot) where
     stands = λ xs commands now s. stays-idle settings xs commands slot s idle w
         (same _ (length xs));
     refused = λ _. refl;
-    sound = λ first later sound. sound;
+    ready = λ held first early begun ready. ready;
     waits = λ before. before;
   }
 
@@ -57,6 +57,6 @@ module _ (settings : Settings) (time : ℕ) (slot : Slot) where
         (λ on. all-to-print settings xs _ new.stage new.unprinted follows on refl none)
         (omega arith);
     refused = λ refusal. absurd refusal;
-    sound = λ first later sound. b.sound first later;
+    ready = λ held first early begun ready. b.ready held first early begun;
     waits = λ before. b.waits;
   }

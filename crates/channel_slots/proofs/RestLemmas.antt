@@ -2,21 +2,18 @@
 use Rattle.std.proofs.Common.{◌≡◌, ◌≤◌, ◌<◌, ◌+◌, ℕ, List, [], ◌∷◌, length}
 use Rattle.std.proofs.Common.{refl, arith, true, take, slice_set}
 use Rattle.std.proofs.lemmas.List.{take_more_set}
-use Rattle.std.specs.Prelude.{nat_le}
-use Rattle.std.proofs.lemmas.Bool.{le-leb, leb-true, and_parts}
 use Rattle.channel_slots.specs.declared.seat.Seat.{Seat}
 use Rattle.channel_slots.specs.declared.stage.Stage.{Stage}
 use Rattle.channel_slots.specs.declared.stage.Stage.TheVariants.{Idle, Searching, Following}
 use Rattle.channel_slots.specs.Stages as stages
 use Rattle.channel_slots.specs.Slots.{next_event}
-use Rattle.channel_slots.specs.Banks.{AllIdle, AllRest, RunsAll, SeatGoes, all_rest}
+use Rattle.channel_slots.specs.Banks.{AllIdle, AllRest, RunsAll, SeatGoes}
 use Rattle.channel_slots.specs.declared.slot.TheConstants.{NEVER}
 use Rattle.channels.specs.declared.window.Window.{Window}
 use Rattle.channels.specs.Windows.{end_of}
 use Rattle.slot_protocol.specs.declared.event.SlotEvent.{SlotEvent}
 use Rattle.channel_slots.proofs.GoesLemmas.{begins, goes}
 use Rattle.channel_slots.proofs.QuietSlotLemmas.{quiet-before-next}
-use Rattle.channel_slots.proofs.ReadyLemmas.{sound-later}
 use Rattle.channel_slots.proofs.SeatLemmas.{all_push}
 
 -- up to fewer samples they rest too
@@ -35,26 +32,13 @@ rests-more next sooner qs i q within less own rest =
     (all_push (λ (p : Seat). sooner ≤ next_event p.slot) (take i qs) q
     (rest-earlier next sooner (take i qs) less rest) own)
 
--- by the test and by the facts
-pub rest-tested : (next : ℕ) (ps : List Seat) → AllRest next ps → all_rest next ps ≡ true
-rest-tested next [] rest = refl
-rest-tested next (p ∷ ps) rest =
-    rw (le-leb next (next_event p.slot) rest.0) (rest-tested next ps rest.1)
-
-pub all-rest : (next : ℕ) (ps : List Seat) → all_rest next ps ≡ true → AllRest next ps
-all-rest next [] test = tt
-all-rest next (p ∷ ps) test =
-    let parts = and_parts (nat_le next (next_event p.slot)) _ test in
-    (leb-true next (next_event p.slot) parts.0, all-rest next ps parts.1)
-
 -- idle ones have nothing to do
-pub idle-rest : (ps : List Seat) → AllIdle ps → all_rest NEVER ps ≡ true
-idle-rest [] idle = refl
-idle-rest (p ∷ ps) idle = rw (by_stage p.slot.stage idle.0) (idle-rest ps idle.1)
+pub idle-rest : (ps : List Seat) → AllIdle ps → AllRest NEVER ps
+idle-rest [] idle = tt
+idle-rest (p ∷ ps) idle = (by_stage p.slot.stage idle.0, idle-rest ps idle.1)
   where
-    by_stage : (stage : Stage) → stages.is_idle stage ≡ true
-        → nat_le NEVER (stages.next_event stage) ≡ true
-    by_stage Idle e = le-leb NEVER NEVER (omega arith)
+    by_stage : (stage : Stage) → stages.is_idle stage ≡ true → NEVER ≤ stages.next_event stage
+    by_stage Idle e = omega arith
     by_stage (Searching s) e = cc
     by_stage (Following f) e = cc
 
@@ -65,7 +49,6 @@ seat-rests w p before early =
     goes w p p before before (begins w p before) (omega arith)
     (λ settings xs ys commands s some now.
     quiet-before-next settings xs ys commands p.slot s some (omega (arith, now, early)))
-    (λ time reach within known. sound-later w time (end_of w) reach p.slot within early known)
 
 -- all of them
 pub all-rest-runs : (w : Window) (next : ℕ) (ps : List Seat) (events : List SlotEvent)

@@ -1,16 +1,14 @@
 -- What is known of slots stays so while their samples wait.
 use Rattle.std.proofs.Common.{◌≡◌, ◌≤◌, ◌<◌, ℕ, List, ◌++◌, length, refl}
 use Rattle.std.proofs.Common.{sym, ap, subst, ◌∙◌, arith}
-use Rattle.std.proofs.Common.{true}
-use Rattle.std.specs.Prelude.{nat_le, Option, Some, None, IfSome, IsNone}
+use Rattle.std.specs.Prelude.{Option, Some, None, IfSome, IsNone}
 use Rattle.definitions.specs.Samples.{Sample}
 use Rattle.definitions.specs.Oscillators.{Settings}
 use Rattle.definitions.specs.Commands.{TimedRequest}
+use Rattle.channels.specs.declared.window.Window.{Window}
 use Rattle.sample_history.specs.declared.history.SampleHistory.{SampleHistory}
 use Rattle.sample_history.specs.Histories as histories
-use Rattle.channels.specs.declared.window.Window.{Window}
 use Rattle.channels.specs.Windows.{IsSame, end_of, first_of, history_of}
-use Rattle.channels.specs.Searching as searched
 use Rattle.channels.proofs.SearchedLemmas as searches
 use Rattle.channel_slots.specs.declared.slot.Slot.{Slot}
 use Rattle.channel_slots.specs.declared.stage.Stage.{Stage}
@@ -18,7 +16,7 @@ use Rattle.channel_slots.specs.declared.stage.Stage.TheVariants.{Idle, Searching
 use Rattle.channel_slots.specs.Stages as stages
 use Rattle.channel_slots.specs.declared.slot_news.SlotNews.{SlotNews}
 use Rattle.channel_slots.specs.NewsEvents.{time_of, time_after}
-use Rattle.channel_slots.specs.Slots.{StandsFor, IsSound, next_event}
+use Rattle.channel_slots.specs.Slots.{StandsFor, IsReady, IsReadyIn, next_event}
 use Rattle.channel_slots.specs.declared.seat.Seat.{Seat}
 use Rattle.channel_slots.specs.Banks.{SeatGoes, SeatPasses}
 use Rattle.slot_protocol.specs.declared.event.SlotEvent.{SlotEvent}
@@ -34,22 +32,14 @@ same-again a b c s t = record {
 }
 
 -- over a window with the same samples open
-pub sound-as : (a b : Window) (time reach : ℕ) (slot : Slot) → first_of b ≡ first_of a
-    → history_of b ≡ history_of a → IsSound a time reach slot → IsSound b time reach slot
-sound-as a b time reach slot first history sound = by_stage slot.stage sound
-  where
-    by_stage : (stage : Stage) → stages.IsSound a time reach stage
-        → stages.IsSound b time reach stage
-    by_stage Idle sound = sound
-    by_stage (Searching s) sound = (
-      subst (λ (n : ℕ). stages.is_sound n time reach (Searching s) ≡ true) (sym first) sound.0,
-      subst (λ (h : SampleHistory). nat_le (histories.first_of h) (searched.start_of s) ≡ true)
-          (sym history) sound.1,
-    )
-    by_stage (Following f) sound = (
-      subst (λ (n : ℕ). stages.is_sound n time reach (Following f) ≡ true) (sym first) sound.0,
-      refl,
-    )
+pub ready-as : (a b : Window) (slot : Slot) → first_of b ≡ first_of a
+    → history_of b ≡ history_of a → IsReadyIn a (end_of a) slot
+    → IsReadyIn b (end_of b) slot
+ready-as a b slot first history ready =
+    subst (λ (h : SampleHistory). IsReady (histories.first_of h) (first_of b)
+    (histories.taken_of h) slot) (sym history)
+    (subst (λ (n : ℕ). IsReady (histories.first_of (history_of a)) n (end_of a) slot)
+    (sym first) ready)
 
 -- what has come has come before the next event
 stage-before : (settings : Settings) (xs : List Sample) (commands : List TimedRequest)
@@ -82,10 +72,9 @@ goes-as a b p q before after same g = record {
   number = g.number;
   few = g.few;
   added = g.added;
-  sound = λ time reach early known.
-      rw same.end at (sound-as b a (end_of b) reach q.slot (sym same.first) (sym same.history)
-      (g.sound time reach (omega (arith, early, same.end))
-      (sound-as a b time reach p.slot same.first same.history known)));
+  ready = λ known.
+      ready-as b a q.slot (sym same.first) (sym same.history)
+      (g.ready (ready-as a b p.slot same.first same.history known));
   tells = λ settings xs ys commands now over s.
       g.tells settings xs ys commands (now ∙ sym same.end) (over-same (xs ++ ys) a b same over) s;
 }
@@ -96,10 +85,10 @@ passes-as a b p q same g = record {
   client = g.client;
   number = g.number;
   next = g.next;
-  sound = λ reach known.
-      subst (λ (n : ℕ). stages.is_sound n n reach q.slot.stage ≡ true) same.end
-      (g.sound reach (subst (λ (n : ℕ). IsSound b n reach p.slot) (sym same.end)
-      (sound-as a b (end_of a) reach p.slot same.first same.history known)));
+  ready = λ known.
+      subst (λ (h : SampleHistory). IsReady (histories.first_of h) (histories.taken_of h)
+      (histories.taken_of h) q.slot) same.history
+      (g.ready (ready-as a b p.slot same.first same.history known));
   stands = λ settings xs commands now over s.
       g.stands settings xs commands (now ∙ sym same.end) (over-same xs a b same over) s;
 }

@@ -2,7 +2,7 @@
 use Rattle.std.proofs.Common.{◌≡◌, ℕ, ◌<◌, ◌≤◌, List, length, sym, ap, ◌∙◌, arith, inl, inr}
 use Rattle.std.specs.Prelude.{Bool, true, false, Option, None, IsSome, ◌↔◌, pos}
 use Rattle.std.specs.Option.{is_some}
-use Rattle.std.proofs.lemmas.Bool.{cases_lt, leb-true}
+use Rattle.std.proofs.lemmas.Bool.{cases_lt}
 use Rattle.std.proofs.lemmas.List.{get_or-take}
 use Rattle.definitions.specs.Samples.{Sample, sample_at, real}
 use Rattle.sample_planes.specs.Sources.{AreSamplesOf}
@@ -12,8 +12,6 @@ use Rattle.channels.specs.declared.searched.Searched.{Searched}
 use Rattle.channels.specs.declared.window.Window.{Window}
 use Rattle.channels.specs.Searching.{start_of}
 use Rattle.channels.specs.Windows.{IsOver, history_of}
-use Rattle.channel_slots.specs.declared.stage.Stage.TheVariants.{Searching}
-use Rattle.channel_slots.specs.Stages.{is_held}
 
 -- the samples that a window is over are in its history, from one on that it holds
 held-over : (xs : List Sample) (w : Window) (begun : ℕ) → IsOver xs w
@@ -28,11 +26,12 @@ held-over xs w begun over held n low high =
 
 -- and those from the first one of a dwell on, where it is found in the history
 pub dwell-over : (xs : List Sample) (w : Window) (h : SampleHistory) (s : Searched) (begun : ℕ)
-    → IsOver xs w → h ≡ history_of w → is_held w (Searching s) ≡ true → start_of s ≡ begun
+    → IsOver xs w → h ≡ history_of w → histories.first_of (history_of w) ≤ start_of s
+    → start_of s ≡ begun
     → AreSamplesOf xs begun (length xs) (histories.held_in h)
 dwell-over xs w h s begun over is held start =
     rw is (held-over xs w begun over
-    (omega (arith, start, leb-true (histories.first_of (history_of w)) (start_of s) held)))
+    (omega (arith, start, held)))
 
 -- where nothing came by a number it comes after it
 pub not-come : (b : Bool) (next to : ℕ) → (b ≡ true) ↔ (next ≤ to) → b ≡ false → to < next

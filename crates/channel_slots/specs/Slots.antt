@@ -9,6 +9,8 @@ use Rattle.definitions.specs.Commands.{TimedRequest, Request, Start}
 use Rattle.definitions.specs.Lives.{Life, life_of, life_now, dumps_of_life}
 use Rattle.definitions.specs.Events.{events_at_end, unprinted_count}
 use Rattle.channels.specs.declared.window.Window.{Window}
+use Rattle.channels.specs.Windows.{first_of, history_of}
+use Rattle.sample_history.specs.Histories as histories
 use Rattle.channel_slots.specs.declared.slot.Slot.{Slot}
 use Rattle.slot_protocol.specs.declared.event.Event.{Event}
 use Rattle.slot_protocol.specs.Events.{event_in}
@@ -16,7 +18,6 @@ use Rattle.slot_protocol.specs.declared.answer.Answer.{Answer}
 use Rattle.slot_protocol.specs.Answers.{answer_in, IsRefusal}
 use Rattle.channel_slots.specs.declared.stage.Stage.{Stage}
 use Rattle.channel_slots.specs.Stages as stages
-use Rattle.channel_slots.specs.Stages.{most_wait}
 
 -- whether it follows nothing
 abbrev pub is_idle : Slot → Bool
@@ -30,13 +31,13 @@ next_event slot = stages.next_event slot.stage
 abbrev pub chances : Slot → ℕ
 chances slot = stages.chance slot.stage
 
--- what is known of it at a time
-abbrev pub IsSound : Window → ℕ → ℕ → Slot → Type 0
-IsSound w time reach slot = stages.IsSound w time reach slot.stage
+-- it finds all that it looks at up to number `to`, where these are held, and these are open
+abbrev pub IsReady : ℕ → ℕ → ℕ → Slot → Type 0
+IsReady held first to slot = stages.IsReady held first to slot.stage
 
--- the same as a test, without the samples of a dwell
-abbrev pub is_sound : ℕ → ℕ → ℕ → Slot → Bool
-is_sound first time reach slot = stages.is_sound first time reach slot.stage
+-- so it does in a window
+abbrev pub IsReadyIn : Window → ℕ → Slot → Type 0
+IsReadyIn w to slot = IsReady (histories.first_of (history_of w)) (first_of w) to slot
 
 -- how many cells its search has done: none where it doesn't search
 abbrev pub cells_done_of : Slot → Option ℕ
@@ -81,12 +82,12 @@ pub record Emits (settings : Settings) (xs ys : List Sample) (commands : List Ti
 pub record BeginsAt (settings : Settings) (time : ℕ) (start : Start) (stage : Stage) : Type 0 where
   pub follows : (xs : List Sample) → length xs ≡ time
       → stages.Follows settings xs (first_life time start) stage
-  pub sound : (first : ℕ) → first ≤ time
-      → stages.is_sound first time (most_wait settings) stage ≡ true
+  pub ready : (held first : ℕ) → held ≤ time → first ≤ time
+      → stages.IsReady held first time stage
   pub waits : time < stages.next_event stage
 
 -- a slot took a request at this time, and answered it as the definition does; a refused one changes
--- nothing. What is known of the slot at this time still is, and its next event still comes later
+-- nothing. The slot still finds all that it looks at, and its next event still comes later
 pub record Obeys (settings : Settings) (time : ℕ) (request : Request) (old new : Slot)
     (answer : Answer) : Type 0 where
   pub answers : (xs : List Sample) (commands : List TimedRequest) → length xs ≡ time
@@ -97,7 +98,6 @@ pub record Obeys (settings : Settings) (time : ℕ) (request : Request) (old new
       → StandsFor settings xs (commands
       ++ record { time = length xs; request = request } ∷ []) new
   pub refused : IsRefusal answer → new ≡ old
-  pub sound : (first : ℕ) → first ≤ time
-      → is_sound first time (most_wait settings) old ≡ true
-      → is_sound first time (most_wait settings) new ≡ true
+  pub ready : (held first : ℕ) → held ≤ time → first ≤ time
+      → IsReady held first time old → IsReady held first time new
   pub waits : time < next_event old → time < next_event new

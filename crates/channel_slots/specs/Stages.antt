@@ -1,11 +1,11 @@
 -- What a stage follows over the samples so far.
-use Rattle.std.specs.Prelude.{◌≡◌, ◌<◌, ◌+◌, ◌*◌, ◌&&◌, nat_le, if◌then◌else◌, ℕ}
-use Rattle.std.specs.Prelude.{Bool, true, false, List, length, nat_lt, Option, Some, None}
+use Rattle.std.specs.Prelude.{◌≡◌, ◌≤◌, ◌<◌, ◌+◌, ◌*◌, if◌then◌else◌, ℕ, ⊤}
+use Rattle.std.specs.Coded.{×_prop, Unit-prop, le_prop}
+use Rattle.std.specs.Prelude.{Bool, true, false, List, length, Option, Some, None}
 use Rattle.definitions.specs.Samples.{Sample}
-use Rattle.definitions.specs.Oscillators.{Settings, samples_per_ms}
+use Rattle.definitions.specs.Oscillators.{Settings}
 use Rattle.acquisition.specs.declared.cell.Cell.{Cell}
 use Rattle.acquisition.specs.Cells.{cell_in}
-use Rattle.acquisition.specs.declared.plan.TheConstants.{MOST_DWELL, MOST_CELLS}
 use Rattle.definitions.specs.Segments.{Channel}
 use Rattle.definitions.specs.Acquisition.{Plan}
 use Rattle.definitions.specs.Commands.{acquire}
@@ -14,9 +14,6 @@ use Rattle.definitions.specs.Lives.{is_over, lost_after}
 use Rattle.tracking_loops.specs.declared.news.News.{News}
 use Rattle.channels.specs.declared.followed.Followed.{Followed}
 use Rattle.channels.specs.declared.searched.Searched.{Searched}
-use Rattle.channels.specs.declared.window.Window.{Window}
-use Rattle.channels.specs.Windows.{first_of, history_of}
-use Rattle.sample_history.specs.Histories as histories
 use Rattle.channels.specs.Searching as searched
 use Rattle.channels.specs.Searching.{Searches}
 use Rattle.channels.specs.Dumps.{is_loss}
@@ -58,33 +55,19 @@ chance Idle = 0
 chance (Searching s) = 1 + DUMP_EVENTS
 chance (Following f) = DUMP_EVENTS * followed.chance f
 
--- what is known of it at a time, as a test, where the samples from number `first` on are open: the
--- answer of one that searches isn't due yet, and comes no further than `reach` from its start; a
--- channel has had a dump a sample at most, and has taken all samples before the open ones, and
--- perhaps more, but not the next dump's
-abbrev pub is_sound : ℕ → ℕ → ℕ → Stage → Bool
-is_sound first time reach Idle = true
-is_sound first time reach (Searching s) =
-    nat_le first time && nat_lt time (searched.due_of s)
-    && nat_le (searched.due_of s) (searched.start_of s + reach)
-is_sound first time reach (Following f) =
-    nat_le (followed.dumps_of f) time && nat_le first (followed.at_of f)
-    && nat_le (followed.at_of f) time && nat_lt time (followed.next_dump f)
+-- it finds all that it looks at up to number `to`, where the samples from number `held` on are
+-- held, and those from number `first` on are open: one that searches its dwell, and what it finds
+-- the samples after it, and a channel those that it hasn't taken
+abbrev pub IsReady : ℕ → ℕ → ℕ → Stage → Type 0
+IsReady held first to Idle = ⊤
+IsReady held first to (Searching s) =
+    (held ≤ searched.start_of s) × (first ≤ searched.due_of s)
+IsReady held first to (Following f) = (first ≤ followed.at_of f) × (followed.at_of f ≤ to)
 
--- and one that searches finds its dwell in the history
-abbrev pub is_held : Window → Stage → Bool
-is_held w Idle = true
-is_held w (Searching s) = nat_le (histories.first_of (history_of w)) (searched.start_of s)
-is_held w (Following f) = true
-
--- both, over a window
-abbrev pub IsSound : Window → ℕ → ℕ → Stage → Type 0
-IsSound w time reach stage =
-    (is_sound (first_of w) time reach stage ≡ true) × (is_held w stage ≡ true)
-
--- how far the due time of an acquisition may be from its start
-abbrev pub most_wait : Settings → ℕ
-most_wait settings = MOST_DWELL * samples_per_ms settings + 4 * MOST_CELLS
+pub IsReady-prop : (held first to : ℕ) (stage : Stage) → IsProp (IsReady held first to stage)
+IsReady-prop held first to Idle = Unit-prop
+IsReady-prop held first to (Searching s) = ×_prop le_prop le_prop
+IsReady-prop held first to (Following f) = ×_prop le_prop le_prop
 
 -- what a slot follows after a dump with this news of the lock: nothing where the signal is lost
 abbrev pub after_dump : News → Stage → Stage

@@ -1,8 +1,8 @@
 //! A seat of a bank: a slot, with whose it is.
 
-ghost use Rattle.std.specs.Prelude.{◌≤◌, ◌<◌, ◌+◌, ◌*◌, ℕ};
+ghost use Rattle.std.specs.Prelude.{◌≤◌, ◌<◌, ◌+◌, ◌*◌};
 ghost use Rattle.channel_slots.specs.Banks.{SeatGoes};
-ghost use Rattle.channel_slots.specs.Slots.{IsSound, next_event};
+ghost use Rattle.channel_slots.specs.Slots.{IsReadyIn, next_event};
 ghost use Rattle.channel_slots.specs.Timelines.{count_of, events_in};
 ghost use Rattle.channel_slots.specs.declared.slot.TheConstants.{SLOT_EVENTS};
 ghost use Rattle.channel_slots.specs.declared.timeline.TheConstants.{RUN_EVENTS};
@@ -26,8 +26,7 @@ impl Seat {
     /// Goes to the last event of the slot that comes within a window, and puts all of them by time.
     /// The samples after it wait.
     pub fn run(&mut self, window: &mut Window, book: &mut CodeBook, timeline: &mut Timeline)
-        requires sound { (time reach : ℕ) × (time ≤ end_of window.old)
-            × IsSound window.old time reach self.old.slot }
+        requires ready { IsReadyIn window.old (end_of window.old) self.old.slot }
         requires fits { count_of timeline.old + 2 * SLOT_EVENTS ≤ RUN_EVENTS }
         ensures goes { SeatGoes window.old self.old self.new (events_in timeline.old)
             (events_in timeline.new) }

@@ -6,7 +6,7 @@ ghost use Rattle.std.specs.List.{AllByRecursion};
 ghost use Rattle.definitions.specs.Banks.{layout};
 ghost use Rattle.slot_protocol.specs.declared.command.TheConstants.{MOST_SLOTS};
 ghost use Rattle.channels.specs.Windows.{IsSame, end_of};
-ghost use Rattle.channel_slots.specs.Banks.{keys_of, AllSound, AllRest, RunsAll, PassAll};
+ghost use Rattle.channel_slots.specs.Banks.{keys_of, AllReady, AllRest, RunsAll, PassAll};
 ghost use Rattle.channel_slots.specs.Banks.{total, AddsIdle, AllIdle};
 ghost use Rattle.channel_slots.specs.Timelines.{count_of, events_in};
 ghost use Rattle.channel_slots.specs.declared.seats.TheConstants.{MOST_CLIENTS};
@@ -78,8 +78,7 @@ pub fn run_all(
     next_event: u64,
     timeline: &mut Timeline,
 ) -> u64
-    requires sound { (time reach : ℕ) × (time ≤ end_of window.old)
-        × AllSound window.old time reach seats.old }
+    requires ready { AllReady window.old seats.old }
     requires rest { AllRest next_event seats.old }
     requires fits { count_of timeline.old + SLOT_EVENTS * (length seats.old + 1) ≤ RUN_EVENTS }
     ensures runs { RunsAll window.old seats.old seats.new (events_in timeline.old)
@@ -101,7 +100,7 @@ pub fn run_all(
 
 /// Each slot takes the samples of a window that wait, none of which brings anything.
 pub fn pass_all(seats: &mut [Seat], window: &mut Window, book: &mut CodeBook)
-    requires sound { (reach : ℕ) × AllSound window.old (end_of window.old) reach seats.old }
+    requires ready { AllReady window.old seats.old }
     requires rest { (next : ℕ) × (end_of window.old < next) × AllRest next seats.old }
     ensures passes { PassAll window.old seats.old seats.new }
     ensures same { IsSame window.old window.new }

@@ -45,20 +45,20 @@ impl Slot {
     ghost use Rattle.definitions.specs.Commands.{acquire};
     ghost use Rattle.definitions.specs.Answers.{answer_at_end};
     ghost use Rattle.acquisition.specs.declared.dwell.TheConstants.{MOST_START};
-    ghost use Rattle.channels.specs.Windows.{IsOver, IsSame, end_of, dump_of};
+    ghost use Rattle.sample_history.specs.Histories.{first_of};
+    ghost use Rattle.channels.specs.Windows.{IsOver, IsSame, end_of, dump_of, history_of};
     ghost use Rattle.channels.specs.Searching.{plan_of};
     ghost use Rattle.slot_protocol.specs.Commands.{request_in};
     ghost use Rattle.channel_slots.specs.NewsEvents.{events_of, events_with, time_of, time_after};
     ghost use Rattle.channel_slots.specs.Stages.{after_dump, IsSettled};
     ghost use Rattle.channel_slots.specs.declared.stage.Stage.TheVariants as variants;
-    ghost use Rattle.channel_slots.specs.Slots.{StandsFor, Emits, IsSound, is_sound, chances};
+    ghost use Rattle.channel_slots.specs.Slots.{StandsFor, Emits, IsReady, IsReadyIn, chances};
     ghost use Rattle.channel_slots.specs.Slots.{is_idle, next_event, cells_done_of, BeginsAt};
     ghost use Rattle.channel_slots.specs.Slots.{Obeys};
 
     /// A slot that was never asked for anything, with the room for its searches.
     pub fn new(room: SearchRoom) -> Slot
         ensures stands { (settings : DefinedSettings) → StandsFor settings [] [] result }
-        ensures sound { (first time reach : ℕ) → is_sound first time reach result ≡ true }
         ensures idle { is_idle result ≡ true }
     {
         Slot {
@@ -89,7 +89,7 @@ impl Slot {
     pub fn take(&mut self, to: u64, window: &mut Window, book: &mut CodeBook) -> Option<SlotNews>
         requires early { to ≤ MOST_TIME }
         requires taken { to ≤ end_of window.old }
-        requires sound { (time reach : ℕ) × (time ≤ to) × IsSound window.old time reach self.old }
+        requires ready { IsReadyIn window.old to self.old }
         ensures emits { (settings : DefinedSettings) (xs ys : List Sample)
             (commands : List TimedRequest) → 0 < length ys
             → length (xs ++ ys) ≡ time_after to result → IsOver (xs ++ ys) window.old
@@ -100,10 +100,9 @@ impl Slot {
             → StandsFor settings xs commands self.old → StandsFor settings xs commands self.new }
         ensures chances { IfSome result (λ news. chances self.new
             + length (events_with news (dump_of window.new)) ≤ chances self.old) }
-        ensures sound { (time reach : ℕ) → IsSound window.old time reach self.old
-            → IsSound window.new (time_after to result) reach self.new }
-        ensures all_taken { (time reach : ℕ) → IsSound window.old time reach self.old
-            → IsNone result → is_sound to to reach self.new ≡ true }
+        ensures ready { IsReadyIn window.old to self.new }
+        ensures all_taken { IsNone result
+            → IsReady (first_of (history_of window.old)) to to self.new }
         ensures later { IfSome result (λ news. next_event self.old ≤ time_of news) }
         ensures goes_on { time_after to result < next_event self.new }
         ensures waits { to < next_event self.old → next_event self.new ≡ next_event self.old }

@@ -45,7 +45,6 @@ is_steered f = is_some f.tracking
 -- one that begins after so many samples, steered by loops or not
 pub record HasBegun (time : ℕ) (steered : Bool) (f : Followed) : Type 0 where
   pub at : at_of f ≡ time
-  pub dumps : dumps_of f ≡ 0
   pub steered_is : is_steered f ≡ steered
 
 -- the sums of its dumps

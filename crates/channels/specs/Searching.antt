@@ -1,10 +1,9 @@
 -- What a satellite that is searched for stands for: an acquisition over the samples so far.
 use Rattle.std.specs.Prelude.{◌≡◌, ◌≤◌, ◌<◌, ◌+◌, ◌*◌, ℕ, List, length, min, Option, Some, None}
 use Rattle.definitions.specs.Samples.{Sample}
-use Rattle.definitions.specs.Oscillators.{Settings, samples_per_ms}
+use Rattle.definitions.specs.Oscillators.{Settings}
 use Rattle.definitions.specs.Acquisition.{Plan, cell_count, cells_done, due_time, result_of}
 use Rattle.acquisition.specs.declared.cell.Cell.{Cell}
-use Rattle.acquisition.specs.declared.plan.TheConstants.{MOST_DWELL, MOST_CELLS}
 use Rattle.acquisition.specs.Cells.{cell_in}
 use Rattle.acquisition.specs.Searches as searches
 use Rattle.channels.specs.declared.searched.Searched.{Searched}
@@ -35,7 +34,6 @@ pub record Begins (settings : Settings) (plan : Plan) (start : ℕ) (s : Searche
   pub none : done_of s ≡ 0
   pub due : due_of s ≡ due_time settings plan start
   pub waits : start < due_of s
-  pub near : due_of s ≤ start + (MOST_DWELL * samples_per_ms settings + 4 * MOST_CELLS)
 
 -- a source of the samples from one on up to another has all that it looks at up to number `most`
 pub record IsReady (first end most : ℕ) (s : Searched) : Type 0 where

@@ -23,6 +23,7 @@ pub struct Followed {
     dumps: u64,
     tracking: Option<Tracking>,
     ghost counted: { ForSome tracking (λ s. dump_count s ≡ dumps) },
+    ghost few: { dumps ≤ follower.at },
 }
 
 impl Followed {
@@ -33,7 +34,7 @@ impl Followed {
     ghost use Rattle.definitions.specs.Segments.{Channel};
     ghost use Rattle.definitions.specs.Lives.{held_channel, tracked_channel, doppler_shift};
     ghost use Rattle.channels.specs.Dumps.{dump_if};
-    ghost use Rattle.channels.specs.Following.{BeginsAfter, how_many};
+    ghost use Rattle.channels.specs.Following.{BeginsAfter};
     ghost use Rattle.channels.specs.FollowedChannels.{Follows, Takes, HasBegun, IsSteeredFrom};
     ghost use Rattle.channels.specs.FollowedChannels.{prn_of, dumps_of, at_of, next_dump};
     ghost use Rattle.channels.specs.FollowedChannels.{chance, tracking_of, is_steered};
@@ -124,10 +125,9 @@ impl Followed {
     /// any book of codes.
     pub fn take(&mut self, to: u64, window: &mut Window, book: &mut CodeBook) -> bool
         requires begun { at_of self.old ≤ to }
-        requires early { to ≤ MOST_TAKEN }
+        requires early { to ≤ MOST_STEERED_DUMPS }
         requires open { first_of window.old ≤ at_of self.old }
         requires taken { to ≤ end_of window.old }
-        requires few { next_dump self.old ≤ to → dumps_of self.old < MOST_STEERED_DUMPS }
         ensures at { at_of self.new ≡ min to (next_dump self.old) }
         ensures came { (result ≡ true) ↔ (next_dump self.old ≤ to) }
         ensures steered { is_steered self.new ≡ is_steered self.old }
@@ -135,8 +135,6 @@ impl Followed {
             → length (xs ++ ys) ≡ min to (next_dump self.old) → IsOver (xs ++ ys) window.old
             → Follows settings channel xs self.old
             → Takes settings channel xs ys self.new (dump_if result (dump_of window.new)) }
-        ensures dumps { dumps_of self.new
-            ≡ dumps_of self.old + how_many (dump_if result (dump_of window.new)) }
         ensures chance { result ≡ true → chance self.new + 1 ≤ chance self.old }
         ensures waits { result ≡ false → next_dump self.new ≡ next_dump self.old }
         ensures kept { result ≡ false → dump_of window.new ≡ dump_of window.old }

@@ -45,6 +45,6 @@ pub use dump::Dump;
 pub use followed::Followed;
 pub use follower::{Follower, MOST_TAKEN};
 pub use locked_message::LockedMessage;
-pub use searched::Searched;
+pub use searched::{MOST_WAIT, Searched};
 pub use tracking::Tracking;
 pub use window::Window;

@@ -1,13 +1,19 @@
 //! A satellite that is searched for.
 
-ghost use Rattle.std.specs.Prelude.{◌≡◌, ◌≤◌, ◌<◌, ℕ};
+ghost use Rattle.std.specs.Prelude.{◌≡◌, ◌≤◌, ◌<◌, ◌+◌, ◌*◌, ℕ};
+ghost use Rattle.acquisition.specs.Searches.{start_of, end_of};
 ghost use Rattle.acquisition.specs.declared.dwell.TheConstants.{MOST_START};
+ghost use Rattle.channels.specs.declared.searched.TheConstants.{MOST_WAIT};
+ghost use Rattle.definitions.specs.Acquisition.{cell_count};
 
 use crate::followed::Followed;
-use acquisition::{Cell, Plan, Search, SearchRoom};
+use acquisition::{Cell, MOST_CELLS, MOST_DWELL, Plan, Search, SearchRoom};
 use ca_codes::{CodeBook, Prn};
-use oscillators::Settings;
+use oscillators::{MOST_PER_MS, Settings};
 use sample_planes::SampleSource;
+
+/// The most samples from the first of a search to the time of its answer, whatever the settings.
+pub const MOST_WAIT: u64 = MOST_DWELL as u64 * MOST_PER_MS as u64 + 4 * MOST_CELLS;
 
 /// A satellite that is searched for from a sample on. One more cell of its plan is done with every
 /// four samples after the dwell, so that its answer is due at a sample that depends on the plan
@@ -16,6 +22,7 @@ use sample_planes::SampleSource;
 pub struct Searched {
     settings: Settings,
     search: Search,
+    ghost near: { end_of search + 4 * cell_count search.plan ≤ start_of search + MOST_WAIT },
 }
 
 impl Searched {
@@ -23,7 +30,7 @@ impl Searched {
     ghost use Rattle.std.specs.Prelude.{unsigned_abs};
     ghost use Rattle.definitions.specs.Samples.{Sample};
     ghost use Rattle.definitions.specs.Oscillators.{Settings as DefinedSettings};
-    ghost use Rattle.definitions.specs.Acquisition.{Plan as DefinedPlan, cell_count, due_time};
+    ghost use Rattle.definitions.specs.Acquisition.{Plan as DefinedPlan, due_time};
     ghost use Rattle.definitions.specs.Lives.{found_channel};
     ghost use Rattle.acquisition.specs.Cells.{cell_in};
     ghost use Rattle.sample_planes.specs.Sources.{AreSamplesOf};

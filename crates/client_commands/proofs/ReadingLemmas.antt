@@ -15,25 +15,28 @@ use Rattle.definitions.specs.Scripts.{value_in, values_in, with_value, meant, co
 use Rattle.client_commands.specs.declared.refusal.LineRefusal.{LineRefusal}
 use Rattle.client_commands.specs.declared.refusal.LineRefusal.TheVariants.{NotANumber, OutOfRange}
 use Rattle.client_commands.specs.Entries.{number_of}
-use Rattle.client_commands.specs.Reading.{integer_alone, number_alone}
+use Rattle.client_commands.specs.Reading.{with_integer, with_number}
 
-first_word : (range : Range) (words : List (List ℕ)) → 0 < length words
-    → values_in (range ∷ []) words ≡ value_in range (signed_number_in (get_or words 0 [])) (Ok [])
+first_word : (range : Range) (ranges : List Range) (words : List (List ℕ)) → 0 < length words
+    → values_in (range ∷ ranges) words
+    ≡ value_in range (signed_number_in (get_or words 0 [])) (values_in ranges (drop 1 words))
 unfolding values_in
-first_word range [] some = absurd (omega arith)
-first_word range (word ∷ words) some = refl
+first_word range ranges [] some = absurd (omega arith)
+first_word range ranges (word ∷ words) some = refl
 
 none_refused : (range : Range) (o : Option ℤ) (refusal : LineRefusal)
-    → Err refusal ≡ ok_or o NotANumber → Err (number_of refusal) ≡ value_in range o (Ok [])
-none_refused range None refusal is = let e : refusal ≡ NotANumber = cc in rw e refl
-none_refused range (Some value) refusal is = cc
+    (others : Result (List ℤ) ℕ) → Err refusal ≡ ok_or o NotANumber
+    → value_in range o others ≡ Err (number_of refusal)
+none_refused range None refusal others is = let e : refusal ≡ NotANumber = cc in rw e refl
+none_refused range (Some value) refusal others is = cc
 
 -- a word that is no number
-pub no_number : (range : Range) (words : List (List ℕ)) (refusal : LineRefusal) → 0 < length words
+pub no_number : (range : Range) (ranges : List Range) (words : List (List ℕ))
+    (refusal : LineRefusal) → 0 < length words
     → Err refusal ≡ ok_or (signed_number_in (get_or words 0 [])) NotANumber
-    → Err (number_of refusal) ≡ values_in (range ∷ []) words
-no_number range words refusal some is = rw (first_word range words some)
-    (none_refused range (signed_number_in (get_or words 0 [])) refusal is)
+    → values_in (range ∷ ranges) words ≡ Err (number_of refusal)
+no_number range ranges words refusal some is = rw (first_word range ranges words some)
+    (none_refused range (signed_number_in (get_or words 0 [])) refusal _ is)
 
 found : (o : Option ℤ) (value : ℤ) → Ok value ≡ ok_or o NotANumber → o ≡ Some value
 found None value is = cc
@@ -54,26 +57,34 @@ neither true true value refused out = absurd (out (refl, refl))
 neither true false value refused out = refl
 neither false high value refused out = refl
 
-in_range : (range : Range) (value : ℤ) (r : Option ℤ) → SomeIff r (IsWithin range value) value
-    → integer_alone (ok_or r OutOfRange) ≡ value_in range (Some value) (Ok [])
-in_range range value None out = neither (int_le range.low value) (int_le value range.high) _ _
-    (λ both. out (int_le-holds range.low value both.0, int_le-holds value range.high both.1))
-in_range range value (Some other) (within, is) =
+in_range : (range : Range) (value : ℤ) (r : Option ℤ) (others : Result (List ℤ) ℕ)
+    → SomeIff r (IsWithin range value) value
+    → value_in range (Some value) others ≡ with_integer (ok_or r OutOfRange) others
+in_range range value None others out = sym (neither (int_le range.low value)
+    (int_le value range.high) _ _
+    (λ both. out (int_le-holds range.low value both.0, int_le-holds value range.high both.1)))
+in_range range value (Some other) others (within, is) =
     rw (int_le-true range.low value within.0, int_le-true value range.high within.1, is) refl
 
 -- an integer, which is in its range or not
-integer_read : (range : Range) (words : List (List ℕ)) (value : ℤ) (r : Option ℤ)
-    → 0 < length words → Ok value ≡ ok_or (signed_number_in (get_or words 0 [])) NotANumber
+integer_read : (range : Range) (ranges : List Range) (words left : List (List ℕ)) (value : ℤ)
+    (r : Option ℤ) → 0 < length words → left ≡ drop 1 words
+    → Ok value ≡ ok_or (signed_number_in (get_or words 0 [])) NotANumber
     → SomeIff r (IsWithin range value) value
-    → integer_alone (ok_or r OutOfRange) ≡ values_in (range ∷ []) words
-integer_read range words value r some is within =
-    rw (first_word range words some, found (signed_number_in (get_or words 0 [])) value is)
-    (in_range range value r within)
+    → values_in (range ∷ ranges) words
+    ≡ with_integer (ok_or r OutOfRange) (values_in ranges left)
+integer_read range ranges words left value r some next is within =
+    rw (
+      first_word range ranges words some,
+      next,
+      found (signed_number_in (get_or words 0 [])) value is,
+    ) (in_range range value r _ within)
 
-as_integer : (r : Option ℕ)
-    → number_alone (ok_or r OutOfRange) ≡ integer_alone (ok_or (option_map pos r) OutOfRange)
-as_integer None = refl
-as_integer (Some number) = refl
+as_integer : (r : Option ℕ) (others : Result (List ℤ) ℕ)
+    → with_integer (ok_or (option_map pos r) OutOfRange) others
+    ≡ with_number (ok_or r OutOfRange) others
+as_integer None others = refl
+as_integer (Some number) others = refl
 
 module _ {E : Type 0} where
   tried_number : (o : Result ℕ E) (value : ℤ) (r : Option ℕ) (P : ℕ → Type 0) (k low high : ℕ)
@@ -95,15 +106,16 @@ module _ {E : Type 0} where
 
   -- a number that is tried by its type, and then by its range
   pub number_tried : (o : Result ℕ E) (value : ℤ) (r : Option ℕ) (P : ℕ → Type 0) (k low high : ℕ)
-      (words : List (List ℕ)) → high < 2 ^ k
+      (words left : List (List ℕ)) → high < 2 ^ k
       → ((n : ℕ) → P n ↔ ((low ≤ n) × (n ≤ high))) → 0 < length words
-      → Ok value ≡ ok_or (signed_number_in (get_or words 0 [])) NotANumber
+      → left ≡ drop 1 words → Ok value ≡ ok_or (signed_number_in (get_or words 0 [])) NotANumber
       → OkIff o (FitsUnsignedBits k value) (unsigned_abs value)
       → MatchOption (result_ok o) (r ≡ None) (λ n. (IsSome r ↔ P n) × IfSome r (λ s. s ≡ n))
-      → number_alone (ok_or r OutOfRange) ≡ values_in (up_to low high ∷ []) words
-  number_tried o value r P k low high words room range some is typed ranged =
-      as_integer r ∙ integer_read (up_to low high) words value (option_map pos r) some is
-      (tried_number o value r P k low high room range typed ranged)
+      → (ranges : List Range) → values_in (up_to low high ∷ ranges) words
+      ≡ with_number (ok_or r OutOfRange) (values_in ranges left)
+  number_tried o value r P k low high words left room range some next is typed ranged ranges =
+      integer_read (up_to low high) ranges words left value (option_map pos r) some next is
+      (tried_number o value r P k low high room range typed ranged) ∙ as_integer r _
 
   tried_integer : (o : Result ℤ E) (value : ℤ) (r : Option ℤ) (w : Width) (size : ℕ)
       → (unsigned_abs value ≤ size → FitsSigned w value) → OkIff o (FitsSigned w value) value
@@ -120,41 +132,17 @@ module _ {E : Type 0} where
 
   -- an integer that is tried so
   pub integer_tried : (o : Result ℤ E) (value : ℤ) (r : Option ℤ) (w : Width) (size : ℕ)
-      (words : List (List ℕ)) → (unsigned_abs value ≤ size → FitsSigned w value)
-      → 0 < length words → Ok value ≡ ok_or (signed_number_in (get_or words 0 [])) NotANumber
+      (words left : List (List ℕ)) → (unsigned_abs value ≤ size → FitsSigned w value)
+      → 0 < length words → left ≡ drop 1 words → Ok value ≡ ok_or (signed_number_in (get_or words 0
+      [])) NotANumber
       → OkIff o (FitsSigned w value) value
       → MatchOption (result_ok o) (r ≡ None)
       (λ z. (IsSome r ↔ (unsigned_abs z ≤ size)) × IfSome r (λ s. s ≡ z))
-      → integer_alone (ok_or r OutOfRange) ≡ values_in (around_zero size ∷ []) words
-  integer_tried o value r w size words room some is typed ranged =
-      integer_read (around_zero size) words value r some is
+      → (ranges : List Range) → values_in (around_zero size ∷ ranges) words
+      ≡ with_integer (ok_or r OutOfRange) (values_in ranges left)
+  integer_tried o value r w size words left room some next is typed ranged ranges =
+      integer_read (around_zero size) ranges words left value r some next is
       (tried_integer o value r w size room typed ranged)
-
--- ---- the values of all words, one after the other
-refused_before : (range : Range) (value : Option ℤ) (refusal : ℕ) (others : Result (List ℤ) ℕ)
-    → Err refusal ≡ value_in range value (Ok []) → Err refusal ≡ value_in range value others
-refused_before range None refusal others is = is
-refused_before range (Some value) refusal others is =
-    by_range (int_le range.low value && int_le value range.high) (Err 8) is
-  where
-    by_range : (within : Bool) (out : Result (List ℤ) ℕ)
-        → Err refusal ≡ (if within then Ok (value ∷ []) else out)
-        → Err refusal ≡ (if within then with_value value others else out)
-    by_range true out is = cc
-    by_range false out is = is
-
-taken_before : (range : Range) (number : Option ℤ) (value : ℤ) (others : Result (List ℤ) ℕ)
-    → Ok (value ∷ []) ≡ value_in range number (Ok [])
-    → with_value value others ≡ value_in range number others
-taken_before range None value others is = cc
-taken_before range (Some number) value others is =
-    by_range (int_le range.low number && int_le number range.high) 8 is
-  where
-    by_range : (within : Bool) (refusal : ℕ)
-        → Ok (value ∷ []) ≡ (if within then Ok (number ∷ []) else Err refusal)
-        → with_value value others ≡ (if within then with_value number others else Err refusal)
-    by_range true refusal is = let e : value ≡ number = cc in rw e refl
-    by_range false refusal is = cc
 
 -- a refusal that is passed on
 pub passed_on : {T : Type 0} (r : Result T LineRefusal) {refusal : LineRefusal}
@@ -162,54 +150,25 @@ pub passed_on : {T : Type 0} (r : Result T LineRefusal) {refusal : LineRefusal}
 passed_on (Ok value) is = absurd is
 passed_on (Err other) is = ap Err is
 
--- a word that is refused, whatever follows it
-pub refused_first : (range : Range) (ranges : List Range) (words : List (List ℕ)) {refusal : ℕ}
-    → length words ≡ length (range ∷ ranges) → Err refusal ≡ values_in (range ∷ []) words
-    → Err refusal ≡ values_in (range ∷ ranges) words
-unfolding values_in
-refused_first range ranges [] all is = absurd (omega arith)
-refused_first range ranges (word ∷ words) {refusal = refusal} all is =
-    refused_before range (signed_number_in word) refusal (values_in ranges words) is
-
--- a word that gives its value, before the others
-pub taken_first : (range : Range) (ranges : List Range) (words : List (List ℕ))
-    {left : List (List ℕ)} {value : ℤ} {values : Result (List ℤ) ℕ}
-    → length words ≡ length (range ∷ ranges)
-    → Ok (value ∷ []) ≡ values_in (range ∷ []) words → left ≡ drop 1 words
-    → (length left ≡ length ranges → values ≡ values_in ranges left)
-    → with_value value values ≡ values_in (range ∷ ranges) words
-unfolding values_in
-taken_first range ranges [] all is next others = absurd (omega arith)
-taken_first range ranges (word ∷ words) {value = value} all is next others =
-    rw (others (rw next (omega (arith, all))), next)
-    (taken_before range (signed_number_in word) value (values_in ranges words) is)
-
 -- a slot that is refused
 pub no_slot : (verb : Verb) (share count : ℕ) (line words : List (List ℕ)) (refusal : ℕ)
     → count ≡ length verb.ranges + 1 → (length line ≡ count) × (words ≡ line)
-    → Err refusal ≡ values_in (up_to 0 (share - 1) ∷ []) words
+    → values_in (up_to 0 (share - 1) ∷ verb.ranges) words ≡ Err refusal
     → Err refusal ≡ command_with share (Some verb) line
 no_slot verb share count line words refusal all is refused =
     let whole : length line ≡ length verb.ranges + 1 = omega (arith, is) in
-    let many : length words ≡ length (up_to 0 (share - 1) ∷ verb.ranges) =
-    rw is.1 (omega (arith, whole)) in
     rw (eq-eqb (length line) (length verb.ranges + 1) whole, sym is.1)
-    (ap (meant verb) (refused_first (up_to 0 (share - 1)) verb.ranges words many refused))
+    (ap (meant verb) (sym refused))
 
 -- what a verb asks of a slot with the words after it
 pub asked : (verb : Verb) (share count : ℕ) (line words left : List (List ℕ)) (slot : ℕ)
     (values : Result (List ℤ) ℕ) → count ≡ length verb.ranges + 1
     → (length line ≡ count) × (words ≡ line)
-    → Ok (pos slot ∷ []) ≡ values_in (up_to 0 (share - 1) ∷ []) words → left ≡ drop 1 words
-    → (length left ≡ length verb.ranges → values ≡ values_in verb.ranges left)
+    → values_in (up_to 0 (share - 1) ∷ verb.ranges) words
+    ≡ with_value (pos slot) (values_in verb.ranges left)
+    → values ≡ values_in verb.ranges left
     → meant verb (with_value (pos slot) values) ≡ command_with share (Some verb) line
-asked verb share count line words left slot values all is named next read =
+asked verb share count line words left slot values all is named read =
     let whole : length line ≡ length verb.ranges + 1 = omega (arith, is) in
-    let many : length words ≡ length (up_to 0 (share - 1) ∷ verb.ranges) =
-    rw is.1 (omega (arith, whole)) in
     rw (eq-eqb (length line) (length verb.ranges + 1) whole, sym is.1)
-    (ap (meant verb) (taken_first (up_to 0 (share - 1)) verb.ranges words many named next read))
-
-pub none_left : (words : List (List ℕ)) → Ok [] ≡ values_in [] words
-unfolding values_in
-none_left words = refl
+    (ap (meant verb) (ap (with_value (pos slot)) read ∙ sym named))

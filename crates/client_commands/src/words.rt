@@ -83,10 +83,10 @@ impl<'a> Model for Words<'a> {
 
 impl<'a> Words<'a> {
     ghost use Rattle.std.specs.Prelude.{drop, get_or, ok_or, unsigned_abs, OkIff, IfOk, IfErr};
-    ghost use Rattle.definitions.specs.Scripts.{up_to, values_in, satellites, doppler_shifts};
+    ghost use Rattle.definitions.specs.Scripts.{up_to, satellites, doppler_shifts};
     ghost use Rattle.definitions.specs.Scripts.{half_chips, centres, dump_counts};
     ghost use Rattle.definitions.specs.Scripts.{signed_number_in as defined_signed_number_in};
-    ghost use Rattle.client_commands.specs.Reading.{number_alone, integer_alone};
+    ghost use Rattle.client_commands.specs.Reading.{ReadsNumber, ReadsInteger};
     ghost use Rattle.client_commands.specs.declared.words.TheConstants.{MOST_WORDS};
     ghost use Rattle.client_commands.specs.declared.words.TheConstants.{MOST_SHOWN_DUMPS};
     ghost use Rattle.acquisition.specs.declared.plan.TheConstants.{MOST_CENTRE};
@@ -131,7 +131,7 @@ impl<'a> Words<'a> {
     /// The number that the next word writes, `low` to `high`.
     pub(crate) fn number_between(&mut self, low: u32, high: u32) -> Result<u32, LineRefusal>
         requires { 0 < length self.old }
-        ensures value { number_alone result ≡ values_in (up_to low high ∷ []) self.old }
+        ensures value { ReadsNumber (up_to low high) self.old result self.new }
         ensures range { IfOk result (λ number. (low ≤ number) × (number ≤ high)) }
         ensures left { self.new ≡ drop 1 self.old }
     {
@@ -146,7 +146,7 @@ impl<'a> Words<'a> {
         requires word { 0 < length self.old }
         requires some { 1 ≤ share }
         requires most { share ≤ MOST_SLOTS }
-        ensures value { number_alone result ≡ values_in (up_to 0 (share - 1) ∷ []) self.old }
+        ensures value { ReadsNumber (up_to 0 (share - 1)) self.old result self.new }
         ensures left { self.new ≡ drop 1 self.old }
     {
         let number = self.number_between(0, u32::from(share) - 1)?;
@@ -156,7 +156,7 @@ impl<'a> Words<'a> {
     /// The satellite that the next word names, 1 to 32.
     pub(crate) fn prn(&mut self) -> Result<Prn, LineRefusal>
         requires { 0 < length self.old }
-        ensures value { number_alone result ≡ values_in (satellites ∷ []) self.old }
+        ensures value { ReadsNumber satellites self.old result self.new }
         ensures left { self.new ≡ drop 1 self.old }
     {
         let number = u8::try_from(self.number()?).ok();
@@ -166,7 +166,7 @@ impl<'a> Words<'a> {
     /// The Doppler shift that the next word writes, -16,000 to 16,000 Hz.
     pub(crate) fn doppler(&mut self) -> Result<Doppler, LineRefusal>
         requires { 0 < length self.old }
-        ensures value { integer_alone result ≡ values_in (doppler_shifts ∷ []) self.old }
+        ensures value { ReadsInteger doppler_shifts self.old result self.new }
         ensures left { self.new ≡ drop 1 self.old }
     {
         let hz = i32::try_from(self.number()?).ok();
@@ -176,7 +176,7 @@ impl<'a> Words<'a> {
     /// The centre of a search that the next word writes, -6,000 to 6,000 Hz.
     pub(crate) fn centre(&mut self) -> Result<i32, LineRefusal>
         requires { 0 < length self.old }
-        ensures value { integer_alone result ≡ values_in (centres ∷ []) self.old }
+        ensures value { ReadsInteger centres self.old result self.new }
         ensures range { IfOk result (λ hz. unsigned_abs hz ≤ MOST_CENTRE) }
         ensures left { self.new ≡ drop 1 self.old }
     {
@@ -188,7 +188,7 @@ impl<'a> Words<'a> {
     /// The place in the code that the next word writes, 0 to 2,045 half chips.
     pub(crate) fn half_chip(&mut self) -> Result<HalfChip, LineRefusal>
         requires { 0 < length self.old }
-        ensures value { number_alone result ≡ values_in (half_chips ∷ []) self.old }
+        ensures value { ReadsNumber half_chips self.old result self.new }
         ensures left { self.new ≡ drop 1 self.old }
     {
         let half_chips = u16::try_from(self.number()?).ok();
@@ -200,7 +200,7 @@ impl<'a> Words<'a> {
     /// The number of dumps that the next word writes, 0 to `MOST_SHOWN_DUMPS`.
     pub(crate) fn dumps(&mut self) -> Result<u32, LineRefusal>
         requires { 0 < length self.old }
-        ensures value { number_alone result ≡ values_in (dump_counts ∷ []) self.old }
+        ensures value { ReadsNumber dump_counts self.old result self.new }
         ensures left { self.new ≡ drop 1 self.old }
     {
         self.number_between(0, MOST_SHOWN_DUMPS)

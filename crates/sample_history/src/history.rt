@@ -103,24 +103,6 @@ impl SampleHistory {
         self.taken += len as u64;
     }
 
-    /// Unpacks the samples `n` to `n + len - 1`, all of which it holds, into planes that are kept;
-    /// `len` is at most `MAX_SAMPLES`. Their bytes are put into `near`, which is kept too, so that
-    /// nothing is cleared first. Any bytes may be there before.
-    pub fn unpack_into(&self, n: u64, len: usize, near: &mut [u8; NEAR_BYTES], planes: &mut Planes)
-        requires first { first_of self.now ≤ n }
-        requires end { n + len ≤ taken_of self.now }
-        requires short { len ≤ MAX_SAMPLES }
-        ensures { planes.new ≡ map (held_in self.now) (range_with_len n len) }
-    {
-        let per_byte = self.format.per_byte();
-        let width = 8 / per_byte;
-        let place = (n - self.first()) as usize;
-        let start = place % per_byte;
-        let count = (width * (start + len) + 7) / 8;
-        self.put_bytes(place / per_byte, count, near);
-        planes.fill(self.format, near, start, len);
-    }
-
     /// Puts `count` of its bytes, from byte `from` of the ring on, at the start of `near`. The byte
     /// that isn't full comes after those of the ring.
     fn put_bytes(&self, from: usize, count: usize, near: &mut [u8])
@@ -161,5 +143,15 @@ impl SampleSource for SampleHistory {
         let mut planes = Planes::new();
         self.unpack_into(n, len, &mut [0; NEAR_BYTES], &mut planes);
         planes
+    }
+
+    fn unpack_into(&self, n: u64, len: usize, near: &mut [u8; NEAR_BYTES], planes: &mut Planes) {
+        let per_byte = self.format.per_byte();
+        let width = 8 / per_byte;
+        let place = (n - self.first()) as usize;
+        let start = place % per_byte;
+        let count = (width * (start + len) + 7) / 8;
+        self.put_bytes(place / per_byte, count, near);
+        planes.fill(self.format, near, start, len);
     }
 }

@@ -4,6 +4,7 @@ ghost use Rattle.std.specs.Prelude.{◌≡◌, ◌+◌, ◌-◌, ◌<◌, ◌^�
 ghost use Rattle.definitions.specs.Samples.{sample_at};
 ghost use Rattle.sample_planes.specs.Sources.{Numbered};
 
+use crate::layout::NEAR_BYTES;
 use crate::packed::PackedSamples;
 use crate::planes::Planes;
 use crate::source::SampleSource;
@@ -53,5 +54,11 @@ impl<'a> SampleSource for NumberedSamples<'a> {
 
     fn planes(&self, n: u64, len: usize) -> Planes {
         self.samples.part((n - self.first) as usize, len).unpack()
+    }
+
+    fn unpack_into(&self, n: u64, len: usize, _near: &mut [u8; NEAR_BYTES], planes: &mut Planes) {
+        self.samples
+            .part((n - self.first) as usize, len)
+            .unpack_into(planes);
     }
 }

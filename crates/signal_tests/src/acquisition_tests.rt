@@ -120,3 +120,31 @@ fn search_is_left_off_and_taken_up(rt: HostRuntime) {
     assert_same(rt, (search.due(), search.done()), (10_237, 0));
     assert_steps(rt, search, &source);
 }
+
+/// The powers of the cells of a plan with one bin, over 2,046 samples of a file from sample `start`
+/// on.
+fn powers_from(rt: &impl Abort, bytes: &[u8; 256], start: u64) -> [u64; BIN_CELLS]
+    requires early { start ≤ 2 }
+{
+    let source = NumberedSamples::new(PackedSamples::new(Format::Real1, bytes), 0);
+    let (plan, settings) = (short_plan(rt), real_settings(rt));
+    powers_of_bin(&plan, &settings, start, 0, &source, &mut CodeBook::new())
+}
+
+// The chips of a code add up to -1, and each has two samples: -4 in phase and 2 in quadrature.
+#[test]
+fn powers_of_equal_cells(rt: HostRuntime) {
+    let rt = &rt;
+    for power in powers_from(rt, &[0; 256], 0) {
+        assert_same(rt, power, 20);
+    }
+}
+
+// The file of the code has its greatest power where a search finds it.
+#[test]
+fn powers_of_the_code_file(rt: HostRuntime) {
+    let rt = &rt;
+    let powers = powers_from(rt, &code_file(), 2);
+    assert_same(rt, powers[2], 20_930_580);
+    assert_same(rt, powers.iter().filter(|power| **power >= 20_930_580).count(), 1);
+}

@@ -1,7 +1,7 @@
 //! With how many samples a slot has something to do next: nothing is emitted before.
 
 ghost use Rattle.std.specs.Prelude.{◌≡◌, ◌≤◌, ℕ, true, IsNone};
-ghost use Rattle.channel_slots.specs.Slots.{is_sound};
+ghost use Rattle.channel_slots.specs.Slots.{is_idle, IsReady};
 ghost use Rattle.channels.specs.Windows.{first_of, end_of};
 
 use super::{acquire, hold, plain_settings, sums};
@@ -21,7 +21,7 @@ const NEVER: u64 = u64::MAX;
 
 /// A slot that was never asked for anything.
 fn new_slot(rt: &(impl Abort + Alloc<A = Global>)) -> Slot
-    ensures { (first time reach : ℕ) → is_sound first time reach result ≡ true }
+    ensures { is_idle result ≡ true }
 {
     Slot::new(SearchRoom::new(rt.alloc()).expect(rt, "no memory"))
 }
@@ -67,7 +67,7 @@ fn an_idle_slot_has_nothing_to_do(rt: HostRuntime) {
 
 /// A slot that is asked so before the first sample.
 fn begun(rt: &(impl Abort + Alloc<A = Global>), begin: Command) -> Slot
-    ensures { (reach : ℕ) × (is_sound 0 0 reach result ≡ true) }
+    ensures { IsReady 0 0 0 result }
 {
     let mut slot = new_slot(rt);
     slot.command(&plain_settings(rt), 0, begin);
@@ -98,11 +98,10 @@ fn open_ones(rt: &impl Abort, window: &mut Window, count: usize)
 /// What comes with the samples of a window up to number `to`, or with the first of them with which
 /// something does. The window's history holds all samples so far.
 fn next(rt: &impl Abort, slot: &mut Slot, window: &mut Window, to: u64) -> Option<SlotNews>
-    requires sound { (time reach : ℕ) × (time ≤ to)
-        × (is_sound (first_of window.old) time reach slot.old ≡ true) }
-    ensures sound { (time reach : ℕ) × (time ≤ to)
-        × (is_sound (first_of window.new) time reach slot.new ≡ true) }
-    ensures taken { IsNone result → (reach : ℕ) × (is_sound to to reach slot.new ≡ true) }
+    requires ready { (time : ℕ) × (time ≤ to)
+        × (IsReady 0 (first_of window.old) time slot.old) }
+    ensures ready { IsReady 0 (first_of window.new) to slot.new }
+    ensures taken { IsNone result → IsReady 0 to to slot.new }
     ensures first { first_of window.new ≡ first_of window.old }
     ensures end { end_of window.new ≡ end_of window.old }
 {
@@ -123,10 +122,9 @@ fn brings(
     wanted: Option<SlotNews>,
     next_event: u64,
 )
-    requires sound { (time reach : ℕ) × (time ≤ to)
-        × (is_sound (first_of window.old) time reach slot.old ≡ true) }
-    ensures sound { (time reach : ℕ) × (time ≤ to)
-        × (is_sound (first_of window.new) time reach slot.new ≡ true) }
+    requires ready { (time : ℕ) × (time ≤ to)
+        × (IsReady 0 (first_of window.old) time slot.old) }
+    ensures ready { IsReady 0 (first_of window.new) to slot.new }
     ensures first { first_of window.new ≡ first_of window.old }
 {
     let found = (next(rt, slot, window, to), slot.next_event());
@@ -163,12 +161,10 @@ fn next_after(
     window: &mut Window,
     count: usize,
 ) -> Option<SlotNews>
-    requires { (reach : ℕ)
-        × (is_sound (end_of window.old) (end_of window.old) reach slot.old ≡ true) }
-    ensures sound { (time reach : ℕ) × (time ≤ end_of window.new)
-        × (is_sound (first_of window.new) time reach slot.new ≡ true) }
-    ensures taken { IsNone result → (reach : ℕ)
-        × (is_sound (end_of window.new) (end_of window.new) reach slot.new ≡ true) }
+    requires { IsReady 0 (end_of window.old) (end_of window.old) slot.old }
+    ensures ready { IsReady 0 (first_of window.new) (end_of window.new) slot.new }
+    ensures taken { IsNone result
+        → IsReady 0 (end_of window.new) (end_of window.new) slot.new }
 {
     open_ones(rt, window, count);
     let to = window.end();
@@ -202,10 +198,8 @@ static CELLS: [Searched; 17] = [
 
 /// Sees that a search says so, and emits nothing.
 fn searches(rt: &impl Abort, slot: &mut Slot, window: &mut Window, row: &Searched)
-    requires { (reach : ℕ)
-        × (is_sound (end_of window.old) (end_of window.old) reach slot.old ≡ true) }
-    ensures { (reach : ℕ)
-        × (is_sound (end_of window.new) (end_of window.new) reach slot.new ≡ true) }
+    requires { IsReady 0 (end_of window.old) (end_of window.old) slot.old }
+    ensures { IsReady 0 (end_of window.new) (end_of window.new) slot.new }
 {
     let &(count, cells, next_event) = row;
     assert_that(rt, next_after(rt, slot, window, count).is_none());
@@ -230,8 +224,7 @@ fn named(rt: &impl Abort, found: bool) -> SlotNews {
 /// Sees what a search answers with the next eleven samples, and when the slot has something to do
 /// next. The answer comes with sample 10,229, and nothing with those after it.
 fn ends(rt: &impl Abort, slot: &mut Slot, window: &mut Window, found: bool, next_event: u64)
-    requires { (reach : ℕ)
-        × (is_sound (end_of window.old) (end_of window.old) reach slot.old ≡ true) }
+    requires { IsReady 0 (end_of window.old) (end_of window.old) slot.old }
 {
     let news = next_after(rt, slot, window, 11);
     assert_same(

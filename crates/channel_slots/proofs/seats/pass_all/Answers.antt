@@ -1,11 +1,11 @@
-use Rattle.std.proofs.Common.{◌≡◌, ◌≤◌, ◌<◌, ℕ, arith, refl, ◌∙◌, sym, subst, get_or, true}
+use Rattle.std.proofs.Common.{◌≡◌, ◌≤◌, ◌<◌, ℕ, arith, refl, ◌∙◌, sym, get_or}
 use Rattle.std.proofs.lemmas.List.{take_all}
 use Rattle.channels.specs.declared.window.Window.{Window}
 use Rattle.channels.specs.Windows.{end_of}
 use Rattle.channel_slots.specs.declared.seat.Seat.{Seat}
-use Rattle.channel_slots.specs.Slots.{IsSound, is_sound, next_event}
+use Rattle.channel_slots.specs.Slots.{IsReadyIn, next_event}
 use Rattle.channel_slots.proofs.SeatLemmas.{passes-more, rest-more, one-of}
-use Rattle.channel_slots.proofs.StayLemmas.{same-again, sound-as, passes-as, no-news}
+use Rattle.channel_slots.proofs.StayLemmas.{same-again, passes-as, no-news}
 use Rattle.channel_slots.proofs.seats.pass_all.Goals as goal
 
 pub loop-seat-init : goal.loop-seat-init
@@ -18,21 +18,14 @@ loop-seat-init c = record {
 pub take-requires-clause-taken : goal.take-requires-clause-taken
 take-requires-clause-taken c = omega (arith, c.end-end.ensures, c.loop-seat.invariant.same.end)
 
-pub take-requires-clause-sound : goal.take-requires-clause-sound
-take-requires-clause-sound c =
+pub take-requires-clause-ready : goal.take-requires-clause-ready
+take-requires-clause-ready c =
     let same = c.loop-seat.invariant.same in
-    let reach : ℕ = c.requires.sound.0 in
-    let own : Seat = get_or c.loop-seat.seats c.loop-seat.seat-index c.seat-item.result in
-    let known : IsSound c.args.window.now (end_of c.args.window.now) reach own.slot =
-    one-of (λ (p : Seat). IsSound c.args.window.now (end_of c.args.window.now) reach p.slot)
-    c.args.seats.now c.loop-seat.seats c.loop-seat.seat-index c.seat-item.result
-    c.loop-seat-test.true c.loop-seat.invariant.rest c.requires.sound.1 in (
-      end_of c.args.window.now,
-      reach,
-      omega (arith, c.end-end.ensures),
-      sound-as c.args.window.now c.loop-seat.window (end_of c.args.window.now) reach own.slot
-          same.first same.history known,
-    )
+    let w : Window = c.args.window.now in
+    rw (same.first, same.history, c.end-end.ensures)
+    (one-of (λ (p : Seat). IsReadyIn w (end_of w) p.slot) c.args.seats.now
+    c.loop-seat.seats c.loop-seat.seat-index c.seat-item.result c.loop-seat-test.true
+    c.loop-seat.invariant.rest c.requires.ready)
 
 pub loop-seat-preserved : goal.loop-seat-preserved
 loop-seat-preserved c =
@@ -59,9 +52,7 @@ loop-seat-preserved c =
             client = refl;
             number = refl;
             next = c.take.ensures.waits early;
-            sound = λ reach known.
-                subst (λ (n : ℕ). is_sound n n reach c.take.new.self ≡ true) here
-                (c.take.ensures.all_taken (end_of old) reach known none);
+            ready = λ _. rw here at (c.take.ensures.all_taken none);
             stands = λ settings xs commands now over s.
                 c.take.ensures.passes settings xs commands (now ∙ sym here) over s;
           })) loop.passes;

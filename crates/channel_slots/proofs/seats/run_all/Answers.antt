@@ -1,28 +1,22 @@
-use Rattle.std.proofs.Common.{ℕ, arith, get_or}
+use Rattle.std.proofs.Common.{arith}
 use Rattle.channel_slots.specs.declared.seat.Seat.{Seat}
-use Rattle.channel_slots.specs.Slots.{IsSound}
+use Rattle.channel_slots.specs.Slots.{IsReadyIn}
+use Rattle.channels.specs.declared.window.Window.{Window}
+use Rattle.channels.specs.Windows.{end_of}
 use Rattle.channel_slots.proofs.SeatLemmas.{runs-more, rest-more, one-of}
 use Rattle.channel_slots.specs.Timelines.{events_in}
 use Rattle.channel_slots.proofs.RestLemmas.{all-rest-runs, rests-more}
-use Rattle.channel_slots.proofs.StayLemmas.{same-again, sound-as, goes-as}
+use Rattle.channel_slots.proofs.StayLemmas.{same-again, goes-as}
 use Rattle.channel_slots.proofs.seats.run_all.Goals as goal
 
-pub run-requires-clause-sound : goal.run-requires-clause-sound
-run-requires-clause-sound c =
+pub run-requires-clause-ready : goal.run-requires-clause-ready
+run-requires-clause-ready c =
     let same = c.loop-seat.invariant.same in
-    let time : ℕ = c.requires.sound.0 in
-    let reach : ℕ = c.requires.sound.1 in
-    let own : Seat = get_or c.loop-seat.seats c.loop-seat.seat-index c.seat-item.result in
-    let known : IsSound c.args.window.now time reach own.slot =
-    one-of (λ (p : Seat). IsSound c.args.window.now time reach p.slot) c.args.seats.now
+    let w : Window = c.args.window.now in
+    rw (same.first, same.history)
+    (one-of (λ (p : Seat). IsReadyIn w (end_of w) p.slot) c.args.seats.now
     c.loop-seat.seats c.loop-seat.seat-index c.seat-item.result c.loop-seat-test.true
-    c.loop-seat.invariant.rest c.requires.sound.3 in (
-      time,
-      reach,
-      omega (arith, c.requires.sound.2, same.end),
-      sound-as c.args.window.now c.loop-seat.window time reach own.slot same.first same.history
-          known,
-    )
+    c.loop-seat.invariant.rest c.requires.ready)
 
 pub loop-seat-preserved : goal.loop-seat-preserved
 loop-seat-preserved c =

@@ -107,15 +107,15 @@ loop-w-preserved c =
           let e : 64 * w + count + n ≡ min (64 * w) (length a.samples.now) + (count + n) =
           omega (arith, whole c) in
           c.take_word.ensures.room n (here.room (count + n) (rw (reached c, e) at has));
-      fold = λ x from n is first carrier_first same.
+      fold = λ x from n is here_at same.
           let e : n + 64 * w + count ≡ n + (64 * w + count) = omega arith in
           let at : from + n + 64 * w ≡ from + (n + 64 * w) = omega arith in
           let stands : phase ≡ code_phase_after 0 a.step (from + (n + 64 * w)) =
-          code-goes_on 0 a.code a.step a.step (from + n) (64 * w) refl first
+          code-goes_on 0 a.code a.step a.step (from + n) (64 * w) refl here_at.code_is
           ∙ ap (code_phase_after 0 a.step) at in
           rw (reached c, ← e) (c.take_word.ensures.fold x a.step a.carrier.now.step from
-          (n + 64 * w) (rw (← whole c) (here.fold x from n is first carrier_first same))
-          (rw stands at walk) (wiped c x from n carrier_first same));
+          (n + 64 * w) (rw (← whole c) (here.fold x from n is here_at same))
+          (rw stands at walk) (wiped c x from n here_at.carrier_is same));
     }
 
 -- the loop ends once the run is done
@@ -123,9 +123,9 @@ end : (c : goal.After-loop-w)
     → min (64 * c.loop-w.w) (length c.args.samples.now) ≡ length c.args.samples.now
 end c = omega (arith, c.loop-w-test.false, c.len.ensures.count)
 
-pub returns-clause-fold : goal.returns-clause-fold
-returns-clause-fold c x from n is first carrier_first same =
-    rw (end c) at (c.loop-w.invariant.fold x from n is first carrier_first same)
-
-pub returns-clause-room : goal.returns-clause-room
-returns-clause-room c n has = c.loop-w.invariant.room n (rw (end c) has)
+pub returns : goal.returns
+returns c = record {
+  fold = λ x from n is here_at same.
+      rw (end c) at (c.loop-w.invariant.fold x from n is here_at same);
+  room = λ n has. c.loop-w.invariant.room n (rw (end c) has);
+}

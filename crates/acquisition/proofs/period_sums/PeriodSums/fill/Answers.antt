@@ -43,9 +43,9 @@ invariant_of-self-clause-quadrature_part g c great =
     c.whole-self.ensures.quadrature
 
 pub returns : goal.returns
-returns g c x from code carrier same = record {
+returns g c x same = record {
   fold = c.fill.new.self;
-  is_fold = c.fill.ensures x from code carrier same;
+  is_fold = c.fill.ensures x same;
   whole = c.whole-self.ensures;
   small = c.is_small-self.ensures.0;
   rings = c.set_rings.ensures;

@@ -1,5 +1,8 @@
 use Rattle.std.proofs.Common.{arith}
+use Rattle.channel_slots.proofs.ReadyLemmas.{idle-is-ready}
 use Rattle.bank_tests.proofs.channel_slots_tests.events.begun.Goals as goal
 
 pub returns : goal.returns
-returns g c = (_, c.command.ensures.sound 0 (omega arith) (c.new_slot-slot.ensures 0 0 _))
+returns g c =
+    c.command.ensures.ready 0 0 (omega arith) (omega arith)
+    (idle-is-ready 0 0 0 _ c.new_slot-slot.ensures)

@@ -1,16 +1,12 @@
 use Rattle.std.proofs.Common.{inl, inr}
 use Rattle.std.proofs.Common.{◌<◌, ◌≤◌, arith, ℕ, List, sym, subst, refl, ◌∙◌}
 use Rattle.channel_slots.specs.declared.seat.Seat.{Seat}
-use Rattle.channel_slots.specs.Slots.{Obeys, StandsFor, is_sound, next_event}
-use Rattle.channel_slots.specs.Banks.{AllRest}
+use Rattle.channel_slots.specs.Slots.{Obeys, StandsFor, IsReadyIn, next_event}
 use Rattle.channel_slots.specs.BankStates.{time_of}
-use Rattle.channels.specs.Windows.{first_of}
 use Rattle.slot_protocol.specs.Commands.{request_in}
 use Rattle.channel_slots.proofs.CommandLemmas.{stands-at, commanded, keeps, each-at, set-keeps}
-use Rattle.channel_slots.proofs.CommandLemmas.{set-keeps-tested}
 use Rattle.channel_slots.proofs.ShareLemmas.{once-of}
-use Rattle.channel_slots.proofs.RestLemmas.{rest-tested, rest-earlier, all-rest}
-use Rattle.channel_slots.specs.Stages.{most_wait}
+use Rattle.channel_slots.proofs.RestLemmas.{rest-earlier}
 use Rattle.channel_slots.proofs.bank.Bank.command.Goals as goal
 
 pub invariant_of-self : goal.invariant_of-self
@@ -19,8 +15,7 @@ invariant_of-self c =
     let ps : List Seat = bank.seats.items.items in
     let at : ℕ = c.in-Some.at in
     let time : ℕ = time_of bank in
-    let first : ℕ = first_of bank.window in
-    let reach : ℕ = most_wait bank.settings in
+    let begun = bank.window.open in
     let p : Seat = c.index_mut.result.now in
     let q : Seat =
     record { client = p.client; number = p.number; slot = c.command-answer.new.self } in
@@ -30,26 +25,30 @@ invariant_of-self c =
     let n : ℕ = c.min-self.result in
     let own : n ≤ next_event q.slot =
     omega (arith, c.min-self.ensures, c.next_event.ensures.value) in
-    let rest : AllRest bank.next_event ps = all-rest bank.next_event ps bank.rests in
     let later : time < next_event q.slot =
     obeys.waits (omega (
       arith,
       bank.waits,
       rw (sym is) at (each-at (λ (p : Seat). bank.next_event ≤ next_event p.slot) ps at p
-          c.in-Some.ensures.within rest),
+          c.in-Some.ensures.within bank.rests),
     )) in
     record {
       early = bank.early;
-      sound = set-keeps-tested (λ (p : Seat). is_sound first time reach p.slot) ps at p q is
-          (obeys.sound first (omega (arith, bank.window.open.begun, bank.window.open.taken)))
-          bank.sound;
+      ready = set-keeps (λ (p : Seat). IsReadyIn bank.window time p.slot) ps at p q
+          c.in-Some.ensures.within is (obeys.ready _ _ (omega (
+            arith,
+            begun.held,
+            begun.begun,
+            begun.taken,
+          ))
+          (omega (arith, begun.begun, begun.taken))) bank.ready;
       packed = bank.packed;
       room = bank.room;
       clients = bank.clients;
       shared = bank.shared;
-      rests = rest-tested n _ (set-keeps (λ (p : Seat). n ≤ next_event p.slot) ps at p q
+      rests = set-keeps (λ (p : Seat). n ≤ next_event p.slot) ps at p q
           c.in-Some.ensures.within is (λ old. own)
-          (rest-earlier bank.next_event n ps (omega (arith, c.min-self.ensures)) rest));
+          (rest-earlier bank.next_event n ps (omega (arith, c.min-self.ensures)) bank.rests);
       waits = omega (arith, c.min-self.ensures, bank.waits, later, c.next_event.ensures.value);
       keys = (keeps ps at p q is refl refl).keys ∙ bank.keys;
     }

@@ -4,7 +4,7 @@ use Rattle.std.specs.Result.{result_or}
 use Rattle.std.specs.List.{list_all}
 use Rattle.definitions.specs.Banks.{layout}
 use Rattle.definitions.specs.Runs.{is_share}
-use Rattle.channel_slots.proofs.ReadyLemmas.{all-idle-tested}
+use Rattle.channel_slots.proofs.ReadyLemmas.{idle-are-ready}
 use Rattle.channel_slots.proofs.ShareLemmas.{idle-stand}
 use Rattle.channel_slots.proofs.ShareLemmas.{few-each}
 use Rattle.channel_slots.proofs.RestLemmas.{idle-rest}
@@ -30,9 +30,9 @@ invariant_of-result c =
     sym c.are_shares.ensures ∙ c.if-not-are_shares.false in
     record {
       early = omega (arith, made.end);
-      sound = all-idle-tested _ _ _ _ idle.idle;
+      ready = idle-are-ready _ _ _ _ idle.idle;
       packed = made.packing ∙ c.format.ensures;
-      room = omega (arith, made.room, c.most_reach-reach.ensures);
+      room = made.room;
       clients = rw c.in-Ok.ensures.0 c.in-Ok.ensures.1;
       shared = ap (list_all is_share) c.in-Ok.ensures.0 ∙ shared;
       rests = idle-rest _ idle.idle;

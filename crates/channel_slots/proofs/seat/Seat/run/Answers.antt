@@ -1,7 +1,7 @@
-use Rattle.std.proofs.Common.{◌≤◌, ◌<◌, ◌+◌, ℕ, [], ◌++◌, length, refl, sym}
+use Rattle.std.proofs.Common.{◌≤◌, ◌+◌, ℕ, [], ◌++◌, length, refl}
 use Rattle.std.proofs.Common.{arith}
 use Rattle.channels.specs.declared.window.Window.{Window}
-use Rattle.channels.specs.Windows.{dump_of, end_of}
+use Rattle.channels.specs.Windows.{dump_of}
 use Rattle.channels.proofs.OverLemmas.{over-same}
 use Rattle.channel_slots.specs.NewsEvents.{events_with, time_of}
 use Rattle.channel_slots.specs.Timelines.{events_in}
@@ -11,8 +11,7 @@ use Rattle.channel_slots.proofs.ChanceLemmas.{one-chance}
 use Rattle.channel_slots.proofs.GoesLemmas.{begins, goes-to, goes}
 use Rattle.channel_slots.proofs.OrderLemmas.{put-nothing}
 use Rattle.channel_slots.proofs.PutLemmas.{put-count}
-use Rattle.channel_slots.proofs.ReadyLemmas.{sound-later}
-use Rattle.channel_slots.proofs.StayLemmas.{same-again, sound-as, stands-before}
+use Rattle.channel_slots.proofs.StayLemmas.{same-again, stands-before}
 use Rattle.channel_slots.proofs.seat.Seat.run.Goals as goal
 
 pub loop-self-init : goal.loop-self-init
@@ -26,18 +25,11 @@ loop-self-init c = record {
 pub take-requires-clause-taken : goal.take-requires-clause-taken
 take-requires-clause-taken c = omega (arith, c.end-end.ensures, c.loop-self.invariant.same.end)
 
-pub take-requires-clause-sound : goal.take-requires-clause-sound
-take-requires-clause-sound c =
+pub take-requires-clause-ready : goal.take-requires-clause-ready
+take-requires-clause-ready c =
     let same = c.loop-self.invariant.same in
-    let reach : ℕ = c.requires.sound.1 in
-    let come = c.loop-self.invariant.goes.sound c.requires.sound.0 reach c.requires.sound.2
-    c.requires.sound.3 in (
-      come.time,
-      reach,
-      omega (arith, come.within, c.end-end.ensures),
-      sound-as c.args.window.now c.loop-self.window come.time reach c.loop-self.self.slot
-          same.first same.history come.sound,
-    )
+    rw (same.first, same.history, c.end-end.ensures)
+    (c.loop-self.invariant.goes.ready c.requires.ready)
 
 pub put_news-requires : goal.put_news-requires
 put_news-requires c = omega (arith, c.loop-self.invariant.few, c.requires.fits)
@@ -63,7 +55,7 @@ loop-self-preserved-in-Some c =
     let still = same-again first old new same c.take.ensures.same in
     let news = c.in-Some.news in
     let emits = rw c.in-Some.is at c.take.ensures.emits in
-    let sound = rw c.in-Some.is at c.take.ensures.sound in
+    let ready = rw (same.first, same.history, c.end-end.ensures) at c.take.ensures.ready in
     let within = rw c.in-Some.is at c.take.ensures.within in
     let few = rw c.in-Some.is at c.take.ensures.chances in
     let put = rw c.dump.ensures at c.put_news.ensures in
@@ -86,10 +78,7 @@ loop-self-preserved-in-Some c =
           emits settings xs ys commands some now (over-same (xs ++ ys) first old same over) s)
           (λ settings xs commands s. stands-before settings xs commands c.loop-self.self.slot first
           (omega (arith, near, c.end-end.ensures)) s)
-          (λ time reach known. sound-as new first (time_of news) reach c.take.new.self
-          (sym still.first) (sym still.history)
-          (sound time reach (sound-as first old time reach c.loop-self.self.slot same.first
-          same.history known))) refl refl put;
+          (λ _. ready) refl refl put;
       few = omega (arith, room);
       room = λ _. room;
       same = still;
@@ -112,7 +101,7 @@ loop-self-preserved c =
     let same = c.loop-self.invariant.same in
     let still = same-again first old new same c.take.ensures.same in
     let emits = rw c.in_default.is at c.take.ensures.emits in
-    let sound = rw c.in_default.is at c.take.ensures.sound in
+    let ready = rw (same.first, same.history, c.end-end.ensures) at c.take.ensures.ready in
     let gone = rw c.in_default.is at c.take.ensures.goes_on in
     let near : next_event c.loop-self.self.slot ≤ c.end-end.result =
     omega (arith, c.loop-self-test.true, c.next_event.ensures.value) in
@@ -124,10 +113,7 @@ loop-self-preserved c =
           emits settings xs ys commands some now (over-same (xs ++ ys) first old same over) s)
           (λ settings xs commands s. stands-before settings xs commands c.loop-self.self.slot first
           (omega (arith, near, c.end-end.ensures)) s)
-          (λ time reach known. sound-as new first c.end-end.result reach c.take.new.self
-          (sym still.first) (sym still.history)
-          (sound time reach (sound-as first old time reach c.loop-self.self.slot same.first
-          same.history known))) refl refl (put-nothing _ _);
+          (λ _. ready) refl refl (put-nothing _ _);
       few = c.loop-self.invariant.few;
       room = λ more. absurd (omega (arith, more, gone));
       same = still;
@@ -136,15 +122,11 @@ loop-self-preserved c =
 pub returns-clause-goes : goal.returns-clause-goes
 returns-clause-goes c =
     let w : Window = c.args.window.now in
-    let next : end_of w < next_event c.loop-self.self.slot =
-    omega (arith, c.loop-self-test.false, c.next_event.ensures.value, c.end-end.ensures) in
     goes w c.args.self.now c.loop-self.self (events_in c.args.timeline.now)
     (events_in c.loop-self.timeline) c.loop-self.invariant.goes
     (omega (arith, c.loop-self.invariant.few))
     (λ settings xs ys commands s some now. c.next_event.ensures.quiet settings xs ys commands s
     some (omega (arith, now, c.loop-self-test.false, c.end-end.ensures)))
-    (λ time reach early known. sound-later w time (end_of w) reach c.loop-self.self.slot early
-    next known)
 
 pub returns-clause-same : goal.returns-clause-same
 returns-clause-same c = c.loop-self.invariant.same

@@ -1,7 +1,7 @@
 use Rattle.std.proofs.Common.{ℕ, refl, ◌∙◌, sym, arith, subst}
 use Rattle.definitions.specs.Commands.{acquire}
 use Rattle.channels.specs.Searching.{Searches}
-use Rattle.channel_slots.proofs.ReadyLemmas.{search-begins-sound, search-begins-quiet}
+use Rattle.channel_slots.proofs.ReadyLemmas.{search-begins-quiet}
 use Rattle.channel_slots.proofs.SearchLemmas.{starts-searched}
 use Rattle.channel_slots.proofs.ObeyLemmas.{busy-refuses, begins}
 use Rattle.channel_slots.proofs.slot.Slot.acquire.Goals as goal
@@ -17,6 +17,7 @@ returns-then-is_idle c =
       follows = λ xs now. starts-searched _ xs _ c.start.result c.args.plan (sym now) refl
           (subst (λ (n : ℕ). Searches c.args.settings.now c.args.plan n xs c.start.result)
           (sym now) (c.start.ensures.stands xs now)) (omega (arith, now, begun.waits));
-      sound = λ first later. search-begins-sound _ c.args.plan first _ c.start.result later begun;
+      ready = λ held first early near.
+          (omega (arith, early, begun.begun), omega (arith, near, begun.waits));
       waits = search-begins-quiet _ c.args.plan _ c.start.result begun;
     })

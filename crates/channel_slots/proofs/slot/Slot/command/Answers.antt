@@ -3,7 +3,7 @@ use Rattle.std.specs.Prelude.{Some}
 use Rattle.slot_protocol.specs.Commands.{request_in}
 use Rattle.channel_slots.specs.Stages.{is_idle}
 use Rattle.channel_slots.proofs.ObeyLemmas.{idle-refuses}
-use Rattle.channel_slots.proofs.ReadyLemmas.{idle-is-quiet, idle-is-sound}
+use Rattle.channel_slots.proofs.ReadyLemmas.{idle-is-quiet, idle-is-ready}
 use Rattle.channel_slots.proofs.SlotLemmas.{life-now, has-life, answers}
 use Rattle.channel_slots.proofs.SlotLemmas.{becomes-idle, prints, shown-stays}
 use Rattle.channel_slots.proofs.slot.Slot.command.Goals as goal
@@ -22,7 +22,7 @@ returns-in-State c = rw (ap request_in c.in-State.is) (record {
   answers = λ xs commands now s. c.state.ensures _ xs commands s;
   stands = λ xs commands now s. shown-stays _ xs commands _ s;
   refused = λ refusal. absurd refusal;
-  sound = λ first later sound. sound;
+  ready = λ held first early begun ready. ready;
   waits = λ before. before;
 })
 
@@ -39,7 +39,7 @@ returns-else-is_idle c =
           (life-now _ xs commands _ s on);
       stands = λ xs commands now s. prints _ xs commands _ s on c.in-Counts.n _ refl refl;
       refused = λ refusal. absurd refusal;
-      sound = λ first later sound. sound;
+      ready = λ held first early begun ready. ready;
       waits = λ before. before;
     })
 
@@ -60,6 +60,7 @@ returns-else-is_idle-2 c =
           becomes-idle _ xs commands _ s _ _ (Some i.life) _ i.of (life-now _ xs commands _ s on)
           refl idle;
       refused = λ refusal. absurd refusal;
-      sound = λ first later sound. idle-is-sound first _ _ c.rest.new.self.stage idle;
+      ready = λ held first early begun ready.
+          idle-is-ready held first _ c.rest.new.self.stage idle;
       waits = λ before. idle-is-quiet _ c.rest.new.self.stage idle (omega (arith, c.requires));
     })

@@ -1,9 +1,10 @@
-use Rattle.std.proofs.Common.{◌≡◌, ℕ, List, [], ◌++◌, length, refl, ap, ◌∙◌, arith, append-nil}
+use Rattle.std.proofs.Common.{◌≡◌, List, [], ◌++◌, length, refl, ap, ◌∙◌, arith, append-nil}
 use Rattle.std.proofs.Common.{false}
 use Rattle.std.specs.Prelude.{Some, None}
 use Rattle.definitions.specs.Samples.{Sample}
 use Rattle.definitions.specs.Acquisition.{Plan}
-use Rattle.channels.specs.Windows.{first_of, dump_of}
+use Rattle.channels.specs.Windows.{dump_of, history_of}
+use Rattle.sample_history.specs.Histories.{first_of}
 use Rattle.channels.specs.Searching.{next_cell}
 use Rattle.channels.specs.declared.searched.Searched.{Searched}
 use Rattle.channel_slots.specs.Stages.{is_idle}
@@ -14,9 +15,8 @@ use Rattle.channel_slots.proofs.TakesLemmas.{Acquired, Dumped}
 use Rattle.channel_slots.proofs.SearchLemmas.{searches-on, settled}
 use Rattle.channel_slots.proofs.SlotLemmas.{idle-tells, tells, passes}
 use Rattle.channel_slots.proofs.StageLemmas.{followed-takes, still-followed}
-use Rattle.channel_slots.proofs.SoundLemmas.{in-time, time-tested, dump-tested, dump-held, IsInTime}
-use Rattle.channel_slots.proofs.SoundLemmas.{dump-later, due-soon, still-due}
-use Rattle.channel_slots.proofs.SettledLemmas.{settled-sound, settled-later, settled-chance}
+use Rattle.channel_slots.proofs.ReadyLemmas.{dump-ready, dump-later}
+use Rattle.channel_slots.proofs.SettledLemmas.{settled-ready, settled-later, settled-chance}
 use Rattle.channel_slots.proofs.TakeLemmas.{dwell-over, not-due, not-come}
 use Rattle.channel_slots.proofs.slot.Slot.take.Goals as goal
 
@@ -32,13 +32,13 @@ returns-in_err-cell-in-Searching-clause-emits c = rw c.from_residual.ensures
     let took = c.take in
     let none : took.result ≡ None = c.in_err-cell-in-Searching.was in
     let later = not-due took.result _ c.args.to took.ensures.due none in
-    let held = rw c.in-Searching.is at c.requires.sound.3.1 in
+    let finds = rw c.in-Searching.is at c.requires.ready in
     tells settings xs commands c.args.self.now s ys more (ap is_idle c.in-Searching.is) _ None
     (λ life follows.
     let a = rw c.in-Searching.is at follows in
     let takes =
     took.ensures.takes settings a.plan life.begun xs ys (omega (arith, all, later))
-    (dwell-over (xs ++ ys) _ _ c.in-Searching.searched life.begun over c.history.ensures held
+    (dwell-over (xs ++ ys) _ _ c.in-Searching.searched life.begun over c.history.ensures finds.0
     a.searches.search.start_is) a.searches in
     searches-on settings xs life c.in-Searching.searched a ys took.new.self takes.stands
     (rw none at takes.answers))
@@ -51,7 +51,7 @@ returns-in_ok-cell-in-Searching-clause-emits c settings xs ys commands more all 
     let some : took.result ≡ Some c.in_ok-cell-in-Searching.cell =
     c.in_ok-cell-in-Searching.was in
     let come = took.ensures.due.0 (rw some refl) in
-    let held = rw c.in-Searching.is at c.requires.sound.3.1 in
+    let finds = rw c.in-Searching.is at c.requires.ready in
     tells settings xs commands c.args.self.now s ys more (ap is_idle c.in-Searching.is) _
     (Some (Acquired c.prn-prn.result c.in_ok-cell-in-Searching.cell))
     (λ life follows.
@@ -59,7 +59,7 @@ returns-in_ok-cell-in-Searching-clause-emits c settings xs ys commands more all 
     let takes =
     took.ensures.takes settings a.plan life.begun xs ys
     (omega (arith, all, c.due-time.ensures.value, took.ensures.later.due, come))
-    (dwell-over (xs ++ ys) _ _ c.in-Searching.searched life.begun over c.history.ensures held
+    (dwell-over (xs ++ ys) _ _ c.in-Searching.searched life.begun over c.history.ensures finds.0
     a.searches.search.start_is) a.searches in
     let stands = takes.stands in
     let answer = rw some at takes.answers in
@@ -109,62 +109,22 @@ returns-then-not-take-clause-passes c settings xs commands all over s =
     (rw c.if-not-take.true at (took.ensures.takes settings _ xs []
     (omega (arith, same, all, later)) (rw (append-nil xs) over) f.follows)))
 
-pub returns-then-not-take-clause-sound : goal.returns-then-not-take-clause-sound
-returns-then-not-take-clause-sound c time reach sound =
+pub returns-then-not-take-clause-ready : goal.returns-then-not-take-clause-ready
+returns-then-not-take-clause-ready c =
     let took = c.take-in-Following in
-    let first : ℕ = first_of c.args.window.now in
-    let known : IsInTime first c.requires.sound.0 c.in-Following.followed =
-    in-time first c.requires.sound.0 c.requires.sound.1 c.in-Following.followed
-    (rw c.in-Following.is at c.requires.sound.3.0) in
+    let finds = rw c.in-Following.is at c.requires.ready in
     let later = not-come took.result _ c.args.to took.ensures.came c.if-not-take.true in
-    let dumps = rw c.if-not-take.true at took.ensures.dumps in (
-      time-tested (first_of took.new.window) c.args.to reach took.new.self (record {
-        few = omega (arith, known.few, c.requires.sound.2, dumps);
-        held = omega (
-          arith,
-          known.held,
-          known.begun,
-          c.requires.sound.2,
-          took.ensures.at,
-          later,
-          took.ensures.same.first,
-        );
-        begun = omega (arith, took.ensures.at);
-        waits = omega (arith, later, took.ensures.waits c.if-not-take.true);
-      }),
-      refl,
-    )
+    (omega (arith, finds.0, finds.1, took.ensures.at, later), omega (arith, took.ensures.at))
 
-pub returns-else-not-take-clause-sound : goal.returns-else-not-take-clause-sound
-returns-else-not-take-clause-sound c time reach sound =
+pub returns-else-not-take-clause-ready : goal.returns-else-not-take-clause-ready
+returns-else-not-take-clause-ready c =
     let took = c.take-in-Following in
-    let noted = c.note_dump-is_shown.ensures in
-    let first : ℕ = first_of c.args.window.now in
-    let known : IsInTime first c.requires.sound.0 c.in-Following.followed =
-    in-time first c.requires.sound.0 c.requires.sound.1 c.in-Following.followed
-    (rw c.in-Following.is at c.requires.sound.3.0) in
-    let come = took.ensures.came.0 c.if-not-take.false in
-    let dumps = rw c.if-not-take.false at took.ensures.dumps in
-    let at = took.ensures.at in
-    let time_is = c.next_dump-time.ensures.value in
-    rw noted.stage (
-      dump-tested (first_of took.new.window) c.next_dump-time.result reach took.new.self _
-          (record {
-            few = omega (arith, known.few, known.waits, dumps, time_is);
-            held = omega (
-              arith,
-              known.held,
-              known.begun,
-              known.waits,
-              at,
-              come,
-              took.ensures.same.first,
-            );
-            begun = omega (arith, at, come, time_is);
-            waits = omega (arith, at, come, time_is, took.new.self.follower.waits);
-          }),
-      dump-held took.new.window took.new.self _,
-    )
+    let finds = rw c.in-Following.is at c.requires.ready in
+    rw c.note_dump-is_shown.ensures.stage
+    (dump-ready (first_of (history_of c.args.window.now)) _ _ took.new.self _ (
+      omega (arith, finds.0, finds.1, took.ensures.at, c.in-Following.followed.follower.waits),
+      omega (arith, took.ensures.at),
+    ))
 
 pub returns-else-not-take-clause-chances : goal.returns-else-not-take-clause-chances
 returns-else-not-take-clause-chances c =
@@ -179,20 +139,10 @@ returns-else-not-take-clause-chances c =
     ))
 
 pub returns-then-not-take-clause-all_taken : goal.returns-then-not-take-clause-all_taken
-returns-then-not-take-clause-all_taken c time reach sound none =
+returns-then-not-take-clause-all_taken c none =
     let took = c.take-in-Following in
-    let first : ℕ = first_of c.args.window.now in
-    let known : IsInTime first c.requires.sound.0 c.in-Following.followed =
-    in-time first c.requires.sound.0 c.requires.sound.1 c.in-Following.followed
-    (rw c.in-Following.is at c.requires.sound.3.0) in
     let later = not-come took.result _ c.args.to took.ensures.came c.if-not-take.true in
-    let dumps = rw c.if-not-take.true at took.ensures.dumps in
-    time-tested c.args.to c.args.to reach took.new.self (record {
-      few = omega (arith, known.few, c.requires.sound.2, dumps);
-      held = omega (arith, took.ensures.at, later);
-      begun = omega (arith, took.ensures.at);
-      waits = omega (arith, later, took.ensures.waits c.if-not-take.true);
-    })
+    (omega (arith, took.ensures.at, later), omega (arith, took.ensures.at))
 
 pub returns-else-not-take-clause-goes_on : goal.returns-else-not-take-clause-goes_on
 returns-else-not-take-clause-goes_on c =
@@ -204,17 +154,18 @@ returns-else-not-take-clause-goes_on c =
     (omega (arith, come, due, c.requires.early))
     (omega (arith, took.ensures.at, come, due, took.new.self.follower.waits)))
 
-pub returns-in_ok-cell-in-Searching-clause-sound :
-    goal.returns-in_ok-cell-in-Searching-clause-sound
-returns-in_ok-cell-in-Searching-clause-sound c time reach sound =
+pub returns-in_ok-cell-in-Searching-clause-ready :
+    goal.returns-in_ok-cell-in-Searching-clause-ready
+returns-in_ok-cell-in-Searching-clause-ready c =
     let took = c.take in
-    let soon =
-    due-soon (first_of c.args.window.now) time reach c.in-Searching.searched
-    (rw c.in-Searching.is at sound.0) in
-    rw c.due-time.ensures.value
-    (settled-sound c.args.window.now reach c.in_ok-cell-in-Searching.cell took.new.self _
+    let finds = rw c.in-Searching.is at c.requires.ready in
+    let some : took.result ≡ Some c.in_ok-cell-in-Searching.cell =
+    c.in_ok-cell-in-Searching.was in
+    let come = took.ensures.due.0 (rw some refl) in
+    settled-ready (first_of (history_of c.args.window.now)) _ _ c.in_ok-cell-in-Searching.cell
+    took.new.self _
     (c.settle.ensures.stage took.new.self refl)
-    (omega (arith, soon.begun, soon.early, took.ensures.later.due)))
+    (omega (arith, finds.1, took.ensures.later.due)) (omega (arith, come, took.ensures.later.due))
 
 pub returns-in_ok-cell-in-Searching-clause-goes_on :
     goal.returns-in_ok-cell-in-Searching-clause-goes_on
@@ -237,32 +188,21 @@ returns-in_ok-cell-in-Searching-clause-chances c =
           (c.settle.ensures.stage c.take.new.self refl),
     ))
 
-pub returns-in_err-cell-in-Searching-clause-sound :
-    goal.returns-in_err-cell-in-Searching-clause-sound
-returns-in_err-cell-in-Searching-clause-sound c time reach sound =
-    let took = c.take in
-    let first : ℕ = first_of c.args.window.now in
-    let early =
-    not-due took.result _ c.args.to took.ensures.due c.in_err-cell-in-Searching.was in
-    let known =
-    due-soon first c.requires.sound.0 c.requires.sound.1 c.in-Searching.searched
-    (rw c.in-Searching.is at c.requires.sound.3.0) in
-    rw c.from_residual.ensures (
-      still-due first time reach first c.args.to c.in-Searching.searched took.new.self
-          (rw c.in-Searching.is at sound.0) took.ensures.later
-          (omega (arith, took.ensures.later.due, early))
-          (omega (arith, known.begun, c.requires.sound.2)),
-      rw took.ensures.later.start (rw c.in-Searching.is at sound.1),
-    )
+pub returns-in_err-cell-in-Searching-clause-ready :
+    goal.returns-in_err-cell-in-Searching-clause-ready
+returns-in_err-cell-in-Searching-clause-ready c =
+    let later = c.take.ensures.later in
+    let finds = rw c.in-Searching.is at c.requires.ready in
+    (omega (arith, finds.0, later.start), omega (arith, finds.1, later.due))
 
 pub returns-in_err-cell-in-Searching-clause-all_taken :
     goal.returns-in_err-cell-in-Searching-clause-all_taken
-returns-in_err-cell-in-Searching-clause-all_taken c time reach sound none =
+returns-in_err-cell-in-Searching-clause-all_taken c none =
     let took = c.take in
+    let finds = rw c.in-Searching.is at c.requires.ready in
     let early =
     not-due took.result _ c.args.to took.ensures.due c.in_err-cell-in-Searching.was in
-    still-due (first_of c.args.window.now) time reach c.args.to c.args.to c.in-Searching.searched
-    took.new.self (rw c.in-Searching.is at sound.0) took.ensures.later early (omega arith)
+    (omega (arith, finds.0, took.ensures.later.start), omega (arith, early, took.ensures.later.due))
 
 pub returns-in_err-cell-in-Searching-clause-goes_on :
     goal.returns-in_err-cell-in-Searching-clause-goes_on
@@ -296,22 +236,21 @@ returns-else-not-take-clause-waits c early =
 
 pub take-requires-in-Following-clause-begun : goal.take-requires-in-Following-clause-begun
 take-requires-in-Following-clause-begun c =
-    let known =
-    in-time (first_of c.args.window.now) c.requires.sound.0 c.requires.sound.1
-    c.in-Following.followed (rw c.in-Following.is at c.requires.sound.3.0) in
-    omega (arith, known.begun, c.requires.sound.2)
+    (rw c.in-Following.is at c.requires.ready).1
 
 pub take-requires-in-Following-clause-open : goal.take-requires-in-Following-clause-open
 take-requires-in-Following-clause-open c =
-    (in-time (first_of c.args.window.now) c.requires.sound.0 c.requires.sound.1
-    c.in-Following.followed (rw c.in-Following.is at c.requires.sound.3.0)).held
+    (rw c.in-Following.is at c.requires.ready).0
 
-pub take-requires-in-Following-clause-few : goal.take-requires-in-Following-clause-few
-take-requires-in-Following-clause-few c come =
-    let known =
-    in-time (first_of c.args.window.now) c.requires.sound.0 c.requires.sound.1
-    c.in-Following.followed (rw c.in-Following.is at c.requires.sound.3.0) in
-    omega (arith, known.few, c.requires.sound.2, c.requires.early)
+pub take-requires : goal.take-requires
+take-requires c =
+    let finds = rw c.in-Searching.is at c.requires.ready in
+    record {
+      ready = record {
+        from = rw c.history.ensures finds.0;
+        to = rw c.history.ensures (omega (arith, c.requires.taken));
+      };
+    }
 
 pub returns-in_ok-cell-in-Searching-clause-within :
     goal.returns-in_ok-cell-in-Searching-clause-within

@@ -18,6 +18,5 @@ returns-clause-stands c xs now =
 pub returns-clause-begins : goal.returns-clause-begins
 returns-clause-begins c = record {
   at = c.start.ensures.at;
-  dumps = refl;
   steered_is = refl;
 }

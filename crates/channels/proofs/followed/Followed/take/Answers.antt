@@ -1,6 +1,5 @@
-use Rattle.std.proofs.Common.{◌≡◌, ◌≤◌, ◌++◌, refl, arith}
+use Rattle.std.proofs.Common.{◌≡◌, ◌++◌, refl, arith}
 use Rattle.std.proofs.lemmas.Bool.{true≢false, false≢true}
-use Rattle.channels.specs.FollowedChannels.{next_dump}
 use Rattle.channels.specs.Trackings.{dump_count}
 use Rattle.channels.proofs.FollowedLemmas.{takes-on, takes-plain, takes-steered}
 use Rattle.channels.proofs.FollowedLemmas.{none-counted, some-counted}
@@ -9,7 +8,18 @@ use Rattle.channels.proofs.ShiftLemmas.{as-number}
 use Rattle.channels.proofs.followed.Followed.take.Goals as goal
 
 pub invariant_of-self : goal.invariant_of-self
-invariant_of-self c = record { counted = c.args.self.now.counted }
+invariant_of-self c = record {
+  counted = c.args.self.now.counted;
+  few = omega (
+    arith,
+    c.args.self.now.few,
+    c.args.self.now.follower.waits,
+    c.take.ensures.at,
+    c.requires.begun,
+    c.min-to.ensures,
+    c.ends.ensures.value,
+  );
+}
 
 pub returns-in_default-clause-came : goal.returns-in_default-clause-came
 returns-in_default-clause-came c =
@@ -33,13 +43,21 @@ returns-in_default-clause-waits c is = (rw c.in_default.is at c.take.ensures.wai
 
 pub overflow_add-self : goal.overflow_add-self
 overflow_add-self c =
-    let came = (rw c.in-Some.is at c.take.ensures.came).0 refl in
-    let far : next_dump c.args.self.now ≤ c.args.to =
-    omega (arith, came, c.min-to.ensures, c.ends.ensures.value) in
-    omega (arith, c.requires.few far)
+    omega (arith, c.args.self.now.few, c.requires.begun, c.requires.early)
 
 pub invariant_of-self-in-None : goal.invariant_of-self-in-None
-invariant_of-self-in-None c = record { counted = none-counted _ _ c.in-None.is }
+invariant_of-self-in-None c =
+    let came = (rw c.in-Some.is at c.take.ensures.came).0 refl in
+    record {
+      counted = none-counted _ _ c.in-None.is;
+      few = omega (
+        arith,
+        c.args.self.now.few,
+        c.args.self.now.follower.waits,
+        c.take.ensures.at,
+        came,
+      );
+    }
 
 pub take-requires-in-Some-tracking-clause-small : goal.take-requires-in-Some-tracking-clause-small
 take-requires-in-Some-tracking-clause-small c = rw c.in-Some.is at c.take.ensures.small
@@ -49,9 +67,15 @@ take-requires-in-Some-tracking-clause-few c =
     let counted : dump_count c.in-Some-tracking.tracking ≡ c.args.self.now.dumps =
     c.args.self.now.counted c.in-Some-tracking.tracking c.in-Some-tracking.is in
     let came = (rw c.in-Some.is at c.take.ensures.came).0 refl in
-    let far : next_dump c.args.self.now ≤ c.args.to =
-    omega (arith, came, c.min-to.ensures, c.ends.ensures.value) in
-    omega (arith, counted, c.requires.few far)
+    omega (
+      arith,
+      counted,
+      c.args.self.now.few,
+      c.args.self.now.follower.waits,
+      came,
+      c.min-to.ensures,
+      c.requires.early,
+    )
 
 pub steer-requires-clause-shift : goal.steer-requires-clause-shift
 steer-requires-clause-shift c = rw (as-number c.v.result c.v.ensures.small) c.v.ensures.small
@@ -64,8 +88,17 @@ pub invariant_of-self-in-Some-tracking : goal.invariant_of-self-in-Some-tracking
 invariant_of-self-in-Some-tracking c =
     let counted : dump_count c.in-Some-tracking.tracking ≡ c.args.self.now.dumps =
     c.args.self.now.counted c.in-Some-tracking.tracking c.in-Some-tracking.is in
+    let came = (rw c.in-Some.is at c.take.ensures.came).0 refl in
     record {
       counted = some-counted _ _ (rw counted at c.take-in-Some-tracking.ensures.dumps);
+      few = omega (
+        arith,
+        c.args.self.now.few,
+        c.args.self.now.follower.waits,
+        c.take.ensures.at,
+        came,
+        c.steer.ensures.at,
+      );
     }
 
 pub returns-in-None-clause-came : goal.returns-in-None-clause-came

@@ -21,6 +21,5 @@ returns-clause-stands c channel xs now b steered =
 pub returns-clause-begins : goal.returns-clause-begins
 returns-clause-begins c = record {
   at = c.start.ensures.at;
-  dumps = refl;
   steered_is = refl;
 }

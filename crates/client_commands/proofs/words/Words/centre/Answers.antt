@@ -3,11 +3,12 @@ use Rattle.std.specs.Prelude.{MatchOption, IsSome, IfSome, unsigned_abs}
 use Rattle.std.proofs.lemmas.Int.{to_z-of_z, ints}
 use Rattle.std.specs.Result.{result_ok}
 use Rattle.acquisition.specs.declared.plan.TheConstants.{MOST_CENTRE}
-use Rattle.client_commands.proofs.ReadingLemmas.{no_number, integer_tried}
+use Rattle.client_commands.proofs.ReadingLemmas.{passed_on, no_number, integer_tried}
 use Rattle.client_commands.proofs.words.Words.centre.Goals as goal
 
 pub returns-in_err-number-clause-value : goal.returns-in_err-number-clause-value
-returns-in_err-number-clause-value c = search (rules, no_number)
+returns-in_err-number-clause-value c = rw (passed_on _ c.from_residual.ensures.1)
+    (λ ranges. no_number _ ranges c.args.self.now _ c.requires c.in_err-number.ensures.number)
 
 pub returns-clause-value : goal.returns-clause-value
 returns-clause-value c =
@@ -18,5 +19,9 @@ returns-clause-value c =
     (λ z. (IsSome c.filter.result ↔ (unsigned_abs z ≤ MOST_CENTRE))
     × IfSome c.filter.result (λ s. s ≡ z)) = search (rules, arith) in
     rw c.ok_or.ensures.value (integer_tried c.try_from.result c.in_ok-number.field-0
-    c.filter.result w32 MOST_CENTRE c.args.self.now (λ small. search (rules, arith, ints))
-    c.requires c.in_ok-number.ensures.number typed ranged)
+    c.filter.result w32 MOST_CENTRE c.args.self.now c.number.new.self (λ small. search (
+      rules,
+      arith,
+      ints,
+    ))
+    c.requires c.in_ok-number.ensures.left c.in_ok-number.ensures.number typed ranged)

@@ -1,11 +1,12 @@
 use Rattle.std.proofs.Common.{rules, arith, w32, w64, FitsSigned}
 use Rattle.std.proofs.lemmas.Int.{to_z-of_z, ints}
 use Rattle.oscillators.specs.declared.doppler.TheConstants.{MOST_DOPPLER}
-use Rattle.client_commands.proofs.ReadingLemmas.{no_number, integer_tried}
+use Rattle.client_commands.proofs.ReadingLemmas.{passed_on, no_number, integer_tried}
 use Rattle.client_commands.proofs.words.Words.doppler.Goals as goal
 
 pub returns-in_err-number-clause-value : goal.returns-in_err-number-clause-value
-returns-in_err-number-clause-value c = search (rules, no_number)
+returns-in_err-number-clause-value c = rw (passed_on _ c.from_residual.ensures.1)
+    (λ ranges. no_number _ ranges c.args.self.now _ c.requires c.in_err-number.ensures.number)
 
 pub returns-clause-value : goal.returns-clause-value
 returns-clause-value c =
@@ -13,5 +14,9 @@ returns-clause-value c =
     let typed = rw (to_z-of_z w64 c.in_ok-number.field-0 fits) at c.try_from.ensures in
     let ranged = rw c.ok-hz.ensures.value at c.and_then.ensures in
     rw c.ok_or.ensures.value (integer_tried c.try_from.result c.in_ok-number.field-0
-    c.and_then.result w32 MOST_DOPPLER c.args.self.now (λ small. search (rules, arith, ints))
-    c.requires c.in_ok-number.ensures.number typed ranged)
+    c.and_then.result w32 MOST_DOPPLER c.args.self.now c.number.new.self (λ small. search (
+      rules,
+      arith,
+      ints,
+    ))
+    c.requires c.in_ok-number.ensures.left c.in_ok-number.ensures.number typed ranged)

@@ -5,7 +5,7 @@ use Rattle.sample_planes.proofs.BitLemmas.{same_sample}
 use Rattle.sample_planes.proofs.PlaneLemmas.{runs_agree, sample_near}
 use Rattle.sample_history.specs.Histories.{first_of, bytes_of, held_in, packing_in}
 use Rattle.sample_history.proofs.PlaceLemmas.{width_from}
-use Rattle.sample_history.proofs.history.SampleHistory.unpack_into.Goals as goal
+use Rattle.sample_history.proofs.history.SampleHistorySampleSource.unpack_into.Goals as goal
 
 pub returns : goal.returns
 unfolding samples_from
