@@ -6,7 +6,7 @@
 //! crate of tests has a module `asserted`, whose functions do so where there is an error.
 #![tactic(auto)]
 
-ghost use Rattle.std.specs.Prelude.{◌≡◌, ◌↔◌, true, IsOk};
+ghost use Rattle.std.specs.Prelude.{◌≡◌, ◌↔◌, true, IsOk, IfErr};
 
 use std::fmt::Debug;
 
@@ -31,7 +31,9 @@ pub struct DifferenceAt<P, T> {
 ///
 /// Both values, where they differ.
 pub fn same<T: PartialEq + Drop>(found: T, expected: T) -> Result<(), Difference<T>>
-    ensures { IsOk result ↔ (T.eq found expected ≡ true) }
+    ensures same { IsOk result ↔ (T.eq found expected ≡ true) }
+    ensures difference { IfErr result (λ difference.
+        (difference.found ≡ found) × (difference.expected ≡ expected)) }
 {
     if found == expected {
         Ok(())
@@ -50,7 +52,9 @@ pub fn same_at<P: Drop, T: PartialEq + Drop>(
     found: T,
     expected: T,
 ) -> Result<(), DifferenceAt<P, T>>
-    ensures { IsOk result ↔ (T.eq found expected ≡ true) }
+    ensures same { IsOk result ↔ (T.eq found expected ≡ true) }
+    ensures difference { IfErr result (λ difference. (difference.place ≡ place)
+        × (difference.found ≡ found) × (difference.expected ≡ expected)) }
 {
     if found == expected {
         Ok(())

@@ -1,6 +1,10 @@
 //! What a program reads from and writes to. A `Source` gives bytes, and a `Sink` takes them.
-//! Clauses see the bytes where they are known, and whether a call has failed. `Plain` makes either
-//! of a reader or a writer of std, and is proved to report what each call on it answered.
+//! Clauses see the bytes where they are known, and whether a call has failed.
+//!
+//! `Plain` makes either of a reader or a writer of std. What std answers goes through `report`,
+//! which is proved to hand it on as it is, and to blame a device for an error alone; nothing else
+//! changes what is known of a device. That each method of `Plain` makes its one call and gives
+//! `report` its answer is read and not proved: no contract can name what a call of std answered.
 //!
 //!     use devices::{DeviceFault, Plain, Source};
 //!
@@ -11,6 +15,7 @@
 #![tactic(auto)]
 
 mod fault;
+mod flags;
 mod plain;
 mod sink;
 mod source;

@@ -56,7 +56,8 @@ rest_of old new left bytes e h =
     known None h = absurd h
     known (Some ys) h = record { behind = ys; is = refl; split = h }
 
-nothing_left : (left bytes : List ℕ) (new : Option (List ℕ)) → IsRest left bytes new → bytes ≡ []
+pub nothing_left : (left bytes : List ℕ) (new : Option (List ℕ)) → IsRest left bytes new → bytes ≡
+    []
     → IsAtEnd new → left ≡ []
 nothing_left left bytes new r e at_end =
     r.split ∙ ap (λ (xs : List ℕ). xs ++ r.behind) e
@@ -65,7 +66,7 @@ nothing_left left bytes new r e at_end =
 -- ---- the end of a run
 
 -- all that is wanted came
-shown_whole : (skip most : ℕ) (came left : List ℕ)
+pub shown_whole : (skip most : ℕ) (came left : List ℕ)
     → most - length (take most (drop skip came)) ≡ 0
     → take most (drop skip came) ≡ take most (drop skip (came ++ left))
 shown_whole skip most came left full =

@@ -1,7 +1,9 @@
 //! What a recording is like, as text.
 
-ghost use Rattle.std.specs.Prelude.{◌≡◌, ◌<◌, ◌≤◌, length, IfOk, IfErr};
+ghost use Rattle.std.specs.Prelude.{◌≡◌, ◌<◌, ◌≤◌, ℕ, List, [], Some, length, take, drop};
+ghost use Rattle.std.specs.Prelude.{IfOk, IfErr};
 ghost use Rattle.recordings.specs.Recordings.{parts_of};
+ghost use Rattle.recordings.specs.Stretches.{Shows};
 ghost use Rattle.recordings.specs.declared.recipe.TheConstants.{MOST_BYTES};
 ghost use Rattle.packer.specs.Endings.{EndsMeasuring};
 
@@ -152,21 +154,21 @@ fn share(part: u64, count: u64) -> Hundredths {
     Hundredths(signed(part.saturating_mul(10_000) / count.max(1)))
 }
 
-/// The bytes of the stretch that is wanted, at most `MOST_BYTES`.
+/// The bytes of the stretch that is wanted, at most its first `MOST_BYTES`.
 fn gather<R: Source>(
     alloc: Global,
     stretch: &mut Stretch,
     reader: &mut R,
 ) -> Result<Vec<u8>, Failure>
     ensures few { IfOk result (λ bytes. length bytes.items ≤ MOST_BYTES) }
+    ensures front { (skip most : ℕ) (all : List ℕ) → R.remaining reader.old ≡ Some all
+        → Shows skip most [] [] stretch.old → IfOk result (λ bytes.
+        bytes.items ≡ take MOST_BYTES (take most (drop skip all))) }
     ensures fault { IfErr result EndsMeasuring }
 {
     let mut buffer = zeros(alloc, MOST_PIECE)?;
     let mut bytes = Vec::new(alloc);
-    for _ in 0..u64::MAX {
-        if stretch.is_over() || bytes.len() == MOST_BYTES {
-            break;
-        }
+    while !stretch.is_over() && bytes.len() < MOST_BYTES {
         let count = read(reader, &mut buffer)?;
         if count == 0 {
             break;

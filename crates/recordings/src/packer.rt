@@ -20,7 +20,7 @@ pub struct Packer {
 }
 
 impl Packer {
-    ghost use Rattle.std.specs.Prelude.{ℕ, List, [], ◌++◌, IfOk, OnOk, Err};
+    ghost use Rattle.std.specs.Prelude.{ℕ, List, [], ◌++◌, IfOk, OnOk, OnErr, Err};
     ghost use Rattle.recordings.specs.Readings.{AreNumbers};
     ghost use Rattle.recordings.specs.Packers.{StandsFor, recipe_in, held_in};
     ghost use Rattle.recordings.specs.Recordings.{sample_bits};
@@ -45,7 +45,7 @@ impl Packer {
 
     /// Takes the next piece of the recording, and writes the bytes that this fills, in place of
     /// what was written. An error is memory that it was refused, or a float that is no number: then
-    /// what it held may be gone.
+    /// nothing is written, and what it held may be gone.
     pub fn take(&mut self, piece: &[u8], written: &mut Vec<u8>) -> Result<(), PackFault>
         requires { length piece.now ≤ MOST_PIECE }
         ensures recipe { recipe_in self.new ≡ recipe_in self.old }
@@ -55,7 +55,9 @@ impl Packer {
             (AreNumbers (recipe_in self.old).kind (held_in self.old ++ piece.now)) }
         ensures fault { (result ≡ Err PackFault.NotANumber)
             → ¬ AreNumbers (recipe_in self.old).kind (held_in self.old ++ piece.now) }
+        ensures nothing { OnErr result (written.new.items ≡ []) }
     {
+        written.clear();
         self.held.extend_from_slice(piece)?;
         match self.recipe.pack(&self.held, written) {
             Ok(()) => {
@@ -64,6 +66,7 @@ impl Packer {
             }
             Err(error) => {
                 self.held.clear();
+                written.clear();
                 Err(error)
             }
         }

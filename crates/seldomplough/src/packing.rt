@@ -1,7 +1,8 @@
 //! Packed samples of a recording's values.
 
-ghost use Rattle.std.specs.Prelude.{◌≡◌, ◌≢◌, ◌↔◌, ◌⊎◌, [], IfOk, Err};
+ghost use Rattle.std.specs.Prelude.{◌≡◌, ◌≢◌, ◌↔◌, ◌⊎◌, [], IfOk, OnErr, Err};
 ghost use Rattle.recordings.specs.declared.value_kind.ValueKind.TheVariants.{I8, F32};
+ghost use Rattle.seldomplough.specs.declared.packing_fault.PackingFault.TheVariants.{NoMemory};
 ghost use Rattle.seldomplough.specs.declared.packing_fault.PackingFault.TheVariants.{NotANumber};
 ghost use Rattle.seldomplough.specs.declared.packing_fault.PackingFault.TheVariants.{OtherKind};
 
@@ -46,7 +47,8 @@ impl Packing {
         })
     }
 
-    /// The bytes that the values that were taken last filled.
+    /// The bytes that the values that were taken last filled. After an error there are none; but
+    /// values for a recording of another kind change nothing.
     pub fn packed(&self) -> &[u8]
         ensures { result.now ≡ packed_in self.now }
     {
@@ -58,13 +60,15 @@ impl Packing {
     ///
     /// # Errors
     ///
-    /// There is no memory, or a float is no number. Then values that it held may be gone.
+    /// There is no memory, or a float is no number. Then nothing is packed, and values that it held
+    /// may be gone.
     pub fn take<'b>(&mut self, bytes: &'b [u8]) -> Result<&'b [u8], PackingFault>
         ensures taken { IfOk result (λ rest. TakesFront (λ taken. taken) bytes.now rest.now
             self.old self.new) }
         ensures no_number { (result ≡ Err NotANumber)
             → FindsNoNumber (λ taken. taken) bytes.now self.old }
         ensures kind { result ≢ Err OtherKind }
+        ensures nothing { OnErr result (packed_in self.new ≡ []) }
         ensures recipe { recipe_in self.new ≡ recipe_in self.old }
     {
         let (front, rest) = bytes.split_at(bytes.len().min(MOST_PIECE));
@@ -76,17 +80,21 @@ impl Packing {
     ///
     /// # Errors
     ///
-    /// The recording has values of another kind, or there is no memory.
+    /// The recording has values of another kind, and nothing has changed. Or there is no memory:
+    /// then nothing is packed, and values that it held may be gone.
     pub fn take_i8<'v>(&mut self, values: &'v [i8]) -> Result<&'v [i8], PackingFault>
         ensures taken { IfOk result (λ rest. TakesFront bytes_of_i8 values.now rest.now
             self.old self.new) }
         ensures kind { (result ≡ Err OtherKind) ↔ (kind_in self.old ≢ I8) }
+        ensures other { (result ≡ Err OtherKind) → self.new ≡ self.old }
+        ensures nothing { (result ≡ Err NoMemory) → packed_in self.new ≡ [] }
         ensures numbers { result ≢ Err NotANumber }
         ensures recipe { recipe_in self.new ≡ recipe_in self.old }
     {
         if self.packer.kind() != ValueKind::I8 {
             return Err(PackingFault::OtherKind);
         }
+        self.packed.clear();
         let (front, rest) = values.split_at(values.len().min(MOST_PIECE));
         write_i8(front, &mut self.piece)?;
         self.packer.take(&self.piece, &mut self.packed)?;
@@ -97,11 +105,15 @@ impl Packing {
     ///
     /// # Errors
     ///
-    /// The recording has values of another kind, a float is no number, or there is no memory.
+    /// The recording has values of another kind, and nothing has changed. Or a float is no number,
+    /// or there is no memory: then nothing is packed, and values that it held may be gone.
     pub fn take_f32<'v>(&mut self, values: &'v [f32]) -> Result<&'v [f32], PackingFault>
         ensures taken { IfOk result (λ rest. TakesFront bytes_of_f32 values.now rest.now
             self.old self.new) }
         ensures kind { (result ≡ Err OtherKind) ↔ (kind_in self.old ≢ F32) }
+        ensures other { (result ≡ Err OtherKind) → self.new ≡ self.old }
+        ensures nothing { (result ≡ Err NoMemory) ⊎ (result ≡ Err NotANumber)
+            → packed_in self.new ≡ [] }
         ensures no_number { (result ≡ Err NotANumber)
             → HasNan values.now ⊎ FindsNoNumber bytes_of_f32 values.now self.old }
         ensures recipe { recipe_in self.new ≡ recipe_in self.old }
@@ -109,6 +121,7 @@ impl Packing {
         if self.packer.kind() != ValueKind::F32 {
             return Err(PackingFault::OtherKind);
         }
+        self.packed.clear();
         let (front, rest) = values.split_at(values.len().min(MOST_PIECE / FLOAT_BYTES));
         write_f32(front, &mut self.piece)?;
         self.packer.take(&self.piece, &mut self.packed)?;
