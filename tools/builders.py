@@ -8,8 +8,8 @@ import time
 
 import children
 import room_folders
-from built import (ANY, APART, THIRD, TOP, clean_environment, find, level, read, replace,
-                   sum_of_sources)
+from built import (ANY, APART, THIRD, TOP, clean_environment, find, is_plain_wanted, level, read,
+                   replace, sum_of_sources)
 from crate_order import job_count, read_crates, side_by_side, with_those_below
 from crate_shares import Shares
 from rooms import RT, prove as prove_in_room
@@ -36,14 +36,10 @@ def is_too_old(line):
     return version[:1] == ['1'] and version[1].isdigit() and int(version[1]) < 85
 
 
-def missing(kind, is_plain_wanted):
-    """What is missing where there is neither a prover nor cargo, for a kind of build."""
-    if kind == 'apart':
-        return '`cargo` of Rust 1.85 builds it, and is not in the PATH'
-    if is_plain_wanted:
-        return 'RECEIVER_PLAIN is set, and there is no `cargo` in the PATH'
-    return ('`rt` of the Rattle kit builds it, proved, or `cargo` of Rust 1.85, not proved;'
-            ' neither is in the PATH')
+def hint(kind):
+    """What follows where cargo builds a program, or can't, that could be proved here."""
+    could_prove = kind == 'plain' and not is_plain_wanted() and find('rt')
+    return '; `make proved` builds the proved one' if could_prove else ''
 
 
 def run(command, folder, **more):
@@ -55,18 +51,15 @@ def run(command, folder, **more):
     return said
 
 
-def say_how_long(crate, called, count, say):
-    """Says about how long a proof takes, and what answers sooner."""
+def say_how_long(crate, count, say):
+    """Says about how long a proof takes."""
     cores = job_count()
     quick, slow = (fixed + shared / cores for fixed, shared in MINUTES[crate])
     say(f'{count} crates are proved first, from nothing in about {quick:.0f} to {slow:.0f} minutes'
         f' on {cores} processor{"s" * (cores > 1)}')
-    if find('cargo'):
-        say(f'RECEIVER_PLAIN=1 ./{called} .. answers in half a minute, by a build that isn\'t'
-            ' proved')
 
 
-def prove(crate, called, say):
+def prove(crate, say):
     """Proves and builds a program, and first the libraries that it stands on, for the level of the
     processor at hand. Gives its path by this level."""
     crates = read_crates()
@@ -89,7 +82,7 @@ def prove(crate, called, say):
                 raise Failed(said)
         shares.end(name)
 
-    say_how_long(crate, called, len(names), say)
+    say_how_long(crate, len(names), say)
     room_folders.clear()
     # Those on which most others stand go first.
     names.sort(key=lambda name: -sum(name in with_those_below([it], crates) for it in names))
@@ -156,7 +149,8 @@ def build_plain(crate, sources, line, say):
     too, side by side; or for the processor at hand alone, where that is asked for. Gives its paths
     by the levels."""
     folder = os.path.join(TOP, 'plain')
-    say('this build is of plain Rust, by cargo, and not proved; it takes about half a minute')
+    say('cargo builds it in about half a minute, as plain Rust, which isn\'t proved'
+        f'{hint("plain")}')
     run([sys.executable, '-E', '-s', '-S', os.path.join(TOP, 'tools', 'plain'), folder], TOP)
     target = Target(folder, sources, line)
     target.clear()

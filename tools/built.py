@@ -1,6 +1,6 @@
-"""What makes a built program new: a sum of all that it is made of, by content, and the line of the
-toolchain that made it. Both are kept in the folder `out` beside README.md, with a sum of the
-program itself; of each, where there is one for any processor and one for a level of it. A start
+"""What makes a built program new: a sum of all that it is made of, by content. It is kept in the
+folder `out` beside README.md, with the line of the toolchain that made the program, and a sum of
+the program itself; of each, where there is one for any processor and one for a level of it. A start
 reads no more than this, so it imports little."""
 import hashlib
 import os
@@ -56,6 +56,11 @@ KIT = 'rattle-kit-'
 KIT_ID = 'KIT-ID'
 
 
+def is_plain_wanted():
+    """Whether the program of cargo is asked for, also where there is a proved one."""
+    return os.environ.get('RECEIVER_PLAIN', '0') not in ('', '0')
+
+
 def find(name):
     """The path of a command in the PATH; nothing where there is none."""
     for folder in os.environ.get('PATH', os.defpath).split(os.pathsep):
@@ -97,6 +102,12 @@ def sum_of_sources(kind):
             made.update(f'{file[len(TOP):]} {len(data)}\n'.encode('utf-8', 'surrogateescape'))
             made.update(data)
     return made.hexdigest()
+
+
+def version():
+    """The version of all programs and packages, which the crate of that name has."""
+    text = read(os.path.join(TOP, 'crates', 'version', 'src', 'lib.rt')).decode()
+    return text.partition('VERSION: &str = "')[2].partition('"')[0]
 
 
 def sum_of(path):
@@ -154,9 +165,6 @@ def line_of_rustc():
 class Prover:
     """The `rt` in the PATH, if there is one, and its line, if it is the Rattle kit's."""
 
-    # The sum of an `rt` that was asked and is another is kept, so that it is asked once.
-    OTHER = os.path.join(OUT, 'other-rt')
-
     def __init__(self):
         self.path = find('rt')
         self.line = self.line_of_kit() if self.path else ''
@@ -168,20 +176,9 @@ class Prover:
             line = ' '.join(read(os.path.join(home, KIT_ID)).decode('utf-8', 'replace').split())
         except OSError:
             line = ''
-        if not line.startswith(KIT) and not self.is_known_as_other():
+        if not line.startswith(KIT):
             line = said_by([self.path, 'version'])
         return line if line.startswith(KIT) else ''
-
-    def is_known_as_other(self):
-        """Whether this `rt` was asked before, and is another."""
-        try:
-            return read(self.OTHER).decode() == sum_of(self.path)
-        except (OSError, UnicodeDecodeError):
-            return False
-
-    def note_other(self):
-        """Keeps that this `rt` is another."""
-        replace(self.OTHER, sum_of(self.path) or '')
 
 
 def replace(path, text):
@@ -203,9 +200,8 @@ class Built:
     def __init__(self, crate, kind):
         self.kind = kind
         self.stamp = os.path.join(OUT, f'{crate}.{kind}')
-        self.sources = sum_of_sources(kind)
 
-    def program(self, line):
+    def program(self, line=''):
         """The path of the program for the processor at hand where it is what the sources are, and
         the toolchain of this line made it; any toolchain where the line is empty. Nothing where it
         isn't."""
@@ -216,15 +212,15 @@ class Built:
         except (OSError, ValueError, KeyError):
             return None
         path = os.path.join(TOP, path)
-        if sources != self.sources or line not in ('', made_by):
+        if line not in ('', made_by) or sources != sum_of_sources(self.kind):
             return None
         is_whole = found == sum_of(path) and os.access(path, os.X_OK)
         return path if is_whole else None
 
-    def keep(self, paths, line):
-        """Keeps that the program is built: its paths by the levels."""
+    def keep(self, paths, sources, line):
+        """Keeps that the program is built of sources of this sum: its paths by the levels."""
         rows = [f'{it} {sum_of(path)} {os.path.relpath(path, TOP)}' for it, path in paths.items()]
-        replace(self.stamp, '\n'.join([self.sources, line, *rows]))
+        replace(self.stamp, '\n'.join([sources, line, *rows]))
 
 
 # The sum of the sources that the last `rt ci` had which was kept.

@@ -4,6 +4,7 @@ of crates, which a dependency's line renames."""
 import os
 import re
 
+from built import version
 from plain_docs import docs_of, is_of_kit, named_docs, program_of
 
 PROJECT = 'seldomplough'
@@ -109,13 +110,6 @@ def asks_memory(name, crates):
     if name not in crates:
         return name in ('alloc', 'circular_buffer')
     return any(asks_memory(crate, crates) for crate in crates[name][1])
-
-
-def version():
-    """The version of all packages, which the crate of that name has."""
-    path = os.path.join(os.path.dirname(TOOLS), 'crates', 'version', 'src', 'lib.rt')
-    with open(path, encoding='utf-8') as source:
-        return re.search(r'VERSION: &str = "([^"]*)"', source.read())[1]
 
 
 def keywords_of(docs):

@@ -17,7 +17,7 @@ import sys
 sys.dont_write_bytecode = True
 sys.path.insert(0, os.path.dirname(os.path.dirname(os.path.realpath(__file__))))
 import children
-from built import ANY, THIRD, TOP, Built, Prover, level, read, sum_of
+from built import ANY, THIRD, TOP, Built, Prover, is_plain_wanted, level, read, sum_of
 from crate_order import read_crates, with_those_below
 from room_folders import new_folder
 from rooms import Room, has_kept, is_made, is_summed_up, library
@@ -40,12 +40,12 @@ def built_programs(line: str, crates: dict[str, list[str]]) -> dict[str, dict[st
     """The path of each program, by its level. It is as the sources are, and all is kept by which
     `rt` builds it for another level with no proof from nothing."""
     found = {}
-    for crate, called in PROGRAMS.items():
+    for crate in PROGRAMS:
         built, below = Built(crate, 'proved'), with_those_below([crate], crates)
         path = built.program(line)
         if not path:
             raise Refused(f'`rt` hasn\'t built {crate} of these sources: '
-                          f'`tools/build {crate} {called}` does, and says how long it takes')
+                          '`make proved` does, and says how long it takes')
         if not has_kept(crate) or not all(is_kept(it) for it in below if it != crate):
             raise Refused(f'what `rt` proved for {crate} isn\'t all kept here: '
                           f'`rt run -- --help` in crates/{crate} proves it anew')
@@ -94,7 +94,7 @@ def write_sums(folder: str, line: str) -> None:
 
 def make(folder: str) -> None:
     """Puts the programs into a folder."""
-    if os.environ.get('RECEIVER_PLAIN', '0') not in ('', '0'):
+    if is_plain_wanted():
         raise Refused('RECEIVER_PLAIN is set')
     line = Prover().line
     if not line:

@@ -1,5 +1,6 @@
 """Rows of ./receiver, ./pack and tools/build: what makes a build new, and what may turn one."""
 import os
+import re
 import shutil
 
 import built
@@ -134,12 +135,13 @@ def proved_for_more(rows, folder):
     with open(checkout.at(FLAGS), encoding='utf-8') as file:
         needed = file.read()
     write(checkout.at(FLAGS), '')
-    checkout.run('receiver')
+    checkout.prove()
     rows.say('./receiver, proved, the processor has all',
              [] if checkout.run('receiver', PATH=checkout.bare).said == 'proved\n' else ['not run'])
     write(checkout.at(FLAGS), f'{needed} no_such_flag')
     rows.say('./receiver, proved for a higher level, without rt and cargo',
              refused(checkout.run('receiver', PATH=checkout.bare), 'receiver: .*`cargo`.*', 1))
+    checkout.prove()
     outcome = checkout.run('receiver')
     rows.say('./receiver, proved for a higher level', [] if outcome.said == 'proved\n'
              else [str(outcome)[-300:]])
@@ -198,7 +200,9 @@ def nothing_to_build_with(rows, folder):
 def words(rows, folder):
     """Words of tools/build."""
     checkout = Checkout(folder)
-    for given in [], ['receiver_cli'], ['nothing', 'receiver'], ['../x', 'x'], ['a', 'b', 'c']:
+    for given in ([], ['receiver_cli'], ['nothing', 'receiver'], ['../x', 'x'], ['a', 'b', 'c'],
+                  ['--proved'], ['--proved', 'maker', 'maker'], ['--answer', 'receiver_cli', 'x'],
+                  ['--proved', '--answer', 'receiver_cli', 'receiver', '-h']):
         before = contents(folder)
         faults = refused(checkout.run('tools/build', *given), 'build: .*')
         rows.say(f'tools/build {given}', faults + changes(before, contents(folder)))
@@ -209,7 +213,7 @@ def words(rows, folder):
 
 
 def other_rt(rows, folder):
-    """Another `rt` in the PATH is no prover: cargo builds, as where there is no rt."""
+    """Another `rt` in the PATH is never asked for a start, and proves nothing."""
     if not shutil.which('cargo'):
         return
     checkout = Checkout(folder)
@@ -219,55 +223,150 @@ def other_rt(rows, folder):
         write(rt, f'#!/bin/sh\necho "$@" >> "$0.calls"\necho rt 4.{status}\nexit {status}\n',
               0o755)
         checkout.set_version(f'{version}.0.0')
-        outcome = checkout.run('receiver', PATH=path)
-        faults = [] if outcome.said == f'receiver {version}.0.0\n' else [str(outcome)[-300:]]
-        said = [it for it in outcome.errors.split('\n') if rt in it]
-        faults += [f'{len(said)} lines name the other rt'] * (len(said) != 1)
-        rows.say(f'./receiver with another rt of status {status}', faults)
-    before = contents(os.path.dirname(rt))
-    rows.say('./receiver with another rt, later', checkout.prints('3.0.0', PATH=path)
-             + ['it was asked again'] * (contents(os.path.dirname(rt)) != before))
-    outcome = checkout.run('receiver', PATH=f'{os.path.dirname(rt)}:{checkout.bare}')
-    rows.say('./receiver with another rt and no cargo, later',
-             [] if outcome.said == 'receiver 3.0.0\n' else [str(outcome)[-300:]])
+        rows.say(f'./receiver with another rt of status {status}',
+                 checkout.prints(f'{version}.0.0', PATH=path)
+                 + ['it was asked'] * os.path.exists(f'{rt}.calls'))
+        rows.say(f'tools/build --proved with another rt of status {status}',
+                 refused(checkout.prove(PATH=path), f'receiver: .*{rt}, isn\'t the Rattle kit\'s',
+                         1))
+        os.remove(f'{rt}.calls')
+    rows.say('tools/build --proved with no rt',
+             refused(checkout.prove(), 'receiver: `rt` of the Rattle kit .*not in the PATH', 1))
+
+
+def unasked(rows, folder):
+    """A start proves nothing that wasn't asked for: cargo builds, and one line names `make proved`,
+    once. Without cargo this line alone comes."""
+    checkout = Checkout(folder)
+    checkout.add_rt('rattle-kit-1')
+    kit = os.path.join(folder, 'kit', 'bin')
+    wanted = 'receiver: .*`cargo` .*`make proved` builds the proved one'
+    rows.say('./receiver with the kit and no cargo',
+             refused(checkout.run('receiver', PATH=f'{kit}:{checkout.bare}'), wanted, 1))
+    if shutil.which('cargo'):
+        for when, line in (('first', "receiver: .*isn't proved; `make proved` .*\n"),
+                           ('later', '')):
+            outcome = checkout.run('receiver')
+            is_right = (outcome.said == 'receiver 1.0.1\n'
+                        and re.fullmatch(line, outcome.errors) is not None)
+            rows.say(f'./receiver with the kit and cargo, {when}',
+                     [] if is_right else [str(outcome)[-300:]])
+    rows.say('./receiver with the kit, what was proved', [str(it) for it in checkout.calls()])
+
+
+def made_proved(rows, folder):
+    """`make proved` has both programs proved, and then these start. `make` alone says so."""
+    checkout = Checkout(folder)
+    checkout.add_rt('rattle-kit-1')
+    if not shutil.which('make'):
+        return
+    path = f'{checkout.path}:{os.path.dirname(shutil.which("make"))}'
+    outcome = run(['make'], checkout.top, checkout.environment(PATH=path))
+    rows.say('make', [] if outcome.said.startswith('make proved ') and not checkout.calls()
+             else [str(outcome)])
+    outcome = run(['make', 'proved'], checkout.top, checkout.environment(PATH=path))
+    rows.say('make proved', [str(outcome)[-300:]] * (outcome.status != 0))
+    for program in 'receiver', 'pack':
+        outcome = checkout.run(program)
+        is_silent = (outcome.said, outcome.errors) == ('proved\n', '')
+        rows.say(f'./{program} after make proved', [] if is_silent else [str(outcome)[-300:]])
 
 
 def the_kit(rows, folder):
-    """A kit's `rt` builds, and says how long it takes. Its program stays where there is none."""
+    """A kit's `rt` proves where that is asked for, and says how long it takes. Its program starts
+    before that of cargo, also where there is no kit, or another."""
     checkout = Checkout(folder)
     home = checkout.add_rt('rattle-kit-1')
-    outcome = checkout.run('receiver')
-    wanted = r'receiver: .* about \d+ to \d+ minutes on \d+ processors?\n'
-    faults = refused(type(outcome)(outcome.status, '', outcome.errors.split('\n')[0] + '\n'),
-                     wanted.rstrip('\\n'), 0)
-    has_cargo = shutil.which('cargo') is not None
-    faults += ['the build by cargo is not named'] * (
-        has_cargo and 'RECEIVER_PLAIN=1 ./receiver' not in outcome.errors)
-    faults += [outcome.said] * (outcome.said != 'proved\n')
-    rows.say('./receiver with the kit, first', faults)
+    outcome = checkout.prove()
+    wanted = r'receiver: .* about \d+ to \d+ minutes on \d+ processors?'
+    is_told = re.fullmatch(wanted, outcome.errors.split('\n')[0]) is not None
+    rows.say('tools/build --proved', [] if outcome.status == 0 and is_told else [str(outcome)])
     count = len(checkout.calls())
-    for name, path in (('the kit', checkout.path), ('no rt', checkout.bare)):
+    other = write(os.path.join(folder, 'other', 'rt'), '#!/bin/sh\necho other\n', 0o755)
+    for name, path in (('the kit', checkout.path), ('no rt', checkout.bare),
+                       ('another rt', f'{os.path.dirname(other)}:{checkout.path}')):
         outcome = checkout.run('receiver', PATH=path)
         is_silent = (outcome.said, outcome.errors) == ('proved\n', '')
-        rows.say(f'./receiver with {name}, later', [] if is_silent else [str(outcome)[-300:]])
-    other = write(os.path.join(folder, 'other', 'rt'), '#!/bin/sh\necho other\n', 0o755)
-    outcome = checkout.run('receiver', PATH=f'{os.path.dirname(other)}:{checkout.path}')
-    rows.say('./receiver with another rt, which is proved',
-             [] if (outcome.said, outcome.errors) == ('proved\n', '') else [str(outcome)[-300:]])
-    faults = ['it was built again'] * (len(checkout.calls()) != count)
+        rows.say(f'./receiver with {name}, proved', [] if is_silent else [str(outcome)[-300:]])
+    if shutil.which('cargo'):
+        rows.say('./receiver, proved, with RECEIVER_PLAIN=1',
+                 checkout.prints('1.0.1', RECEIVER_PLAIN='1'))
     write(os.path.join(home, 'line'), 'rattle-kit-2')
-    checkout.run('receiver')
-    faults += ['it was not built by the other kit'] * (len(checkout.calls()) == count)
+    outcome = checkout.run('receiver')
+    faults = [str(outcome)[-300:]] * ((outcome.said, outcome.errors) != ('proved\n', ''))
+    faults += ['it was built again'] * (len(checkout.calls()) != count)
     rows.say('./receiver with another version of the kit', faults)
+    checkout.prove()
+    rows.say('tools/build --proved with another version of the kit',
+             ['it was not built by it'] * (len(checkout.calls()) == count))
+    of_ci(rows, checkout)
+
+
+def of_ci(rows, checkout):
+    """What `rt ci` has made is taken as built."""
     checkout.set_version('1.0.2')
     count = len(checkout.calls())
     kept = checkout.run('tools/build', '--keep')
     faults = [str(kept)[-300:]] * bool(kept.status or kept.said or kept.errors)
-    checkout.run('receiver')
+    outcome = checkout.run('receiver')
+    faults += [str(outcome)[-300:]] * (outcome.said != 'proved\n')
     faults += ['it was built again'] * (len(checkout.calls()) != count)
     rows.say('tools/build --keep', faults)
     rows.say('tools/build --keep without the kit',
              refused(checkout.run('tools/build', '--keep', PATH=checkout.bare), 'build: .*', 1))
+
+
+def answers(rows, folder):
+    """Help and version need no build, and are those of the program where it is built."""
+    checkout = Checkout(folder)
+    checkout.add_rt('rattle-kit-1')
+    stored = {'receiver': 'The stored\nhelp.\n', 'pack': 'Another.\n'}
+    for program, text in stored.items():
+        write(checkout.at(f'docs/{program}-help.txt'), text)
+    before = contents(folder)
+    for program, text in stored.items():
+        for option in '--help', '-h', '--version', '-V':
+            wanted = f'{program} 1.0.1\n' if option.lower() in ('--version', '-v') else text
+            outcome = checkout.run(program, option)
+            rows.say(f'./{program} {option}, not built',
+                     [str(outcome)] * ((outcome.status, outcome.said, outcome.errors)
+                                       != (0, wanted, '')))
+    outcome = run(['bash', '-c', './receiver --help > /dev/full'], checkout.top,
+                  checkout.environment())
+    rows.say('./receiver --help > /dev/full, not built',
+             refused(outcome, 'receiver: standard output: No space left on device', 1))
+    rows.say('help and version, what they leave', changes(before, contents(folder)))
+    checkout.prove()
+    outcome = checkout.run('receiver', '--help')
+    rows.say('./receiver --help, built', [str(outcome)] * (outcome.said != 'proved\n'))
+
+
+def other_users(rows, folder):
+    """What one user has built starts for another, who has another rustc or none and can write
+    nothing. What isn't of the sources as they are he can't build."""
+    if not shutil.which('cargo') or os.geteuid() != 0 or not shutil.which('setpriv'):
+        return
+    checkout = Checkout(folder)
+    checkout.run('receiver')
+    os.chmod(folder, 0o755)
+    other = os.path.join(folder, 'other')
+    for name in 'rustc', 'cargo':
+        write(os.path.join(other, name), '#!/bin/sh\necho rustc 1.99.0\n', 0o755)
+    nobody = [shutil.which('setpriv'), '--reuid', '65534', '--regid', '65534', '--clear-groups']
+
+    def started(path):
+        return run([*nobody, checkout.at('receiver')], folder,
+                   checkout.environment(PATH=path, HOME='/'))
+
+    for name, path in (('another rustc', f'{other}:{os.defpath}'), ('no rustc', checkout.bare)):
+        outcome = started(path)
+        is_right = (outcome.status, outcome.said, outcome.errors) == (0, 'receiver 1.0.1\n', '')
+        rows.say(f'./receiver that another user built, {name}',
+                 [] if is_right else [str(outcome)[-300:]])
+    checkout.set_version('1.0.2')
+    rows.say('./receiver that another user built of other sources',
+             refused(started(f'{other}:{os.defpath}'),
+                     "receiver: it isn't built yet, .*Permission denied", 1))
 
 
 def odd_places(rows, folder):
@@ -276,14 +375,16 @@ def odd_places(rows, folder):
     for number, stream in enumerate(('2>&-', '2>/dev/full', '<&-')):
         checkout = Checkout(folder, f'kit{number}')
         checkout.add_rt('rattle-kit-1')
-        line = ['bash', '-c', f'exec ./receiver {stream}']
-        for when in 'first', 'later':
-            outcome = run(line, checkout.top, checkout.environment())
-            is_right = (outcome.status, outcome.said) == (0, 'proved\n')
-            rows.say(f'./receiver {stream}, {when}', [] if is_right else [str(outcome)[-300:]])
+        for command in 'tools/build --proved receiver_cli receiver', './receiver':
+            outcome = run(['bash', '-c', f'exec {command} {stream}'], checkout.top,
+                          checkout.environment())
+            is_right = outcome.status == 0 and outcome.said.endswith(
+                'proved\n' if command == './receiver' else '/receiver_cli\n')
+            rows.say(f'{command} {stream}', [] if is_right else [str(outcome)[-300:]])
     for name in 'a b', "it's $(x) `y` \\", os.fsdecode(b'a\xffb'), '-x', 'a\nb', '\u00fc':
         checkout = Checkout(folder, name)
         checkout.add_rt('rattle-kit-1')
+        checkout.prove()
         outcome = checkout.run('receiver')
         rows.say(f'./receiver in {name!r}',
                  [] if outcome.said == 'proved\n' else [str(outcome)[-300:]])
@@ -298,7 +399,7 @@ def environments(rows, folder):
     """A program that is built starts in any environment, and soon."""
     checkout = Checkout(folder)
     checkout.add_rt('rattle-kit-1')
-    checkout.run('receiver')
+    checkout.prove()
     evil = os.path.dirname(write(os.path.join(folder, 'evil', 'hashlib.py'), 'raise SystemExit(9)'))
     for more in ({'PYTHONSAFEPATH': '1'}, {'PYTHONPATH': evil}, {'PYTHONHOME': '/nowhere'},
                  {'PYTHONSTARTUP': '/nowhere'}, {'HOME': None}, {'TMPDIR': '/nowhere'},
@@ -313,4 +414,5 @@ def environments(rows, folder):
 
 
 ROWS = (variables, by_content, levels, at_hand, proved_for_more, failures, nothing_to_build_with,
-        words, other_rt, the_kit, odd_places, environments)
+        words, other_rt, unasked, made_proved, the_kit, answers, other_users, odd_places,
+        environments)

@@ -23,7 +23,7 @@ TURNING = {'CARGO_BUILD_TARGET': 'no-such-target', 'CARGO_ENCODED_RUSTFLAGS': '-
            'CDPATH': '/', 'TZ': 'Asia/Tokyo'}
 
 # Why there is none where `rt` has built nothing.
-MISSING = '`rt` hasn\'t built (receiver|packer)_cli of these sources: `tools/build .*'
+MISSING = '`rt` hasn\'t built (receiver|packer)_cli of these sources: `make proved` .*'
 
 
 def with_commit(folder, name='Some One', mail='one@example.org'):

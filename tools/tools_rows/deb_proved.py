@@ -49,8 +49,8 @@ def proved(rows, folder):
     checkout, path = with_stand_in(folder)
     lost = 'what `rt` proved for receiver_cli isn\'t all kept here: `rt run .*'
     refusal(rows, 'nothing is proved', checkout, path, MISSING)
-    for called in PROGRAMS.values():
-        checkout.run(called)
+    for crate, called in PROGRAMS.items():
+        checkout.prove(crate, called)
     refusal(rows, 'no proof is kept', checkout, path, lost)
     for crate in PROGRAMS:
         os.makedirs(checkout.at(f'crates/{crate}/out/incremental'))

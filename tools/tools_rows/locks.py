@@ -1,6 +1,7 @@
 """Rows of locks and signals: builds at once, builds that are killed, and what they leave."""
 import fcntl
 import os
+import shutil
 import signal
 import subprocess
 import sys
@@ -10,6 +11,9 @@ from hanging import HANGS
 
 from .commands import TOP, run, write
 from .small_checkout import Checkout
+
+# What has the kit prove and build a program.
+PROVE = ('tools/build', '--proved', 'receiver_cli', 'receiver')
 
 # A program to which a signal comes while one of its threads starts a command: it has begun, and is
 # not noted yet. It prints the command's number, and ends by the signal.
@@ -73,41 +77,45 @@ def no_lock(rows, folder):
     """A program that is built needs no lock, and who can only read the sources can hold none that a
     build waits for."""
     checkout, _ = with_kit(folder, False)
-    checkout.run('receiver')
-    held = [open(checkout.at(name), encoding='utf-8') for name in ('tools/build', 'out/lock')]
+    checkout.prove()
+    held = [open(checkout.at(name), encoding='utf-8')
+            for name in ('tools/build', 'out/lock.proved')]
     for file in held:
         fcntl.flock(file, fcntl.LOCK_EX)
     outcome = checkout.run('receiver')
     rows.say('./receiver, built, where others hold locks',
              [] if outcome.said == 'proved\n' else [str(outcome)])
-    mode = os.stat(checkout.at('out/lock')).st_mode & 0o777
+    mode = os.stat(checkout.at('out/lock.proved')).st_mode & 0o777
     rows.say('the lock of a build', [f'its mode is {mode:o}'] * (mode != 0o600))
     held.pop().close()
     folders = [os.open(checkout.at(name), os.O_RDONLY) for name in ('.', 'out', 'tools', 'crates')]
     for it in folders:
         fcntl.flock(it, fcntl.LOCK_EX)
-    outcome = checkout.run('pack')
-    rows.say('./pack, not built, where a reader holds locks of sources',
-             [] if outcome.said == 'proved\n' else [str(outcome)])
+    outcome = checkout.prove('packer_cli', 'pack')
+    rows.say('tools/build, not built, where a reader holds locks of sources',
+             [str(outcome)] * (outcome.status != 0))
     for it in folders:
         os.close(it)
     held.pop().close()
 
 
 def waiting(rows, folder):
-    """A build that waits for another says so at once, and goes on where that ends."""
+    """A build that waits for another says so at once, and goes on where that ends. One by cargo
+    waits for no proof."""
     checkout, waits = with_kit(folder, True)
-    first = checkout.start('receiver')
+    first = checkout.start(*PROVE)
     until(checkout.calls)
-    second = checkout.start('receiver')
+    if shutil.which('cargo'):
+        rows.say('./receiver while it is proved', checkout.prints('1.0.1'))
+    second = checkout.start(*PROVE)
     said = second.stderr.readline()
     faults = [f'it said {said!r}'] * ('waits' not in said or 'receiver' not in said)
     os.remove(waits)
     os.kill(int(checkout.calls()[0][0]), signal.SIGTERM)
     first.communicate(timeout=HANGS)
     lines, _ = second.communicate(timeout=HANGS)
-    faults += [f'it printed {lines!r}'] * (lines != 'proved\n')
-    rows.say('./receiver twice at once', faults)
+    faults += [f'it printed {lines!r}'] * (not lines.endswith('/out/receiver_cli\n'))
+    rows.say('tools/build twice at once', faults)
 
 
 def end_of(rows, name, checkout, started, stop, is_room_gone):
@@ -133,34 +141,41 @@ def signals(rows, folder):
     for number in signal.SIGTERM, signal.SIGINT, signal.SIGHUP:
         home = os.path.join(folder, str(int(number)))
         checkout, _ = with_kit(home, True)
-        started = checkout.start('tools/build', 'receiver_cli', 'receiver')
+        started = checkout.start(*PROVE)
         end_of(rows, f'tools/build, {number.name}', checkout, started,
                lambda: started.send_signal(number), True)
         wrong = started.returncode != -number
         rows.say(f'tools/build, {number.name}, its status',
                  [f'it is {started.returncode}'] * wrong)
-    checkout, _ = with_kit(os.path.join(folder, 'shell'), True)
-    started = checkout.start('receiver')
-    end_of(rows, './receiver, SIGTERM to the script alone', checkout, started, started.terminate,
+    checkout, _ = with_kit(os.path.join(folder, 'waiting'), True)
+    write(checkout.at('waits'), f'#!/bin/bash\npath="$(exec {" ".join(PROVE)})"\necho "$path"\n',
+          0o755)
+    started = checkout.start('waits')
+    end_of(rows, 'tools/build, SIGTERM to who waits for it', checkout, started, started.terminate,
            True)
 
 
 def signal_to_cargo(rows, folder):
-    """A signal to a build by cargo ends what cargo has started."""
+    """A signal to a build by cargo ends what cargo has started. So does one to ./receiver alone."""
+    for words in ('tools/build', 'receiver_cli', 'receiver'), ('receiver',):
+        of_cargo(rows, os.path.join(folder, words[0]), words)
+
+
+def of_cargo(rows, folder, words):
+    """The row of what is started by these words."""
     checkout = Checkout(folder)
     fake, note = os.path.join(folder, 'fake'), os.path.join(folder, 'number')
     write(os.path.join(fake, 'rustc'), '#!/bin/sh\necho rustc 1.85.0\n', 0o755)
     write(os.path.join(fake, 'cargo'), '#!/bin/sh\n[ "$1" = build ] || exit 0\n'
           f'sleep {2 * HANGS} & echo $! > {note}.new; mv {note}.new {note}; wait\n', 0o755)
-    started = checkout.start('tools/build', 'receiver_cli', 'receiver',
-                             PATH=f'{fake}:{checkout.bare}:{os.defpath}')
+    started = checkout.start(*words, PATH=f'{fake}:{checkout.bare}:{os.defpath}')
     faults = ['it has not begun'] * (not until(lambda: os.path.exists(note)))
     started.terminate()
     started.communicate(timeout=HANGS)
     with open(note, encoding='utf-8') as file:
         child = int(file.read())
     faults += ['it goes on'] * (not until(lambda: not is_alive(child)))
-    rows.say('tools/build by cargo, SIGTERM', faults)
+    rows.say(f'{words[0]} by cargo, SIGTERM', faults)
 
 
 def signal_at_start(rows, folder):
@@ -177,7 +192,7 @@ def signal_at_start(rows, folder):
 def killed(rows, folder):
     """What a build leaves that is killed is cleared by the next one, and nothing else."""
     checkout, waits = with_kit(folder, True)
-    started = checkout.start('tools/build', 'receiver_cli', 'receiver')
+    started = checkout.start(*PROVE)
     end_of(rows, 'tools/build, SIGKILL', checkout, started, started.kill, False)
     os.makedirs(checkout.at('.git/edits-left/crates'))
     for name in 'crate-locked', 'crate-used', 'objects':
@@ -189,24 +204,24 @@ def killed(rows, folder):
     os.makedirs(checkout.at('.git/crate-used/crates'))
     using = subprocess.Popen(['sleep', str(2 * HANGS)], cwd=checkout.at('.git/crate-used/crates'))
     os.remove(waits)
-    outcome = checkout.run('receiver')
+    outcome = checkout.prove()
     using.kill()
     using.wait()
     os.close(locked)
-    faults = [] if outcome.said == 'proved\n' else [str(outcome)]
+    faults = [str(outcome)] * (outcome.status != 0)
     wanted = ['crate-link', 'crate-locked', 'crate-used']
     faults += [f'{rooms(checkout)} stay, not {wanted}'] * (rooms(checkout) != wanted)
     faults += ['more is gone'] * (not os.path.isdir(checkout.at('.git/objects'))
                                   or not os.path.isdir(os.path.join(folder, 'outside', 'kept')))
-    rows.say('./receiver after a build that was killed', faults)
+    rows.say('tools/build after a build that was killed', faults)
 
 
 def without_git(rows, folder):
     """A checkout that isn't git's is built too."""
     checkout, _ = with_kit(folder, False)
     os.rmdir(checkout.at('.git'))
-    outcome = checkout.run('receiver')
-    rows.say('./receiver of a tar file', [] if outcome.said == 'proved\n' else [str(outcome)])
+    outcome = checkout.prove()
+    rows.say('tools/build of a tar file', [str(outcome)] * (outcome.status != 0))
 
 
 ROWS = (no_lock, waiting, signals, signal_to_cargo, signal_at_start, killed, without_git)

@@ -101,7 +101,7 @@ class Checkout:
     def __init__(self, folder, name='checkout'):
         self.folder = folder
         self.top = copied(folder, 'tools', 'receiver', 'pack', 'HANDLES', 'LICENSE-MIT',
-                          'LICENSE-APACHE', name=name)
+                          'LICENSE-APACHE', 'Makefile', name=name)
         os.makedirs(os.path.join(self.top, '.git'))
         write(self.at('crates.txt'), CRATES)
         # The second receiver stands on crates that aren't here.
@@ -158,6 +158,10 @@ class Checkout:
         return subprocess.Popen([self.at(words[0]), *words[1:]], cwd=self.top, env=environment,
                                 stdin=subprocess.DEVNULL, stdout=subprocess.PIPE,
                                 stderr=subprocess.PIPE, encoding='utf-8', preexec_fn=heed_signals)
+
+    def prove(self, crate='receiver_cli', called='receiver', **more):
+        """Has its rt prove and build a program. Gives the outcome."""
+        return self.run('tools/build', '--proved', crate, called, **more)
 
     def prints(self, version, **more):
         """The faults of ./receiver, which has to print this version."""
