@@ -342,31 +342,31 @@ def answers(rows, folder):
 
 
 def other_users(rows, folder):
-    """What one user has built starts for another, who has another rustc or none and can write
-    nothing. What isn't of the sources as they are he can't build."""
+    """What one user has built starts for another, who has another rustc, or one that fails, and can
+    write nothing. What isn't of the sources as they are he can't build."""
     if not shutil.which('cargo') or os.geteuid() != 0 or not shutil.which('setpriv'):
         return
     checkout = Checkout(folder)
     checkout.run('receiver')
     os.chmod(folder, 0o755)
-    other = os.path.join(folder, 'other')
+    other, fails = os.path.join(folder, 'other'), os.path.join(folder, 'fails')
     for name in 'rustc', 'cargo':
         write(os.path.join(other, name), '#!/bin/sh\necho rustc 1.99.0\n', 0o755)
+        write(os.path.join(fails, name), '#!/bin/sh\nexit 9\n', 0o755)
     nobody = [shutil.which('setpriv'), '--reuid', '65534', '--regid', '65534', '--clear-groups']
 
-    def started(path):
+    def started(fake):
         return run([*nobody, checkout.at('receiver')], folder,
-                   checkout.environment(PATH=path, HOME='/'))
+                   checkout.environment(PATH=f'{fake}:{os.defpath}', HOME='/'))
 
-    for name, path in (('another rustc', f'{other}:{os.defpath}'), ('no rustc', checkout.bare)):
-        outcome = started(path)
+    for fake in other, fails:
+        outcome = started(fake)
         is_right = (outcome.status, outcome.said, outcome.errors) == (0, 'receiver 1.0.1\n', '')
-        rows.say(f'./receiver that another user built, {name}',
+        rows.say(f'./receiver that another user built, his rustc {os.path.basename(fake)}',
                  [] if is_right else [str(outcome)[-300:]])
     checkout.set_version('1.0.2')
     rows.say('./receiver that another user built of other sources',
-             refused(started(f'{other}:{os.defpath}'),
-                     "receiver: it isn't built yet, .*Permission denied", 1))
+             refused(started(other), "receiver: it isn't built yet, .*Permission denied", 1))
 
 
 def odd_places(rows, folder):
