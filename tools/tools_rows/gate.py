@@ -45,7 +45,7 @@ class Gate:
     """The gate over stand-ins of its parts."""
 
     def __init__(self, folder: str, failing: str = '') -> None:
-        self.top = copied(folder, 'tools/gate', 'tools/crate_order.py',
+        self.top = copied(folder, 'tools/gate', 'tools/crate_order.py', 'tools/helping.py',
                           'tools/processor_shares.py')
         with open(os.path.join(TOP, 'tools', 'gate'), encoding='utf-8') as text:
             self.parts = sorted({*re.findall(r"'tools/([a-z-]+)'", text.read())})

@@ -61,7 +61,7 @@ PAGE = '''# A page
 def commands_that_fail(rows, folder):
     """A command that fails is wrong, whatever it prints. One that needs a radio is left out, and so
     is one that reads what it would have made; nothing is removed."""
-    top = copied(folder, 'tools/recipes-check')
+    top = copied(folder, 'tools/recipes-check', 'tools/helping.py')
     write(os.path.join(top, 'page.md'), PAGE)
     kept = write(os.path.join(top, 'work', 'kept'), 'kept')
     outcome = run([os.path.join(top, 'tools', 'recipes-check'), os.path.join(top, 'page.md')], top)

@@ -80,7 +80,8 @@ class Kit:
     """A folder with such an `rt` and the sources of both libraries."""
 
     def __init__(self, folder):
-        self.top = copied(folder, 'tools/rt_once', 'tools/children.py')
+        self.top = copied(folder, 'tools/rt_once', 'tools/children.py',
+                          'tools/helping.py')
         self.write(**{'bin/rt': RT, 'lower/source': 'one', 'upper/source': 'two',
                       'help': '--statements'})
         os.chmod(self.at('bin/rt'), 0o755)

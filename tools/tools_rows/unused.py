@@ -49,7 +49,7 @@ LISTED = ['2: ◌↔◌', '2: take', '2: List', '3: Alone', '13: take', '19: len
 
 def rows_of_files(rows: Any, folder: str) -> None:
     """What it lists, and that it lists nothing of the sources here."""
-    top = copied(folder, 'tools/unused', 'tools/crate_order.py')
+    top = copied(folder, 'tools/unused', 'tools/crate_order.py', 'tools/helping.py')
     write(os.path.join(top, 'crates.txt'), 'one:\nother: one\n')
     path = 'crates/one/src/deep/thing.rt'
     write(os.path.join(top, path), FILE)
