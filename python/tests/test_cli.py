@@ -139,15 +139,27 @@ def test_text_is_utf_8_in_each_locale(launch: Launch) -> None:
         assert outcome.stdout.decode().splitlines()[1] == row
 
 
-def test_the_launcher_takes_no_module_of_the_folder(
+def test_the_launcher_takes_no_module_of_the_folder_or_the_environment(
     launch: Launch, tmp_path: os.PathLike[str]
 ) -> None:
     for name in ('argparse', 'json', 'seldomplough', 'numbers'):
         with open(os.path.join(tmp_path, f'{name}.py'), 'w', encoding='ascii') as file:
             file.write('raise SystemExit(9)')
-    outcome = launch('json', input=b'1 5 ok\n')
+    for path in (None, str(tmp_path)):
+        environment = {**os.environ, **({'PYTHONPATH': path} if path else {})}
+        outcome = launch('json', input=b'1 5 ok\n', env=environment)
+        assert outcome.stdout == b'{"kind": "ok", "client": 1, "time": 5}\n'
+        assert (outcome.returncode, outcome.stderr) == (0, b'')
+
+
+def test_help_needs_no_text_that_python_keeps(launch: Launch) -> None:
+    stripped = {**os.environ, 'PYTHONOPTIMIZE': '2'}
+    for words in ([], *([name] for name in commands.NAMES)):
+        usual, outcome = launch(*words, '--help'), launch(*words, '--help', env=stripped)
+        assert (outcome.returncode, outcome.stderr) == (0, b'')
+        assert outcome.stdout == usual.stdout
+    outcome = launch('json', input=b'1 5 ok\n', env=stripped)
     assert outcome.stdout == b'{"kind": "ok", "client": 1, "time": 5}\n'
-    assert (outcome.returncode, outcome.stderr) == (0, b'')
 
 
 def test_a_closed_pipe_ends_by_its_signal(launch: Launch, tmp_path: os.PathLike[str]) -> None:

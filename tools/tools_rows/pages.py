@@ -89,8 +89,8 @@ def odd_words(rows, folder):
     """Words that tools took for other ones, or for none."""
     outcome = run([os.path.join(TOP, 'tools', 'manual-check'), 'true'], folder)
     faults = ['one program is enough for manual-check'] * ('usage' not in outcome.errors)
-    for tool, words in (('tools/examples-check', ['--help']), ('tools/examples-check', ['a', 'b']),
-                        ('tools/pack-check', ['--help']), ('benchmarks/run', ['--help']),
+    for tool, words in (('tools/examples-check', ['--odd']), ('tools/examples-check', ['a', 'b']),
+                        ('tools/pack-check', ['--odd']), ('benchmarks/run', ['--help']),
                         ('benchmarks/run', ['a\\n=true']), ('benchmarks/run', ['../a=true'])):
         outcome = run([os.path.join(TOP, tool), *words], folder)
         faults += refused(outcome, '(?:usage|run): .*')

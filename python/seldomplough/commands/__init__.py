@@ -30,3 +30,15 @@ NAMES = (
 def module(name: str) -> ModuleType:
     """The module of a command. It is loaded where it is asked for, since a start needs few."""
     return import_module(f'{__name__}.{name.replace("-", "_")}')
+
+
+def text(name: str) -> str:
+    """The text with which the module of a command begins: its help. With PYTHONOPTIMIZE=2 Python
+    leaves it out, and it is read from the source."""
+    known = module(name)
+    if known.__doc__:
+        return known.__doc__
+    import ast
+    import inspect
+
+    return ast.get_docstring(ast.parse(inspect.getsource(known)), clean=False) or name

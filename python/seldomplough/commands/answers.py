@@ -32,7 +32,7 @@ class Asked(NamedTuple):
 
 def add(subparsers: options.Subparsers) -> None:
     """Adds the command's words."""
-    parser = options.command(subparsers, 'answers', __doc__)
+    parser = options.command(subparsers, 'answers')
     parser.add_argument(
         '--client', type=numbers.client, default=1, metavar='K', help='1 if not given'
     )

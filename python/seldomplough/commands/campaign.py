@@ -48,7 +48,7 @@ GROUP = re.compile('([1-9][0-9]{0,5})-([1-9][0-9]{0,5})')
 
 def add(subparsers: options.Subparsers) -> None:
     """Adds the command's words."""
-    parser = options.command(subparsers, 'campaign', __doc__)
+    parser = options.command(subparsers, 'campaign')
     parser.add_argument('step', choices=list(STEPS), metavar='STEP', help=', '.join(STEPS))
     parser.add_argument('recordings', metavar='TABLE', help='the recordings')
     parser.add_argument('name', nargs='?', metavar='NAME', help='that of a recording')

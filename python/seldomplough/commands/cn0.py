@@ -19,7 +19,7 @@ from seldomplough.lines import read
 
 def add(subparsers: options.Subparsers) -> None:
     """Adds the command's words."""
-    parser = options.command(subparsers, 'cn0', __doc__)
+    parser = options.command(subparsers, 'cn0')
     options.add_rate(parser, f'{numbers.USUAL_RATE} if not given')
     options.add_lines(parser)
     parser.set_defaults(run=run)

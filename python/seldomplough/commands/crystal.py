@@ -97,7 +97,7 @@ class Hunt:
 
 def add(subparsers: options.Subparsers) -> None:
     """Adds the command's words."""
-    parser = options.command(subparsers, 'crystal', __doc__)
+    parser = options.command(subparsers, 'crystal')
     recorded.add(parser)
     ppm = numbers.decimal(-1000, 1000)
     parser.add_argument(

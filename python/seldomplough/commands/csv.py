@@ -28,7 +28,7 @@ Rows = Callable[[Record], None]
 
 def add(subparsers: options.Subparsers) -> None:
     """Adds the command's words."""
-    parser = options.command(subparsers, 'csv', __doc__)
+    parser = options.command(subparsers, 'csv')
     target = parser.add_mutually_exclusive_group(required=True)
     target.add_argument('--kind', choices=list(KINDS), metavar='KIND', help='lines of this kind')
     target.add_argument('--folder', metavar='FOLDER', help='a file for each kind in this folder')

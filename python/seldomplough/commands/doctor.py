@@ -29,7 +29,7 @@ SECONDS, LIMIT = 2, 60
 
 def add(subparsers: options.Subparsers) -> None:
     """Adds the command's words."""
-    parser = options.command(subparsers, 'doctor', __doc__)
+    parser = options.command(subparsers, 'doctor')
     recorded.add(parser)
     parser.set_defaults(rate=None, offset=None)
     for name, low, high, value, what in (

@@ -28,7 +28,7 @@ from seldomplough.frames import frames, pandas
 
 def add(subparsers: options.Subparsers) -> None:
     """Adds the command's words."""
-    parser = options.command(subparsers, 'frames', __doc__)
+    parser = options.command(subparsers, 'frames')
     target = parser.add_mutually_exclusive_group()
     target.add_argument('--csv', metavar='FOLDER', help='writes files of CSV into this folder')
     target.add_argument('--parquet', metavar='FOLDER', help='writes files of Parquet into it')

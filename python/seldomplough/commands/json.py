@@ -33,7 +33,7 @@ ENCODE = json.JSONEncoder().encode
 
 def add(subparsers: options.Subparsers) -> None:
     """Adds the command's words."""
-    parser = options.command(subparsers, 'json', __doc__)
+    parser = options.command(subparsers, 'json')
     options.add_rate(parser)
     parser.add_argument('--back', action='store_true', help='from JSON Lines to printed lines')
     options.add_lines(parser)

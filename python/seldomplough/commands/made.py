@@ -30,7 +30,7 @@ GREATEST_SEED = 10**13 - 1
 
 def add(subparsers: options.Subparsers) -> None:
     """Adds the command's words."""
-    parser = options.command(subparsers, 'made', __doc__)
+    parser = options.command(subparsers, 'made')
     rate = numbers.integer(LEAST_RATE, numbers.GREATEST_RATE)
     for name, kind, value, metavar, what in (
         ('seconds', numbers.integer(1, LONGEST), USUAL.seconds, 'S', 'whole seconds'),

@@ -22,7 +22,7 @@ from seldomplough.merging import merged
 
 def add(subparsers: options.Subparsers) -> None:
     """Adds the command's words."""
-    parser = options.command(subparsers, 'merge', __doc__)
+    parser = options.command(subparsers, 'merge')
     parser.add_argument(
         'lines', nargs='+', metavar='LINES', help='the printed lines of a run; - is standard input'
     )

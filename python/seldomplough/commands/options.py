@@ -6,15 +6,16 @@ import argparse
 import os
 from typing import TYPE_CHECKING
 
-from seldomplough import numbers
+from seldomplough import commands, numbers
 from seldomplough.scripts import Search
 
 if TYPE_CHECKING:
     Subparsers = argparse._SubParsersAction[argparse.ArgumentParser]
 
 
-def command(subparsers: Subparsers, name: str, text: str) -> argparse.ArgumentParser:
+def command(subparsers: Subparsers, name: str) -> argparse.ArgumentParser:
     """The parser of a command. The first line of its text is its line in the list of commands."""
+    text = commands.text(name)
     return subparsers.add_parser(name, help=text.splitlines()[0].rstrip('.'), description=text)
 
 

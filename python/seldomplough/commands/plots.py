@@ -39,7 +39,7 @@ MOST_SECONDS = numbers.LAST_TIME // numbers.LEAST_RATE
 
 def add(subparsers: options.Subparsers) -> None:
     """Adds the command's words."""
-    parser = options.command(subparsers, 'plots', __doc__)
+    parser = options.command(subparsers, 'plots')
     parser.add_argument('picture', choices=list(PICTURES), metavar='PICTURE', help='one of these')
     parser.add_argument(
         '--to', required=True, type=picture_file, metavar='FILE', help='FILE.png or FILE.svg'

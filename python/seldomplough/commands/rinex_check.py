@@ -42,7 +42,7 @@ class Compared(NamedTuple):
 
 def add(subparsers: options.Subparsers) -> None:
     """Adds the command's words."""
-    parser = options.command(subparsers, 'rinex-check', __doc__)
+    parser = options.command(subparsers, 'rinex-check')
     parser.add_argument('lines', metavar='LINES', help='printed lines; - is standard input')
     parser.add_argument('rinex', metavar='RINEX', help='a navigation file; - is standard input')
     parser.set_defaults(run=run)

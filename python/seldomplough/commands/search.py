@@ -25,7 +25,7 @@ USUAL = Search()
 
 def add(subparsers: options.Subparsers) -> None:
     """Adds the command's words."""
-    parser = options.command(subparsers, 'search', __doc__)
+    parser = options.command(subparsers, 'search')
     options.add_rate(parser, f'{numbers.USUAL_RATE} if not given')
     options.add_search(parser, USUAL)
     parser.add_argument(

@@ -19,7 +19,7 @@ from seldomplough.failures import Failure, one_line
 
 def add(subparsers: options.Subparsers) -> None:
     """Adds the command's words."""
-    parser = options.command(subparsers, 'sigmf', __doc__)
+    parser = options.command(subparsers, 'sigmf')
     parser.add_argument('metadata', metavar='METADATA', help='a file RECORDING.sigmf-meta')
     parser.set_defaults(run=run)
 

@@ -37,7 +37,7 @@ LONGEST = 3600
 
 def add(subparsers: options.Subparsers) -> None:
     """Adds the command's words."""
-    parser = options.command(subparsers, 'sky', __doc__)
+    parser = options.command(subparsers, 'sky')
     recorded.add(parser)
     options.add_search(parser, Search(), 'search-threshold')
     parser.add_argument(

@@ -28,7 +28,7 @@ from seldomplough.ubx import message
 
 def add(subparsers: options.Subparsers) -> None:
     """Adds the command's words."""
-    parser = options.command(subparsers, 'ubx', __doc__)
+    parser = options.command(subparsers, 'ubx')
     options.add_lines(parser)
     parser.set_defaults(run=run)
 

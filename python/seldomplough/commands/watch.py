@@ -35,7 +35,7 @@ PAUSE = 0.25
 
 def add(subparsers: options.Subparsers) -> None:
     """Adds the command's words."""
-    parser = options.command(subparsers, 'watch', __doc__)
+    parser = options.command(subparsers, 'watch')
     options.add_rate(parser, f'{numbers.USUAL_RATE} if not given')
     parser.add_argument(
         '--tee', action='store_true', help='lines to standard output, the table to standard error'
