@@ -4,6 +4,9 @@ import signal
 import subprocess
 import threading
 
+# The signals that end a command.
+SIGNALS = (signal.SIGINT, signal.SIGTERM, signal.SIGHUP)
+
 # The commands that run, each in a process group of its own, and the signal that came. A command is
 # started and noted in one, so that no signal comes between: threads start them.
 RUNNING = set()
@@ -24,7 +27,10 @@ def end(process):
 
 
 def end_all(number, _):
-    """Ends all commands, and this process by what is raised."""
+    """Ends all commands, and this process by what is raised. Further signals don't stop what is
+    cleared up then: a whole process group may get one, and who waits may end by it."""
+    for it in SIGNALS:
+        signal.signal(it, signal.SIG_IGN)
     with STARTING:
         ENDING.append(number)
     for process in list(RUNNING):
@@ -34,7 +40,7 @@ def end_all(number, _):
 
 def end_with_signals():
     """Has a signal end all commands. One that was ignored from the start stays so."""
-    for number in (signal.SIGINT, signal.SIGTERM, signal.SIGHUP):
+    for number in SIGNALS:
         if signal.getsignal(number) != signal.SIG_IGN:
             signal.signal(number, end_all)
 

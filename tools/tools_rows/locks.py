@@ -155,6 +155,23 @@ def signals(rows, folder):
            True)
 
 
+def signals_again(rows, folder):
+    """Signals that come while a build clears up after the first one change nothing: as where a
+    whole process group gets one, and who waits for the build ends by it."""
+    checkout, _ = with_kit(folder, True)
+    # It takes some time to clear them.
+    for number in range(3000):
+        write(checkout.at(f'crates/version/data/{number}'), '')
+    started = checkout.start(*PROVE)
+
+    def stop():
+        while started.poll() is None:
+            started.send_signal(signal.SIGTERM)
+            time.sleep(0.001)
+
+    end_of(rows, 'tools/build, SIGTERM again and again', checkout, started, stop, True)
+
+
 def signal_to_cargo(rows, folder):
     """A signal to a build by cargo ends what cargo has started. So does one to ./receiver alone."""
     for words in ('tools/build', 'receiver_cli', 'receiver'), ('receiver',):
@@ -224,4 +241,4 @@ def without_git(rows, folder):
     rows.say('tools/build of a tar file', [str(outcome)] * (outcome.status != 0))
 
 
-ROWS = (no_lock, waiting, signals, signal_to_cargo, signal_at_start, killed, without_git)
+ROWS = (no_lock, waiting, signals, signals_again, signal_to_cargo, signal_at_start, killed, without_git)
