@@ -241,4 +241,5 @@ def without_git(rows, folder):
     rows.say('tools/build of a tar file', [str(outcome)] * (outcome.status != 0))
 
 
-ROWS = (no_lock, waiting, signals, signals_again, signal_to_cargo, signal_at_start, killed, without_git)
+ROWS = (no_lock, waiting, signals, signals_again, signal_to_cargo, signal_at_start, killed,
+        without_git)
