@@ -53,6 +53,17 @@ export function make(tag, attributes = {}, ...children) {
 }
 
 /**
+ * A new mark in a colour of the page's style. The page's policy takes no style as an attribute.
+ * @param {string} name that of the colour's custom property, without `--`
+ * @param {Record<string, string>} [attributes]
+ */
+export function coloured(name, attributes) {
+  const result = make('i', attributes);
+  result.style.background = `var(--${name})`;
+  return result;
+}
+
+/**
  * Gives a select these options, where they aren't its own already. The one that is chosen stays.
  * @param {HTMLSelectElement} target
  * @param {[string, string][]} options the value and the text of each

@@ -6,7 +6,7 @@ import { LEFT, RIGHT } from './axes.js';
 import { STATES, drawTimeline, nameOf, shownSlots } from './timeline.js';
 import { TextWindow } from './text.js';
 import { absentText, skyRows } from './sky_table.js';
-import { any, button, canvas, input, make, select, setOptions } from './dom.js';
+import { any, button, canvas, coloured, input, make, select, setOptions } from './dom.js';
 import { drawCloud } from './cloud.js';
 import { drawPlot } from './plot.js';
 import { drawTriangle } from './triangle_plot.js';
@@ -38,8 +38,7 @@ export class Looks {
     setOptions(select('verb'), [['', 'all'], ...KINDS.map((it) => pair(it))]);
     any('key').append(...Object.entries({ ...STATES, subframe: 'a subframe' })
       .filter(([name]) => name !== 'none' && name !== 'stopped')
-      .map(([name, text]) => make('span', {}, make('i', { style: `background:var(--${name})` }),
-        text)));
+      .map(([name, text]) => make('span', {}, coloured(name), text)));
     this.#listen();
   }
 

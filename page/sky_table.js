@@ -2,7 +2,7 @@
 
 import { FOLLOWS } from './passes.js';
 import { STATES } from './timeline.js';
-import { make } from './dom.js';
+import { coloured, make } from './dom.js';
 
 /**
  * @typedef {import('./sky.js').Sky} Sky
@@ -40,7 +40,7 @@ function row(it, rate) {
   /** @param {number | null} time */
   const seconds = (time) => fixed(time === null ? null : time / rate, 3);
   const density = it.density.length ? it.density.value(it.density.length - 1) : null;
-  const state = make('td', {}, make('i', { class: 'dot', style: `background:var(--${it.state})` }),
+  const state = make('td', {}, coloured(it.state, { class: 'dot' }),
     it.state === 'lost' ? `lost at ${seconds(it.lost)} s` : STATES[it.state]);
   const cells = [fixed(it.shift, 1), fixed(density, 1), seconds(it.locked), seconds(it.bits),
     it.subframes ? `${it.subframes}` : '',

@@ -5,6 +5,7 @@ from __future__ import annotations
 
 import base64
 import glob
+import hashlib
 import json
 import os
 import re
@@ -32,9 +33,24 @@ FORMATS = ('real1', 'real2', 'iq1', 'iq2')
 # The slots of each client where no option says how many.
 SHARE = 4
 
-# How the page names its style and its script.
+# How the page names its place for policies, its style and its script.
+CHARSET = re.compile(r'<meta charset="utf-8">')
 STYLE = re.compile(r'<link rel="stylesheet" href="style\.css" ?/?>')
 SCRIPT = re.compile(r'<script\b[^>]*\bsrc="page\.js"[^>]*></script>')
+
+# What the page may do, wherever it comes from: run what is in line, the bank, a worker of its own
+# text, and the scripts of the examples beside it. All else has no source, and no connection either.
+POLICY = (
+    "default-src 'none'; connect-src 'none'; script-src 'unsafe-inline' 'wasm-unsafe-eval' 'self';"
+    " style-src 'unsafe-inline'; img-src data:; worker-src blob:; form-action 'none';"
+    " base-uri 'none'"
+)
+# And of what is in line only what has these sums. This is a policy of its own, and both hold: by a
+# policy with sums a script that claims to have one of them is asked for from anywhere.
+SUMS = "script-src {scripts} 'wasm-unsafe-eval' 'self'; style-src {styles}; worker-src blob:"
+
+# What is in line in the page.
+IN_LINE = re.compile(r'<(script|style)\b[^>]*>(.*?)</\1>', re.DOTALL)
 
 
 class Example(TypedDict):
@@ -97,6 +113,23 @@ def put(page: str, place: re.Pattern[str], text: str) -> str:
     return place.sub(lambda _: text, page)
 
 
+def sums_policy(page: str) -> str:
+    """The policy that has the sums of all that is in line in a page."""
+    sums: dict[str, list[str]] = {'script': [], 'style': []}
+    for kind, text in IN_LINE.findall(page):
+        sums[kind].append(f"'sha256-{coded(hashlib.sha256(text.encode()).digest())}'")
+    return SUMS.format(scripts=' '.join(sums['script']), styles=' '.join(sums['style']))
+
+
+def with_policies(page: str) -> str:
+    """A page with its policies, before all that they are of."""
+    tags = [
+        f'\n<meta http-equiv="Content-Security-Policy" content="{policy}">'
+        for policy in (POLICY, sums_policy(page))
+    ]
+    return put(page, CHARSET, '<meta charset="utf-8">' + ''.join(tags))
+
+
 def page_text(banks: dict[str, bytes], revision: str, examples: list[Example]) -> str:
     """The page, whole."""
     given = {
@@ -110,12 +143,13 @@ def page_text(banks: dict[str, bytes], revision: str, examples: list[Example]) -
     script = bundled('page.js', '--format=esm')
     page = put(text_of(PAGE, 'index.html'), STYLE, f'<style>\n{bundled("style.css")}</style>')
     # A module in line waits until all of the page is there.
-    return put(
+    page = put(
         page,
         SCRIPT,
         f'<script>\nvar SELDOMPLOUGH = {known};\n</script>\n'
         f'<script type="module">\n{script}</script>',
     )
+    return with_policies(page)
 
 
 def files_of_page(banks: dict[str, bytes], revision: str) -> dict[str, str]:

@@ -4,6 +4,7 @@ from __future__ import annotations
 import os
 
 from built import read
+from page_text import sums_policy
 
 from .cases import Row, Rows
 
@@ -20,14 +21,15 @@ LINE = 100
 
 
 def limited(rows: Rows) -> str:
-    """The folder of a page with the lesser bound."""
+    """The folder of a page with the lesser bound, and the policy for it."""
     folder = os.path.join(rows.folder, 'limited')
     os.mkdir(folder)
     os.symlink(os.path.join(rows.page.folder, 'examples'), os.path.join(folder, 'examples'))
     text = read(os.path.join(rows.page.folder, 'index.html')).decode()
     rows.tell('the bound in the page', text.count(OWN) == 1, text.count(OWN))
+    less = text.replace(OWN, LESS)
     with open(os.path.join(folder, 'index.html'), 'w', encoding='utf-8') as file:
-        file.write(text.replace(OWN, LESS))
+        file.write(less.replace(sums_policy(text), sums_policy(less)))
     return folder
 
 

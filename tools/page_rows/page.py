@@ -14,9 +14,9 @@ from .browser import Browser, Hangs, Refuses
 PAUSE = 0.05
 
 # What is put before the page's script: the text that is saved is kept, the bank that is compiled,
-# and the greatest memory that a worker reports.
+# the address of a worker's script, and the greatest memory that a worker reports.
 WATCH = """
-globalThis.kept = { text: null, bank: null, memory: 0 };
+globalThis.kept = { text: null, bank: null, worker: '', memory: 0 };
 const compile = WebAssembly.compile;
 WebAssembly.compile = (it) => {
   kept.bank = it;
@@ -30,6 +30,7 @@ URL.createObjectURL = (it) => {
 globalThis.Worker = class extends Worker {
   constructor(...words) {
     super(...words);
+    [kept.worker] = words;
     this.addEventListener('message', ({ data }) => {
       kept.memory = Math.max(kept.memory, data.memory ?? 0);
     });
@@ -49,13 +50,14 @@ class Page:
         self.size(1280, 800)
         self.open()
 
-    def open(self, before: str = '', folder: str = '') -> None:
-        """Opens the page anew, with a script before its own, or one of another folder."""
+    def open(self, before: str = '', folder: str = '', address: str = '') -> None:
+        """Opens the page anew, with a script before its own, or one of another folder, or at the
+        address of a server."""
         call = self.browser.call
         script = call('Page.addScriptToEvaluateOnNewDocument', source=before)['identifier']
         # Nothing of the page that was open before has this.
         self.value('globalThis.isLeft = true')
-        call('Page.navigate', url=f'file://{folder or self.folder}/index.html')
+        call('Page.navigate', url=address or f'file://{folder or self.folder}/index.html')
         self.wait('document.readyState === "complete" && !globalThis.isLeft && !!kept')
         call('Page.removeScriptToEvaluateOnNewDocument', identifier=script)
 
