@@ -20,10 +20,11 @@ const PIECE = 1 << 20;
  * @param {File} file
  */
 export async function openLines(stage, file) {
-  stage.leave();
-  const mine = stage.turn, { rate } = jobOf({ ...stage.form.asked(), offset: '0', kind: 'real1',
+  const { form } = stage, { rate } = jobOf({ ...form.asked(), offset: '0', kind: 'real1',
     skip: '', count: '', isInverted: false, isSwapped: false });
-  const next = new Session(rate, []);
+  stage.clear();
+  form.recording = null;
+  const mine = stage.turn, next = new Session(rate, []);
   stage.linesFile = file;
   any('name').textContent = `${file.name}, lines; times by the rate of ${rate} samples a second`;
   stage.show(next, 1);
@@ -52,7 +53,7 @@ function sentenceOf(session, last) {
 /** @param {Stage} stage @param {File} file */
 async function readMeta(stage, file) {
   try {
-    stage.form.tune(tuningOf(await file.text()));
+    stage.form.describe(file.name, tuningOf(await file.text()));
   } catch (why) {
     if (why instanceof Failure) {
       throw new Failure(`The SigMF metadata can’t be used: ${why.message}.`);
@@ -70,18 +71,18 @@ export async function choose(stage, files) {
   const { form } = stage;
   /** @param {string} end */
   const ending = (end) => files.filter((it) => it.name.toLowerCase().endsWith(end));
-  const [meta] = ending('.sigmf-meta'), [lines] = [...ending('.lines'), ...ending('.expected')];
-  const scripts = ending('.script'), others = files.filter((it) => it !== meta
-    && !scripts.includes(it) && !/\.(lines|expected)$/i.test(it.name));
-  if (others.length > 1) {
-    const names = others.map((it) => shown(it.name, 30)).join(', ');
-    throw new Failure(`One recording at a time: ${names}.`);
+  const [meta] = ending('.sigmf-meta'), lines = [...ending('.lines'), ...ending('.expected')];
+  const scripts = ending('.script'), wholes = files.filter((it) => it !== meta
+    && !scripts.includes(it));
+  if (wholes.length > 1) {
+    const names = wholes.map((it) => shown(it.name, 30)).join(', ');
+    throw new Failure(`One recording, or one file of lines, at a time: ${names}.`);
   }
+  const [recording] = lines.length ? [] : wholes;
   setDone(false);
-  if (others.length) {
-    stage.leave();
-    form.choose(others[0]);
-    stage.linesFile = null;
+  if (recording) {
+    stage.clear();
+    form.choose(recording);
   }
   if (scripts.length) {
     const ordered = scripts.sort((a, b) => a.name.localeCompare(b.name, 'en', { numeric: true }));
@@ -89,6 +90,6 @@ export async function choose(stage, files) {
     element('scripts', HTMLDetailsElement).open = true;
   }
   if (meta) await readMeta(stage, meta);
-  if (lines) await openLines(stage, lines);
-  if (others.length) await stage.recording();
+  if (lines.length) await openLines(stage, lines[0]);
+  if (recording) await stage.recording();
 }

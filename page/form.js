@@ -3,17 +3,24 @@
 import { FORMATS, KINDS, VALUES, isPaired, kindOf } from './recordings.js';
 import { any, button, element, input, make, select } from './dom.js';
 import { BUILT } from './built.js';
+import { Brought } from './brought.js';
 import { split } from './scripts.js';
 
 /** @param {string} name @param {string[]} kinds */
 const group = (name, kinds) => make('optgroup', { label: name },
   ...kinds.map((it) => new Option(it)));
 
+/** @param {string[]} scripts */
+const textOf = (scripts) => scripts.map((it) => it.replace(/\n$/, '')).join('\n--\n');
+
 /** The recording, its kind and tuning, and the scripts, as the reader gives them. */
 export class Form {
   constructor() {
     /** @type {File | null} */
     this.recording = null;
+    this.brought = new Brought();
+    /** The name of the recording that the last metadata is of. */
+    this.meant = '';
     this.text = element('text', HTMLTextAreaElement);
     const pairs = KINDS.filter((it) => isPaired(it) && !FORMATS.has(it));
     select('kind').append(group('as the receiver reads it', [...FORMATS.keys()]),
@@ -62,17 +69,26 @@ export class Form {
   }
 
   /**
-   * Takes a recording. The end of its name may say its kind.
+   * Takes a recording. What came with another one goes. The end of its name may say its kind.
    * @param {File} file
    */
   choose(file) {
+    const isMeant = file.name === this.meant;
+    if (!isMeant) this.brought.takeBack();
     this.recording = file;
-    const megabytes = file.size / 1e6;
-    any('name').textContent = `${file.name}, ${megabytes.toFixed(megabytes < 10 ? 3 : 0)} MB`;
-    const kind = kindOf(file.name);
-    if (kind) select('kind').value = kind;
+    const kind = isMeant ? '' : kindOf(file.name);
+    if (kind) this.brought.put('kind', kind);
+    this.#name(isMeant ? '' : kind ? 'rate and offset' : 'kind, rate and offset');
     this.#centre('', '');
     this.enable();
+  }
+
+  /** @param {string} unknown what nothing has said of the recording */
+  #name(unknown) {
+    const file = this.recording;
+    if (!file) return;
+    const megabytes = file.size / 1e6, size = megabytes.toFixed(megabytes < 10 ? 3 : 0);
+    any('name').textContent = `${file.name}, ${size} MB${unknown && `; say its ${unknown}`}`;
   }
 
   /**
@@ -80,10 +96,21 @@ export class Form {
    * @param {{ kind: string, rate: number, offset: number }} tuning
    */
   tune({ kind, rate, offset }) {
-    select('kind').value = kind;
-    input('rate').value = `${rate}`;
-    input('offset').value = `${offset}`;
+    this.brought.put('kind', kind);
+    this.brought.put('rate', `${rate}`);
+    this.brought.put('offset', `${offset}`);
+    this.#name('');
     this.enable();
+  }
+
+  /**
+   * Takes what the metadata of a name say. Their recording may come after them.
+   * @param {string} name
+   * @param {{ kind: string, rate: number, offset: number }} tuning
+   */
+  describe(name, tuning) {
+    this.tune(tuning);
+    this.meant = name.replace(/meta$/i, 'data');
   }
 
   /**
@@ -95,11 +122,11 @@ export class Form {
     this.choose(file);
     this.tune({ kind: [...FORMATS.keys()][example.format], rate: example.rate,
       offset: example.offset });
-    input('inverted').checked = input('swapped').checked = false;
-    input('skip').value = input('count').value = '';
-    this.write(example.scripts);
+    for (const id of ['inverted', 'swapped']) this.brought.put(id, false);
+    for (const id of ['skip', 'count']) this.brought.put(id, '');
+    this.brought.put('text', textOf(example.scripts));
     const isUsual = example.shares.every((it) => it === 4);
-    input('shares').value = isUsual ? '' : example.shares.join('');
+    this.brought.put('shares', isUsual ? '' : example.shares.join(''));
   }
 
   /**
@@ -107,7 +134,7 @@ export class Form {
    * @param {string[]} scripts
    */
   write(scripts) {
-    this.text.value = scripts.map((it) => it.replace(/\n$/, '')).join('\n--\n');
+    this.text.value = textOf(scripts);
     any('refusals').textContent = '';
   }
 
@@ -116,7 +143,7 @@ export class Form {
    * @param {{ centre2?: number, centreQ2?: number, threshold2?: number }} report
    */
   suggest({ centre2 = 0, centreQ2 = 0, threshold2 = 0 }) {
-    input('threshold').value = `${threshold2 / 2}`;
+    this.brought.put('threshold', `${threshold2 / 2}`);
     if (!input('centre').disabled) this.#centre(`${centre2 / 2}`, `${centreQ2 / 2}`);
   }
 

@@ -51,6 +51,15 @@ export class Stage {
     setDone(false);
   }
 
+  /** Stops what goes on, and shows nothing of it: it was of another file. */
+  clear() {
+    this.leave();
+    showFar('', 0);
+    this.linesFile = null;
+    any('refusals').textContent = '';
+    this.show(new Session(1, []), 1);
+  }
+
   /**
    * Shows the lines of a session in place of those that are shown.
    * @param {Session} next
@@ -111,8 +120,10 @@ export class Stage {
     this.run = new Run(built, job, { file, kind, scripts, shares }, {
       lines: (text) => next.bring(text),
       progress: (at, part, ms) => this.#progress(next, at, part, ms),
-      over: (sentence, left, isStopped) =>
-        attempt(() => this.#over(next, isSearch, sentence || left, isStopped)),
+      over: (sentence, left, isStopped) => {
+        if (next.isLeft) return;
+        attempt(() => this.#over(next, isSearch, sentence || left, isStopped));
+      },
     });
   }
 
@@ -149,9 +160,10 @@ export class Stage {
    * @param {import('./built.js').Example} example
    */
   async runExample(example) {
-    showFar('', 0);
-    this.leave();
-    this.form.take(example, await recordingOf(example));
+    this.clear();
+    const mine = this.turn, file = await recordingOf(example);
+    if (mine !== this.turn) return;
+    this.form.take(example, file);
     await this.start(false);
   }
 
@@ -159,6 +171,7 @@ export class Stage {
   async measure() {
     const file = await this.recording();
     const { kind, flags, format } = jobOf({ ...this.form.asked(), bits: '1', threshold: '' });
-    this.form.suggest(await measured(await engine(), { kind, flags, format, file }));
+    const report = await measured(await engine(), { kind, flags, format, file });
+    if (file === this.form.recording) this.form.suggest(report);
   }
 }

@@ -42,7 +42,11 @@ def two_files(rows: Rows) -> None:
     """Two recordings at once."""
     rows.page.forget()
     rows.page.choose(rows.file('one.real1', b'1'), rows.file('two.real1', b'2'))
-    rows.says('two recordings', rows.page.said(), 'One recording at a time: one.real1, two.real1.')
+    rows.says(
+        'two recordings',
+        rows.page.said(),
+        'One recording, or one file of lines, at a time: one.real1, two.real1.',
+    )
     lives_on(rows, 'two recordings')
 
 
