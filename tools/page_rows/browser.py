@@ -58,8 +58,9 @@ class Browser:
         reads, self.calls = pipe()
         self.answers, writes = pipe()
         null = os.open(os.devnull, os.O_RDWR)
-        actions = [(os.POSIX_SPAWN_DUP2, reads, CALLS), (os.POSIX_SPAWN_DUP2, writes, ANSWERS)]
-        actions += [(os.POSIX_SPAWN_DUP2, null, it) for it in range(3)]
+        # The first descriptors that are free may be those two, so they come last.
+        actions = [(os.POSIX_SPAWN_DUP2, null, it) for it in range(3)]
+        actions += [(os.POSIX_SPAWN_DUP2, reads, CALLS), (os.POSIX_SPAWN_DUP2, writes, ANSWERS)]
         home = {**os.environ, 'HOME': folder, 'TMPDIR': folder, 'XDG_RUNTIME_DIR': folder}
         words = [path, f'--user-data-dir={folder}/profile', *OPTIONS]
         self.pid = os.posix_spawn(path, words, home, file_actions=actions, setpgroup=0)
