@@ -15,6 +15,9 @@ import { skyScripts } from './searches.js';
 
 /** Milliseconds between two takings of lines. */
 export const PAUSE = 8;
+// What is said of a search to the end that was in vain.
+const NONE = 'No satellite has its bit edge: are kind, rate and offset right, and the offset’s sign?'
+  + ' docs/GUIDE.md says what to try when nothing is found.';
 // The first bytes of a file, by which others than recordings are known.
 const FIRST = 16;
 
@@ -151,7 +154,10 @@ export class Stage {
     if (!isSearch) this.form.refuse(refused);
     if (!isSearch && refused.length) element('scripts', HTMLDetailsElement).open = true;
     const lines = !isSearch && refused.length ? `Lines that were refused: ${refused.length}.` : '';
-    say([sentence, last && `The lines can’t be read: ${last}.`, lines].filter(Boolean).join(' '));
+    const none = isSearch && mine.sky.ends && !mine.sky.passes.some((it) => it.bits !== null)
+      ? NONE : '';
+    say([sentence, last && `The lines can’t be read: ${last}.`, lines, none].filter(Boolean)
+      .join(' '));
     this.done();
   }
 

@@ -1,6 +1,7 @@
 """Recordings: one of gigabytes, one that is searched for all 32 satellites, one that is dropped."""
 from __future__ import annotations
 
+import hashlib
 import os
 import re
 import time
@@ -25,6 +26,9 @@ MOST_MEMORY, MOST_GROWTH = 8 << 20, 1 << 30
 # A made recording: satellites with their Doppler shift in Hz, half chip and C/N0 in dB-Hz.
 MADE = {3: (1500, 100, 47), 17: (-2250, 777, 46), 31: (250, 2001, 48)}
 MADE_SECONDS, MADE_OFFSET = 4, 250000
+
+# The bytes of noise that is searched: half a second.
+NOISE = 2**17
 
 
 def great_recording(rows: Rows) -> None:
@@ -133,6 +137,24 @@ def search(rows: Rows) -> None:
     rows.tell('the satellites in the table', numbers == set(MADE), shown)
 
 
+def vain_search(rows: Rows) -> None:
+    """A search through noise says what may be wrong."""
+    page = rows.page
+    noise = hashlib.shake_256(b'noise').digest(NOISE)
+    page.choose(rows.file('noise.real1', noise))
+    page.wait('document.getElementById("name").textContent.startsWith("noise.real1")')
+    page.put(kind='real1', rate='2046000', offset='0', skip='', count='')
+    page.forget()
+    page.click('search')
+    rows.says(
+        'a search in vain',
+        page.done(),
+        'No satellite has its bit edge: are kind, rate and offset right, and the offset’s sign?'
+        ' docs/GUIDE.md says what to try when nothing is found.',
+    )
+    rows.tell('its end', page.saved().endswith(f'\n8 {NOISE * 8} end\n'), page.saved()[-99:])
+
+
 def drop(rows: Rows) -> None:
     """Lines that are dropped open."""
     text = expected('hold_counts')
@@ -142,4 +164,4 @@ def drop(rows: Rows) -> None:
     rows.tell('the lines of a drop', rows.page.saved() == text, len(text))
 
 
-ROWS: tuple[Row, ...] = (drop, search, stopped_recording, great_recording)
+ROWS: tuple[Row, ...] = (drop, search, vain_search, stopped_recording, great_recording)
