@@ -16,8 +16,8 @@ import { skyScripts } from './searches.js';
 /** Milliseconds between two takings of lines. */
 export const PAUSE = 8;
 // What is said of a search to the end that was in vain.
-const NONE = 'No satellite has its bit edge: are kind, rate and offset right, and the offset’s sign?'
-  + ' docs/GUIDE.md says what to try when nothing is found.';
+const NONE = 'No satellite has its bit edge: are kind, rate and offset right, and the offset’s'
+  + ' sign? docs/GUIDE.md says what to try when nothing is found.';
 // The first bytes of a file, by which others than recordings are known.
 const FIRST = 16;
 
