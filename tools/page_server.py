@@ -34,6 +34,7 @@ class Files(http.server.SimpleHTTPRequestHandler):
     """Serves the files of a folder, and says nothing of what is asked for."""
 
     server: Server
+    directory: str
 
     def log_message(self, format: str, *args: object) -> None:
         """Says nothing."""

@@ -14,7 +14,7 @@ TEXTS = ('sky-rows', 'absent', 'far', 'heard', 'said', 'refusals', 'week', 'fiel
 CANVASES = ('timeline', 'plot')
 
 # What the page has of a recording before anything is said of it, and what a reader might say.
-USUAL = {
+USUAL: dict[str, Any] = {
     'kind': 'real1',
     'rate': '2046000',
     'offset': '0',
@@ -26,14 +26,20 @@ USUAL = {
     'shares': '',
     'text': '0 acquire 0 5 1000 4 4 60',
 }
-TYPED = {'rate': '4092000', 'offset': '-7', 'inverted': True, 'skip': '8', 'text': '0 state 1'}
+TYPED: dict[str, Any] = {
+    'rate': '4092000',
+    'offset': '-7',
+    'inverted': True,
+    'skip': '8',
+    'text': '0 state 1',
+}
 
 # What SigMF metadata have of a recording.
 METADATA = {
     'global': {'core:datatype': 'ci8', 'core:sample_rate': 3000000},
     'captures': [{'core:frequency': 1575000000}],
 }
-DESCRIBED = {'kind': 'iq-i8', 'rate': '3000000', 'offset': '420000'}
+DESCRIBED: dict[str, Any] = {'kind': 'iq-i8', 'rate': '3000000', 'offset': '420000'}
 
 
 def shown(page: Page) -> dict[str, Any]:

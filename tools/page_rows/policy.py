@@ -155,10 +155,11 @@ def saves(rows: Rows, where: str) -> None:
     ask, path = page.browser.ask_browser, os.path.join(folder, 'run.lines')
     ask('Browser.setDownloadBehavior', behavior='allow', downloadPath=folder)
     page.click('save')
-    end, text = time.monotonic() + HANGS, expected('three_satellites').encode()
-    while not (os.path.exists(path) and read(path) == text) and time.monotonic() < end:
+    text, came, end = expected('three_satellites').encode(), b'', time.monotonic() + HANGS
+    while came != text and time.monotonic() < end:
         time.sleep(PAUSE)
-    rows.tell(f'the lines that are saved {where}', os.path.exists(path), os.listdir(rows.folder))
+        came = read(path) if os.path.exists(path) else b''
+    rows.tell(f'the lines that are saved {where}', came == text, len(came))
     ask('Browser.setDownloadBehavior', behavior='deny')
 
 
