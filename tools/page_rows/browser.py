@@ -69,8 +69,6 @@ class Browser:
             os.close(it)
         self.number, self.rest = 0, b''
         self.console: list[str] = []
-        # The sessions of the workers that began, the last one last.
-        self.workers: list[str] = []
         self.session: str | None = None
         target = self.call('Target.createTarget', url='about:blank')['targetId']
         self.session = self.call('Target.attachToTarget', targetId=target, flatten=True)[
@@ -108,10 +106,6 @@ class Browser:
         """The answer to a call of the page, or of the browser while there is no page."""
         return self.answer(self.send(self.session, method, given), method)
 
-    def ask_worker(self, method: str, **given: Any) -> dict[str, Any]:
-        """The answer to a call of the worker that began last."""
-        return self.answer(self.send(self.workers[-1], method, given), method)
-
     def ask_browser(self, method: str, **given: Any) -> dict[str, Any]:
         """The answer to a call of the browser."""
         return self.answer(self.send(None, method, given), method)
@@ -145,8 +139,6 @@ class Browser:
         """Keeps what the console says, and listens to a worker that began."""
         method, given = message.get('method'), message.get('params', {})
         if method == 'Target.attachedToTarget':
-            if given['targetInfo']['type'] == 'worker':
-                self.workers.append(given['sessionId'])
             self.send(given['sessionId'], 'Runtime.enable', {})
         elif method == 'Runtime.consoleAPICalled':
             words = [str(it.get('value', it.get('description'))) for it in given['args']]

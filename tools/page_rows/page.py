@@ -14,9 +14,9 @@ from .browser import Browser, Hangs, Refuses
 PAUSE = 0.05
 
 # What is put before the page's script: the text that is saved is kept, the bank that is compiled,
-# the address of a worker's script, and the greatest memory that a worker reports.
+# and the greatest memory that a worker reports.
 WATCH = """
-globalThis.kept = { text: null, bank: null, worker: '', memory: 0 };
+globalThis.kept = { text: null, bank: null, memory: 0 };
 const compile = WebAssembly.compile;
 WebAssembly.compile = (it) => {
   kept.bank = it;
@@ -30,7 +30,6 @@ URL.createObjectURL = (it) => {
 globalThis.Worker = class extends Worker {
   constructor(...words) {
     super(...words);
-    [kept.worker] = words;
     this.addEventListener('message', ({ data }) => {
       kept.memory = Math.max(kept.memory, data.memory ?? 0);
     });

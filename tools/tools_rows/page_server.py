@@ -27,8 +27,8 @@ OUTSIDE, SECRET = 'outside', b'of another'
 PATHS = (
     '/%00', '/a%00b', '/index.html%00', '/%2e%2e/outside', '/..%2foutside', '/../outside',
     '/examples/../../outside', '/%5c..%5coutside', '/%', '/%zz', '/%ff', '/%ed%b0%80', '//[',
-    '//[/outside', '/' + 5000 * 'a', '/' + 70000 * 'a', '/' + 3000 * 'a/', '/examples', '/examples/',
-    '/index.html/', 'http://[/', '*', 'outside',
+    '//[/outside', '/' + 5000 * 'a', '/' + 70000 * 'a', '/' + 3000 * 'a/', '/examples',
+    '/examples/', '/index.html/', 'http://[/', '*', 'outside',
 )
 
 
