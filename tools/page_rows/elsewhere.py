@@ -54,6 +54,7 @@ globalThis.put = (tag, members) => {
 globalThis.SUM = globalThis.document?.documentElement.innerHTML.match(/sha256-[^']+/)?.[0] ?? '';
 """
 
+
 class Notes(http.server.BaseHTTPRequestHandler):
     """Notes what is asked for, and answers it."""
 
