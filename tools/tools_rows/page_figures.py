@@ -69,21 +69,33 @@ def figures_of_small_checkout(rows, folder):
         found != ["page says 'has 1501 rows', and there are 1500"]))
 
 
-def figures_of_manual_check(rows, folder):
-    """The tool looks at them, and says where there is no history."""
+def manual_check(top):
+    """`tools/manual-check` as a module, over the checkout below a path."""
+    loader = importlib.machinery.SourceFileLoader('manual', os.path.join(TOP, TOOL))
+    module = importlib.util.module_from_spec(importlib.util.spec_from_loader('manual', loader))
+    loader.exec_module(module)
+    module.TOP = top
+    return module
+
+
+def with_own_docs(folder):
+    """A checkout whose pages are copies, and which has no history. Gives its path."""
     top = copied(folder, 'docs')
     for name in set(os.listdir(TOP)) - {'docs', '.git'}:
         os.symlink(os.path.join(TOP, name), os.path.join(top, name))
+    return top
+
+
+def figures_of_manual_check(rows, folder):
+    """The tool looks at them, and says where there is no history."""
+    top = with_own_docs(folder)
     page = os.path.join(top, 'docs', 'PLAIN.md')
     with open(page, encoding='utf-8') as file:
         text = file.read()
     write(page, re.sub(r'(made\s+and\s+built) \S+', r'\1 99', text))
-    loader = importlib.machinery.SourceFileLoader('manual', os.path.join(TOP, TOOL))
-    module = importlib.util.module_from_spec(importlib.util.spec_from_loader('manual', loader))
-    loader.exec_module(module)
-    module.TOP, said = top, io.StringIO()
+    said = io.StringIO()
     with contextlib.redirect_stdout(said):
-        found = list(module.wrong_figures())
+        found = list(manual_check(top).wrong_figures())
     faults = [f'{found}'] * (len(found) != 1 or not found[0].startswith(
         "docs/PLAIN.md says 'made and built 99 packages', and there are "))
     faults += [f'said {said.getvalue()!r}'] * ('no whole history' not in said.getvalue())
