@@ -1,6 +1,8 @@
-"""Rows of what pages quote of the sources: each quote of the pages stands there, one that doesn't is
-found, and so is one with no file beside it."""
+"""Rows of what pages quote of the sources: each quote stands there, one that doesn't is found, and
+so is one with no file beside it. And docs/README.md has all pages."""
+import glob
 import os
+import re
 
 from quotes import PAGES, plain, quotes, stale_quotes
 from tools_rows.commands import TOP, copied, write
@@ -94,4 +96,16 @@ def quotes_of_manual_check(rows, folder):
         rows.say(f'{TOOL}: {other}', [f'{found}'] * (len(found) != 1 or wanted not in found[0]))
 
 
-ROWS = (quotes_of_small_page, quotes_of_pages, quotes_of_manual_check)
+def index_of_pages(rows, _):
+    """The index has a link to each page, and none that goes nowhere."""
+    docs = os.path.join(TOP, 'docs')
+    linked = set(re.findall(r'\]\(([^)#]+)\)', text_of(docs, 'README.md')))
+    pages = {os.path.basename(it) for end in ('md', '1')
+             for it in glob.glob(os.path.join(docs, f'*.{end}'))} - {'README.md'}
+    faults = [f'no link to {it}' for it in sorted(pages - linked)]
+    faults += [f'{it} is no file' for it in sorted(linked)
+               if not os.path.isfile(os.path.join(docs, it))]
+    rows.say('docs/README.md', faults)
+
+
+ROWS = (quotes_of_small_page, quotes_of_pages, quotes_of_manual_check, index_of_pages)
