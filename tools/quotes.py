@@ -7,7 +7,7 @@ import os
 import re
 from typing import Iterator, NamedTuple
 
-PAGES = ('docs/CONTRACTS.md', 'docs/PROOF-IN-ONE-PAGE.md')
+PAGES = ('docs/CONTRACTS.md', 'docs/PROVING.md', 'docs/PROOF-IN-ONE-PAGE.md')
 LINK = re.compile(r'\]\(\.\./(crates/[^)#]+)\)')
 # How a clause, a ghost field or a definition begins, which are quoted from somewhere.
 QUOTED = re.compile(r'(requires|ensures)\b.*\{|ghost \w+:|(abbrev |unfoldable )?pub ')

@@ -53,7 +53,7 @@ def words(rows, folder):
         refuses(rows, f'{given}', checkout, given)
     refuses(rows, 'a word like the option', checkout, ['--crate-io', 'a'],
             'plain: there is no option --crate-io')
-    for given in ['-h'], ['--help'], ['--crates-io', '--help']:
+    for given in ['-h'], ['--help']:
         before = contents(folder)
         outcome = plain(checkout, *given)
         faults = changes(before, contents(folder))

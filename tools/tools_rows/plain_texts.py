@@ -111,17 +111,16 @@ CONDITIONS = {
     'a + unknown ≤ c': None,
     'a ≤ b ≤ c': None,
     'a ≤ b c': None,
-    '(reach : ℕ) × IsSound a b reach run.old': None,
+    '(reach : ℕ) × IsReady a b reach run.old': None,
 }
 
 # What public functions require that Rust can't say, by a word of it, and why.
 UNSAID = {
-    'AllSound': 'that slots stand for samples is a relation to all of these',
-    'IsSound': 'that a slot stands for samples is a relation to all of these',
+    'AllReady': 'what slots find in a window is a relation to each of them',
     'AllRest': 'the seats of a bank keep to themselves how long they rest',
     'IfOk': 'that a command is to one of a client\'s slots the bank refuses by a value',
     'IsReady': 'what a search looks at ends at a number or at its due time, whichever comes first',
-    'next_dump self.old ≤ to →': 'it is asked where a dump comes alone',
+    'dwell_end': 'where a dwell ends no function of its plan says',
     'slice_index numbers': 'the lanes of the stable Rust give none of theirs alone',
 }
 
@@ -139,7 +138,7 @@ PLAIN = '''impl Bank {
     /// Takes a run.
     pub fn feed(&mut self, n: u64)
         // requires few { n ≤ 8 }
-        // requires sound { IsSound n self.old }
+        // requires sound { IsReady n self.old }
     {
     }
 
@@ -172,16 +171,16 @@ CHECKED = '''impl Bank {
     ///
     /// Panics if `n ≤ 8` isn't so.
     ///
-    /// The caller sees to `IsSound n self.old`, which isn't checked.
+    /// The caller sees to `IsReady n self.old`, which isn't checked.
     ///
     /// # Contract
     /// ```text
     /// requires few { n ≤ 8 }
-    /// requires sound { IsSound n self.old }
+    /// requires sound { IsReady n self.old }
     /// ```
     pub fn feed(&mut self, n: u64)
         // requires few { n ≤ 8 }
-        // requires sound { IsSound n self.old }
+        // requires sound { IsReady n self.old }
     {
         assert!(n <= 8, "Bank::feed requires n ≤ 8");
     }

@@ -4,7 +4,7 @@ ghost use Rattle.std.specs.Prelude.{◌≡◌, ◌≤◌, ◌<◌, ◌+◌, ◌*
 ghost use Rattle.definitions.specs.Samples.{Sample};
 ghost use Rattle.definitions.specs.Acquisition.{power_of, dwell_end};
 ghost use Rattle.sample_planes.specs.Sources.{AreSamplesOf};
-ghost use Rattle.acquisition.specs.declared.dwell.TheConstants.{MOST_START};
+ghost use Rattle.sample_planes.specs.declared.planes.TheConstants.{MOST_TIME};
 ghost use Rattle.acquisition.specs.declared.plan.TheConstants.{BIN_CELLS};
 
 use crate::bin_powers::BinPowers;
@@ -17,7 +17,7 @@ use oscillators::Settings;
 use sample_planes::SampleSource;
 
 /// The powers of the cells of bin number `k` of a plan, the lowest shift first, by half chips: over
-/// the dwell that begins with sample `start`, at most `MOST_START`. A `Search` of the plan does the
+/// the dwell that begins with sample `start`, at most `MOST_TIME`. A `Search` of the plan does the
 /// same cells, and names the first greatest one. The book is any book of codes.
 pub fn powers_of_bin<S: SampleSource>(
     plan: &Plan,
@@ -27,7 +27,7 @@ pub fn powers_of_bin<S: SampleSource>(
     source: &S,
     book: &mut CodeBook,
 ) -> [u64; BIN_CELLS]
-    requires start { start ≤ MOST_START }
+    requires start { start ≤ MOST_TIME }
     requires bin { k ≤ 2 * plan.now.bins }
     requires from { S.from source.now ≤ start }
     requires to { dwell_end settings.now plan.now start ≤ S.to source.now }

@@ -5,7 +5,7 @@ ghost use Rattle.std.specs.Prelude.{true, ◌↔◌};
 ghost use Rattle.definitions.specs.Oscillators.{code_cycle};
 ghost use Rattle.definitions.specs.Samples.{Sample};
 ghost use Rattle.bit_planes.specs.declared.plane.TheConstants.{WORD_PLACES};
-ghost use Rattle.acquisition.specs.declared.dwell.TheConstants.{MOST_START};
+ghost use Rattle.sample_planes.specs.declared.planes.TheConstants.{MOST_TIME};
 ghost use Rattle.acquisition.specs.declared.half_chip_table.TheConstants.{HALF_CHIPS};
 ghost use Rattle.oscillators.specs.declared.settings.TheConstants.{MOST_PER_MS};
 
@@ -59,7 +59,7 @@ impl Fold {
         requires none { IsNew self.old }
         requires from { S.from source.now ≤ first }
         requires to { first + len ≤ S.to source.now }
-        requires early { first ≤ 2 * MOST_START }
+        requires early { first ≤ 2 * MOST_TIME }
         requires short { len ≤ MOST_PER_MS }
         requires moving { 0 < steps.code }
         ensures { (x : ℕ → Sample) → AreHeld (S.held source.now) first x before len

@@ -5,10 +5,10 @@ ghost use Rattle.definitions.specs.Oscillators.{code_cycle, code_phase_after};
 ghost use Rattle.acquisition.specs.declared.half_chip_table.TheConstants.{HALF_CHIPS};
 ghost use Rattle.acquisition.specs.declared.half_chip_walk.TheConstants.{HALF_CHIP};
 
-use oscillators::CODE_CYCLE;
+use oscillators::in_cycle;
 
 /// Half a chip, in 2^-32 chip.
-const HALF_CHIP: u64 = 1 << 31;
+const HALF_CHIP: u64 = oscillators::HALF_CHIP as u64;
 
 /// A walk from sample to sample along the half chips of a code. It stands at a half chip while it
 /// passes the samples that lie there, and knows how many of them are left.
@@ -91,18 +91,5 @@ impl HalfChipWalk {
             self.left = self.whole;
             self.next = in_cycle(far);
         }
-    }
-}
-
-/// A phase within the code's cycle.
-#[inline(always)]
-fn in_cycle(phase: u64) -> u64
-    requires { phase < 2 * code_cycle }
-    ensures { result ≡ phase % code_cycle }
-{
-    if phase < CODE_CYCLE {
-        phase
-    } else {
-        phase - CODE_CYCLE
     }
 }

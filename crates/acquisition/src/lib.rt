@@ -6,7 +6,30 @@
 //! any cell. It stands for the greatest and the total of the powers of the cells that it has done.
 //! Once all are done it names the first greatest cell. (IS-GPS-200 has the signal alone; the search
 //! is this project's own.) Each power is proved to be that of the plain sums with the cell's
-//! replica, though no replica is made: samples are added up by half chip first.
+//! replica.
+//!
+//! # How a cell is summed up
+//!
+//! No replica is made. All cells of a bin share the sums of each period:
+//!
+//! ```text
+//! samples     x0 x1 x2 x3 x4 x5 x6 ..    times the conjugate of the carrier (`Products`)
+//! half chips  [--0--][---1---][-2-] ..   2,046 sums of the samples that lie there (`Fold`)
+//! chip 0      [------0-------]           the sum of two half chips that follow one another
+//! chip 1      .......[------1-----]      and so on: 2,046 of them, in a ring (`ChipRing`)
+//! a cell      every second chip from its half chip on, each times the sign of the code
+//! ```
+//!
+//! A sample lies at the half chip that a code has there which begins at phase 0 with the dwell.
+//! A chip 0 of the code counts +1 and a chip 1 -1. So a cell's sum is that of all samples, less
+//! twice the sum at the chips of 1. These are some 512 places of the ring (`Ones`), which move on by
+//! one from each cell to the next. So 64 cells are summed up at once, in lanes that lie beside each
+//! other in the ring. Where two chips of 1 follow one another, one look-up in a second ring has
+//! both (`RingByTwos`). Where the sums are small enough, one number of 32 bits has the sum in phase
+//! and that in quadrature (`PairLanes`); else each is added up by itself.
+//!
+//! `PeriodSums` has the rings of a period, `BinPowers` adds the powers of a bin's cells over the
+//! periods of the dwell, and `Search` keeps the greatest of all bins and their total (`Tally`).
 //!
 //!     use acquisition::{Plan, Search, SearchRoom};
 //!     use ca_codes::{CodeBook, Prn};
@@ -55,7 +78,6 @@ mod tally;
 
 pub use bin_grid::powers_of_bin;
 pub use cell::Cell;
-pub use dwell::MOST_START;
 pub use plan::{
     BIN_CELLS, MOST_BINS, MOST_CELLS, MOST_CENTRE, MOST_DWELL, MOST_SIDE_BINS, MOST_THRESHOLD,
     Plan, PlanFault,

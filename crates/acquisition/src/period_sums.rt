@@ -6,7 +6,7 @@ ghost use Rattle.definitions.specs.Samples.{Sample};
 ghost use Rattle.acquisition.specs.Rings.{IsPart};
 ghost use Rattle.acquisition.specs.FoldRings.{AreRingsOf};
 ghost use Rattle.acquisition.specs.declared.chip_ring.TheConstants.{CELLS_AT_ONCE};
-ghost use Rattle.acquisition.specs.declared.dwell.TheConstants.{MOST_START};
+ghost use Rattle.sample_planes.specs.declared.planes.TheConstants.{MOST_TIME};
 ghost use Rattle.acquisition.specs.declared.fold.TheConstants.{MOST_SMALL};
 ghost use Rattle.acquisition.specs.declared.half_chip_table.TheConstants.{HALF_CHIPS};
 ghost use Rattle.acquisition.specs.declared.sums.TheConstants.{MOST_PERIOD_SUM, MOST_PERIOD_POWER};
@@ -65,7 +65,7 @@ impl PeriodSums {
     )
         requires from { S.from source.now ≤ first }
         requires to { first + len ≤ S.to source.now }
-        requires early { first ≤ 2 * MOST_START }
+        requires early { first ≤ 2 * MOST_TIME }
         requires short { len ≤ MOST_PER_MS }
         requires moving { 0 < steps.code }
         ensures { (x : ℕ → Sample) → AreHeld (S.held source.now) first x before len

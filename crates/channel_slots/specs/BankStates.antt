@@ -11,7 +11,7 @@ use Rattle.channel_slots.specs.declared.bank.Bank.{Bank}
 use Rattle.slot_protocol.specs.declared.event.SlotEvent.{SlotEvent}
 use Rattle.sample_planes.specs.PackedRuns.{PackedRun}
 use Rattle.sample_planes.specs.declared.planes.TheConstants.{MAX_SAMPLES}
-use Rattle.channel_slots.specs.declared.bank.TheConstants.{MOST_TIME}
+use Rattle.sample_planes.specs.declared.planes.TheConstants.{MOST_TIME}
 use Rattle.channels.specs.Windows as windows
 use Rattle.channel_slots.specs.Banks.{BankStands, cells_done_at}
 use Rattle.slot_protocol.specs.Events.{AreEvents}

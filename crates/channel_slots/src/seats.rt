@@ -70,7 +70,8 @@ fn add_idle(alloc: Global, seats: &mut Vec<Seat>, client: u8, share: u8) -> Resu
 
 /// Each slot in turn goes to its last event that comes within a window, and puts all of them by
 /// time. None of the slots has one before sample `next_event` of the recording: where the window
-/// ends before it, none goes. It answers with how many samples one of them has its next event.
+/// ends before it, none goes. It answers a number of samples past the window's end, the least with
+/// which one of them has its next event; that none has one before it is proved.
 pub fn run_all(
     seats: &mut [Seat],
     window: &mut Window,

@@ -8,7 +8,7 @@ ghost use Rattle.definitions.specs.Lives.{Life};
 ghost use Rattle.definitions.specs.Answers.{shown, answer_with};
 ghost use Rattle.slot_protocol.specs.Answers.{view_in};
 ghost use Rattle.channel_slots.specs.Stages.{IsFollowed, is_searching};
-ghost use Rattle.channel_slots.specs.declared.bank.TheConstants.{MOST_TIME};
+ghost use Rattle.sample_planes.specs.declared.planes.TheConstants.{MOST_TIME};
 
 use crate::slot_news::SlotNews;
 use crate::stage::Stage;
@@ -44,7 +44,6 @@ impl Slot {
     ghost use Rattle.definitions.specs.Commands.{TimedRequest, Start, begin, hold, track};
     ghost use Rattle.definitions.specs.Commands.{acquire};
     ghost use Rattle.definitions.specs.Answers.{answer_at_end};
-    ghost use Rattle.acquisition.specs.declared.dwell.TheConstants.{MOST_START};
     ghost use Rattle.sample_history.specs.Histories.{first_of};
     ghost use Rattle.channels.specs.Windows.{IsOver, IsSame, end_of, dump_of, history_of};
     ghost use Rattle.channels.specs.Searching.{plan_of};
@@ -233,7 +232,7 @@ impl Slot {
     /// here and below: what is followed is large, and other commands need no room for it.
     #[inline(never)]
     fn hold(&mut self, settings: &Settings, time: u64, signal: Signal) -> Answer
-        requires { time ≤ MOST_START }
+        requires { time ≤ MOST_TIME }
         ensures { Obeys settings.now time (begin (hold signal.prn signal.doppler signal.half))
             self.old self.new result }
     {
@@ -243,7 +242,7 @@ impl Slot {
     /// Makes the slot track a satellite from sample `time` on, if it is idle.
     #[inline(never)]
     fn track(&mut self, settings: &Settings, time: u64, signal: Signal) -> Answer
-        requires { time ≤ MOST_START }
+        requires { time ≤ MOST_TIME }
         ensures { Obeys settings.now time (begin (track signal.prn signal.doppler signal.half))
             self.old self.new result }
     {
@@ -254,7 +253,7 @@ impl Slot {
     /// idle. Its room goes to the search.
     #[inline(never)]
     fn acquire(&mut self, settings: &Settings, plan: Plan, time: u64) -> Answer
-        requires { time ≤ MOST_START }
+        requires { time ≤ MOST_TIME }
         ensures { Obeys settings.now time (begin (acquire plan)) self.old self.new result }
     {
         if self.is_idle() {
@@ -268,9 +267,9 @@ impl Slot {
     }
 
     /// Does what a client asks of this slot, and answers it: a refused command changes nothing.
-    /// The next sample is number `time`, at most `MOST_START`.
+    /// The next sample is number `time`, at most `MOST_TIME`.
     pub fn command(&mut self, settings: &Settings, time: u64, command: Command) -> Answer
-        requires { time ≤ MOST_START }
+        requires { time ≤ MOST_TIME }
         ensures { Obeys settings.now time (request_in command) self.old self.new result }
     {
         match command {

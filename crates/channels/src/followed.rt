@@ -4,7 +4,7 @@ ghost use Rattle.std.specs.Prelude.{◌≡◌, ◌≤◌, ◌<◌, ◌+◌, min}
 ghost use Rattle.std.specs.Option.{ForSome};
 ghost use Rattle.channels.specs.Trackings.{dump_count};
 ghost use Rattle.channels.specs.declared.follower.TheConstants.{MOST_TAKEN};
-ghost use Rattle.tracking_loops.specs.declared.limits.TheConstants.{MOST_STEERED_DUMPS};
+ghost use Rattle.sample_planes.specs.declared.planes.TheConstants.{MOST_TIME};
 
 use crate::follower::Follower;
 use crate::shift::shift_of;
@@ -125,7 +125,7 @@ impl Followed {
     /// any book of codes.
     pub fn take(&mut self, to: u64, window: &mut Window, book: &mut CodeBook) -> bool
         requires begun { at_of self.old ≤ to }
-        requires early { to ≤ MOST_STEERED_DUMPS }
+        requires early { to ≤ MOST_TIME }
         requires open { first_of window.old ≤ at_of self.old }
         requires taken { to ≤ end_of window.old }
         ensures at { at_of self.new ≡ min to (next_dump self.old) }

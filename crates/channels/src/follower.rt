@@ -20,7 +20,7 @@ const LEAST_STEP: u32 = 200_000_000;
 /// The most of such a step: above that of any settings.
 const MOST_STEP: u32 = 3_000_000_000;
 
-/// The most samples of a recording.
+/// Far more samples than a recording has, so that a sum of a few of their numbers fits in 64 bits.
 pub const MOST_TAKEN: u64 = 1 << 62;
 
 /// The open segment of a channel: the satellite, the code and the carrier at sample `at`, and the

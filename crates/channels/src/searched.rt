@@ -2,7 +2,7 @@
 
 ghost use Rattle.std.specs.Prelude.{◌≡◌, ◌≤◌, ◌<◌, ◌+◌, ◌*◌, ℕ};
 ghost use Rattle.acquisition.specs.Searches.{start_of, end_of};
-ghost use Rattle.acquisition.specs.declared.dwell.TheConstants.{MOST_START};
+ghost use Rattle.sample_planes.specs.declared.planes.TheConstants.{MOST_TIME};
 ghost use Rattle.channels.specs.declared.searched.TheConstants.{MOST_WAIT};
 ghost use Rattle.definitions.specs.Acquisition.{cell_count};
 
@@ -38,10 +38,10 @@ impl Searched {
     ghost use Rattle.channels.specs.Searching.{plan_of, due_of, done_of, next_cell};
     ghost use Rattle.channels.specs.FollowedChannels.{Follows, HasBegun};
 
-    /// A search that begins with sample `start`, the next one; `start` is at most `MOST_START`. It
+    /// A search that begins with sample `start`, the next one; `start` is at most `MOST_TIME`. It
     /// works in a room until `into_room` gives that back.
     pub fn start(settings: &Settings, plan: Plan, start: u64, room: SearchRoom) -> Searched
-        requires { start ≤ MOST_START }
+        requires { start ≤ MOST_TIME }
         ensures stands { (xs : List Sample) → length xs ≡ start
             → Searches settings.now plan start xs result }
         ensures begins { Begins settings.now plan start result }

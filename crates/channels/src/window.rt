@@ -5,7 +5,7 @@ ghost use Rattle.channels.specs.OpenSamples.{IsOpen};
 ghost use Rattle.sample_history.specs.Histories.{packing_in, room_of};
 ghost use Rattle.sample_planes.specs.Packings.{packing_of};
 ghost use Rattle.sample_planes.specs.declared.planes.TheConstants.{MAX_SAMPLES};
-ghost use Rattle.sample_history.specs.declared.history.TheConstants.{MOST_TAKEN};
+ghost use Rattle.sample_planes.specs.declared.planes.TheConstants.{MOST_TIME};
 
 use crate::dump::Dump;
 use lane_correlator::Counts;
@@ -103,7 +103,7 @@ impl Window {
         requires packing { run.now.packing ≡ packing_in (history_of self.old) }
         requires room { end_of self.old - first_of self.old + length run.now.samples
             ≤ MAX_SAMPLES }
-        requires few { end_of self.old + length run.now.samples ≤ MOST_TAKEN }
+        requires few { end_of self.old + length run.now.samples ≤ MOST_TIME }
         ensures stands { (xs : List Sample) → StandsFor xs self.old
             → StandsFor (xs ++ run.now.samples) self.new }
         ensures first { first_of self.new ≡ first_of self.old }

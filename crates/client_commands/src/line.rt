@@ -14,13 +14,11 @@ use crate::refusal::LineRefusal;
 use crate::script::Timed;
 use crate::verb::Verb;
 use crate::words::next_word;
+use sample_planes::MOST_TIME;
 use slot_protocol::Command;
 
 /// The most bytes of a line of a script.
 const SCRIPT_LINE_BYTES: usize = 80;
-
-/// The latest time of a command, in samples.
-const LAST_TIME: u64 = 1 << 40;
 
 /// The entry of a line that follows one of time `before`, in the script of a client with a share of
 /// the slots. A line without words has none.
@@ -58,7 +56,7 @@ fn is_printable(line: &[u8]) -> bool
 fn time_in(word: &[u8]) -> Option<u64>
     ensures { result ≡ defined_time_in word.now }
 {
-    number_in(word).filter(|time| *time <= LAST_TIME)
+    number_in(word).filter(|time| *time <= MOST_TIME)
 }
 
 /// A refusal at a time.

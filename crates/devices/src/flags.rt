@@ -15,7 +15,7 @@ pub struct Flags {
 
 impl Flags {
     /// What is known of a device on which no call was made.
-    pub fn without_calls() -> Flags
+    pub(crate) fn without_calls() -> Flags
         ensures { result ≡ without_calls }
     {
         Flags {
@@ -27,7 +27,7 @@ impl Flags {
 
 /// What is reported of the answer of one more call on a device, and what its calls have shown then.
 /// An error of std is the fault, and any other answer is reported as it is, and blames nothing.
-pub fn report<N>(answer: io::Result<N>, flags: Flags) -> (Result<N, DeviceFault>, Flags)
+pub(crate) fn report<N>(answer: io::Result<N>, flags: Flags) -> (Result<N, DeviceFault>, Flags)
     ensures answer { result.0 ≡ reported answer }
     ensures flags { result.1 ≡ after answer flags }
 {
@@ -40,7 +40,7 @@ pub fn report<N>(answer: io::Result<N>, flags: Flags) -> (Result<N, DeviceFault>
 
 /// What a write answered, where one of some bytes that took none is an error. One of no bytes fails
 /// nothing.
-pub fn of_write(answer: io::Result<usize>, bytes: &[u8]) -> io::Result<usize>
+pub(crate) fn of_write(answer: io::Result<usize>, bytes: &[u8]) -> io::Result<usize>
     ensures none { 0 < length bytes.now → answer ≡ Ok 0 → IsErr result }
     ensures other { (length bytes.now ≡ 0) ⊎ (answer ≢ Ok 0) → result ≡ answer }
 {

@@ -12,6 +12,7 @@ ghost use Rattle.oscillators.specs.Views.{Oscillation, CodeViews};
 ghost use Rattle.oscillators.specs.Signs.{sign_in};
 ghost use Rattle.bit_planes.specs.declared.plane.TheConstants.{PLACES};
 ghost use Rattle.ca_codes.specs.declared.book.TheConstants.{CODE_CHIPS};
+ghost use Rattle.oscillators.specs.declared.code.TheConstants.{CODE_CYCLE};
 ghost use Rattle.oscillators.specs.declared.code_strides.TheConstants.{HALF_CHIP};
 
 use crate::code_strides::{CodeStrides, HALF_CHIP};
@@ -158,9 +159,10 @@ impl CodeOsc {
     }
 }
 
-/// The phase that is left of one less than a cycle ahead, without a division.
-pub(crate) fn in_cycle(phase: u64) -> u64
-    requires { phase < code_cycle + code_cycle }
+/// The phase of a code, in 2^-32 chip, that is left of one below two cycles, without a division.
+#[inline(always)]
+pub fn in_cycle(phase: u64) -> u64
+    requires { phase < 2 * CODE_CYCLE }
     ensures { result ≡ phase % code_cycle }
 {
     if phase < CODE_CYCLE {

@@ -30,7 +30,7 @@ mod settings;
 
 pub use carrier::{CarrierOsc, CarrierPlanes, MOST_PRODUCT};
 pub use carrier_words::CarrierWords;
-pub use code::{CODE_CYCLE, CodeOsc, CodePlanes};
+pub use code::{CODE_CYCLE, CodeOsc, CodePlanes, in_cycle};
 pub use code_strides::HALF_CHIP;
 pub use code_words::{ChipLanes, CodeWords, MOST_WINDOW_STEP};
 pub use doppler::{Doppler, MOST_DOPPLER};

@@ -7,7 +7,7 @@ ghost use Rattle.packer.specs.Endings.{EndsMeasuring};
 
 use crate::failure::Failure;
 use crate::measuring::tell_shares;
-use recordings::{MOST_BYTES, Measure, PartRecipe, Recipe};
+use recordings::{INFINITY, MOST_BYTES, Measure, PartRecipe, Recipe};
 use std::io::{self, Print};
 use std::num::{nearest_f64_to_f32_with_nan, nearest_usize_to_f64};
 
@@ -114,7 +114,6 @@ impl Floats {
 fn value(bytes: [u8; 4]) -> Result<f64, Failure>
     ensures { IfErr result EndsMeasuring }
 {
-    const INFINITY: u32 = 0x7f80_0000;
     let bits = u32::from_le_bytes(bytes);
     let size = bits % (1 << 31);
     if size < INFINITY {

@@ -17,8 +17,8 @@ use crate::failure::Failure;
 use crate::formats::{format, from};
 use crate::halves::halves;
 use clap::ArgMatches;
-use recordings::{Choice, Recipe, Stretch, ValueKind};
-use sample_planes::Format;
+use recordings::{Choice, INFINITY, Recipe, Stretch, ValueKind};
+use sample_planes::{Format, MOST_TIME};
 
 /// The recipe that the options ask for.
 pub fn recipe(matches: &ArgMatches) -> Result<Recipe, Failure>
@@ -156,7 +156,6 @@ fn decimal(text: &str) -> Result<u32, Failure>
 fn finite_bits(number: f32) -> Option<u32>
     ensures { result ≡ finite_bits number }
 {
-    const INFINITY: u32 = 0x7f80_0000;
     const MINUS_ZERO: u32 = 0x8000_0000;
     if number.is_nan() {
         return None;
@@ -212,7 +211,7 @@ fn bytes(matches: &ArgMatches, recipe: &Recipe, name: &'static str) -> Result<u6
     ensures status { IfErr result (λ failure. status_of (Err failure) ≡ 2) }
 {
     let count: u64 = matches.get_one(name).unwrap_or(0);
-    if count > MOST_SAMPLES {
+    if count > MOST_TIME {
         return Err(Failure::Samples(name));
     }
     let bits = count * recipe.sample_bits() as u64;
@@ -222,6 +221,3 @@ fn bytes(matches: &ArgMatches, recipe: &Recipe, name: &'static str) -> Result<u6
         Err(Failure::Samples(name))
     }
 }
-
-/// The most samples of a recording.
-const MOST_SAMPLES: u64 = 1 << 40;

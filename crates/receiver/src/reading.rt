@@ -3,7 +3,7 @@
 ghost use Rattle.std.specs.Prelude.{◌≡◌, ◌≤◌, ◌<◌, ◌↔◌, ◌+◌, ◌-◌, ◌%◌, length, min, true, false};
 ghost use Rattle.std.specs.Prelude.{OnOk, IfOk};
 ghost use Rattle.definitions.specs.Samples.{sample_count, samples_per_byte};
-ghost use Rattle.channel_slots.specs.declared.bank.TheConstants.{MOST_TIME};
+ghost use Rattle.sample_planes.specs.declared.planes.TheConstants.{MOST_TIME};
 ghost use Rattle.sample_planes.specs.declared.planes.TheConstants.{MAX_SAMPLES};
 ghost use Rattle.receiver.specs.Outputs.{promised, Writes};
 ghost use Rattle.receiver.specs.Runs.{devices_once_sent, ReadsOn, TakesOn, samples_before};

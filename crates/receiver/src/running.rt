@@ -3,7 +3,7 @@
 ghost use Rattle.std.specs.Prelude.{◌≡◌, ◌≤◌, ◌%◌, ℕ, List, map};
 ghost use Rattle.std.specs.Prelude.{false, OnErr, IfOk, IsErrOf};
 ghost use Rattle.definitions.specs.Oscillators.{Settings as DefinedSettings};
-ghost use Rattle.channel_slots.specs.declared.bank.TheConstants.{MOST_TIME};
+ghost use Rattle.sample_planes.specs.declared.planes.TheConstants.{MOST_TIME};
 ghost use Rattle.definitions.specs.Runs.{clients_of};
 ghost use Rattle.devices.specs.Moments.{devices_at};
 ghost use Rattle.receiver.specs.WholeRuns.{RunsTask};

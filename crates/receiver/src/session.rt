@@ -2,7 +2,7 @@
 
 ghost use Rattle.std.specs.Prelude.{◌≡◌, true, length};
 ghost use Rattle.channel_slots.specs.BankStates.{shares_of};
-ghost use Rattle.channel_slots.specs.declared.bank.TheConstants.{MOST_TIME};
+ghost use Rattle.sample_planes.specs.declared.planes.TheConstants.{MOST_TIME};
 ghost use Rattle.channel_slots.specs.declared.seats.TheConstants.{MOST_CLIENTS};
 ghost use Rattle.sample_planes.specs.Packings.{packing_of};
 ghost use Rattle.receiver.specs.Queues.{are_in_shares};
@@ -69,9 +69,7 @@ impl<'a> Session<'a> {
             (clients_with shares.now (map (λ script. script.now) scripts.now)) [])) }
     {
         let bank = Bank::open(alloc, settings, shares)?;
-        let Ok(timeline) = Timeline::new(alloc) else {
-            return Err(OpenFault::NoMemory);
-        };
+        let timeline = Timeline::new(alloc)?;
         Ok(Session {
             bank,
             queues: queues_of(scripts, shares),

@@ -4,7 +4,7 @@ use Rattle.std.specs.Prelude.{Result, Ok, Err, Some, None, max, IsSome}
 use Rattle.definitions.specs.Oscillators.{Settings as DefinedSettings}
 use Rattle.oscillators.specs.Limits.{IsRate}
 use Rattle.oscillators.specs.declared.settings.SettingsFault.TheVariants.{Rate, Offset}
-use Rattle.channel_slots.specs.declared.bank.TheConstants.{MOST_TIME}
+use Rattle.sample_planes.specs.declared.planes.TheConstants.{MOST_TIME}
 use Rattle.receiver.specs.declared.faults.RunFault.{RunFault}
 use Rattle.devices.specs.declared.source.Source.{Ghosts as Source}
 use Rattle.devices.specs.declared.sink.Sink.{Ghosts as Sink}

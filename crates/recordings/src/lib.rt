@@ -41,7 +41,7 @@ mod value_kind;
 pub use choice::{Choice, ChoiceFault};
 pub use fault::PackFault;
 pub use measure::Measure;
-pub use numbers::READING_LIMIT;
+pub use numbers::{FLOAT_BYTES, INFINITY, READING_LIMIT};
 pub use packer::{MOST_PIECE, Packer};
 pub use part::PartRecipe;
 pub use recipe::{MOST_BYTES, MOST_GROUP, MOST_SAMPLE_BITS, Recipe};

@@ -27,8 +27,8 @@ pub const FLOAT_BYTES: usize = 4;
 /// The bit of the sign of a float, the highest of its 32: half of their range.
 const SIGN_BIT: u32 = 1 << 31;
 
-/// The bits of the greatest float that is a number.
-const INFINITY: u32 = 0x7f80_0000;
+/// The bits of the infinite float, the greatest of 32 bits that is a number.
+pub const INFINITY: u32 = 0x7f80_0000;
 
 /// 1 for a bit 0, and -1 for 1.
 pub fn sign_of(bit: u8) -> i64

@@ -1,20 +1,16 @@
 //! The last samples of a stream.
 
-ghost use Rattle.std.specs.Prelude.{◌≡◌, ◌+◌, ◌-◌, ◌*◌, ◌/◌, ◌<◌, ◌≤◌, ℕ, length, map, min};
+ghost use Rattle.std.specs.Prelude.{◌≡◌, ◌+◌, ◌-◌, ◌*◌, ◌/◌, ◌<◌, ◌≤◌, ℕ, length, min};
 ghost use Rattle.std.specs.Prelude.{slice_index};
-ghost use Rattle.std.specs.List.{range_with_len};
 ghost use Rattle.definitions.specs.Samples.{sample_count, samples_per_byte};
 ghost use Rattle.sample_planes.specs.Packings.{packing_of};
 ghost use Rattle.sample_planes.specs.declared.planes.TheConstants.{MAX_SAMPLES};
-ghost use Rattle.sample_history.specs.declared.history.TheConstants.{MOST_TAKEN};
+ghost use Rattle.sample_planes.specs.declared.planes.TheConstants.{MOST_TIME};
 
 use crate::ring_bytes::{copy_out, grow};
 use circular_buffer::HeapCircularBuffer;
 use sample_planes::{Format, NEAR_BYTES, PackedSamples, Planes, SampleSource};
 use std::alloc::{AllocError, Global};
-
-/// The most samples that a history takes.
-pub const MOST_TAKEN: u64 = 1 << 40;
 
 /// The last samples of a stream, packed. The earliest sample of a byte stands in its top bits.
 #[derive(Drop)]
@@ -25,7 +21,7 @@ pub struct SampleHistory {
     /// The samples after those of the whole bytes, fewer than a byte holds.
     partial: u8,
     taken: u64,
-    ghost few: { taken ≤ MOST_TAKEN },
+    ghost few: { taken ≤ MOST_TIME },
     ghost kept: { length whole.items
         ≡ min whole.capacity (taken / samples_per_byte (packing_of format)) },
 }
@@ -34,7 +30,7 @@ impl SampleHistory {
     ghost use Rattle.std.specs.Prelude.{List, [], ◌++◌, IfOk};
     ghost use Rattle.definitions.specs.Samples.{Sample, samples_from};
     ghost use Rattle.sample_history.specs.Histories.{StandsFor, packing_in, room_of, taken_of};
-    ghost use Rattle.sample_history.specs.Histories.{first_of, bytes_of, held_in};
+    ghost use Rattle.sample_history.specs.Histories.{first_of, bytes_of};
 
     /// The history of a stream that hasn't begun. It takes its memory at once, and will hold at
     /// least the last `room` samples. An error is memory that it was refused.
@@ -64,7 +60,7 @@ impl SampleHistory {
     pub fn take(&mut self, run: &PackedSamples)
         requires packing { run.now.packing ≡ packing_in self.old }
         requires short { length run.now.samples ≤ MAX_SAMPLES }
-        requires few { taken_of self.old + length run.now.samples ≤ MOST_TAKEN }
+        requires few { taken_of self.old + length run.now.samples ≤ MOST_TIME }
         ensures stands { (xs : List Sample) → StandsFor xs self.old
             → StandsFor (xs ++ run.now.samples) self.new }
         ensures packing { packing_in self.new ≡ packing_in self.old }
@@ -81,7 +77,7 @@ impl SampleHistory {
         requires first { first < samples_per_byte (packing_in self.old) }
         requires within { first + len ≤ sample_count (packing_in self.old) bytes.now }
         requires short { len ≤ MAX_SAMPLES }
-        requires few { taken_of self.old + len ≤ MOST_TAKEN }
+        requires few { taken_of self.old + len ≤ MOST_TIME }
         ensures stands { (xs : List Sample) → StandsFor xs self.old
             → StandsFor (xs ++ samples_from (packing_in self.old) bytes.now first len) self.new }
         ensures packing { packing_in self.new ≡ packing_in self.old }

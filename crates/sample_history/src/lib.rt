@@ -18,4 +18,4 @@ mod history;
 mod ring_bytes;
 mod shifted_bytes;
 
-pub use history::{MOST_TAKEN, SampleHistory};
+pub use history::SampleHistory;

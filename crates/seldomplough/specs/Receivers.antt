@@ -11,7 +11,7 @@ use Rattle.definitions.specs.Receiver.{at_each_sample}
 use Rattle.slot_protocol.specs.declared.event.SlotEvent.{SlotEvent}
 use Rattle.slot_protocol.specs.Events.{AreEvents}
 use Rattle.sample_planes.specs.declared.planes.TheConstants.{MAX_SAMPLES}
-use Rattle.channel_slots.specs.declared.bank.TheConstants.{MOST_TIME}
+use Rattle.sample_planes.specs.declared.planes.TheConstants.{MOST_TIME}
 use Rattle.channel_slots.specs.BankStates as banks
 use Rattle.channel_slots.specs.Timelines as timelines
 use Rattle.seldomplough.specs.declared.receiver.Receiver.{Receiver}

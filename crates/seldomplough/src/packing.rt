@@ -8,11 +8,8 @@ ghost use Rattle.seldomplough.specs.declared.packing_fault.PackingFault.TheVaria
 
 use crate::packing_fault::PackingFault;
 use crate::values::{write_f32, write_i8};
-use recordings::{MOST_PIECE, Packer, Recipe, ValueKind};
+use recordings::{FLOAT_BYTES, MOST_PIECE, Packer, Recipe, ValueKind};
 use std::alloc::{AllocError, Global};
-
-/// How many bytes a float of 32 bits has.
-const FLOAT_BYTES: usize = 4;
 
 /// Packs a recording's values as a `Receiver` takes them, piece by piece, however they are cut. It
 /// holds the values that don't fill a byte yet.

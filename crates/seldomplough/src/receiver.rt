@@ -5,7 +5,7 @@ ghost use Rattle.std.specs.Prelude.{IfErr, IsErr};
 ghost use Rattle.definitions.specs.Commands.{begin, hold, track, acquire, counts, state, stop};
 ghost use Rattle.definitions.specs.Runs.{is_share};
 ghost use Rattle.definitions.specs.Samples.{samples_per_byte};
-ghost use Rattle.channel_slots.specs.declared.bank.TheConstants.{MOST_TIME};
+ghost use Rattle.sample_planes.specs.declared.planes.TheConstants.{MOST_TIME};
 ghost use Rattle.channel_slots.specs.declared.open_fault.OpenFault.TheVariants as open_faults;
 ghost use Rattle.channel_slots.specs.declared.seats.TheConstants.{MOST_CLIENTS};
 ghost use Rattle.sample_planes.specs.Packings.{packing_of};
@@ -54,9 +54,7 @@ impl Receiver {
         ensures events { IfOk result (λ receiver. events_in receiver ≡ []) }
     {
         let bank = Bank::open(alloc, settings, shares)?;
-        let Ok(timeline) = Timeline::new(alloc) else {
-            return Err(OpenFault::NoMemory);
-        };
+        let timeline = Timeline::new(alloc)?;
         Ok(Receiver { bank, timeline })
     }
 

@@ -146,5 +146,9 @@ fn powers_of_the_code_file(rt: HostRuntime) {
     let rt = &rt;
     let powers = powers_from(rt, &code_file(), 2);
     assert_same(rt, powers[2], 20_930_580);
-    assert_same(rt, powers.iter().filter(|power| **power >= 20_930_580).count(), 1);
+    assert_same(
+        rt,
+        powers.iter().filter(|power| **power >= 20_930_580).count(),
+        1,
+    );
 }

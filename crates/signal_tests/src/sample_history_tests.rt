@@ -5,8 +5,8 @@ ghost use Rattle.sample_planes.specs.Packings.{packing_of};
 
 use crate::asserted::{assert_same, assert_same_at, assert_that};
 use crate::parts::assert_samples;
-use sample_history::{MOST_TAKEN, SampleHistory};
-use sample_planes::{Format, PackedSamples, Planes, SampleSource};
+use sample_history::SampleHistory;
+use sample_planes::{Format, MOST_TIME, PackedSamples, Planes, SampleSource};
 use std::alloc::{Alloc, Global};
 use std::process::Abort;
 
@@ -106,7 +106,7 @@ fn take_part(rt: &impl Abort, history: &mut SampleHistory, bytes: &[u8], first: 
 {
     let run = part_of(rt, history.format(), bytes, first, len);
     assert_that(rt, run.len() <= 1024);
-    assert_that(rt, history.end() <= MOST_TAKEN - 1024);
+    assert_that(rt, history.end() <= MOST_TIME - 1024);
     history.take(&run);
 }
 

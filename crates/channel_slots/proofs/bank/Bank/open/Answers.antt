@@ -10,22 +10,14 @@ use Rattle.channel_slots.proofs.ShareLemmas.{few-each}
 use Rattle.channel_slots.proofs.RestLemmas.{idle-rest}
 use Rattle.channel_slots.proofs.bank.Bank.open.Goals as goal
 
--- what is there although an error would be another
-from-or : {A E F : Type 0} (r : Result A E) (fault : F) (x : A) → result_or r (Err fault) ≡ Ok x
-    → r ≡ Ok x
-from-or (Ok y) fault x is = cc
-from-or (Err e) fault x is = cc
-
 pub idle_seats-requires-clause-few : goal.idle_seats-requires-clause-few
 idle_seats-requires-clause-few c =
     few-each c.args.shares.now (sym c.are_shares.ensures ∙ c.if-not-are_shares.false)
 
 pub invariant_of-result : goal.invariant_of-result
 invariant_of-result c =
-    let window = from-or c.new.result _ _ (sym c.or.ensures ∙ c.in_ok-window.was) in
-    let made = rw window at c.new.ensures in
-    let seats = from-or c.idle_seats.result _ _ (sym c.or-2.ensures ∙ c.in_ok-seats.was) in
-    let idle = rw seats at c.idle_seats.ensures in
+    let made = c.in_ok-window.ensures in
+    let idle = c.in_ok-seats.ensures in
     let shared : list_all is_share c.args.shares.now ≡ true =
     sym c.are_shares.ensures ∙ c.if-not-are_shares.false in
     record {
@@ -42,10 +34,8 @@ invariant_of-result c =
 
 pub returns-clause-stands : goal.returns-clause-stands
 returns-clause-stands c =
-    let window = from-or c.new.result _ _ (sym c.or.ensures ∙ c.in_ok-window.was) in
-    let made = rw window at c.new.ensures in
-    let seats = from-or c.idle_seats.result _ _ (sym c.or-2.ensures ∙ c.in_ok-seats.was) in
-    let idle = rw seats at c.idle_seats.ensures in
+    let made = c.in_ok-window.ensures in
+    let idle = c.in_ok-seats.ensures in
     record {
       recorded = refl;
       now = made.end;
