@@ -98,6 +98,13 @@ fn each_kind_of_acquisition(rt: HostRuntime) {
     assert_acquired(rt, 0, 7, missed, b"1 0 acq 0 7 none 40 1022 0\n");
 }
 
+/// The line of what a slot of a client answers at a time.
+fn answer_line(client: u8, time: u64, slot: u8, answer: &Answer) -> Line {
+    let mut line = Line::blank();
+    line.make_answer(client, time, slot, answer);
+    line
+}
+
 /// Asserts the line of an answer about slot 3 of client 8 at the latest time.
 fn assert_answer(rt: &impl Abort, answer: Answer, text: &[u8]) {
     assert_text(rt, &answer_line(8, TIME, 3, &answer), text);
@@ -175,8 +182,13 @@ fn each_state_of_tracking(rt: HostRuntime) {
 
 #[test]
 fn refused_lines(rt: HostRuntime) {
-    assert_text(&rt, &refusal_line(1, 0, 1), b"1 0 err 1\n");
-    assert_text(&rt, &refusal_line(8, TIME, 8), b"8 1099511627776 err 8\n");
+    let rt = &rt;
+    let mut line = Line::blank();
+    line.make_refusal(1, 0, 1);
+    assert_text(rt, &line, b"1 0 err 1\n");
+    // In the room of the line before.
+    line.make_refusal(8, TIME, 8);
+    assert_text(rt, &line, b"8 1099511627776 err 8\n");
 }
 
 #[test]

@@ -21,5 +21,5 @@ mod pages;
 mod subframe_words;
 mod words;
 
-pub use lines::{answer_line, end_line, event_line, refusal_line};
+pub use lines::{end_line, event_line};
 pub use words::{LINE_BYTES, Line};

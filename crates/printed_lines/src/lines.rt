@@ -21,26 +21,6 @@ pub fn event_line(event: &SlotEvent) -> Line
     line
 }
 
-/// The line of what a client's slot answers at a time, with its end.
-pub fn answer_line(client: u8, time: u64, slot: u8, answer: &Answer) -> Line
-    ensures { result ≡ ended_line
-        (for_client client (at_time time (answer_text slot (answer_in answer.now)))) }
-{
-    let mut line = Line::blank();
-    line.make_answer(client, time, slot, answer);
-    line
-}
-
-/// The line that refuses a line of a client's script at a time, with its end. The number is that of
-/// the refusal.
-pub fn refusal_line(client: u8, time: u64, number: u8) -> Line
-    ensures { result ≡ ended_line (for_client client (at_time time (refusal_text number))) }
-{
-    let mut line = Line::blank();
-    line.make_refusal(client, time, number);
-    line
-}
-
 /// A client's last line, with its end.
 pub fn end_line(client: u8, time: u64) -> Line
     ensures { result ≡ ended_line (for_client client (at_time time (codes "end"))) }
