@@ -1,7 +1,7 @@
 """The turns of a text of definitions: each place that may be written wrongly, written otherwise.
 Only what stands after the `=` of a definition is turned."""
 import re
-from typing import Iterator, NamedTuple
+from typing import Iterable, Iterator, NamedTuple
 
 TOKEN = re.compile(r'--[^\n]*|"[^"\n]*"|[()\[\]{};,]|[^\s()\[\]{};,"]+')
 CLOSING = {'(': ')', '[': ']', '{': '}'}
@@ -57,15 +57,15 @@ def words_of(text: str, start: int, end: int) -> list[Word]:
     return [it for it in found if not it.text.startswith('--')]
 
 
-def definitions(text: str) -> Iterator[tuple[str, list[Word]]]:
-    """The clauses of the definitions of a text: the name, and the words after `=`."""
+def clauses(text: str) -> Iterator[tuple[str, list[Word], int]]:
+    """The clauses of the definitions of a text: the name, the words, and which of them is `=`."""
     starts = [it.start() for it in re.finditer(r'^(?=[^\s\]}-])', text, re.M)] + [len(text)]
     for start, end in zip(starts, starts[1:]):
         words = words_of(text, start, end)
         if words[0].text in ('use', 'abbrev', 'unfoldable', 'pub', 'unfolding'):
             continue
         equals = next(i for i, it in enumerate(words) if it.text == '=')
-        yield words[0].text, words[equals + 1:]
+        yield words[0].text, words, equals
 
 
 def closing(words: list[Word], first: int) -> int:
@@ -212,7 +212,8 @@ def exchanged(text: str, a: Span, b: Span) -> Change:
 def changes(text: str, fields: dict[str, list[str]]) -> Iterator[tuple[str, Change]]:
     """All changes of a text, with the definition's name."""
     before: tuple[str, Span] | None = None
-    for name, words in definitions(text):
+    for name, clause, equals in clauses(text):
+        words = clause[equals + 1:]
         body = words[0].start, words[-1].end
         for word in words:
             for change in single_changes(word, fields):
@@ -244,8 +245,8 @@ def with_imports(text: str, words: str) -> str:
 def shown(text: str, change: Change) -> tuple[str, str]:
     """What a change takes away and what it puts there, each in one line."""
     first, last = change[0][0][0], change[-1][0][1]
-    return tuple(' '.join(it.split()) for it in (text[first:last], applied(text, change, first,
-                                                                           last)))
+    was, now = text[first:last], applied(text, change, first, last)
+    return ' '.join(was.split()), ' '.join(now.split())
 
 
 def applied(text: str, change: Change, first: int, last: int) -> str:
@@ -269,12 +270,17 @@ def fields_of(texts: dict[str, str]) -> dict[str, list[str]]:
     return found
 
 
-def turns_of(module: str, texts: dict[str, str]) -> list[Turn]:
-    """All turns of a module."""
-    text, fields, found = texts[module], fields_of(texts), {}
-    for name, change in changes(text, fields):
+def turns_by(module: str, text: str, its: Iterable[tuple[str, Change]]) -> list[Turn]:
+    """The turns of a module by changes of its text, each with the name of the definition."""
+    found: dict[str, Turn] = {}
+    for name, change in its:
         now = with_imports(applied(text, change, 0, len(text)), ' '.join(it for _, it in change))
         if now != text and now not in found:
             line = text.count('\n', 0, change[0][0][0]) + 1
             found[now] = Turn(module, name, line, *shown(text, change), now)
     return list(found.values())
+
+
+def turns_of(module: str, texts: dict[str, str]) -> list[Turn]:
+    """All turns of the words of a module."""
+    return turns_by(module, texts[module], changes(texts[module], fields_of(texts)))

@@ -126,7 +126,7 @@ def words(rows, folder):
     outcome = run([TURNED, '--list', '--names', 'chip_sign,selection_of', 'Codes'], folder)
     at = [line.rpartition('(')[2] for line in outcome.said.splitlines()]
     rows.say('tools/turned --names', [str(outcome)[:300]] * (
-        at != ['selection_of)'] * (len(at) - 1) + ['chip_sign)'] or len(at) < 2))
+        set(at) != {'selection_of)', 'chip_sign)'}))
     for given, said in ((['Nothing'], 'no module Nothing'),
                         (['--beside', 'NoRows', 'Codes'], 'no file of rows NoRows'),
                         (['--names', 'chip,nothing', 'Codes'], 'no definition nothing'),
