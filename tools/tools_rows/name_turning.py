@@ -132,6 +132,12 @@ def ill_typed(rows: Rows, _: str) -> None:
     rows.say('ill-typed turns', [str(found)] * (found != wanted))
 
 
+def order(rows: Rows, _: str) -> None:
+    """The rows of the loops themselves are tried before those that stand on whole lives."""
+    found = command().quick_first('Loops', ['AnswerRows', 'LoopRows'])
+    rows.say('which rows are tried first', [str(found)] * (found != [['LoopRows'], ['AnswerRows']]))
+
+
 def words(rows: Rows, folder: str) -> None:
     """Kinds that are named are turned alone, and one that there isn't is refused."""
     for kind, wanted in (('names', ('n', 'k')), ('pairs', ('n - k) n', 'k - n) k'))):
@@ -145,4 +151,4 @@ def words(rows: Rows, folder: str) -> None:
              * (outcome.status != 2 or not is_said))
 
 
-ROWS = (turns, kinds, ill_typed, words)
+ROWS = (turns, kinds, ill_typed, order, words)
