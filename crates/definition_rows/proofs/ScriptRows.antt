@@ -120,3 +120,8 @@ times_of_lines = refl
 first_refusal : script verbs 4 (codes "x") ≡ refused_at 0 3 ∷ []
 unfolding script entry_of entries_after pieces_ended_by values_in
 first_refusal = refl
+
+-- a line of 81 bytes with a tab is refused for its length, with the time of the line before it
+long_line_with_tab : entry_of verbs 4 7 (9 ∷ replicate 80 120) ≡ refused_at 7 1 ∷ []
+unfolding entry_of
+long_line_with_tab = refl
