@@ -8,7 +8,7 @@ use Rattle.definitions.specs.Oscillators.{Settings, code_step, carrier_step, ear
 use Rattle.definitions.specs.Samples.{real1, real}
 use Rattle.definitions.specs.Segments.{Segment, next_segment, phases_of, is_through, end_by}
 use Rattle.definitions.specs.Segments.{progress, after_segments, closed_if_ended, next_end}
-use Rattle.definitions.specs.Segments.{Dump, closed_at, dumps_of}
+use Rattle.definitions.specs.Segments.{closed_at}
 use Rattle.std.specs.Prelude.{false, None, Some}
 use Rattle.std.specs.List.{range_with_len}
 use Rattle.definitions.specs.Sums.{least_below, total}
@@ -153,15 +153,3 @@ phases_off_zero : phases_of (record { rate = 2048000; offset = pos 1023; packing
     ≡ record { code = 7; carrier = 5; code_step = 2145384398; carrier_step = 8604614 }
 unfolding code_step carrier_step
 phases_off_zero = refl
-
--- a code with half a chip left has run through after two samples of a quarter, whatever the
--- satellite's number
-half_a_chip_left : map (λ (d : Dump). d.time) (dumps_of usual (record {
-  prn = 5;
-  start = 0;
-  code = 2045 * 2 ^ 31;
-  steering = λ _. record { v = pos 0; w = pos 0 };
-}) (real (pos 1) ∷ real (pos 1) ∷ [])) ≡ 2 ∷ []
-unfolding progress after_segments closed_if_ended next_end end_by is_through closed_at least_below
-    code_step carrier_step
-half_a_chip_left = refl
