@@ -1,0 +1,3 @@
+"""Wrong definitions."""
+AT_ONCE = 8
+def read(): return []
