@@ -1,3 +1,61 @@
-"""Wrong definitions."""
-AT_ONCE = 8
-def read(): return []
+"""Tries wrong definitions: each is put into a copy of its module, and the rows of the kind that
+must refuse it are checked over that copy and over copies of all above it."""
+from __future__ import annotations
+
+import re
+from typing import Optional, Sequence
+
+from definition_trials import imports, modules_above, modules_below, numbered, refusals
+
+from . import slips, slips_of_slots
+from .definitions import Definitions
+from .kinds import KINDS
+from .rows import MODULE, drawn, module_text
+from .slips import Wrong
+
+# How many are tried in one check.
+AT_ONCE = 12
+
+
+def read() -> list[Wrong]:
+    """All wrong definitions."""
+    return [*slips.SLIPS, *slips_of_slots.SLIPS]
+
+
+def changed(it: Wrong, text: str) -> str:
+    """A module's text with the wrong definition. It stands where the right one did, and with it
+    the words that the module lacks."""
+    if text.count(it.old) != 1:
+        raise SystemExit(f'drawn-rows: {it.module} has not once: {it.old}')
+    made = text.replace(it.old, it.new)
+    if not it.needs:
+        return made
+    return re.sub(r'^(?=use )', f'use {it.needs}\n', made, count=1, flags=re.M)
+
+
+def modules_of(it: Wrong, number: int, texts: dict[str, str], seed: str) -> dict[str, str]:
+    """The copies of one wrong definition, and the rows over them."""
+    now = {**texts, it.module: changed(it, texts[it.module])}
+    kind = KINDS[it.kind]
+    rows = module_text(drawn(kind, seed, kind.count), Definitions(now))
+    copied = modules_above(it.module, now) & modules_below(imports(rows) | {it.module}, now)
+    return numbered({**{name: now[name] for name in sorted(copied)}, MODULE: rows}, copied, number)
+
+
+def modules(part: Sequence[Wrong], texts: dict[str, str], seed: str) -> dict[str, str]:
+    """The copies of some wrong definitions, and the rows over them."""
+    return {name: text for number, it in enumerate(part)
+            for name, text in modules_of(it, number, texts, seed).items()}
+
+
+def passing(part: Sequence[Wrong], said: Optional[str]) -> list[Wrong]:
+    """Those of which the prover refused no row. What isn't a definition has no rows to refuse."""
+    if said is None or not re.search('^logic=', said, re.M):
+        raise SystemExit(f'drawn-rows: the prover gave no answer\n{(said or "")[-2000:]}')
+    found = refusals(said)
+    for number, it in enumerate(part):
+        at = [line for line in found[number] if not line.startswith(f'{MODULE}:')]
+        if at:
+            raise SystemExit(f'drawn-rows: {it.module}: {it.new}: it is no definition, {at[0]}\n'
+                             f'{said[-1500:]}')
+    return [it for number, it in enumerate(part) if not found[number]]

@@ -44,10 +44,10 @@ def settings(r: Random) -> Settings:
     return Settings(rate, r.choice([0, half, -half, r.randint(-half, half)]))
 
 
-def slow(r: Random) -> Settings:
-    """So few samples a second that the code runs through in 1 to 20: no receiver takes it, but the
+def slow(r: Random, most: int = 20000) -> Settings:
+    """So few samples a second that the code runs through in 2 to 20: no receiver takes it, but the
     definitions do, and compute it soon."""
-    rate = r.randint(3000, 20000)
+    rate = r.randint(2000, most)
     return Settings(rate, r.randint(-rate, rate))
 
 

@@ -49,8 +49,8 @@ class Drawn:
     """Clients over some samples."""
 
     def __init__(self, r: Random, most: int = 3) -> None:
-        self.settings: Settings = drawing.slow(r)
-        self.samples: list[Sample] = drawing.samples(r, r.randint(2, 6))
+        self.settings: Settings = drawing.slow(r, 8000)
+        self.samples: list[Sample] = drawing.samples(r, r.randint(2, 5))
         shares = [r.choice([1, 2]) for _ in range(r.randint(1, most))]
         self.clients: list[Client] = [(it, drawn_script(r, it)) for it in shares]
 
@@ -70,13 +70,13 @@ def full(r: Random) -> Row:
     return f'{it.arguments()} {clients_text(it.clients)}', antt.text(bytes_of(lines))
 
 
-@kind('body', group=1, count=4)
+@kind('body', group=1, count=2)
 def body(r: Random) -> Row:
-    it = Drawn(r)
+    it = Drawn(r, most=2)
     return f'{it.arguments()} {clients_text(it.clients)}', antt.text(bytes_of(it.body()))
 
 
-@kind('alone_to_end', group=1, count=4)
+@kind('alone_to_end', group=1, count=3)
 def alone_to_end(r: Random) -> Row:
     it = Drawn(r, most=1)
     (slots, script), = it.clients

@@ -77,8 +77,8 @@ def channel(r: Random, is_held: bool, begun: int) -> tuple[str, Channel]:
 
 @kind('progress', group=1, count=4)
 def progress(r: Random) -> Row:
-    settings, samples = drawing.slow(r), drawing.samples(r, r.randint(6, 24))
-    text, made = channel(r, r.random() < .3, r.randint(0, 4))
+    settings, samples = drawing.slow(r, 5000), drawing.samples(r, r.randint(4, 9))
+    text, made = channel(r, r.random() < .3, r.randint(0, 2))
     return (f'{values.settings(settings)} {text} {values.samples(samples)}',
             values.progress(*signal.segments(settings, samples, made)))
 
@@ -121,10 +121,10 @@ def open_phases(r: Random) -> Row:
     return ' '.join(it.arguments()), values.phases(it.drawn.phases)
 
 
-@kind('closed_at', group=1, count=8)
+@kind('closed_at', group=1, count=5)
 def closed_at(r: Random) -> Row:
     it = open_segment(r)
-    while it.drawn.end - it.drawn.segment.start > 4:
+    while it.drawn.end - it.drawn.segment.start > 3:
         it = open_segment(r)
     segment, phases, end = it.drawn
     samples = drawing.samples(r, end + r.randint(0, 2))

@@ -81,8 +81,8 @@ def unprinted_count(r: Random) -> Row:
 def tracking_view(r: Random) -> Row:
     dumps = lock_dumps(r, 4)
     if r.random() < .4:
-        # Many dumps, the last 220 of which are bad.
-        dumps = [GOOD] * (r.choice([256, 65536, 65537, 99999]) - 220) + [EQUAL] * 220
+        # More dumps than 8 bits count, the last 220 of which are bad.
+        dumps = [GOOD] * r.choice([35, 36, 37, 280]) + [EQUAL] * 220
     satellite, shift = drawing.satellite(r), drawing.shift(r)
     return (f'{satellite} {values.shift(shift)} {antt.listed(dumps, values.sums)}',
             values.view(reference.tracking_view(satellite, shift, dumps)))
