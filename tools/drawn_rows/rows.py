@@ -10,14 +10,15 @@ from .definitions import Definitions, words_in
 from .kinds.registry import KINDS, Kind, Row
 
 # How many inputs of all kinds are drawn where each has as many as it says.
-USUAL = sum(it.count for it in KINDS.values())
+USUAL = sum(it.usual for it in KINDS.values())
 
 MODULE = 'DrawnRows'
 
 HEAD = '''-- Drawn rows.
 use Rattle.std.proofs.Common.{◌≡◌, [], ◌∷◌, ◌++◌, refl}
 use Rattle.std.specs.Prelude.{ℕ, ℤ, pos, negsuc, List, Bool, true, false, Option, Some, None}
-use Rattle.std.specs.Prelude.{Result, Ok, Err, codes, get_or, replicate, if◌then◌else◌, ◌==◌, not}
+use Rattle.std.specs.Prelude.{Result, Ok, Err, codes, get_or, replicate, map, not}
+use Rattle.std.specs.Prelude.{if◌then◌else◌, ◌==◌}
 '''
 
 # Where the words stand that the library of the prover has apart.
@@ -83,7 +84,7 @@ def drawn_of_all(kinds: Iterable[Kind], seeds: Sequence[str], inputs: int) -> li
     """Some inputs of each kind, and about so many of all that there are, by each seed alike."""
     share = inputs / USUAL / len(seeds)
     return [it for kind in kinds for seed in seeds
-            for it in drawn(kind, seed, max(1, round(share * kind.count)))]
+            for it in drawn(kind, seed, max(1, round(share * kind.usual)))]
 
 
 def imports(words: set[str], definitions: Definitions) -> list[str]:

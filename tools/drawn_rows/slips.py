@@ -68,7 +68,8 @@ SIGNAL = (
           'code_step settings shift.w shift.v'),
     Wrong('open_phases', 'Segments', 'channel.steering (counts_of p.dumps)',
           'channel.steering []'),
-    Wrong('closed_at', 'Segments', 'xs p.open_segment.start e;', 'xs (p.open_segment.start + 1) e;'),
+    Wrong('closed_at', 'Segments', 'xs p.open_segment.start e;',
+          'xs (p.open_segment.start + 1) e;'),
     Wrong('progress', 'Segments', 'record { start = channel.start; code = channel.code;',
           'record { start = channel.code; code = channel.start;'),
 )
@@ -81,7 +82,7 @@ LOOPS = (
           'unsigned_abs d.ip + unsigned_abs d.ip'),
     Wrong('code_error', 'Loops', 'd.il *ℤ d.il +ℤ d.ql *ℤ d.ql', 'd.il *ℤ d.il +ℤ d.qe *ℤ d.qe'),
     Wrong('clamp_shift', 'Loops', 'int_max (neg_ℤ (pos (2 ^ 30)))',
-          'int_max (neg_ℤ (pos (2 ^ 30 - 1)))'),
+          'int_max (neg_ℤ (pos 1073741823))'),
     Wrong('ratio', 'Loops', '(max 1 b)', '(max 2 b)'),
     Wrong('loops_after_dump', 'Loops', 'else pos 6 *ℤ phase_error d))',
           'else pos 6 *ℤ phase_error l.last))'),

@@ -147,7 +147,8 @@ def cell(it: Cell) -> str:
 
 
 EVENTS: dict[str, Callable[[Any], str]] = {
-    'acq': lambda it: f'(acquired {it[0]} {cell(it[1])})', 'count': lambda it: f'(count {sums(it)})',
+    'acq': lambda it: f'(acquired {it[0]} {cell(it[1])})',
+    'count': lambda it: f'(count {sums(it)})',
     'sub': lambda it: f'(subframe {subframe(it)})', 'gap': lambda it: f'(gap {it})',
     'page': lambda it: f'(reported {report(it)})', 'als': lambda it: f'(almanacs {almanacs(it)})',
     'lock': lambda _: 'locked', 'unlock': lambda _: 'unlocked', 'lost': lambda _: 'signal_lost',

@@ -37,7 +37,7 @@ def modules_of(it: Wrong, number: int, texts: dict[str, str], seed: str) -> dict
     """The copies of one wrong definition, and the rows over them."""
     now = {**texts, it.module: changed(it, texts[it.module])}
     kind = KINDS[it.kind]
-    rows = module_text(drawn(kind, seed, kind.count), Definitions(now))
+    rows = module_text(drawn(kind, seed, kind.usual), Definitions(now))
     copied = modules_above(it.module, now) & modules_below(imports(rows) | {it.module}, now)
     return numbered({**{name: now[name] for name in sorted(copied)}, MODULE: rows}, copied, number)
 
@@ -48,14 +48,16 @@ def modules(part: Sequence[Wrong], texts: dict[str, str], seed: str) -> dict[str
             for name, text in modules_of(it, number, texts, seed).items()}
 
 
-def passing(part: Sequence[Wrong], said: Optional[str]) -> list[Wrong]:
-    """Those of which the prover refused no row. What isn't a definition has no rows to refuse."""
+def passing(part: Sequence[Wrong], said: Optional[str]) -> dict[Wrong, str]:
+    """Those of which the prover refused no row, and why. What isn't a definition has no rows that
+    could be refused."""
     if said is None or not re.search('^logic=', said, re.M):
         raise SystemExit(f'drawn-rows: the prover gave no answer\n{(said or "")[-2000:]}')
-    found = refusals(said)
+    found, left = refusals(said), {}
     for number, it in enumerate(part):
         at = [line for line in found[number] if not line.startswith(f'{MODULE}:')]
         if at:
-            raise SystemExit(f'drawn-rows: {it.module}: {it.new}: it is no definition, {at[0]}\n'
-                             f'{said[-1500:]}')
-    return [it for number, it in enumerate(part) if not found[number]]
+            left[it] = f'no definition at {at[0]}'
+        elif not found[number]:
+            left[it] = 'not refused'
+    return left

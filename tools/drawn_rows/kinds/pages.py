@@ -42,14 +42,14 @@ def page_of(r: Random) -> Row:
     return values.subframe(words), antt.optional(reference.page(words), values.page)
 
 
-@kind('field_of', group=10, count=120)
+@kind('field_of', group=1, count=40, is_whole=True)
 def field_of(r: Random) -> Row:
-    words, of = page_words(r), r.choice([it for it in FIELDS if it != 'message'])
-    at = r.randrange(len(FIELDS[of]))
-    field = FIELDS[of][at]
-    value = reference.value(words, field) if reference.is_there(words, field) else None
-    return (f'{values.subframe(words)} (get_or {of}_fields {at} (unsigned [] [] (pos 0)))',
-            antt.optional(value, antt.integer))
+    """All fields of a kind of pages at once, whatever kind the subframe is of."""
+    words, of = page_words(r), r.choice(list(FIELDS))
+    told = [reference.value(words, it) if reference.is_there(words, it) else None
+            for it in FIELDS[of]]
+    return (f'map (field_of {values.subframe(words)}) {of}_fields',
+            antt.listed(told, lambda it: antt.optional(it, antt.integer)))
 
 
 def pages_text(pages: list[Page]) -> str:

@@ -10,14 +10,14 @@ Draw = Callable[[random.Random], Row]
 
 
 class Kind(NamedTuple):
-    """A kind: its name, its definition, how many inputs stand in one equation, how many of it there
-    are among 4,400 of all kinds, and how one is drawn. Where the arguments are the whole left side
+    """A kind: its name, its definition, how many inputs stand in one equation, how many of it are
+    drawn where nobody says how many, and how one is. Where the arguments are the whole left side
     of the equation, `is_whole`. Where words of the right side stay uncomputed, `unfolded` has those
     that don't."""
     name: str
     definition: str
     group: int
-    count: int
+    usual: int
     draw: Draw
     is_whole: bool
     unfolded: Optional[Sequence[str]]

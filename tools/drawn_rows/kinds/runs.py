@@ -115,7 +115,8 @@ def event_lines_of_two_slots(r: Random) -> Row:
 def lines_of_client(r: Random) -> Row:
     """Clients with numbers of one digit and of two, of which one begins with the other."""
     mine = r.choice([1, 2, 8, 11])
-    lines = [(r.choice([1, 2, 8, 11, 12]), f'{r.randint(0, 99)} ok') for _ in range(r.randint(0, 6))]
+    lines = [(r.choice([1, 2, 8, 11, 12]), f'{r.randint(0, 99)} ok')
+             for _ in range(r.randint(0, 6))]
     return (f'{mine} {antt.listed([reference.joined(*it) for it in lines], antt.text)}',
             antt.listed([said for client, said in lines if client == mine], antt.text))
 

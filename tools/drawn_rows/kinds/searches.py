@@ -54,11 +54,12 @@ def cells_done(r: Random) -> Row:
             str(reference.cells_done(settings, plan, start, time)))
 
 
-@kind('power_of', group=2, count=6)
+@kind('power_of', group=2, count=8)
 def power_of(r: Random) -> Row:
-    rate = r.choice([2500, 3000, 3999, r.randint(1000, 4999)])
+    rate = r.choice([1999, 2500, 2000, r.randint(1000, 3999)])
     settings = Settings(rate, r.randint(-700, 700))
-    plan = Plan(drawing.satellite(r), r.randint(-6000, 6000), r.randint(0, 2), r.randint(1, 4), 10)
+    plan = Plan(drawing.satellite(r), r.randint(-6000, 6000), r.randint(0, 2),
+                r.choice([1, 3, 4]), 10)
     start = r.randint(0, 3)
     count = reference.dwell_end(settings, plan, start) + r.randint(0, 2)
     samples, cell = drawing.samples(r, count), r.randrange(reference.cell_count(plan))
@@ -87,7 +88,7 @@ def named_cell(r: Random) -> Row:
 
 @kind('found_channel', group=1, count=15, is_whole=True)
 def found_channel(r: Random) -> Row:
-    settings, plan = r.choice([drawing.settings, drawing.slow])(r), drawing.plan(r)
+    settings, plan = r.choice([drawing.settings(r), drawing.slow(r)]), drawing.plan(r)
     start = size(r, 1 << 30)
     cell = Cell(r.randint(-plan.bins, plan.bins), size(r, 2045), 1, True)
     made = reference.found_channel(settings, plan, start, cell)

@@ -23,14 +23,17 @@ class Drawn(NamedTuple):
 def drawn(r: Random, settings: Settings, start: int) -> Drawn:
     """A segment from a sample on, at a shift of up to 256 Hz."""
     steps = signal.steps(settings, Shift(either(r, 1 << 24), drawing.shift(r).w))
-    segment = Segment(start, drawing.code_phase(r, steps[0]), size(r, CYCLE - 1))
+    # Now and then the code comes to its very end.
+    code = r.choice([drawing.code_phase(r, steps[0]), signal.CODE - steps[0] * r.randint(1, 2)])
+    segment = Segment(start, max(0, code), size(r, CYCLE - 1))
     return Drawn(segment, Phases(segment.code, segment.carrier, *steps),
                  signal.segment_end(segment, steps[0]))
 
 
 def any_segment(r: Random) -> Drawn:
     """One at a usual or slow rate, at any time."""
-    return drawn(r, r.choice([drawing.settings, drawing.slow])(r), size(r, drawing.LAST_TIME))
+    settings = r.choice([drawing.settings(r), drawing.slow(r)])
+    return drawn(r, settings, size(r, drawing.LAST_TIME))
 
 
 @kind('next_segment')

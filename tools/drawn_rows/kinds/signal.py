@@ -150,7 +150,7 @@ def counts_over(r: Random) -> Row:
 @kind('sum_of_counts', count=40)
 def sum_of_counts(r: Random) -> Row:
     one, two = drawing.sums(r), drawing.sums(r)
-    both = reference.Sums(*map(sum, zip(one, two)))
+    both = reference.Sums(*(a + b for a, b in zip(one, two)))
     return f'{values.sums(one)} {values.sums(two)}', values.sums(both)
 
 

@@ -131,7 +131,8 @@ def until_lost(dumps: Sequence[Sums]) -> list[Sums]:
 def pushes(dumps: Sequence[Sums]) -> list[int]:
     """The prompt sums in phase that the search for bits has: those after the last lock, while it
     lasts. Neither the dump that brings it nor the one that ends it is among them."""
-    found, given = answers(dumps), []
+    found = answers(dumps)
+    given: list[int] = []
     for number, it in enumerate(dumps, 1):
         if number in found.by_dump:
             given = []
