@@ -22,11 +22,11 @@
 //!
 //! A sample lies at the half chip that a code has there which begins at phase 0 with the dwell.
 //! A chip 0 of the code counts +1 and a chip 1 -1. So a cell's sum is that of all samples, less
-//! twice the sum at the chips of 1. These are some 512 places of the ring (`Ones`), which move on by
-//! one from each cell to the next. So 64 cells are summed up at once, in lanes that lie beside each
-//! other in the ring. Where two chips of 1 follow one another, one look-up in a second ring has
-//! both (`RingByTwos`). Where the sums are small enough, one number of 32 bits has the sum in phase
-//! and that in quadrature (`PairLanes`); else each is added up by itself.
+//! twice the sum at the chips of 1. These are some 512 places of the ring (`Ones`), which move on
+//! by one from each cell to the next. So 64 cells are summed up at once, in lanes that lie beside
+//! each other in the ring. Where two chips of 1 follow one another, one look-up in a second ring
+//! has both (`RingByTwos`). Where the sums are small enough, one number of 32 bits has the sum in
+//! phase and that in quadrature (`PairLanes`); else each is added up by itself.
 //!
 //! `PeriodSums` has the rings of a period, `BinPowers` adds the powers of a bin's cells over the
 //! periods of the dwell, and `Search` keeps the greatest of all bins and their total (`Tally`).

@@ -10,7 +10,9 @@ use Rattle.packer.proofs.RunLemmas.{fewer_ahead}
 use Rattle.packer.proofs.measuring.gather.Goals as goal
 use Rattle.packer.proofs.measuring.gather.Goals.{then-loop-bytes-test+else-len-lt-MOST_BYTES}
 use Rattle.packer.proofs.measuring.gather.Goals.{else-loop-bytes-test}
-use Rattle.packer.proofs.measuring.gather.Goals.{then-loop-bytes-test+then-len-lt-MOST_BYTES+in_ok-count+then-count-eq0}
+use Rattle.packer.proofs.measuring.gather.Goals.{
+  then-loop-bytes-test+then-len-lt-MOST_BYTES+in_ok-count+then-count-eq0,
+}
 
 pub loop-bytes-smaller : goal.loop-bytes-smaller
 loop-bytes-smaller g c =
