@@ -4,7 +4,7 @@ use Rattle.std.proofs.Common.{take, drop, refl, sym, ap, ◌∙◌, arith, appen
 use Rattle.std.proofs.Common.{append-nil}
 use Rattle.std.specs.Prelude.{Option, Some, min}
 use Rattle.std.specs.Io.KnownBytes.{Consumes, IsAtEnd}
-use Rattle.std.proofs.lemmas.List.{length-take, length-drop}
+use Rattle.std.proofs.lemmas.List.{length-take}
 use Rattle.recordings.specs.Stretches.{Shows}
 use Rattle.recordings.specs.declared.recipe.TheConstants.{MOST_BYTES}
 use Rattle.recordings.specs.declared.stretch.Stretch.{Stretch}

@@ -1,10 +1,10 @@
-use Rattle.std.proofs.Common.{◌≡◌, ◌∙◌, ◌-◌, ℕ, List, true, false, length, take, drop, sym, ap}
-use Rattle.std.proofs.Common.{arith, ◌++◌, rules}
+use Rattle.std.proofs.Common.{◌≡◌, ◌∙◌, ◌-◌, ℕ, List, true, false, length, take, sym, ap}
+use Rattle.std.proofs.Common.{arith, ◌++◌}
 use Rattle.std.specs.Prelude.{min}
 use Rattle.std.proofs.lemmas.Grind.{common_steps}
 use Rattle.std.proofs.lemmas.List.{length-take-le, with_items_is}
 use Rattle.recordings.specs.declared.recipe.TheConstants.{MOST_BYTES}
-use Rattle.packer.proofs.GatherLemmas.{none_gathered, more_gathered, gathered_over}
+use Rattle.packer.proofs.GatherLemmas.{more_gathered, gathered_over}
 use Rattle.packer.proofs.GatherLemmas.{gathered_full, gathered_to_end, taken_to_room}
 use Rattle.packer.proofs.RunLemmas.{fewer_ahead}
 use Rattle.packer.proofs.measuring.gather.Goals as goal

@@ -1,6 +1,5 @@
 use Rattle.std.proofs.Common.{refl, ◌∙◌, ◌≡◌, arith, sym, ap}
-use Rattle.std.specs.Prelude.{true, Result, Ok, Err}
-use Rattle.std.specs.Result.{result_or}
+use Rattle.std.specs.Prelude.{true}
 use Rattle.std.specs.List.{list_all}
 use Rattle.definitions.specs.Banks.{layout}
 use Rattle.definitions.specs.Runs.{is_share}
