@@ -2,6 +2,7 @@
 import os
 import re
 import signal
+from collections import Counter
 
 from .cases import Case, one_line, packed, searches
 from .runs import Wanted, run
@@ -23,6 +24,11 @@ STEPS = (128 << 10, 1792, 64), (16 << 10, 448, PAGE), (1 << 10, 32, PAGE), (0, P
 
 # What Rust's own std says before it aborts: it was refused little, as docs/PLAIN.md has it.
 ABORTED = re.compile(rb'(?:(?!memory allocation of \d{6})[^\0])*')
+
+# How many bytes Rust's own std asked for when it aborts.
+ASKED = re.compile(rb'memory allocation of (\d+) bytes failed')
+# The bytes of short and of longer scripts, and the most of the first ones that std has room for.
+SHORT, LONGER, FIRST = (29, 31), (100, 1000), 32
 
 # A library that refuses one request for memory, and then makes a file that says so.
 REFUSER = r'''
@@ -182,4 +188,30 @@ def refusals(programs, rows):
                  wrong if number else ['none was refused'])
 
 
-ROWS = stack, address_space, long_scripts, refusals
+def aborts(case, library):
+    """How often a program was aborted for want of so many bytes."""
+    outcomes = refused_in_turn(case, library, f'{library}.mark')
+    return Counter(int(it) for _, outcome in outcomes
+                               for it in ASKED.findall(outcome.errors))
+
+
+def first_bytes(programs, rows):
+    """Of what is asked for by a script's length, Rust's own std is aborted for want of the room for
+    its first bytes alone. The proved program never is."""
+    library = programs.library('refuser', REFUSER)
+    if library is None:
+        return
+
+    def of(size):
+        script = programs.file('first.script', b'0 state 0\n'.ljust(size, b'\n'))
+        return aborts(Case([programs.receiver, script], b'', b''), library)
+
+    usual = of(LONGER[0])
+    wanted = {size: programs.either({}, usual - Counter({FIRST: 1}) + Counter({size: 1})) for size in SHORT}
+    wanted[LONGER[1]] = programs.either({}, usual)
+    rows.say('aborts by the length of a script',
+             [f'{size} bytes: {dict(found)}, not {dict(it)}' for size, it in wanted.items()
+              if (found := of(size)) != it])
+
+
+ROWS = stack, address_space, long_scripts, refusals, first_bytes
