@@ -1,6 +1,6 @@
 -- The bytes that are measured are the front of a stretch.
 use Rattle.std.proofs.Common.{◌≡◌, ℕ, zero, suc, ◌-◌, ◌<◌, List, [], ◌∷◌, ◌++◌, length}
-use Rattle.std.proofs.Common.{take, drop, refl, sym, ap, ◌∙◌, arith, append_assoc}
+use Rattle.std.proofs.Common.{take, drop, refl, sym, ap, ◌∙◌, arith}
 use Rattle.std.proofs.Common.{append-nil}
 use Rattle.std.specs.Prelude.{Option, Some, min}
 use Rattle.std.specs.Io.KnownBytes.{Consumes, IsAtEnd}
@@ -9,20 +9,15 @@ use Rattle.recordings.specs.Stretches.{Shows}
 use Rattle.recordings.specs.declared.recipe.TheConstants.{MOST_BYTES}
 use Rattle.recordings.specs.declared.stretch.Stretch.{Stretch}
 use Rattle.recordings.proofs.StretchLemmas.{take-two}
-use Rattle.packer.proofs.RunLemmas.{IsRest, rest_of, nothing_left, shown_whole, HasShown}
-use Rattle.packer.proofs.RunLemmas.{shown_first}
+use Rattle.packer.specs.Runs.{HasCome}
+use Rattle.packer.proofs.RunLemmas.{HasShown, shown_first, all_shown, shown_to_end}
+use Rattle.packer.proofs.RunLemmas.{first_come, more_come}
 
--- while a recording is read, some bytes came and some are left; of those that came, the stretch
--- showed what is wanted, and the first of these are kept
+-- while a recording is read, the first bytes that the stretch showed of it are kept
 pub record HasGathered (skip most : ℕ) (all : List ℕ) (remaining : Option (List ℕ))
     (stretch : Stretch) (bytes : List ℕ) : Type 0 where
-  pub came : List ℕ
-  pub left : List ℕ
-  pub shown : List ℕ
-  pub split : all ≡ came ++ left
-  pub rest : remaining ≡ Some left
-  pub shows : Shows skip most came shown stretch
-  pub front : bytes ≡ take MOST_BYTES shown
+  pub come : HasCome skip most all remaining stretch
+  pub front : bytes ≡ take MOST_BYTES come.shown
 
 -- as much of some bytes as there is room for
 pub taken_to_room : (room : ℕ) (xs : List ℕ) → take (min (length xs) room) xs ≡ take room xs
@@ -36,12 +31,7 @@ pub none_gathered : (skip most : ℕ) (all : List ℕ) (remaining : Option (List
     (stretch : Stretch) → remaining ≡ Some all → Shows skip most [] [] stretch
     → HasGathered skip most all remaining stretch []
 none_gathered skip most all remaining stretch known shows = record {
-  came = [];
-  left = all;
-  shown = [];
-  split = refl;
-  rest = known;
-  shows = shows;
+  come = first_come skip most all remaining stretch known shows;
   front = refl;
 }
 
@@ -54,23 +44,15 @@ pub more_gathered : (skip most : ℕ) (all : List ℕ) (old new : Option (List �
     → Shows skip most (came ++ piece) (shown ++ wanted) after)
     → HasGathered skip most all new after (bytes ++ take (MOST_BYTES - length bytes) wanted)
 more_gathered skip most all old new before after bytes piece wanted g room consumes shows =
-    let r : IsRest g.left piece new = rest_of old new g.left piece g.rest consumes in
-    let sized : length bytes ≡ min MOST_BYTES (length g.shown) =
-    ap length g.front ∙ length-take MOST_BYTES g.shown in
-    let same : length g.shown ≡ length bytes = omega (arith, sized, room) in
+    let sized : length bytes ≡ min MOST_BYTES (length g.come.shown) =
+    ap length g.front ∙ length-take MOST_BYTES g.come.shown in
+    let same : length g.come.shown ≡ length bytes = omega (arith, sized, room) in
     record {
-      came = g.came ++ piece;
-      left = r.behind;
-      shown = g.shown ++ wanted;
-      split =
-          g.split ∙ ap (λ (xs : List ℕ). g.came ++ xs) r.split
-          ∙ sym (append_assoc g.came piece r.behind);
-      rest = r.is;
-      shows = shows g.came g.shown g.shows;
+      come = more_come skip most all old new before after piece wanted g.come consumes shows;
       front =
           ap (λ (xs : List ℕ). xs ++ take (MOST_BYTES - length bytes) wanted) g.front
-          ∙ ap (λ (n : ℕ). take MOST_BYTES g.shown ++ take (MOST_BYTES - n) wanted) (sym same)
-          ∙ sym (take-two MOST_BYTES g.shown wanted);
+          ∙ ap (λ (n : ℕ). take MOST_BYTES g.come.shown ++ take (MOST_BYTES - n) wanted) (sym same)
+          ∙ sym (take-two MOST_BYTES g.come.shown wanted);
     }
 
 -- all that is wanted came
@@ -78,24 +60,22 @@ pub gathered_over : (skip most : ℕ) (all : List ℕ) (remaining : Option (List
     (stretch : Stretch) (bytes : List ℕ) → HasGathered skip most all remaining stretch bytes
     → stretch.left ≡ 0 → bytes ≡ take MOST_BYTES (take most (drop skip all))
 gathered_over skip most all remaining stretch bytes g over =
-    let full : most - length (take most (drop skip g.came)) ≡ 0 =
-    ap (λ (xs : List ℕ). most - length xs) (sym g.shows.part) ∙ sym g.shows.left ∙ over in
-    g.front ∙ ap (take MOST_BYTES) (g.shows.part ∙ shown_whole skip most g.came g.left full
-    ∙ ap (λ (xs : List ℕ). take most (drop skip xs)) (sym g.split))
+    g.front ∙ ap (take MOST_BYTES) (all_shown skip most all remaining stretch g.come over)
 
 -- there is room for no more
 pub gathered_full : (skip most : ℕ) (all : List ℕ) (remaining : Option (List ℕ))
     (stretch : Stretch) (bytes : List ℕ) → HasGathered skip most all remaining stretch bytes
     → length bytes ≡ MOST_BYTES → bytes ≡ take MOST_BYTES (take most (drop skip all))
 gathered_full skip most all remaining stretch bytes g full =
-    let s : HasShown skip most all g.shown =
-    shown_first skip most all g.came g.left g.shown g.split g.shows.part in
-    let sized : length bytes ≡ min MOST_BYTES (length g.shown) =
-    ap length g.front ∙ length-take MOST_BYTES g.shown in
-    let none : MOST_BYTES - length g.shown ≡ 0 = omega (arith, sized, full) in
-    g.front ∙ sym (ap (take MOST_BYTES) s.split ∙ take-two MOST_BYTES g.shown s.ahead
-    ∙ ap (λ (n : ℕ). take MOST_BYTES g.shown ++ take n s.ahead) none
-    ∙ append-nil (take MOST_BYTES g.shown))
+    let c = g.come in
+    let s : HasShown skip most all c.shown =
+    shown_first skip most all c.came c.left c.shown c.split c.shows.part in
+    let sized : length bytes ≡ min MOST_BYTES (length c.shown) =
+    ap length g.front ∙ length-take MOST_BYTES c.shown in
+    let none : MOST_BYTES - length c.shown ≡ 0 = omega (arith, sized, full) in
+    g.front ∙ sym (ap (take MOST_BYTES) s.split ∙ take-two MOST_BYTES c.shown s.ahead
+    ∙ ap (λ (n : ℕ). take MOST_BYTES c.shown ++ take n s.ahead) none
+    ∙ append-nil (take MOST_BYTES c.shown))
 
 -- the recording has ended
 pub gathered_to_end : (skip most : ℕ) (all : List ℕ) (remaining new : Option (List ℕ))
@@ -103,10 +83,6 @@ pub gathered_to_end : (skip most : ℕ) (all : List ℕ) (remaining new : Option
     → HasGathered skip most all remaining stretch bytes → Consumes remaining new piece
     → piece ≡ [] → IsAtEnd new → bytes ≡ take MOST_BYTES (take most (drop skip all))
 gathered_to_end skip most all remaining new stretch bytes piece g consumes none at_end =
-    let left : g.left ≡ [] =
-    nothing_left g.left piece new (rest_of remaining new g.left piece g.rest consumes) none
-    at_end in
-    let came : all ≡ g.came =
-    g.split ∙ ap (λ (xs : List ℕ). g.came ++ xs) left ∙ append-nil g.came in
-    g.front ∙ ap (take MOST_BYTES) (g.shows.part
-    ∙ ap (λ (xs : List ℕ). take most (drop skip xs)) (sym came))
+    g.front
+    ∙ ap (take MOST_BYTES) (shown_to_end skip most all remaining stretch piece new g.come consumes
+    none at_end)

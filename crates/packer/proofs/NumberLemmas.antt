@@ -19,8 +19,8 @@ use Rattle.recordings.specs.declared.recipe.Recipe.{Recipe}
 use Rattle.recordings.specs.declared.packer.Packer.{Packer}
 use Rattle.recordings.specs.declared.stretch.Stretch.{Stretch}
 use Rattle.recordings.proofs.StreamLemmas.{whole_group}
-use Rattle.packer.specs.Runs.{IsCourse}
-use Rattle.packer.proofs.RunLemmas.{IsRest, rest_of, HasShown, shown_first}
+use Rattle.packer.specs.Runs.{HasCome, IsCourse}
+use Rattle.packer.proofs.RunLemmas.{HasShown, shown_first, more_come}
 
 byte_inside : (a b c : List ℕ) (at i : ℕ) → at ≡ length a + i → i < length b
     → slice_index (a ++ (b ++ c)) at ≡ slice_index b i
@@ -84,37 +84,33 @@ none_in_stretch recipe skip most all start old_rest new_rest held old_stretch ne
     inside (recipe_in packer).kind whole.0 done (held_in packer ++ wanted) s.ahead
     (sized ∙ whole.1) is nans)
   where
-    r : IsRest c.left piece new_rest
-    r = rest_of old_rest new_rest c.left piece c.rest consumes
+    come : HasCome skip most all new_rest new_stretch
+    come = more_come skip most all old_rest new_rest old_stretch new_stretch piece wanted c.come
+        consumes shows
 
-    split : all ≡ (c.came ++ piece) ++ r.behind
-    split =
-        c.split ∙ ap (λ (xs : List ℕ). c.came ++ xs) r.split
-        ∙ sym (append_assoc c.came piece r.behind)
-
-    s : HasShown skip most all (c.shown ++ wanted)
-    s =
-        shown_first skip most all (c.came ++ piece) r.behind (c.shown ++ wanted) split
-        (shows c.came c.shown c.shows).part
+    s : HasShown skip most all (c.come.shown ++ wanted)
+    s = shown_first skip most all come.came come.left come.shown come.split come.shows.part
 
     n : ℕ
     n = length c.written * group_of (recipe_in packer)
 
     done : List ℕ
-    done = take n c.shown
+    done = take n c.come.shown
 
-    within : n ≤ length c.shown
+    within : n ≤ length c.come.shown
     within =
-        rw c.stands.packed.whole (div-mul-le_self (length c.shown) (group_of (recipe_in packer)))
+        rw c.stands.packed.whole (div-mul-le_self (length c.come.shown) (group_of (recipe_in
+        packer)))
 
     sized : length done ≡ n
-    sized = length-take-le n c.shown within
+    sized = length-take-le n c.come.shown within
 
     joined : take most (drop skip all) ≡ done ++ ((held_in packer ++ wanted) ++ s.ahead)
     joined =
         s.split
         ∙ ap (λ (xs : List ℕ). (xs ++ wanted) ++ s.ahead)
-        (sym (take-append-drop n c.shown) ∙ ap (λ (xs : List ℕ). done ++ xs) (sym c.stands.held))
+        (sym (take-append-drop n c.come.shown) ∙ ap (λ (xs : List ℕ). done ++ xs) (sym
+        c.stands.held))
         ∙ ap (λ (xs : List ℕ). xs ++ s.ahead) (append_assoc done (held_in packer) wanted)
         ∙ append_assoc done (held_in packer ++ wanted) s.ahead
 

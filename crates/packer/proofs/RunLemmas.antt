@@ -18,7 +18,7 @@ use Rattle.packer.specs.Devices.{AppendsFront}
 use Rattle.packer.specs.Statuses.{failure_of}
 use Rattle.packer.specs.declared.failure.Failure.{Failure}
 use Rattle.packer.specs.declared.failure.Failure.TheVariants.{NoMemory, NotANumber, Output}
-use Rattle.packer.specs.Runs.{HasPacked, HasPackedFront, HasBrokenOff, Packs, IsCourse}
+use Rattle.packer.specs.Runs.{HasPacked, HasPackedFront, HasBrokenOff, Packs, HasCome, IsCourse}
 use Rattle.packer.specs.Runs.{bytes_ahead}
 
 -- ---- known bytes
@@ -77,6 +77,57 @@ shown_whole skip most came left full =
     sym (ap (take most) (drop-two skip came left) ∙ take-two most front back
     ∙ ap (λ (k : ℕ). take most front ++ take k back) none ∙ append-nil (take most front))
 
+module _ (skip most : ℕ) (all : List ℕ) (remaining : Option (List ℕ)) (stretch : Stretch) where
+  pub all_shown : (c : HasCome skip most all remaining stretch) → stretch.left ≡ 0
+      → c.shown ≡ take most (drop skip all)
+  all_shown c over =
+      let full : most - length (take most (drop skip c.came)) ≡ 0 =
+      ap (λ (xs : List ℕ). most - length xs) (sym c.shows.part) ∙ sym c.shows.left ∙ over in
+      c.shows.part ∙ shown_whole skip most c.came c.left full
+      ∙ ap (λ (xs : List ℕ). take most (drop skip xs)) (sym c.split)
+
+  pub shown_to_end : (bytes : List ℕ) (new : Option (List ℕ))
+      → (c : HasCome skip most all remaining stretch) → Consumes remaining new bytes → bytes ≡ []
+      → IsAtEnd new → c.shown ≡ take most (drop skip all)
+  shown_to_end bytes new c consumes none at_end =
+      let left : c.left ≡ [] =
+      nothing_left c.left bytes new (rest_of remaining new c.left bytes c.rest consumes) none
+      at_end in
+      let came : all ≡ c.came =
+      c.split ∙ ap (λ (xs : List ℕ). c.came ++ xs) left ∙ append-nil c.came in
+      c.shows.part ∙ ap (λ (xs : List ℕ). take most (drop skip xs)) (sym came)
+
+  abbrev pub first_come : remaining ≡ Some all → Shows skip most [] [] stretch
+      → HasCome skip most all remaining stretch
+  first_come known shows = record {
+    came = [];
+    left = all;
+    shown = [];
+    split = refl;
+    rest = known;
+    shows = shows;
+  }
+
+-- what came with one more piece
+abbrev pub more_come : (skip most : ℕ) (all : List ℕ) (old new : Option (List ℕ))
+    (before after : Stretch) (piece wanted : List ℕ) → HasCome skip most all old before
+    → Consumes old new piece
+    → ((bytes shown : List ℕ) → Shows skip most bytes shown before
+    → Shows skip most (bytes ++ piece) (shown ++ wanted) after)
+    → HasCome skip most all new after
+more_come skip most all old new before after piece wanted c consumes shows =
+    let r : IsRest c.left piece new = rest_of old new c.left piece c.rest consumes in
+    record {
+      came = c.came ++ piece;
+      left = r.behind;
+      shown = c.shown ++ wanted;
+      split =
+          c.split ∙ ap (λ (xs : List ℕ). c.came ++ xs) r.split
+          ∙ sym (append_assoc c.came piece r.behind);
+      rest = r.is;
+      shows = shows c.came c.shown c.shows;
+    }
+
 module _ (recipe : Recipe) (skip most : ℕ) (all : List ℕ) (start : Option (List ℕ))
     (remaining contents : Option (List ℕ)) (stretch : Stretch) (packer : Packer) where
   pub ends-over : IsCourse recipe skip most all start remaining contents stretch packer
@@ -84,13 +135,8 @@ module _ (recipe : Recipe) (skip most : ℕ) (all : List ℕ) (start : Option (L
   ends-over c over = record {
     written = c.written;
     appended = c.appended;
-    packed =
-        let full : most - length (take most (drop skip c.came)) ≡ 0 =
-        ap (λ (xs : List ℕ). most - length xs) (sym c.shows.part) ∙ sym c.shows.left ∙ over in
-        let whole : c.shown ≡ take most (drop skip all) =
-        c.shows.part ∙ shown_whole skip most c.came c.left full
-        ∙ ap (λ (xs : List ℕ). take most (drop skip xs)) (sym c.split) in
-        rw (← whole, ← c.recipe_is) c.stands.packed;
+    packed = rw (← all_shown skip most all remaining stretch c.come over, ← c.recipe_is)
+        c.stands.packed;
   }
 
   pub ends-empty : (bytes : List ℕ) (new : Option (List ℕ))
@@ -101,13 +147,8 @@ module _ (recipe : Recipe) (skip most : ℕ) (all : List ℕ) (start : Option (L
     written = c.written;
     appended = c.appended;
     packed =
-        let left : c.left ≡ [] =
-        nothing_left c.left bytes new (rest_of remaining new c.left bytes c.rest consumes) none
-        at_end in
-        let came : all ≡ c.came =
-        c.split ∙ ap (λ (xs : List ℕ). c.came ++ xs) left ∙ append-nil c.came in
-        let whole : c.shown ≡ take most (drop skip all) =
-        c.shows.part ∙ ap (λ (xs : List ℕ). take most (drop skip xs)) (sym came) in
+        let whole : c.come.shown ≡ take most (drop skip all) =
+        shown_to_end skip most all remaining stretch bytes new c.come consumes none at_end in
         rw (← whole, ← c.recipe_is) c.stands.packed;
   }
 
@@ -126,19 +167,11 @@ pub one_more : (recipe : Recipe) (skip most : ℕ) (all : List ℕ) (start : Opt
     → Appends old_held new_held more
     → IsCourse recipe skip most all start new_rest new_held new_stretch new_packer
 one_more recipe skip most all start old_rest new_rest old_held new_held old_stretch new_stretch
-    old_packer new_packer piece wanted more c consumes shows stands same appends =
-    let r : IsRest c.left piece new_rest = rest_of old_rest new_rest c.left piece c.rest consumes in
-    record {
-      came = c.came ++ piece;
-      left = r.behind;
-      shown = c.shown ++ wanted;
+    old_packer new_packer piece wanted more c consumes shows stands same appends = record {
+      come = more_come skip most all old_rest new_rest old_stretch new_stretch piece wanted c.come
+          consumes shows;
       written = c.written ++ more;
-      split =
-          c.split ∙ ap (λ (xs : List ℕ). c.came ++ xs) r.split
-          ∙ sym (append_assoc c.came piece r.behind);
-      rest = r.is;
-      shows = shows c.came c.shown c.shows;
-      stands = stands c.shown c.written c.stands;
+      stands = stands c.come.shown c.written c.stands;
       recipe_is = same ∙ c.recipe_is;
       appended = appends-more start old_held new_held c.written more c.appended appends;
     }
@@ -148,13 +181,8 @@ pub beginning : (recipe : Recipe) (skip most : ℕ) (all : List ℕ) (remaining 
     → Shows skip most [] [] stretch → StandsFor [] [] packer → recipe_in packer ≡ recipe
     → IsCourse recipe skip most all contents remaining contents stretch packer
 beginning recipe skip most all remaining contents stretch packer known shows stands is = record {
-  came = [];
-  left = all;
-  shown = [];
+  come = first_come skip most all remaining stretch known shows;
   written = [];
-  split = refl;
-  rest = known;
-  shows = shows;
   stands = stands;
   recipe_is = is;
   appended = appends-none contents;
@@ -208,10 +236,10 @@ pub front_of_course : (recipe : Recipe) (skip most : ℕ) (all : List ℕ) (star
     → IsCourse recipe skip most all start remaining old stretch packer → Keeps old new
     → HasPackedFront recipe (take most (drop skip all)) start new
 front_of_course recipe skip most all start remaining old new stretch packer c kept =
-    let s : HasShown skip most all c.shown =
-    shown_first skip most all c.came c.left c.shown c.split c.shows.part in
+    let s : HasShown skip most all c.come.shown =
+    shown_first skip most all c.come.came c.come.left c.come.shown c.come.split c.come.shows.part in
     record {
-      came = c.shown;
+      came = c.come.shown;
       ahead = s.ahead;
       split = s.split;
       written = c.written;
@@ -237,15 +265,13 @@ pub front_of_more : (recipe : Recipe) (skip most : ℕ) (all : List ℕ) (start 
     → HasPackedFront recipe (take most (drop skip all)) start new_held
 front_of_more recipe skip most all start old_rest new_rest old_held new_held old_stretch new_stretch
     old_packer new_packer piece wanted more c consumes shows stands same f =
-    let r : IsRest c.left piece new_rest = rest_of old_rest new_rest c.left piece c.rest consumes in
-    let split : all ≡ (c.came ++ piece) ++ r.behind =
-    c.split ∙ ap (λ (xs : List ℕ). c.came ++ xs) r.split
-    ∙ sym (append_assoc c.came piece r.behind) in
-    let s : HasShown skip most all (c.shown ++ wanted) =
-    shown_first skip most all (c.came ++ piece) r.behind (c.shown ++ wanted) split
-    (shows c.came c.shown c.shows).part in
+    let come : HasCome skip most all new_rest new_stretch = more_come skip most all old_rest
+    new_rest
+    old_stretch new_stretch piece wanted c.come consumes shows in
+    let s : HasShown skip most all (c.come.shown ++ wanted) =
+    shown_first skip most all come.came come.left come.shown come.split come.shows.part in
     record {
-      came = c.shown ++ wanted;
+      came = c.come.shown ++ wanted;
       ahead = s.ahead;
       split = s.split;
       written = c.written ++ f.written;
@@ -256,7 +282,7 @@ front_of_more recipe skip most all start old_rest new_rest old_held new_held old
           append_assoc c.written f.written f.rest
           ∙ ap (λ (xs : List ℕ). c.written ++ xs) (sym f.whole) in
           let is : recipe_in new_packer ≡ recipe = same ∙ c.recipe_is in
-          rw (whole, ← is) (stands c.shown c.written c.stands).packed;
+          rw (whole, ← is) (stands c.come.shown c.written c.stands).packed;
     }
 
 -- ---- the end comes

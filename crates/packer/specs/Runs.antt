@@ -45,17 +45,22 @@ Packs recipe stretch old new (Err failure) = HasBrokenOff recipe stretch old new
 abbrev pub bytes_ahead : Stretch → ℕ
 bytes_ahead stretch = stretch.skip + stretch.left
 
--- in the course of a run over all bytes of a reader some came and some are left; those that are
--- wanted of the first went through the stretch and the packer to the writer
-pub record IsCourse (recipe : Recipe) (skip most : ℕ) (all : List ℕ) (start : Option (List ℕ))
-    (remaining contents : Option (List ℕ)) (stretch : Stretch) (packer : Packer) : Type 0 where
+-- of all bytes of a reader some came and some are left; those that are wanted of the first went
+-- through the stretch
+pub record HasCome (skip most : ℕ) (all : List ℕ) (remaining : Option (List ℕ))
+    (stretch : Stretch) : Type 0 where
   pub came : List ℕ
   pub left : List ℕ
   pub shown : List ℕ
-  pub written : List ℕ
   pub split : all ≡ came ++ left
   pub rest : remaining ≡ Some left
   pub shows : Shows skip most came shown stretch
-  pub stands : StandsFor shown written packer
+
+-- in the course of a run these went through the packer to the writer
+pub record IsCourse (recipe : Recipe) (skip most : ℕ) (all : List ℕ) (start : Option (List ℕ))
+    (remaining contents : Option (List ℕ)) (stretch : Stretch) (packer : Packer) : Type 0 where
+  pub come : HasCome skip most all remaining stretch
+  pub written : List ℕ
+  pub stands : StandsFor come.shown written packer
   pub recipe_is : recipe_in packer ≡ recipe
   pub appended : Appends start contents written

@@ -135,12 +135,6 @@ impl SampleSource for SampleHistory {
         self.taken
     }
 
-    fn planes(&self, n: u64, len: usize) -> Planes {
-        let mut planes = Planes::new();
-        self.unpack_into(n, len, &mut [0; NEAR_BYTES], &mut planes);
-        planes
-    }
-
     fn unpack_into(&self, n: u64, len: usize, near: &mut [u8; NEAR_BYTES], planes: &mut Planes) {
         let per_byte = self.format.per_byte();
         let width = 8 / per_byte;

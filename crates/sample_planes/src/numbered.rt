@@ -52,10 +52,6 @@ impl<'a> SampleSource for NumberedSamples<'a> {
         self.first + self.samples.len() as u64
     }
 
-    fn planes(&self, n: u64, len: usize) -> Planes {
-        self.samples.part((n - self.first) as usize, len).unpack()
-    }
-
     fn unpack_into(&self, n: u64, len: usize, _near: &mut [u8; NEAR_BYTES], planes: &mut Planes) {
         self.samples
             .part((n - self.first) as usize, len)

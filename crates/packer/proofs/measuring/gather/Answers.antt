@@ -1,10 +1,10 @@
 use Rattle.std.proofs.Common.{◌≡◌, ◌∙◌, ◌-◌, ℕ, List, true, false, length, take, sym, ap}
-use Rattle.std.proofs.Common.{arith, ◌++◌}
+use Rattle.std.proofs.Common.{arith, ◌++◌, rules}
 use Rattle.std.specs.Prelude.{min}
 use Rattle.std.proofs.lemmas.Grind.{common_steps}
 use Rattle.std.proofs.lemmas.List.{length-take-le, with_items_is}
 use Rattle.recordings.specs.declared.recipe.TheConstants.{MOST_BYTES}
-use Rattle.packer.proofs.GatherLemmas.{more_gathered, gathered_over}
+use Rattle.packer.proofs.GatherLemmas.{none_gathered, more_gathered, gathered_over}
 use Rattle.packer.proofs.GatherLemmas.{gathered_full, gathered_to_end, taken_to_room}
 use Rattle.packer.proofs.RunLemmas.{fewer_ahead}
 use Rattle.packer.proofs.measuring.gather.Goals as goal
@@ -12,6 +12,15 @@ use Rattle.packer.proofs.measuring.gather.Goals.{then-loop-bytes-test+else-len-l
 use Rattle.packer.proofs.measuring.gather.Goals.{else-loop-bytes-test}
 use Rattle.packer.proofs.measuring.gather.Goals.{
   then-loop-bytes-test+then-len-lt-MOST_BYTES+in_ok-count+then-count-eq0,
+}
+
+pub loop-bytes-init : goal.loop-bytes-init
+loop-bytes-init g c = record {
+  room = search rules;
+  few = grind (arith, common_steps);
+  gathered = λ skip most all known shows. rw c.new-bytes.ensures.items
+      (none_gathered skip most all (g.R.Source.remaining c.args.reader.now) c.args.stretch.now known
+      shows);
 }
 
 pub loop-bytes-smaller : goal.loop-bytes-smaller

@@ -1,4 +1,4 @@
-use Rattle.std.proofs.Common.{◌≡◌, ap, take, drop, arith, ◌∙◌, refl, sym, subst}
+use Rattle.std.proofs.Common.{◌≡◌, ap, take, drop, arith, ◌∙◌, refl, sym, subst, rules}
 use Rattle.std.specs.Prelude.{Bool, Result, Ok, Err, IfErr}
 use Rattle.std.proofs.lemmas.Grind.{common_steps}
 use Rattle.recordings.specs.Packers.{recipe_in}
@@ -50,6 +50,16 @@ returns-in_err-goes_on-clause-packs g c skip most all known shows stands =
     (c.in_err-goes_on.ensures.fails (recipe_in c.args.packer.now) skip most all
     (g.W.Sink.contents c.args.writer.now)
     (c.loop-written.invariant.course skip most all known shows stands))
+
+pub loop-written-init : goal.loop-written-init
+loop-written-init g c = record {
+  room = search rules;
+  none_failed = (refl, refl);
+  course = λ skip most all known shows stands.
+      beginning (recipe_in c.args.packer.now) skip most all
+      (g.R.Source.remaining c.args.reader.now) (g.W.Sink.contents c.args.writer.now)
+      c.args.stretch.now c.args.packer.now known shows stands refl;
+}
 
 pub loop-written-preserved : goal.loop-written-preserved
 loop-written-preserved g c =
