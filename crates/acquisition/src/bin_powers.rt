@@ -106,6 +106,10 @@ impl BinPowers {
         ensures added { self.new.added ≡ self.old.added + count }
         ensures sums { self.new.sums ≡ self.old.sums }
     {
+        prove!(
+            count <= CELLS_AT_ONCE && cell <= BIN_CELLS - count,
+            "BinPowers::add requires at most CELLS_AT_ONCE powers, of cells of the bin"
+        );
         self.added += count;
         for l in 0..count {
             self.powers[cell + l] += powers[l];

@@ -13,9 +13,10 @@ use crate::bin_steps::Steps;
 use crate::half_chip_table::{HALF_CHIPS, HalfChipTable};
 use crate::half_chip_walk::HalfChipWalk;
 use crate::sums::Sums;
+use bit_planes::WORD_PLACES;
 use lane_correlator::{MOST_AT_ONCE, Products};
-use oscillators::{CarrierOsc, CodeOsc, HalfChip};
-use sample_planes::{MAX_SAMPLES, NEAR_BYTES, Planes, SampleSource};
+use oscillators::{CarrierOsc, CodeOsc, HalfChip, MOST_PER_MS};
+use sample_planes::{MAX_SAMPLES, MOST_TIME, NEAR_BYTES, Planes, SampleSource};
 
 /// The greatest sum in size whose half, rounded down, fits in 16 bits.
 pub(crate) const MOST_SMALL: u32 = (1 << 16) - 1;
@@ -65,6 +66,14 @@ impl Fold {
         ensures { (x : ℕ → Sample) → AreHeld (S.held source.now) first x before len
             → IsFold x steps.code steps.carrier before len self.new }
     {
+        prove!(
+            first <= 2 * MOST_TIME,
+            "Fold::fill requires first <= 2 * MOST_TIME"
+        );
+        prove!(
+            len <= MOST_PER_MS as usize,
+            "Fold::fill requires len <= MOST_PER_MS"
+        );
         let mut code = CodeOsc::new(HalfChip::new(0).unwrap(), steps.code);
         let mut carrier = CarrierOsc::new(steps.carrier);
         code.jump(before);
@@ -89,6 +98,7 @@ impl Fold {
         requires room { HasRoom (length samples.now) self.old }
         ensures { TakesRun code step carrier.now samples.now self.old self.new }
     {
+        prove!(0 < step, "Fold::take requires 0 < step");
         let mut words = carrier.words(0);
         let mut walk = HalfChipWalk::new(code, step);
         for w in 0..(samples.len() + 63) / 64 {
@@ -113,6 +123,10 @@ impl Fold {
             → IsAt (code_phase_after phase step count) step walk.new }
         ensures room { (n : ℕ) → HasRoom (count + n) self.old → HasRoom n self.new }
     {
+        prove!(
+            count <= WORD_PLACES,
+            "Fold::take_word requires count <= WORD_PLACES"
+        );
         let mut done = 0;
         while done < count {
             let len = walk.left.min(count - done).min(MOST_AT_ONCE);

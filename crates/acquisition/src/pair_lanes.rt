@@ -60,6 +60,10 @@ fn put_sixteen(cells: &mut [u32; CELLS_AT_ONCE], at: usize, sixteen: &[u32; LANE
         → slice_index cells.new (at + l) ≡ slice_index sixteen.now l }
     ensures before { (i : ℕ) → i < at → slice_index cells.new i ≡ slice_index cells.old i }
 {
+    prove!(
+        at <= CELLS_AT_ONCE - LANES,
+        "put_sixteen requires at + LANES <= CELLS_AT_ONCE"
+    );
     for l in 0..LANES {
         cells[at + l] = sixteen[l];
     }

@@ -22,7 +22,11 @@ impl SearchRoom {
     ghost use Rattle.acquisition.specs.declared.bin_steps.Steps.{Steps};
     ghost use Rattle.acquisition.specs.Rooms.{HasBegun, ForPowers};
 
-    /// Room for one search at a time. An error is memory that it was refused.
+    /// Room for one search at a time.
+    ///
+    /// # Errors
+    ///
+    /// There is no memory.
     pub fn new(alloc: Global) -> Result<SearchRoom, AllocError> {
         Ok(SearchRoom {
             powers: Vec::with_capacity(alloc, 1)?,

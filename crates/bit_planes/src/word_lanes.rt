@@ -28,6 +28,7 @@ pub fn bit_of_each(bytes: u8x64, number: u32) -> u64
     ensures { (k : ℕ) → k < WORD_PLACES
         → bit_at result k ≡ bit_at (slice_index bytes k) number }
 {
+    prove!(number < 8, "bit_of_each requires number < 8");
     (bytes & u8x64::splat(1 << number))
         .simd_ne(u8x64::splat(0))
         .to_bitmask()

@@ -3,7 +3,7 @@
 ghost use Rattle.std.specs.Prelude.{◌≡◌, ◌≤◌, unsigned_abs, ℤ, List, [], ◌∷◌, ◌++◌};
 ghost use Rattle.bit_sync.specs.declared.bit_sum.TheConstants.{MOST_PUSH};
 
-use crate::bit_sum::BitSum;
+use crate::bit_sum::{BitSum, MOST_PUSH};
 use crate::edge_search::EdgeSearch;
 
 /// What comes with a prompt sum that is pushed.
@@ -41,6 +41,7 @@ impl BitSync {
     ghost use Rattle.bit_sync.specs.News.{Emits};
 
     /// The state before the first push.
+    #[must_use]
     pub fn new() -> Self
         ensures { StandsFor [] result }
     {
@@ -58,6 +59,10 @@ impl BitSync {
         ensures tells { (pushes : List ℤ) → StandsFor pushes self.old
             → Emits pushes (pushes ++ ip ∷ []) result }
     {
+        prove!(
+            ip.unsigned_abs() <= MOST_PUSH,
+            "BitSync::push requires |ip| <= MOST_PUSH"
+        );
         match &mut self.stage {
             SyncState::Searching(search) => {
                 if search.push(ip) {
@@ -75,6 +80,7 @@ impl BitSync {
     }
 
     /// Whether the edge is among the pushes.
+    #[must_use]
     pub fn has_edge(&self) -> bool
         ensures { (pushes : List ℤ) → StandsFor pushes self.now → result ≡ has_edge pushes }
     {
@@ -82,5 +88,16 @@ impl BitSync {
             SyncState::Searching(_) => false,
             SyncState::Summing(_) => true,
         }
+    }
+}
+
+impl Default for BitSync {
+    ghost use Rattle.bit_sync.specs.Standing.{StandsFor};
+
+    /// The state before the first push.
+    fn default() -> BitSync
+        ensures { StandsFor [] result }
+    {
+        BitSync::new()
     }
 }

@@ -33,6 +33,10 @@ pub fn idle_seats(alloc: Global, shares: &[u8]) -> Result<BoxedSlice<Seat>, Allo
     ensures keys { IfOk result (λ seats. keys_of (boxed_slice_items seats) ≡ layout shares.now) }
     ensures idle { IfOk result (λ seats. AllIdle (boxed_slice_items seats)) }
 {
+    prove!(
+        shares.len() <= MOST_CLIENTS,
+        "idle_seats requires shares.len() <= MOST_CLIENTS"
+    );
     let mut seats = Vec::with_capacity(alloc, slots_in(shares))?;
     for index in 0..shares.len() {
         add_idle(alloc, &mut seats, index as u8 + 1, shares[index])?;
@@ -46,6 +50,10 @@ pub fn slots_in(shares: &[u8]) -> usize
     requires few { AllByRecursion (λ share. share ≤ MOST_SLOTS) shares.now }
     ensures { result ≡ total shares.now }
 {
+    prove!(
+        shares.len() <= MOST_CLIENTS,
+        "slots_in requires shares.len() <= MOST_CLIENTS"
+    );
     let mut slots = 0;
     for share in shares {
         slots += *share as usize;

@@ -16,6 +16,7 @@ use acquisition::{Cell, Plan, SearchRoom, Signal};
 use ca_codes::CodeBook;
 use channels::{Followed, Searched, Window};
 use oscillators::Settings;
+use sample_planes::MOST_TIME;
 use slot_protocol::{Answer, Command, Phase, Refusal, SlotState};
 use std::mem;
 use tracking_loops::News;
@@ -272,6 +273,10 @@ impl Slot {
         requires { time ≤ MOST_TIME }
         ensures { Obeys settings.now time (request_in command) self.old self.new result }
     {
+        prove!(
+            time <= MOST_TIME,
+            "Slot::command requires time <= MOST_TIME"
+        );
         match command {
             Command::Acquire { slot: _, plan } => self.acquire(settings, plan, time),
             Command::Hold { slot: _, signal } => self.hold(settings, time, signal),

@@ -12,7 +12,7 @@ use crate::window::Window;
 use acquisition::Signal;
 use ca_codes::{CodeBook, Prn};
 use lane_correlator::{Counts, replica_sums};
-use oscillators::{CarrierOsc, CodeOsc, Settings};
+use oscillators::{CarrierOsc, CodeOsc, MOST_CORRECTION, MOST_SHIFT, Settings};
 
 /// The least step of a code, in 2^-32 chip a sample: below that of any settings.
 const LEAST_STEP: u32 = 200_000_000;
@@ -155,6 +155,14 @@ impl Follower {
         ensures prn { prn_of self.new ≡ prn_of self.old }
         ensures at { at_of self.new ≡ at_of self.old }
     {
+        prove!(
+            v.unsigned_abs() <= u64::from(MOST_SHIFT),
+            "Follower::steer requires |v| <= MOST_SHIFT"
+        );
+        prove!(
+            w.unsigned_abs() <= u64::from(MOST_CORRECTION),
+            "Follower::steer requires |w| <= MOST_CORRECTION"
+        );
         self.code.set_step(settings.code_step(v, w));
         self.carrier.set_step(settings.carrier_step(v));
         self.sums = Counts::NONE;

@@ -10,7 +10,7 @@ use crate::followed::Followed;
 use acquisition::{Cell, MOST_CELLS, MOST_DWELL, Plan, Search, SearchRoom};
 use ca_codes::{CodeBook, Prn};
 use oscillators::{MOST_PER_MS, Settings};
-use sample_planes::SampleSource;
+use sample_planes::{MOST_TIME, SampleSource};
 
 /// The most samples from the first of a search to the time of its answer, whatever the settings.
 pub const MOST_WAIT: u64 = MOST_DWELL as u64 * MOST_PER_MS as u64 + 4 * MOST_CELLS;
@@ -46,6 +46,10 @@ impl Searched {
             → Searches settings.now plan start xs result }
         ensures begins { Begins settings.now plan start result }
     {
+        prove!(
+            start <= MOST_TIME,
+            "Searched::start requires start <= MOST_TIME"
+        );
         Searched {
             settings: *settings,
             search: Search::new(plan, settings, start, room),
@@ -142,6 +146,10 @@ impl Searched {
             → Follows settings (found_channel settings plan begun (cell_in cell.now)) xs f) }
         ensures begins { IfSome result (λ f. HasBegun (due_of self.now) true f) }
     {
+        prove!(
+            cell.bin.unsigned_abs() <= self.search.plan().bins(),
+            "Searched::follow requires a cell of its own plan"
+        );
         if !cell.found {
             return None;
         }

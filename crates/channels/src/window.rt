@@ -49,6 +49,10 @@ impl Window {
         ensures first { IfOk result (λ window. first_of window ≡ 0) }
         ensures end { IfOk result (λ window. end_of window ≡ 0) }
     {
+        prove!(
+            MAX_SAMPLES <= room,
+            "Window::new requires MAX_SAMPLES <= room"
+        );
         Ok(Window {
             history: SampleHistory::open(alloc, format, room)?,
             planes: Planes::new(),
@@ -112,6 +116,10 @@ impl Window {
         ensures room { room_of (history_of self.new) ≡ room_of (history_of self.old) }
         ensures dump { dump_of self.new ≡ dump_of self.old }
     {
+        prove!(
+            self.history.end() - self.first <= (MAX_SAMPLES - run.len()) as u64,
+            "Window::take requires at most MAX_SAMPLES open samples"
+        );
         self.history.take(run);
     }
 

@@ -7,7 +7,7 @@ ghost use Rattle.client_commands.specs.Entries.{entry_in};
 use crate::line::entry;
 use crate::refusal::LineRefusal;
 use crate::words::next_line;
-use slot_protocol::Command;
+use slot_protocol::{Command, MOST_SLOTS};
 use std::marker::Model;
 
 /// What a line asks, and when.
@@ -53,6 +53,10 @@ impl<'a> Script<'a> {
         requires most { share ≤ MOST_SLOTS }
         ensures { result ≡ script verbs share text.now }
     {
+        prove!(
+            1 <= share && share <= MOST_SLOTS,
+            "Script::new requires 1 <= share <= MOST_SLOTS"
+        );
         Script {
             text,
             share,

@@ -34,6 +34,7 @@ impl DataSets {
     ghost use Rattle.data_sets.specs.Standing.{Follows, StandsFor};
 
     /// The state before the first page.
+    #[must_use]
     pub fn new() -> Self
         ensures { StandsFor [] result }
     {
@@ -75,5 +76,16 @@ impl DataSets {
             Page::Health(numbers) => Some(Report::Hlt(*numbers)),
             Page::Message(characters) => Some(Report::Msg(*characters)),
         }
+    }
+}
+
+impl Default for DataSets {
+    ghost use Rattle.data_sets.specs.Standing.{StandsFor};
+
+    /// The state before the first page.
+    fn default() -> DataSets
+        ensures { StandsFor [] result }
+    {
+        DataSets::new()
     }
 }

@@ -30,6 +30,7 @@ pub enum Report {
 
 impl Report {
     /// The fields whose numbers are reported, in their order. The characters of a message are none.
+    #[must_use]
     pub fn fields(&self) -> &'static [Field]
         ensures { map entry_of result.now ≡ fields_in (report_in self.now) }
     {
@@ -43,6 +44,7 @@ impl Report {
     }
 
     /// The numbers of the report's [`fields`](Report::fields), in their order.
+    #[must_use]
     pub fn values(&self) -> &[i64]
         ensures numbers { result.now ≡ numbers_in (report_in self.now) }
         ensures one_each { length result.now ≡ length (fields_in (report_in self.now)) }
@@ -58,6 +60,7 @@ impl Report {
 
     /// The number of a field, in units of two to the power of its [`exponent`](Field::exponent), or
     /// `None` where the report doesn't have it.
+    #[must_use]
     pub fn value(&self, field: Field) -> Option<i64>
         ensures { result ≡ number_named field (report_in self.now) }
     {

@@ -51,6 +51,7 @@ impl Subframe {
     /// The subframe of these words, word 1 first, or `None` unless each word that is there is below
     /// 2^24, word 1 is there and begins with the preamble, and word 2 is there and has an ID of
     /// 1 to 5 (IS-GPS-200, sections 20.3.3.1 and 20.3.3.2).
+    #[must_use]
     pub fn from_words(words: [Option<u32>; SUBFRAME_WORDS]) -> Option<Subframe>
         ensures { SomeIff result (IsSubframe words) (record { words = words }) }
     {
@@ -63,6 +64,7 @@ impl Subframe {
 
     /// The data of word `i`, d1 to d24 with d24 lowest, or `None` where it did not pass the parity
     /// (IS-GPS-200, section 20.3.5).
+    #[must_use]
     pub fn word(&self, i: usize) -> Option<u32>
         requires from_one { 1 ≤ i }
         requires to_ten { i ≤ SUBFRAME_WORDS }
@@ -70,11 +72,16 @@ impl Subframe {
         ensures ten { length self.now.words ≡ SUBFRAME_WORDS }
         ensures in_range { IfSome result (λ found. found < DATA_LIMIT) }
     {
+        prove!(
+            1 <= i && i <= SUBFRAME_WORDS,
+            "Subframe::word requires 1 <= i <= SUBFRAME_WORDS"
+        );
         self.words[i - 1]
     }
 
     /// The subframe's ID, d20 to d22 of the handover word, from 1 to 5 (IS-GPS-200, section
     /// 20.3.3.2).
+    #[must_use]
     pub fn id(&self) -> u8
         ensures id { result ≡ id_of self.now }
         ensures from_one { 1 ≤ result }
@@ -85,6 +92,7 @@ impl Subframe {
 
     /// The time-of-week count, d1 to d17 of the handover word: the start of the next subframe, in
     /// units of 6 seconds (IS-GPS-200, section 20.3.3.2).
+    #[must_use]
     pub fn tow(&self) -> u32
         ensures tow { result ≡ tow_of self.now }
         ensures in_range { result < COUNT_LIMIT }
@@ -93,6 +101,7 @@ impl Subframe {
     }
 
     /// Whether no word is missing.
+    #[must_use]
     pub fn complete(&self) -> bool
         ensures { result ≡ is_complete self.now }
     {

@@ -42,6 +42,7 @@ impl FrameSync {
     ghost use Rattle.frame_sync.specs.Search.{StandsFor, pushed_of, found_in};
 
     /// A search that no bit was pushed to.
+    #[must_use]
     pub fn new() -> Self
         ensures { StandsFor [] result }
     {
@@ -54,6 +55,7 @@ impl FrameSync {
     }
 
     /// How many bits were pushed.
+    #[must_use]
     pub fn pushed(&self) -> u64
         ensures pushed { result ≡ pushed_of self.now }
         ensures counted { (bits : List Bool) → StandsFor bits self.now → result ≡ length bits }
@@ -77,6 +79,10 @@ impl FrameSync {
         ensures found { (bits : List Bool) → StandsFor bits self.old →
             found_in result ≡ found_by (bits ++ bit ∷ []) }
     {
+        prove!(
+            self.pushed < MOST_BITS,
+            "FrameSync::push requires pushed() < MOST_BITS"
+        );
         let before = self.incoming.take();
         self.window.push(bit);
         self.pushed += 1;
@@ -95,6 +101,17 @@ impl FrameSync {
             subframe: incoming.subframe,
             gap,
         })
+    }
+}
+
+impl Default for FrameSync {
+    ghost use Rattle.frame_sync.specs.Search.{StandsFor};
+
+    /// A search that no bit was pushed to.
+    fn default() -> FrameSync
+        ensures { StandsFor [] result }
+    {
+        FrameSync::new()
     }
 }
 

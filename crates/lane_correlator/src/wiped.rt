@@ -139,6 +139,11 @@ pub(crate) fn mask_of_places(first: usize, end: usize) -> u8x64
     ensures before { (j : ℕ) → j < first → j < WORD_PLACES → place_in result j ≡ 0 }
     ensures behind { (j : ℕ) → end ≤ j → j < WORD_PLACES → place_in result j ≡ 0 }
 {
+    prove!(first <= end, "mask_of_places requires first <= end");
+    prove!(
+        end <= WORD_PLACES,
+        "mask_of_places requires end <= WORD_PLACES"
+    );
     from_place(&FROM_PLACE, first) ^ from_place(&FROM_PLACE, end)
 }
 
@@ -152,5 +157,9 @@ fn from_place(masks: &[u8], place: usize) -> u8x64
     ensures masks { (k : ℕ) → k < WORD_PLACES
         → slice_index result k ≡ slice_index masks.now (place + k) }
 {
+    prove!(
+        masks.len() == 2 * WORD_PLACES && place <= WORD_PLACES,
+        "from_place requires place <= WORD_PLACES, in a table of twice as many"
+    );
     u8x64::from_slice(&masks[place..])
 }

@@ -10,7 +10,7 @@ ghost use Rattle.nav_message.specs.declared.message.TheConstants.{MOST_BITS};
 ghost use Rattle.nav_message.specs.News.{events_in};
 
 use crate::news::MessageNews;
-use bit_sync::{BitNews, BitSync};
+use bit_sync::{BitNews, BitSync, MOST_PUSH};
 use data_sets::{DataSets, Reports};
 use frame_sync::FrameSync;
 use subframes::Page;
@@ -31,6 +31,7 @@ impl Message {
     ghost use Rattle.nav_message.specs.Standing.{HasRead, StandsFor, bit_count};
 
     /// A message to which nothing was pushed.
+    #[must_use]
     pub fn new() -> Message
         ensures stands { StandsFor [] result }
         ensures none { bit_count result ≡ 0 }
@@ -57,6 +58,14 @@ impl Message {
         ensures news { (pushes : List ℤ) → StandsFor pushes self.old
             → events_in news.new ≡ push_events (pushes ++ ip ∷ []) }
     {
+        prove!(
+            ip.unsigned_abs() <= MOST_PUSH,
+            "Message::push requires |ip| <= MOST_PUSH"
+        );
+        prove!(
+            self.frames.pushed() < MOST_BITS,
+            "Message::push requires fewer bits than MOST_BITS before it"
+        );
         match self.bits.push(ip) {
             BitNews::Nothing => news.clear(),
             BitNews::Edge => *news = MessageNews::Edge,
@@ -88,9 +97,21 @@ impl Message {
     }
 
     /// Whether the edge of the bits is found.
+    #[must_use]
     pub fn has_edge(&self) -> bool
         ensures { (pushes : List ℤ) → StandsFor pushes self.now → result ≡ has_edge pushes }
     {
         self.bits.has_edge()
+    }
+}
+
+impl Default for Message {
+    ghost use Rattle.nav_message.specs.Standing.{StandsFor};
+
+    /// A message to which nothing was pushed.
+    fn default() -> Message
+        ensures { StandsFor [] result }
+    {
+        Message::new()
     }
 }

@@ -52,12 +52,15 @@ const SUMMED: [u32; 6] = [
 /// does not hold (IS-GPS-200, section 20.3.5). Bit 29 of `word` is D1 and bit 0 is D30; `prior` is
 /// the last two bits of the word before, 2 * D29* + D30*.
 #[tactic(auto, using(crate::proofs::Checked::checking))]
+#[must_use]
 pub fn check(word: u32, prior: u8) -> Option<u32>
     requires is_word { word < WORD_LIMIT }
     requires is_prior { prior < PRIOR_LIMIT }
     ensures checked_data { result ≡ checked_data word prior }
     ensures in_range { IfSome result (λ found. found < DATA_LIMIT) }
 {
+    prove!(word < WORD_LIMIT, "check requires word < WORD_LIMIT");
+    prove!(prior < PRIOR_LIMIT, "check requires prior < PRIOR_LIMIT");
     let data = (word >> PARITY_WIDTH) ^ inversion(prior);
     if word & PARITY_MASK == parity_bits(data, prior) {
         Some(data)
@@ -68,11 +71,14 @@ pub fn check(word: u32, prior: u8) -> Option<u32>
 
 /// The one word that passes with `prior` (2 * D29* + D30*) and has these data, d1 to d24 with d24
 /// lowest. Bit 29 of the word is D1 and bit 0 is D30 (IS-GPS-200, section 20.3.5).
+#[must_use]
 pub fn encode(data: u32, prior: u8) -> u32
     requires is_data { «data» < DATA_LIMIT }
     requires is_prior { prior < PRIOR_LIMIT }
     ensures { IsEncoded result «data» prior }
 {
+    prove!(data < DATA_LIMIT, "encode requires data < DATA_LIMIT");
+    prove!(prior < PRIOR_LIMIT, "encode requires prior < PRIOR_LIMIT");
     ((data ^ inversion(prior)) << PARITY_WIDTH) | parity_bits(data, prior)
 }
 
@@ -92,6 +98,11 @@ fn parity_bits(data: u32, prior: u8) -> u32
     ensures in_range { result < PARITY_LIMIT }
     ensures parity { HasParity result «data» prior }
 {
+    prove!(data < DATA_LIMIT, "parity_bits requires data < DATA_LIMIT");
+    prove!(
+        prior < PRIOR_LIMIT,
+        "parity_bits requires prior < PRIOR_LIMIT"
+    );
     let summed = (u32::from(prior) << DATA_WIDTH) | data;
     let mut bits = 0;
     for mask in SUMMED {

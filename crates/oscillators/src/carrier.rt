@@ -11,7 +11,7 @@ ghost use Rattle.bit_planes.specs.declared.plane.TheConstants.{PLACES};
 
 use crate::carrier_strides::CarrierStrides;
 use crate::carrier_words::CarrierWords;
-use bit_planes::Plane;
+use bit_planes::{PLACES, Plane};
 use sample_planes::MOST_SIZE;
 use std::marker::Model;
 
@@ -94,6 +94,7 @@ impl CarrierOsc {
         ensures sin { result.sin ≡ map (λ j. sine
             (carrier_phase_after self.now.phase self.now.step j)) (range_with_len 0 n) }
     {
+        prove!(n <= PLACES, "CarrierOsc::planes requires n <= PLACES");
         let mut words = self.words(0);
         let mut cos_sign = Plane::new();
         let mut sin_sign = Plane::new();

@@ -40,6 +40,7 @@ pub(crate) fn carries(low: u32, rooms: i16x64) -> u16x64
     ensures carried { (room : ℕ → ℕ) → AreRooms room rooms → (k : ℕ) → k < WORD_PLACES
         → slice_index result k ≡ cond (ltb (room k) low) 1 0 }
 {
+    prove!(low < HALF, "carries requires low < HALF");
     i16x64::splat(signed_half(low))
         .simd_gt(rooms)
         .select(u16x64::splat(1), u16x64::splat(0))

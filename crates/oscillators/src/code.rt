@@ -18,7 +18,7 @@ ghost use Rattle.oscillators.specs.declared.code_strides.TheConstants.{HALF_CHIP
 use crate::code_strides::{CodeStrides, HALF_CHIP};
 use crate::code_words::CodeWords;
 use crate::half_chip::HalfChip;
-use bit_planes::Plane;
+use bit_planes::{PLACES, Plane};
 use ca_codes::{CODE_CHIPS, CodeBook, Prn};
 use std::marker::Model;
 
@@ -139,6 +139,7 @@ impl CodeOsc {
         ensures late { result.late ≡ map (λ j. late_sign prn
             (code_phase_after self.now.phase self.now.step j)) (range_with_len 0 n) }
     {
+        prove!(n <= PLACES, "CodeOsc::planes requires n <= PLACES");
         let table = book.table(prn);
         let mut words = self.words(0);
         let mut early = Plane::new();

@@ -125,6 +125,10 @@ impl CodeStrides {
         ensures stays { (step : ℕ) → IsCodeStrides step self.now → (k : ℕ) → k < WORD_PLACES
             → slice_index result k ≡ cond (ltb (room_of step k) part) 0 255 }
     {
+        prove!(
+            part < HALF_CHIP,
+            "CodeStrides::stays requires part < HALF_CHIP"
+        );
         let left = self.room_high - carries(part % HALF, self.room_low).cast::<i16>();
         left.simd_gt(i16x64::splat((part / HALF) as i16 - 1))
             .select(u16x64::splat(255), u16x64::splat(0))

@@ -69,6 +69,10 @@ fn put_fields(line: &mut Line, fields: &[Field], values: &[i64])
         (zip fields.now values.now) }
     ensures longer { TakesUp (length fields.now * FIELD_BYTES) line.old line.new }
 {
+    prove!(
+        fields.len() == values.len(),
+        "put_fields requires a value for each field"
+    );
     for i in 0..fields.len() {
         put_field(line, fields[i], values[i]);
     }

@@ -21,6 +21,14 @@ pub fn queues_of<'a>(scripts: &'a [&'a [u8]], shares: &[u8]) -> ArrayVec<Queue<'
     ensures { map left_of result.items
         ≡ map entries_of (clients_with shares.now (map (λ script. script.now) scripts.now)) }
 {
+    prove!(
+        scripts.len() <= QUEUES,
+        "queues_of requires scripts.len() <= QUEUES"
+    );
+    prove!(
+        shares.len() == scripts.len(),
+        "queues_of requires a share for each script"
+    );
     let mut queues = ArrayVec::new();
     for index in 0..scripts.len() {
         queues.push(Queue::new(scripts[index], shares[index]));
@@ -47,6 +55,10 @@ pub fn take_due(queues: &mut [Queue], now: u64) -> Option<Due>
         → AllByRecursion (λ queue. NoneDue now (left_of queue)) queues.old }
     ensures kept { IsNone result → queues.new ≡ queues.old }
 {
+    prove!(
+        queues.len() <= QUEUES,
+        "take_due requires queues.len() <= QUEUES"
+    );
     for index in 0..queues.len() {
         if let Some(timed) = queues[index].take_due(now) {
             return Some(Due {

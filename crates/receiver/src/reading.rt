@@ -14,7 +14,7 @@ use crate::output::Output;
 use crate::session::Session;
 use crate::writing::{put_answers, put_events};
 use devices::{DeviceFault, Sink, Source};
-use sample_planes::{MAX_SAMPLES, PackedSamples};
+use sample_planes::{MAX_SAMPLES, MOST_TIME, PackedSamples};
 
 /// The most bytes of a read.
 const READ_BYTES: usize = 16_384;
@@ -121,6 +121,8 @@ pub fn read_all<R: Source, W: Sink>(
         (devices_once_sent R.Source W.Sink reader.new out.new) result }
     ensures writes { Writes W.Sink out.old out.new result }
 {
+    prove!(limit <= MOST_TIME, "read_all requires limit <= MOST_TIME");
+    prove!(limit % 8 == 0, "read_all requires a limit in whole bytes");
     let mut buffer = [0; READ_BYTES];
     loop {
         // Nothing is held back while the run waits for bytes.

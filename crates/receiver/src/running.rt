@@ -94,6 +94,8 @@ pub fn run_to<R: Source, W: Sink>(
         (reader.old, writer.old) (reader.new, writer.new) result }
     ensures shared { ¬ IsErrOf result RunFault.Share }
 {
+    prove!(limit <= MOST_TIME, "run_to requires limit <= MOST_TIME");
+    prove!(limit % 8 == 0, "run_to requires a limit that 8 divides");
     // `run_shares` refuses more scripts before it looks at a share.
     let shares = &FOUR_EACH[..scripts.len().min(MOST_CLIENTS)];
     run_shares(alloc, settings, scripts, shares, limit, reader, writer)
@@ -117,6 +119,8 @@ pub fn run_shares<R: Source, W: Sink>(
         (task_of settings shares.now (map (λ script. script.now) scripts.now) limit)
         (reader.old, writer.old) (reader.new, writer.new) result }
 {
+    prove!(limit <= MOST_TIME, "run_shares requires limit <= MOST_TIME");
+    prove!(limit % 8 == 0, "run_shares requires a limit that 8 divides");
     if scripts.is_empty() || MOST_CLIENTS < scripts.len() {
         return Err(RunFault::Clients);
     }

@@ -52,7 +52,11 @@ impl Choice {
     ghost use Rattle.recordings.specs.Choices.{IsInPhase, IsQuadrature, CanBeMade};
     ghost use Rattle.recordings.specs.Choices.{NeedsPairs};
 
-    /// The recipe that makes what is asked, or why there is none.
+    /// The recipe that makes what is asked.
+    ///
+    /// # Errors
+    ///
+    /// There is none, for the reason that the fault names.
     pub fn recipe(&self) -> Result<Recipe, ChoiceFault>
         ensures makes { IfOk result (λ recipe. Makes self.now recipe) }
         ensures pairs { (result ≡ Err ChoiceFault.Pairs) ↔ LacksPairs self.now }

@@ -5,7 +5,7 @@ ghost use Rattle.recordings.specs.Recordings.{parts_of, sample_bits};
 ghost use Rattle.recordings.specs.declared.recipe.TheConstants.{MOST_BYTES};
 
 use crate::part::PartRecipe;
-use crate::recipe::Recipe;
+use crate::recipe::{MOST_BYTES, Recipe};
 
 /// What is measured of a part of a recording's samples. Sums are of readings, which are twice the
 /// values: of at most 8 * `MOST_BYTES` of them, none above 2^17 in size, so none comes near 2^63.
@@ -25,11 +25,16 @@ pub struct Measure {
 
 impl Recipe {
     /// Measures a part of all samples of some bytes, with sizes by a threshold.
+    #[must_use]
     pub fn measure(&self, part: &PartRecipe, threshold: u64, bytes: &[u8]) -> Measure
         requires place { part.now.place < parts_of self.now }
         requires few { length bytes.now ≤ MOST_BYTES }
         ensures { result.count ≡ 8 * length bytes.now / sample_bits self.now }
     {
+        prove!(
+            bytes.len() <= MOST_BYTES,
+            "Recipe::measure requires bytes.len() <= MOST_BYTES"
+        );
         let (low, high) = self.kind.ends();
         let count = 8 * bytes.len() / self.sample_bits();
         let (mut sum, mut squares, mut at_ends) = (0_i64, 0_u64, 0_u64);

@@ -57,6 +57,10 @@ impl Packer {
             → ¬ AreNumbers (recipe_in self.old).kind (held_in self.old ++ piece.now) }
         ensures nothing { OnErr result (written.new.items ≡ []) }
     {
+        prove!(
+            piece.len() <= MOST_PIECE,
+            "Packer::take requires piece.len() <= MOST_PIECE"
+        );
         written.clear();
         self.held.extend_from_slice(piece)?;
         match self.recipe.pack(&self.held, written) {

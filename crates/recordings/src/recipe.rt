@@ -67,6 +67,7 @@ impl Recipe {
         if self.is_paired { 2 } else { 1 }
     }
     /// How many bits of a recording a sample has, 1 to `MOST_SAMPLE_BITS`.
+    #[must_use]
     pub fn sample_bits(&self) -> usize
         ensures value { result ≡ sample_bits self.now }
         ensures some { 0 < result }
@@ -76,6 +77,7 @@ impl Recipe {
     }
 
     /// How many bytes of a recording each written byte is made of, 1 to `MOST_GROUP`.
+    #[must_use]
     pub fn group(&self) -> usize
         ensures value { result ≡ group_of self.now }
         ensures some { 0 < result }
@@ -85,14 +87,21 @@ impl Recipe {
     }
 
     /// Packs the bytes of a recording from its beginning on, at most `MOST_BYTES`, as far as they
-    /// fill bytes, in place of what was written. An error is memory that it was refused, or a
-    /// float that is no number.
+    /// fill bytes, in place of what was written.
+    ///
+    /// # Errors
+    ///
+    /// There is no memory, or a float is no number.
     pub fn pack(&self, bytes: &[u8], written: &mut Vec<u8>) -> Result<(), PackFault>
         requires { length bytes.now ≤ MOST_BYTES }
         ensures packed { OnOk result (IsPacked self.now bytes.now written.new.items) }
         ensures numbers { OnOk result (AreNumbers self.now.kind bytes.now) }
         ensures fault { (result ≡ Err PackFault.NotANumber) → ¬ AreNumbers self.now.kind bytes.now }
     {
+        prove!(
+            bytes.len() <= MOST_BYTES,
+            "Recipe::pack requires bytes.len() <= MOST_BYTES"
+        );
         if !self.kind.are_numbers(bytes) {
             return Err(PackFault::NotANumber);
         }
@@ -142,6 +151,10 @@ impl Recipe {
             → sample (packing_in self.now) (result ∷ []) k
             ≡ sample_of self.now bytes.now (first + k) }
     {
+        prove!(
+            bytes.len() <= MOST_BYTES,
+            "Recipe::byte requires bytes.len() <= MOST_BYTES"
+        );
         let per_byte = self.format.per_byte();
         let width = 8 / per_byte;
         let mut byte = 0;

@@ -36,6 +36,7 @@ pub enum ValueKind {
 
 impl ValueKind {
     /// How many bits a value has: 1, 2, 8, 16 or 32.
+    #[must_use]
     pub fn bits(self) -> usize
         ensures { result ≡ bits_of self }
     {
@@ -80,6 +81,7 @@ impl ValueKind {
 
     /// Value number `i` of bytes as an integer: twice the value, or for a float an integer that
     /// grows with it.
+    #[must_use]
     pub fn reading(self, bytes: &[u8], i: usize) -> i64
         requires { bits_of self * (i + 1) ≤ 8 * length bytes.now }
         ensures value { result ≡ reading self bytes.now i }

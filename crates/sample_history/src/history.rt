@@ -9,7 +9,9 @@ ghost use Rattle.sample_planes.specs.declared.planes.TheConstants.{MOST_TIME};
 
 use crate::ring_bytes::{copy_out, grow};
 use circular_buffer::HeapCircularBuffer;
-use sample_planes::{Format, NEAR_BYTES, PackedSamples, Planes, SampleSource};
+use sample_planes::{
+    Format, MAX_SAMPLES, MOST_TIME, NEAR_BYTES, PackedSamples, Planes, SampleSource,
+};
 use std::alloc::{AllocError, Global};
 
 /// The last samples of a stream, packed. The earliest sample of a byte stands in its top bits.
@@ -68,6 +70,18 @@ impl SampleHistory {
         ensures taken { taken_of self.new ≡ taken_of self.old + length run.now.samples }
         ensures kept { first_of self.new ≤ taken_of self.new - room_of self.new }
     {
+        prove!(
+            run.format() == self.format,
+            "SampleHistory::take requires a run in its own format"
+        );
+        prove!(
+            run.len() <= MAX_SAMPLES,
+            "SampleHistory::take requires run.len() <= MAX_SAMPLES"
+        );
+        prove!(
+            self.taken <= MOST_TIME - run.len() as u64,
+            "SampleHistory::take requires at most MOST_TIME samples in all"
+        );
         let (bytes, first) = run.place();
         self.take_bytes(bytes, first, run.len());
     }

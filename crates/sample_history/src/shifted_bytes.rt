@@ -44,6 +44,10 @@ pub(crate) fn shifted_bytes(bytes: &[u8], place: usize, count: usize) -> [u8; MO
     requires within { place / 8 + count < length bytes.now }
     ensures { take count result ≡ bytes_from bytes.now place count }
 {
+    prove!(
+        count <= MOST_RUN_BYTES,
+        "shifted_bytes requires count <= MOST_RUN_BYTES"
+    );
     let at = place / 8;
     let mut out = [0; MOST_RUN_BYTES];
     let mut high = bytes[at];

@@ -10,6 +10,7 @@ static NAMES: [&str; 4] = ["real1", "real2", "iq1", "iq2"];
 
 impl Format {
     /// The names of all packings, for an option that takes one.
+    #[must_use]
     pub fn names() -> &'static [&'static str]
         ensures { map (λ name. name.now) result.now ≡ format_names }
     {
@@ -17,6 +18,7 @@ impl Format {
     }
 
     /// The packing with this name.
+    #[must_use]
     pub fn named(name: &str) -> Option<Format>
         ensures { result ≡ named_format name.now }
     {

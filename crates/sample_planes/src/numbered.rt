@@ -29,10 +29,15 @@ impl<'a> Model for NumberedSamples<'a> {
 impl<'a> NumberedSamples<'a> {
     /// The samples of a run, the first of them being sample `first` of the recording. The number
     /// after the last fits in a `u64`.
+    #[must_use]
     pub fn new(samples: PackedSamples<'a>, first: u64) -> NumberedSamples<'a>
         requires { first + length samples.samples < 2 ^ 64 }
         ensures { result ≡ record { first = first; samples = samples.entry.samples } }
     {
+        prove!(
+            samples.len() as u64 <= u64::MAX - first,
+            "NumberedSamples::new requires first + samples.len() < 2^64"
+        );
         NumberedSamples { samples, first }
     }
 }

@@ -1,6 +1,6 @@
 //! A run of samples as they lie in bytes.
 
-ghost use Rattle.std.specs.Prelude.{◌≡◌, ◌+◌, ◌<◌, ◌≤◌, ◌^◌, length};
+ghost use Rattle.std.specs.Prelude.{◌==◌, ◌≡◌, ◌+◌, ◌<◌, ◌≤◌, ◌^◌, length};
 ghost use Rattle.definitions.specs.Samples.{samples, samples_from, sample_count};
 ghost use Rattle.definitions.specs.Samples.{samples_per_byte};
 ghost use Rattle.sample_planes.specs.Packings.{packing_of};
@@ -8,7 +8,7 @@ ghost use Rattle.sample_planes.specs.PackedRuns.{PackedRun, front_of, back_of};
 ghost use Rattle.sample_planes.specs.declared.planes.TheConstants.{MAX_SAMPLES};
 
 use crate::format::Format;
-use crate::planes::{Planes, unpack};
+use crate::planes::{MAX_SAMPLES, Planes, unpack};
 use std::marker::Model;
 
 /// A run of samples, packed into bytes. Clauses see it as the list of its samples and their
@@ -38,13 +38,19 @@ impl<'a> Model for PackedSamples<'a> {
 
 impl<'a> PackedSamples<'a> {
     /// All samples of `bytes`. There are fewer than 2^64 of them.
+    #[must_use]
     pub fn new(format: Format, bytes: &'a [u8]) -> PackedSamples<'a>
         requires { sample_count (packing_of format) bytes.now < 2 ^ 64 }
         ensures packing { result.packing ≡ packing_of format }
         ensures samples { result.samples ≡ samples (packing_of format) bytes.now }
         ensures count { length result.samples ≡ sample_count (packing_of format) bytes.now }
     {
-        PackedSamples::from_byte(format, bytes, 0, bytes.len() * format.per_byte())
+        let per_byte = format.per_byte();
+        prove!(
+            (bytes.len() as u128) * (per_byte as u128) < (1 << 64),
+            "PackedSamples::new requires fewer than 2^64 samples"
+        );
+        PackedSamples::from_byte(format, bytes, 0, bytes.len() * per_byte)
     }
 
     /// The `len` samples of `bytes` from sample `first` on. The bytes before it are passed over,
@@ -67,6 +73,7 @@ impl<'a> PackedSamples<'a> {
     }
 
     /// How the samples are packed.
+    #[must_use]
     pub fn format(&self) -> Format
         ensures { packing_of result ≡ self.now.packing }
     {
@@ -74,14 +81,24 @@ impl<'a> PackedSamples<'a> {
     }
 
     /// How many samples there are.
+    #[must_use]
     pub fn len(&self) -> usize
         ensures { result ≡ length self.now.samples }
     {
         self.len
     }
 
+    /// Whether there is no sample.
+    #[must_use]
+    pub fn is_empty(&self) -> bool
+        ensures { result ≡ (length self.now.samples == 0) }
+    {
+        self.len() == 0
+    }
+
     /// The bytes that the samples lie in, and perhaps more bytes after these; and the place of the
     /// first sample in the first byte, counted from 0.
+    #[must_use]
     pub fn place(&self) -> (&'a [u8], usize)
         ensures samples { samples_from self.now.packing result.0.now result.1
             (length self.now.samples) ≡ self.now.samples }
@@ -93,11 +110,16 @@ impl<'a> PackedSamples<'a> {
     }
 
     /// The first `n` samples, and those after them. There are at least `n`.
+    #[must_use]
     pub fn split_at(&self, n: usize) -> (PackedSamples<'a>, PackedSamples<'a>)
         requires { n ≤ length self.now.samples }
         ensures front { result.0 ≡ front_of n self.now }
         ensures back { result.1 ≡ back_of n self.now }
     {
+        prove!(
+            n <= self.len(),
+            "PackedSamples::split_at requires n <= len()"
+        );
         let behind = self.first + n;
         let front = PackedSamples::from_byte(self.format, self.bytes, self.first, n);
         let back = PackedSamples::from_byte(self.format, self.bytes, behind, self.len - n);
@@ -106,18 +128,28 @@ impl<'a> PackedSamples<'a> {
 
     /// The `len` samples from sample `first` of them on, which is counted from 0. There are at
     /// least `first + len`.
+    #[must_use]
     pub fn part(&self, first: usize, len: usize) -> PackedSamples<'a>
         requires { first + len ≤ length self.now.samples }
         ensures { result ≡ front_of len (back_of first self.now) }
     {
+        prove!(
+            first <= self.len() && len <= self.len() - first,
+            "PackedSamples::part requires first + len <= len()"
+        );
         self.split_at(first).1.split_at(len).0
     }
 
     /// Unpacks them all, at most `MAX_SAMPLES`.
+    #[must_use]
     pub fn unpack(&self) -> Planes
         requires { length self.now.samples ≤ MAX_SAMPLES }
         ensures { result ≡ self.now.samples }
     {
+        prove!(
+            self.len() <= MAX_SAMPLES,
+            "PackedSamples::unpack requires len() <= MAX_SAMPLES"
+        );
         unpack(self.format, self.bytes, self.first, self.len)
     }
 
@@ -127,6 +159,10 @@ impl<'a> PackedSamples<'a> {
         requires { length self.now.samples ≤ MAX_SAMPLES }
         ensures { planes.new ≡ self.now.samples }
     {
+        prove!(
+            self.len() <= MAX_SAMPLES,
+            "PackedSamples::unpack_into requires len() <= MAX_SAMPLES"
+        );
         planes.fill(self.format, self.bytes, self.first, self.len);
     }
 }

@@ -8,6 +8,7 @@ ghost use Rattle.sample_planes.specs.declared.part.TheConstants.{MOST_SIZE};
 ghost use Rattle.sample_planes.specs.declared.planes.TheConstants.{MAX_SAMPLES};
 
 use crate::planes::MAX_SAMPLES;
+use bit_planes::WORDS;
 use std::simd::prelude::*;
 
 /// The greatest size of a part of a sample, that of a part with a magnitude of 1.
@@ -44,6 +45,7 @@ impl Part {
             → code_at self.new (WORD_PLACES * w + j) ≡ place_in codes j }
         ensures kept { (i : ℕ) → i < WORD_PLACES * w → code_at self.new i ≡ code_at self.old i }
     {
+        prove!(w < WORDS, "Part::put requires w < WORDS");
         codes.copy_to_slice(&mut self.codes[64 * w..]);
     }
 
@@ -70,6 +72,7 @@ impl Part {
         ensures codes { (j : ℕ) → j < WORD_PLACES
             → IsCode (part_at self.now (WORD_PLACES * w + j)) (place_in result j) }
     {
+        prove!(w < WORDS, "Part::codes requires w < WORDS");
         u8x64::from_slice(&self.codes[64 * w..])
     }
 }

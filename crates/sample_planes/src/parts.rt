@@ -8,8 +8,9 @@ ghost use Rattle.sample_planes.specs.declared.layout.TheConstants.{NEAR_BYTES};
 ghost use Rattle.sample_planes.specs.declared.planes.TheConstants.{MAX_SAMPLES};
 
 use crate::format::Format;
-use crate::layout::WordLayout;
+use crate::layout::{NEAR_BYTES, WordLayout};
 use crate::part::Part;
+use crate::planes::MAX_SAMPLES;
 
 /// Makes parts those of `len` samples of `near`, from sample `start` of its first byte on. Where
 /// the samples are real, what `quadrature` has is kept. So is what the parts have after the last
@@ -31,6 +32,11 @@ pub(crate) fn fill_parts(
         → (i : ℕ) → i < len → part_at quadrature.new i
         ≡ (sample (packing_of format) near.now (start + i)).quadrature }
 {
+    prove!(len <= MAX_SAMPLES, "fill_parts requires len <= MAX_SAMPLES");
+    prove!(
+        NEAR_BYTES <= near.len(),
+        "fill_parts requires NEAR_BYTES <= near.len()"
+    );
     let width = format.width();
     let has_sizes = format.has_sizes();
     let is_complex = format.has_quadrature();

@@ -10,6 +10,7 @@ use crate::packing_fault::PackingFault;
 use crate::values::{write_f32, write_i8};
 use recordings::{FLOAT_BYTES, MOST_PIECE, Packer, Recipe, ValueKind};
 use std::alloc::{AllocError, Global};
+use std::fmt::{self, Debug, Formatter, Write};
 
 /// Packs a recording's values as a `Receiver` takes them, piece by piece, however they are cut. It
 /// holds the values that don't fill a byte yet.
@@ -46,6 +47,7 @@ impl Packing {
 
     /// The bytes that the values that were taken last filled. After an error there are none; but
     /// values for a recording of another kind change nothing.
+    #[must_use]
     pub fn packed(&self) -> &[u8]
         ensures { result.now ≡ packed_in self.now }
     {
@@ -123,5 +125,12 @@ impl Packing {
         write_f32(front, &mut self.piece)?;
         self.packer.take(&self.piece, &mut self.packed)?;
         Ok(rest)
+    }
+}
+
+impl Debug for Packing {
+    /// How many bytes the last values filled.
+    fn fmt<W: Write>(&self, f: &mut Formatter<W>) -> fmt::Result {
+        write!(f, "Packing {{ packed: {}, .. }}", self.packed.len())
     }
 }

@@ -19,6 +19,7 @@ use oscillators::Settings;
 use sample_planes::{Format, MAX_SAMPLES, PackedSamples};
 use slot_protocol::{Answer, Command, Refusal, SlotEvent, SlotNo, SlotState};
 use std::alloc::Global;
+use std::fmt::{self, Debug, Formatter, Write};
 
 /// The slots of one to eight clients over one recording, one to eight for each client, and the
 /// events of the samples that came last.
@@ -59,6 +60,7 @@ impl Receiver {
     }
 
     /// How the samples are packed that the receiver takes.
+    #[must_use]
     pub fn format(&self) -> Format
         ensures { packing_of result ≡ packing_in self.now }
     {
@@ -66,6 +68,7 @@ impl Receiver {
     }
 
     /// The number of samples that the receiver has taken, at most `MOST_TIME`.
+    #[must_use]
     pub fn time(&self) -> u64
         ensures taken { result ≡ time_of self.now }
         ensures early { result ≤ MOST_TIME }
@@ -75,6 +78,7 @@ impl Receiver {
 
     /// What the slots emit with the samples that `take` took last: by time, then by client, then by
     /// slot.
+    #[must_use]
     pub fn events(&self) -> &[SlotEvent]
         ensures { result.now ≡ events_in self.now }
     {
@@ -204,6 +208,13 @@ impl Receiver {
         ensures { Asks client slot state (with_state result) self.old self.new }
     {
         shown(self.command(client, Command::State { slot }))
+    }
+}
+
+impl Debug for Receiver {
+    /// How many samples it has taken.
+    fn fmt<W: Write>(&self, f: &mut Formatter<W>) -> fmt::Result {
+        write!(f, "Receiver {{ time: {}, .. }}", self.time())
     }
 }
 

@@ -20,6 +20,7 @@ pub enum Phase {
 impl Phase {
     /// The phase of a channel that is locked or not, and whose edge is found or not. Where it is
     /// found the channel is locked.
+    #[must_use]
     pub fn of(is_locked: bool, has_edge: bool) -> Phase
         ensures edge { has_edge_in result ≡ has_edge }
         ensures locked { (has_edge ≡ true → is_locked ≡ true)
@@ -77,6 +78,7 @@ pub enum Refusal {
 impl Refusal {
     /// The number that is printed: 9 or 10, and 8 where there is no such slot, as for a script's
     /// line whose slot is out of its range.
+    #[must_use]
     pub fn number(self) -> u8
         ensures { result ≡ number_of self }
     {

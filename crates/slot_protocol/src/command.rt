@@ -26,6 +26,7 @@ impl Model for SlotNo {
 
 impl SlotNo {
     /// The slot with a number, or `None` where that is outside 0 to 7.
+    #[must_use]
     pub fn new(number: u8) -> Option<SlotNo>
         ensures valid { IsSome result ↔ (number < MOST_SLOTS) }
         ensures same { IfSome result (λ slot. slot ≡ number) }
@@ -38,6 +39,7 @@ impl SlotNo {
     }
 
     /// The slot's number, 0 to 7.
+    #[must_use]
     pub fn get(self) -> u8
         ensures same { result ≡ self }
         ensures range { result < MOST_SLOTS }
@@ -67,6 +69,7 @@ impl Command {
     ghost use Rattle.slot_protocol.specs.Commands.{slot_of};
 
     /// The slot that is asked.
+    #[must_use]
     pub fn slot(&self) -> SlotNo
         ensures { result ≡ slot_of self.now }
     {

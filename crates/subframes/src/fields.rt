@@ -36,6 +36,7 @@ pub enum Field {
 
 impl Field {
     /// The field's name within its table, as `tgd`.
+    #[must_use]
     pub fn name(self) -> &'static str
         ensures name { result.now ≡ name_of self }
         ensures entry { result.now ≡ (entry_of self).name }
@@ -44,6 +45,7 @@ impl Field {
     }
 
     /// The power of two that is the field's scale factor: 0 where it is counted in its own unit.
+    #[must_use]
     pub fn exponent(self) -> i8
         ensures { result ≡ (entry_of self).exponent }
     {

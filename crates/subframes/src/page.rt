@@ -43,6 +43,7 @@ impl Page {
     /// the data ID. `None` where a word is missing or the page is of no [`Kind`] (IS-GPS-200,
     /// section 20.3.3.5.1.1, table 20-V).
     #[tactic(auto, using(crate::proofs::PageSteps::reading))]
+    #[must_use]
     pub fn read(subframe: &Subframe) -> Option<Page>
         ensures { option_map page_in result ≡ page_of subframe.now }
     {
@@ -69,6 +70,7 @@ impl Page {
     }
 
     /// The page's kind, whose fields name its values.
+    #[must_use]
     pub fn kind(&self) -> Kind
         ensures { kind_in result ≡ (page_in self.now).kind }
     {
@@ -85,6 +87,7 @@ impl Page {
 
     /// The numbers of the page's fields, in the order of its kind's [`fields`](Kind::fields). A
     /// message has none: its characters are no fields.
+    #[must_use]
     pub fn values(&self) -> &[i64]
         ensures numbers { result.now ≡ numbers_of (page_in self.now) }
         ensures one_each { length result.now ≡ length (named_fields_of (page_in self.now).kind) }
@@ -102,6 +105,7 @@ impl Page {
 
     /// The number of a field, in units of two to the power of its [`exponent`](Field::exponent), or
     /// `None` where the page is of another kind.
+    #[must_use]
     pub fn value(&self, field: Field) -> Option<i64>
         ensures { result ≡ number_named field (page_in self.now) }
     {

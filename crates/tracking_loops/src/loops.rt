@@ -11,10 +11,12 @@ ghost use Rattle.tracking_loops.specs.declared.limits.TheConstants.{MOST_SUM};
 ghost use Rattle.tracking_loops.specs.declared.limits.TheConstants.{MOST_STEERED_DUMPS};
 ghost use Rattle.oscillators.specs.declared.settings.TheConstants.{MOST_SHIFT, MOST_CORRECTION};
 
+use crate::limits::{MOST_STEERED_DUMPS, MOST_SUM};
 use crate::lock::Lock;
 use crate::news::News;
 use crate::steering::{FIRST_HOLDING, Steering};
 use lane_correlator::Counts;
+use oscillators::MOST_SHIFT;
 
 /// The loops of one tracking channel, from its first dump on. (This project's own.)
 ///
@@ -38,6 +40,10 @@ impl Loops {
         ensures stands { StandsFor v [] result }
         ensures none { dump_count result ≡ 0 }
     {
+        prove!(
+            v.unsigned_abs() <= u64::from(MOST_SHIFT),
+            "Loops::start requires |v| <= MOST_SHIFT"
+        );
         Loops {
             steering: Steering::start(v),
             lock: Lock::new(),
@@ -55,6 +61,19 @@ impl Loops {
         ensures news { (start : ℤ) (dumps : List DefinedCounts) → StandsFor start dumps self.old
             → news_in result ≡ news_of (dumps ++ counts_in counts ∷ []) }
     {
+        prove!(
+            counts.ie.unsigned_abs() <= MOST_SUM
+                && counts.qe.unsigned_abs() <= MOST_SUM
+                && counts.ip.unsigned_abs() <= MOST_SUM
+                && counts.qp.unsigned_abs() <= MOST_SUM
+                && counts.il.unsigned_abs() <= MOST_SUM
+                && counts.ql.unsigned_abs() <= MOST_SUM,
+            "Loops::take requires sums of at most MOST_SUM in size"
+        );
+        prove!(
+            self.steering.dumps < MOST_STEERED_DUMPS,
+            "Loops::take requires dumps() < MOST_STEERED_DUMPS"
+        );
         self.steering.take(counts);
         if self.steering.dumps < FIRST_HOLDING {
             return News::Nothing;

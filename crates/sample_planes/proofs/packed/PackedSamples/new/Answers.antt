@@ -7,7 +7,7 @@ use Rattle.sample_planes.proofs.packed.PackedSamples.new.Goals as goal
 pub returns-clause-count : goal.returns-clause-count
 returns-clause-count c =
     let packing = packing_of c.args.format in
-    let all : length c.args.bytes.now * c.per_byte.result
-    ≡ sample_count packing c.args.bytes.now = rw c.per_byte.ensures (omega arith) in
+    let all : length c.args.bytes.now * c.per_byte-per_byte.result
+    ≡ sample_count packing c.args.bytes.now = rw c.per_byte-per_byte.ensures (omega arith) in
     rw c.from_byte.ensures (samples_from-length packing c.args.bytes.now 0
-    (length c.args.bytes.now * c.per_byte.result)) ∙ all
+    (length c.args.bytes.now * c.per_byte-per_byte.result)) ∙ all
