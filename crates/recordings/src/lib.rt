@@ -28,6 +28,7 @@
 //!     packer.take(stretch.part(&[0, 0, 120, 140, 200, 30]), &mut written)?;
 #![tactic(auto)]
 
+mod byte_codes;
 mod choice;
 mod fault;
 mod measure;
@@ -36,6 +37,7 @@ mod packer;
 mod part;
 mod recipe;
 mod stretch;
+mod value_codes;
 mod value_kind;
 
 pub use choice::{Choice, ChoiceFault};

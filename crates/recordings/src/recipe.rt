@@ -4,11 +4,13 @@ ghost use Rattle.std.specs.Prelude.{◌≡◌, ◌+◌, ◌*◌, ◌%◌, ◌<�
 ghost use Rattle.definitions.specs.Samples.{samples_per_byte};
 ghost use Rattle.sample_planes.specs.Packings.{packing_of};
 ghost use Rattle.recordings.specs.Readings.{bits_of};
+ghost use Rattle.recordings.specs.declared.recipe.TheConstants.{MOST_BYTES};
 ghost use Rattle.recordings.specs.declared.numbers.TheConstants.{READING_LIMIT};
 ghost use Rattle.recordings.specs.declared.numbers.TheConstants.{SIGN_AND_SIZE_LIMIT};
 
 use crate::fault::PackFault;
 use crate::part::PartRecipe;
+use crate::value_codes::ValueCodes;
 use crate::value_kind::ValueKind;
 use sample_planes::Format;
 use std::alloc::AllocError;
@@ -55,9 +57,9 @@ impl Recipe {
     ghost use Rattle.definitions.specs.Samples.{sample};
     ghost use Rattle.sample_planes.specs.Packings.{width_of};
     ghost use Rattle.recordings.specs.Recordings.{parts_of, sample_bits, packing_in, value_of};
-    ghost use Rattle.recordings.specs.declared.recipe.TheConstants.{MOST_BYTES, BYTE_VALUES};
+    ghost use Rattle.recordings.specs.declared.recipe.TheConstants.{BYTE_VALUES};
     ghost use Rattle.recordings.specs.declared.recipe.TheConstants.{MOST_SAMPLE_BITS, MOST_GROUP};
-    ghost use Rattle.recordings.specs.Recordings.{sign_in, sign_and_size, code_of, sample_of};
+    ghost use Rattle.recordings.specs.Recordings.{code_of, sample_of};
     ghost use Rattle.recordings.specs.Recordings.{group_of, IsPacked, IsTable};
 
     /// How many values a sample has.
@@ -110,9 +112,73 @@ impl Recipe {
             self.pack_by_table(bytes, written)?;
             return Ok(());
         }
-        let per_byte = self.format.per_byte();
+        self.pack_with(self, bytes, written)?;
+        Ok(())
+    }
+
+    /// Packs by the codes of values. Each format has loops of its own.
+    fn pack_with<C: ValueCodes>(
+        &self,
+        codes: &C,
+        bytes: &[u8],
+        written: &mut Vec<u8>,
+    ) -> Result<(), AllocError>
+        requires recipe { C.recipe codes.now ≡ self.now }
+        requires few { length bytes.now ≤ MOST_BYTES }
+        requires empty { written.old.items ≡ [] }
+        ensures { OnOk result (IsPacked self.now bytes.now written.new.items) }
+    {
+        match self.format {
+            Format::Real1 => self.pack_as(codes, Format::Real1, bytes, written),
+            Format::Real2 => self.pack_as(codes, Format::Real2, bytes, written),
+            Format::Iq1 => self.pack_as(codes, Format::Iq1, bytes, written),
+            Format::Iq2 => self.pack_as(codes, Format::Iq2, bytes, written),
+        }
+    }
+
+    /// Packs in its own format, which the caller knows. Pairs have loops of their own.
+    #[inline(always)]
+    fn pack_as<C: ValueCodes>(
+        &self,
+        codes: &C,
+        format: Format,
+        bytes: &[u8],
+        written: &mut Vec<u8>,
+    ) -> Result<(), AllocError>
+        requires recipe { C.recipe codes.now ≡ self.now }
+        requires format { packing_of format ≡ packing_in self.now }
+        requires few { length bytes.now ≤ MOST_BYTES }
+        requires empty { written.old.items ≡ [] }
+        ensures { OnOk result (IsPacked self.now bytes.now written.new.items) }
+    {
+        if self.is_paired {
+            self.pack_groups(codes, format, true, bytes, written)
+        } else {
+            self.pack_groups(codes, format, false, bytes, written)
+        }
+    }
+
+    /// Packs group by group, each into a byte, where the caller knows the format and whether values
+    /// are pairs.
+    #[inline(always)]
+    fn pack_groups<C: ValueCodes>(
+        &self,
+        codes: &C,
+        format: Format,
+        is_paired: bool,
+        bytes: &[u8],
+        written: &mut Vec<u8>,
+    ) -> Result<(), AllocError>
+        requires recipe { C.recipe codes.now ≡ self.now }
+        requires format { packing_of format ≡ packing_in self.now }
+        requires paired { is_paired ≡ self.now.is_paired }
+        requires few { length bytes.now ≤ MOST_BYTES }
+        requires empty { written.old.items ≡ [] }
+        ensures { OnOk result (IsPacked self.now bytes.now written.new.items) }
+    {
+        let per_byte = format.per_byte();
         for i in 0..bytes.len() / self.group() {
-            written.push(self.byte(bytes, per_byte * i))?;
+            written.push(self.byte(codes, format, is_paired, bytes, per_byte * i))?;
         }
         Ok(())
     }
@@ -137,13 +203,25 @@ impl Recipe {
     {
         let mut table = [0; BYTE_VALUES];
         for byte in 0..BYTE_VALUES {
-            table[byte] = self.byte(&[byte as u8], 0);
+            table[byte] = self.byte(self, self.format, self.is_paired, &[byte as u8], 0);
         }
         table
     }
 
-    /// The byte of the samples from sample `first` on.
-    fn byte(&self, bytes: &[u8], first: usize) -> u8
+    /// The byte of the samples from sample `first` on, where the caller knows the format and
+    /// whether values are pairs.
+    #[inline(always)]
+    fn byte<C: ValueCodes>(
+        &self,
+        codes: &C,
+        format: Format,
+        is_paired: bool,
+        bytes: &[u8],
+        first: usize,
+    ) -> u8
+        requires recipe { C.recipe codes.now ≡ self.now }
+        requires format { packing_of format ≡ packing_in self.now }
+        requires paired { is_paired ≡ self.now.is_paired }
         requires few { length bytes.now ≤ MOST_BYTES }
         requires within { sample_bits self.now * (first + samples_per_byte (packing_in self.now))
             ≤ 8 * length bytes.now }
@@ -151,60 +229,45 @@ impl Recipe {
             → sample (packing_in self.now) (result ∷ []) k
             ≡ sample_of self.now bytes.now (first + k) }
     {
-        prove!(
-            bytes.len() <= MOST_BYTES,
-            "Recipe::byte requires bytes.len() <= MOST_BYTES"
-        );
-        let per_byte = self.format.per_byte();
+        let per_byte = format.per_byte();
         let width = 8 / per_byte;
         let mut byte = 0;
         for n in 0..per_byte {
-            byte = (byte << width) | self.bits(bytes, first + n);
+            byte = (byte << width) | self.bits(codes, format, is_paired, bytes, first + n);
         }
         byte
     }
 
     /// The bits of sample `n` of some bytes, as a number: the sample's first bit is the highest.
-    fn bits(&self, bytes: &[u8], n: usize) -> u8
+    #[inline(always)]
+    fn bits<C: ValueCodes>(
+        &self,
+        codes: &C,
+        format: Format,
+        is_paired: bool,
+        bytes: &[u8],
+        n: usize,
+    ) -> u8
+        requires recipe { C.recipe codes.now ≡ self.now }
+        requires format { packing_of format ≡ packing_in self.now }
+        requires paired { is_paired ≡ self.now.is_paired }
         requires few { length bytes.now ≤ MOST_BYTES }
         requires within { sample_bits self.now * (n + 1) ≤ 8 * length bytes.now }
         ensures value { result ≡ code_of self.now bytes.now n }
         ensures few { result < 2 ^ width_of (packing_in self.now) }
     {
-        match self.format {
-            Format::Real1 => self.sign(&self.in_phase, bytes, n),
-            Format::Real2 => self.sign_and_size(&self.in_phase, bytes, n),
-            Format::Iq1 => {
-                2 * self.sign(&self.in_phase, bytes, n) + self.sign(&self.quadrature, bytes, n)
+        let first = first_value(is_paired, n);
+        let in_phase = codes.code(format, false, bytes, first + self.in_phase.place);
+        if format.has_quadrature() {
+            let quadrature = codes.code(format, true, bytes, first + self.quadrature.place);
+            if format.has_sizes() {
+                4 * in_phase + quadrature
+            } else {
+                2 * in_phase + quadrature
             }
-            Format::Iq2 => {
-                4 * self.sign_and_size(&self.in_phase, bytes, n)
-                    + self.sign_and_size(&self.quadrature, bytes, n)
-            }
+        } else {
+            in_phase
         }
-    }
-
-    /// The bit of the sign of a part of sample `n`.
-    fn sign(&self, part: &PartRecipe, bytes: &[u8], n: usize) -> u8
-        requires place { part.now.place < parts_of self.now }
-        requires few { length bytes.now ≤ MOST_BYTES }
-        requires within { sample_bits self.now * (n + 1) ≤ 8 * length bytes.now }
-        ensures value { result ≡ sign_in self.now part.now bytes.now n }
-        ensures bit { result < 2 }
-    {
-        part.sign(self.value(part, bytes, n))
-    }
-
-    /// The bits of a part's sign and size.
-    fn sign_and_size(&self, part: &PartRecipe, bytes: &[u8], n: usize) -> u8
-        requires place { part.now.place < parts_of self.now }
-        requires few { length bytes.now ≤ MOST_BYTES }
-        requires within { sample_bits self.now * (n + 1) ≤ 8 * length bytes.now }
-        ensures value { result ≡ sign_and_size self.now part.now bytes.now n }
-        ensures bits { result < SIGN_AND_SIZE_LIMIT }
-    {
-        let value = self.value(part, bytes, n);
-        2 * part.sign(value) + part.size(self.threshold, value)
     }
 
     /// The value that a part is made of.
@@ -217,4 +280,13 @@ impl Recipe {
     {
         self.kind.reading(bytes, self.parts() * n + part.place)
     }
+}
+
+/// The number of the first value of sample `n`, of which there are at most `8 * MOST_BYTES`.
+#[inline(always)]
+fn first_value(is_paired: bool, n: usize) -> usize
+    requires { n < 8 * MOST_BYTES }
+    ensures { result ≡ (if is_paired then 2 else 1) * n }
+{
+    if is_paired { 2 * n } else { n }
 }
