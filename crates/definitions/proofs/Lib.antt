@@ -52,3 +52,4 @@ pub mod FoundLemmas
 pub mod CellLemmas
 pub mod PageLemmas
 pub mod LastPageLemmas
+mod LoopStepLemmas

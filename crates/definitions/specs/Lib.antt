@@ -30,3 +30,4 @@ pub mod SlotLaws
 pub mod EventLaws
 pub mod PrintedLaws
 pub mod DistinctLaws
+pub mod LoopLaws
