@@ -37,20 +37,20 @@ use Rattle.definitions.proofs.ReportLemmas.{is-report, is-almanac_set, with-alma
 abbrev pub All : (Event → Type 0) → List Event → Type 0
 All P es = AllByRecursion P es
 
-all-append : (P : Event → Type 0) (es fs : List Event) → All P es → All P fs → All P (es ++ fs)
+pub all-append : (P : Event → Type 0) (es fs : List Event) → All P es → All P fs → All P (es ++ fs)
 all-append P [] fs he hf = hf
 all-append P (e ∷ es) fs he hf = (he.0, all-append P es fs he.1 hf)
 
-all-when : (P : Event → Type 0) (b : Bool) (e : Event) → (b ≡ true → P e) → All P (when b e)
+pub all-when : (P : Event → Type 0) (b : Bool) (e : Event) → (b ≡ true → P e) → All P (when b e)
 all-when P true e h = (h refl, tt)
 all-when P false e h = tt
 
-all-events_of : {A : Type 0} (P : Event → Type 0) (f : A → Event) (o : Option A)
+pub all-events_of : {A : Type 0} (P : Event → Type 0) (f : A → Event) (o : Option A)
     → ((x : A) → o ≡ Some x → P (f x)) → All P (events_of f o)
 all-events_of P f None h = tt
 all-events_of P f (Some x) h = (h x refl, tt)
 
-all-if : (P : Event → Type 0) (b : Bool) (es : List Event) → All P es → All P (if b then es else [])
+pub all-if : (P : Event → Type 0) (b : Bool) (es : List Event) → All P es → All P (if b then es else [])
 all-if P true es h = h
 all-if P false es h = tt
 

@@ -53,3 +53,4 @@ pub mod CellLemmas
 pub mod PageLemmas
 pub mod LastPageLemmas
 mod LoopStepLemmas
+mod EmissionLemmas

@@ -31,3 +31,4 @@ pub mod EventLaws
 pub mod PrintedLaws
 pub mod DistinctLaws
 pub mod LoopLaws
+pub mod ReportLaws
