@@ -1,12 +1,14 @@
 -- What a slot emits with a bit, and that nothing of it is missing.
-use Rattle.std.proofs.Common.{◌≡◌, ℕ, zero, suc, ◌+◌, ◌-◌, ◌<◌, ◌≤◌, List, [], ◌∷◌, ◌++◌, length, refl}
+use Rattle.std.proofs.Common.{◌≡◌, ℕ, zero, suc, ◌+◌, ◌-◌, ◌<◌, ◌≤◌, List, [], ◌∷◌, ◌++◌, length}
+use Rattle.std.proofs.Common.{refl}
 use Rattle.std.proofs.Common.{sym, ap, ◌∙◌, arith, append-nil, take}
 use Rattle.std.proofs.Math.Path.{ap₂}
 use Rattle.std.proofs.Math.Seq.{take-length}
 use Rattle.std.specs.Option.{option_map_or}
 use Rattle.std.specs.Prelude.{option_and_then, is_some}
 use Rattle.std.specs.Cmp.Rules.{signed_items}
-use Rattle.std.specs.Prelude.{Bool, true, false, ℤ, not, ◌&&◌, ◌||◌, Option, Some, None, filter, nat_eq}
+use Rattle.std.specs.Prelude.{Bool, true, false, ℤ, not, ◌&&◌, ◌||◌, Option, Some, None, filter}
+use Rattle.std.specs.Prelude.{nat_eq}
 use Rattle.std.specs.Prelude.{nat_lt, if◌then◌else◌, slice_get, option_map, cond}
 use Rattle.std.proofs.lemmas.Bool.{eqb-true, eq-eqb, ne_eqb, lt-ltb, ltb-true}
 use Rattle.std.proofs.lemmas.List.Elements.{filter-append}
@@ -17,9 +19,13 @@ use Rattle.definitions.specs.Lock.{News, nothing, lock, unlock, lost, news_of}
 use Rattle.definitions.specs.BitEdge.{has_edge, bits_of}
 use Rattle.definitions.specs.Acquisition.{result_of, due_time}
 use Rattle.definitions.specs.Frames.{Found, found_by, found_among, starts_of, subframe_at, gap_from}
-use Rattle.definitions.specs.Pages.{Kind, Page, page_of, clock, eph2, eph3, almanac, utc, health, message}
-use Rattle.definitions.specs.DataSets.{reports_of, SetKind, ephemeris, single, kind_number, ephemeris_of, almanacs_of}
-use Rattle.definitions.specs.DataSets.{ephemerides, almanac_sets, same_values, differing, later, reported_with, last_reported, new_set, almanac_set, page_report}
+use Rattle.definitions.specs.Pages.{Kind, Page, page_of, clock, eph2, eph3, almanac, utc, health}
+use Rattle.definitions.specs.Pages.{message}
+use Rattle.definitions.specs.DataSets.{reports_of, SetKind, ephemeris, single, kind_number}
+use Rattle.definitions.specs.DataSets.{ephemeris_of, almanacs_of}
+use Rattle.definitions.specs.DataSets.{ephemerides, almanac_sets, same_values, differing, later}
+use Rattle.definitions.specs.DataSets.{reported_with, last_reported, new_set, almanac_set}
+use Rattle.definitions.specs.DataSets.{page_report}
 use Rattle.definitions.specs.Commands.{Start, TimedRequest, hold, track, acquire}
 use Rattle.definitions.specs.Lives.{Life, is_steered, dumps_of_life, life_now}
 use Rattle.definitions.specs.Events.{Event, acquired, count, locked, unlocked, signal_lost, edge}
@@ -32,7 +38,8 @@ use Rattle.definitions.specs.SlotLaws.{is_set}
 use Rattle.definitions.specs.ReportLaws.{BringsBit, BringsSubframe, is_framing, is_report}
 use Rattle.definitions.specs.ReportLaws.{gap_between, gap_before, SubframesAreEmitted}
 use Rattle.definitions.specs.ReportLaws.{ReportsComeWithSubframes, PagesAreReported, has_line}
-use Rattle.definitions.specs.ReportLaws.{last_there, IsEmittedAnew, is_almanac, EphemeridesAreReported}
+use Rattle.definitions.specs.ReportLaws.{last_there, IsEmittedAnew, is_almanac}
+use Rattle.definitions.specs.ReportLaws.{EphemeridesAreReported}
 use Rattle.definitions.specs.ReportLaws.{AlmanacSetsAreReported}
 use Rattle.definitions.proofs.LastPageLemmas.{page-is-last}
 use Rattle.definitions.proofs.EdgeLemmas.{clash}
@@ -196,7 +203,8 @@ module _ (f : Event → Bool) (quiet : Quiet f) (settings : Settings) (xs : List
       brought f quiet settings xs commands life brings.brings
       ∙ ap (λ (o : Option Found). filter f (bit_events so_far o)) whole
       ∙ filter-append f (events_of gap (gap_from (awaited_at None (starts_of so_far) k) n)
-      ++ (subframe (subframe_at so_far n) ∷ [])) (page_events so_far (page_of (subframe_at so_far n)))
+      ++ (subframe (subframe_at so_far n) ∷ []))
+      (page_events so_far (page_of (subframe_at so_far n)))
       ∙ ap (λ (es : List Event). filter f (es ++ (subframe (subframe_at so_far n) ∷ []))
       ++ filter f (page_events so_far (page_of (subframe_at so_far n))))
       (gap-is (starts_of so_far) k n)
@@ -447,7 +455,8 @@ emitted-anew make None (Some now) = record {
 emitted-anew make (Some before) (Some now) = by_test (same_values before now) refl
   where
     by_test : (b : Bool) → same_values before now ≡ b
-        → IsEmittedAnew make (Some before) (Some now) (events_of make (if b then None else Some now))
+        → IsEmittedAnew make (Some before) (Some now)
+        (events_of make (if b then None else Some now))
     by_test true e = record {
       none = λ e. refl;
       same = λ e. refl;
@@ -606,7 +615,8 @@ module _ (settings : Settings) (xs : List Sample) (commands : List TimedRequest)
         (push_events (pushes_so_far settings xs life)) (news-come (news_of (counts_of run)))
         pushes-come
 
-  dump-come : (o : Option Dump) → last_of run ≡ o → All Comes (last_dump_events life (length xs) run o)
+  dump-come : (o : Option Dump) → last_of run ≡ o
+      → All Comes (last_dump_events life (length xs) run o)
   unfolding Comes
   dump-come None e = tt
   dump-come (Some d) e = by_time (nat_eq d.time (length xs)) refl

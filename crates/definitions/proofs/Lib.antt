@@ -54,3 +54,4 @@ pub mod PageLemmas
 pub mod LastPageLemmas
 mod LoopStepLemmas
 mod EmissionLemmas
+mod SizeLemmas

@@ -1,5 +1,6 @@
 -- The loops with one more dump, by the number of dumps and the one before it.
-use Rattle.std.proofs.Common.{◌≡◌, ℕ, suc, ◌+◌, ◌-◌, ◌*◌, ◌/◌, ◌^◌, ◌<◌, ◌≤◌, max, min, List, [], ◌∷◌}
+use Rattle.std.proofs.Common.{◌≡◌, ℕ, suc, ◌+◌, ◌-◌, ◌*◌, ◌/◌, ◌^◌, ◌<◌, ◌≤◌, max, min, List, []}
+use Rattle.std.proofs.Common.{◌∷◌}
 use Rattle.std.proofs.Common.{length, refl, sym, ap, ◌∙◌, arith, inl, inr}
 use Rattle.std.specs.Prelude.{ℤ, pos, negsuc, neg_ℤ, ◌+ℤ◌, ◌-ℤ◌, ◌*ℤ◌, unsigned_abs, fold, Some}
 use Rattle.std.specs.Prelude.{unwrap_or, slice_get, ◌↔◌, ◌⊎◌, Bool, true, false, nat_lt}
@@ -16,7 +17,8 @@ use Rattle.definitions.specs.Loops.{Loops, loops_after, loops_after_dump, loops_
 use Rattle.definitions.specs.Loops.{no_counts, frequency_error, phase_error, code_error, ratio, sgn}
 use Rattle.definitions.specs.Events.{last_of}
 use Rattle.definitions.specs.LoopLaws.{IsLimited, LoopsStayWithin, FirstDumpsPull, LaterDumpsHold}
-use Rattle.definitions.specs.LoopLaws.{PromptSumsSteerTheCarrier, LastDumpSteersTheCode, SignalInPhaseStays}
+use Rattle.definitions.specs.LoopLaws.{PromptSumsSteerTheCarrier, LastDumpSteersTheCode}
+use Rattle.definitions.specs.LoopLaws.{SignalInPhaseStays}
 use Rattle.definitions.specs.LoopLaws.{prompts_of, power_of_sums}
 use Rattle.definitions.proofs.LoopLemmas.{loops_after-more}
 

@@ -32,3 +32,4 @@ pub mod PrintedLaws
 pub mod DistinctLaws
 pub mod LoopLaws
 pub mod ReportLaws
+pub mod SizeLaws

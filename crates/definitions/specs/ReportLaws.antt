@@ -1,7 +1,8 @@
 -- What a slot has to emit with a bit: no subframe, no page and no set is missing, and none comes
 -- twice. Each law is promised by a function of the same name in this crate. (IS-GPS-200 has the
 -- pages, section 20.3.3; when they are reported is this project's own.)
-use Rattle.std.specs.Prelude.{ℕ, zero, suc, ◌≡◌, ◌+◌, ◌-◌, ◌==◌, ◌<◌, Bool, true, false, ℤ, List, []}
+use Rattle.std.specs.Prelude.{ℕ, zero, suc, ◌≡◌, ◌+◌, ◌-◌, ◌==◌, ◌<◌, Bool, true, false, ℤ, List}
+use Rattle.std.specs.Prelude.{[]}
 use Rattle.std.specs.Prelude.{◌∷◌, ◌++◌, length, filter, slice_get, take, Option, Some, None}
 use Rattle.std.specs.Prelude.{if◌then◌else◌, ◌&&◌, ◌||◌, not, is_some}
 use Rattle.std.specs.Option.{option_map_or}
