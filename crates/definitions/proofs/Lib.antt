@@ -55,3 +55,4 @@ pub mod LastPageLemmas
 mod LoopStepLemmas
 mod EmissionLemmas
 mod SizeLemmas
+mod TurnLemmas

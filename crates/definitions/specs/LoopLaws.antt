@@ -80,3 +80,39 @@ abbrev pub SignalInPhaseStays : Type 0
 SignalInPhaseStays = (v : ℤ) (dumps : List Counts) → unsigned_abs v ≤ 2 ^ 30
     → ((k : ℕ) (d : Counts) → slice_get dumps k ≡ Some d → d.qp ≡ pos 0)
     → ((loops_after v dumps).u ≡ v) × ((loops_after v dumps).v ≡ v)
+
+-- ---- phases and data bits
+
+-- a dump whose prompt sums are turned by a quarter of a circle
+abbrev pub quarter_turned : Counts → Counts
+quarter_turned d = record {
+  ie = d.ie;
+  qe = d.qe;
+  ip = neg_ℤ d.qp;
+  qp = d.ip;
+  il = d.il;
+  ql = d.ql;
+}
+
+-- The frequency error is the turn from dump to dump: a quarter turn of both is none.
+abbrev pub CommonPhaseIsNoTurn : Type 0
+CommonPhaseIsNoTurn = (before d : Counts)
+    → frequency_error (quarter_turned before) (quarter_turned d) ≡ frequency_error before d
+
+-- a dump with the other data bit, which inverts its prompt sums
+abbrev pub inverted : Counts → Counts
+inverted d = record {
+  ie = d.ie;
+  qe = d.qe;
+  ip = neg_ℤ d.ip;
+  qp = neg_ℤ d.qp;
+  il = d.il;
+  ql = d.ql;
+}
+
+-- A data bit changes no error, but where the turn is just a quarter, or the phase.
+abbrev pub DataBitsAreNoError : Type 0
+DataBitsAreNoError = (before d : Counts)
+    → ((before.ip *ℤ d.ip +ℤ before.qp *ℤ d.qp ≡ pos 0 → ⊥)
+    → frequency_error before (inverted d) ≡ frequency_error before d)
+    × ((d.ip ≡ pos 0 → ⊥) → phase_error (inverted d) ≡ phase_error d)

@@ -2,7 +2,8 @@
 
 ghost use Rattle.definitions.specs.LoopLaws.{LoopsStayWithin, FirstDumpsPull, LaterDumpsHold};
 ghost use Rattle.definitions.specs.LoopLaws.{PromptSumsSteerTheCarrier, LastDumpSteersTheCode};
-ghost use Rattle.definitions.specs.LoopLaws.{SignalInPhaseStays};
+ghost use Rattle.definitions.specs.LoopLaws.{SignalInPhaseStays, CommonPhaseIsNoTurn};
+ghost use Rattle.definitions.specs.LoopLaws.{DataBitsAreNoError};
 
 /// After each dump the shift is within its limits, and so is the correction of the code's rate.
 pub fn loops_stay_within()
@@ -32,4 +33,14 @@ pub fn last_dump_steers_the_code()
 /// A signal whose prompt sums have no part in quadrature leaves the shift as it was at first.
 pub fn signal_in_phase_stays()
     ensures { SignalInPhaseStays }
+{}
+
+/// The frequency error is that of the turn alone: a quarter turn of both dumps doesn't change it.
+pub fn common_phase_is_no_turn()
+    ensures { CommonPhaseIsNoTurn }
+{}
+
+/// A data bit changes no error, but where the turn or the phase is just a quarter.
+pub fn data_bits_are_no_error()
+    ensures { DataBitsAreNoError }
 {}
