@@ -45,12 +45,12 @@ pub all-when : (P : Event → Type 0) (b : Bool) (e : Event) → (b ≡ true →
 all-when P true e h = (h refl, tt)
 all-when P false e h = tt
 
-pub all-events_of : {A : Type 0} (P : Event → Type 0) (f : A → Event) (o : Option A)
+all-events_of : {A : Type 0} (P : Event → Type 0) (f : A → Event) (o : Option A)
     → ((x : A) → o ≡ Some x → P (f x)) → All P (events_of f o)
 all-events_of P f None h = tt
 all-events_of P f (Some x) h = (h x refl, tt)
 
-pub all-if : (P : Event → Type 0) (b : Bool) (es : List Event) → All P es → All P (if b then es else [])
+all-if : (P : Event → Type 0) (b : Bool) (es : List Event) → All P es → All P (if b then es else [])
 all-if P true es h = h
 all-if P false es h = tt
 
