@@ -56,3 +56,4 @@ mod LoopStepLemmas
 mod EmissionLemmas
 mod SizeLemmas
 mod TurnLemmas
+mod NewsLemmas

@@ -9,7 +9,8 @@ use Rattle.std.specs.Option.{option_map_or}
 use Rattle.definitions.specs.Samples.{Sample}
 use Rattle.definitions.specs.Oscillators.{Settings}
 use Rattle.definitions.specs.Segments.{Dump}
-use Rattle.definitions.specs.BitEdge.{bits_of}
+use Rattle.definitions.specs.Lock.{News, nothing, lock, unlock, lost, news_of}
+use Rattle.definitions.specs.BitEdge.{has_edge, bits_of}
 use Rattle.definitions.specs.Frames.{starts_of, subframe_at}
 use Rattle.definitions.specs.Pages.{Kind, Page, page_of, clock, eph2, eph3, almanac, utc, health}
 use Rattle.definitions.specs.Pages.{message}
@@ -19,7 +20,7 @@ use Rattle.definitions.specs.Lives.{Life, is_steered, dumps_of_life, life_now}
 use Rattle.definitions.specs.Events.{Event, acquired, count, locked, unlocked, signal_lost, edge}
 use Rattle.definitions.specs.Events.{gap, subframe, reported, almanacs, events_at_end, front_of}
 use Rattle.definitions.specs.Events.{last_of, pages_among}
-use Rattle.definitions.specs.EventLaws.{pushes_so_far, bits_so_far}
+use Rattle.definitions.specs.EventLaws.{counts_by, pushes_so_far, bits_so_far}
 use Rattle.definitions.specs.SlotLaws.{is_set}
 
 -- ---- a bit, and the subframe that it makes whole
@@ -170,3 +171,38 @@ AlmanacSetsAreReported = (settings : Settings) (xs : List Sample) (commands : Li
     (length (pages_among (bits_so_far settings xs life)) - 1))
     (almanacs_of (pages_among (bits_so_far settings xs life)))
     (filter is_set (events_at_end settings xs commands))
+
+-- ---- lock and edge
+
+abbrev pub is_news : Event → Bool
+is_news event = elim event [
+  | locked ↦ true
+  | unlocked ↦ true
+  | signal_lost ↦ true
+  | edge ↦ true
+  | acquired prn cell ↦ false
+  | count c ↦ false
+  | gap n ↦ false
+  | subframe s ↦ false
+  | reported r ↦ false
+  | almanacs set ↦ false
+]
+
+-- what is emitted with what the loops answer
+abbrev pub event_of_news : News → List Event
+event_of_news nothing = []
+event_of_news lock = locked ∷ []
+event_of_news unlock = unlocked ∷ []
+event_of_news lost = signal_lost ∷ []
+
+-- Where the last sample ends a dump of a life whose loops steer it, what they answer is emitted
+-- once. After it stands the edge of the bits, once, where the dump's push brings it.
+abbrev pub NewsIsEmitted : Type 0
+NewsIsEmitted = (settings : Settings) (xs : List Sample) (commands : List TimedRequest)
+    (life : Life) (d : Dump) → life_now settings (front_of xs) commands ≡ Some life
+    → is_steered life.start ≡ true → last_of (dumps_of_life settings xs life) ≡ Some d
+    → d.time ≡ length xs
+    → filter is_news (events_at_end settings xs commands)
+    ≡ event_of_news (news_of (counts_by settings xs life))
+    ++ (if has_edge (pushes_so_far settings xs life)
+    && not (has_edge (front_of (pushes_so_far settings xs life))) then edge ∷ [] else [])

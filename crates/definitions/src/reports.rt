@@ -2,7 +2,7 @@
 
 ghost use Rattle.definitions.specs.ReportLaws.{SubframesAreEmitted, ReportsComeWithSubframes};
 ghost use Rattle.definitions.specs.ReportLaws.{PagesAreReported, EphemeridesAreReported};
-ghost use Rattle.definitions.specs.ReportLaws.{AlmanacSetsAreReported};
+ghost use Rattle.definitions.specs.ReportLaws.{AlmanacSetsAreReported, NewsIsEmitted};
 
 /// A subframe is emitted once with its last bit, damaged or not, and the gap before it.
 pub fn subframes_are_emitted()
@@ -27,4 +27,9 @@ pub fn ephemerides_are_reported()
 /// An almanac has the set of all almanacs emitted, if it isn't the one before.
 pub fn almanac_sets_are_reported()
     ensures { AlmanacSetsAreReported }
+{}
+
+/// What the loops answer with a dump is emitted once, and after it the edge of the bits.
+pub fn news_is_emitted()
+    ensures { NewsIsEmitted }
 {}
