@@ -1,13 +1,14 @@
 //! The libraries see to what their functions require: each call here breaks a premise, and ends in
 //! a panic that names it.
 
-use bit_sync::BitSync;
-use channel_slots::{Bank, Timeline};
-use lane_correlator::Counts;
-use oscillators::Settings;
-use sample_planes::{Format, PackedSamples, Planes};
-use std::alloc::Global;
-use tracking_loops::Loops;
+use seldomplough::internals::bit_sync::BitSync;
+use seldomplough::internals::channel_slots::{Bank, Timeline};
+use seldomplough::internals::lane_correlator::Counts;
+use seldomplough::internals::nav_parity;
+use seldomplough::internals::oscillators::Settings;
+use seldomplough::internals::sample_planes::{Format, PackedSamples, Planes};
+use seldomplough::internals::std::alloc::Global;
+use seldomplough::internals::tracking_loops::Loops;
 
 /// A bank over a recording of real samples of one bit.
 fn bank() -> Bank {

@@ -1,0 +1,7 @@
+//! The program `pack`: see its --help.
+
+mod start;
+
+fn main() -> std::process::ExitCode {
+    seldomplough::run_pack()
+}

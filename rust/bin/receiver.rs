@@ -1,0 +1,7 @@
+//! The program `receiver`: see its --help.
+
+mod start;
+
+fn main() -> std::process::ExitCode {
+    seldomplough::run_receiver()
+}
