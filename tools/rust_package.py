@@ -5,7 +5,7 @@ from __future__ import annotations
 import os
 import re
 
-from rust_text import FAST, Failed, block_end, fast, stripped
+from rust_text import FAST, FOUND, Failed, block_end, fast, stripped
 
 TOP = os.path.dirname(os.path.dirname(os.path.realpath(__file__)))
 MADE = '// Made by tools/rust of '
@@ -143,8 +143,9 @@ def example(text: str, crate: str, crates: list[str]) -> str:
     def fenced(found: re.Match[str]) -> str:
         lines = re.sub(r'^//!(?:     )?', '', found[0], flags=re.M)
         if crate != ROOT:
-            lines = imported(moduled(lines, crate, crates)).replace('crate::kit::', f'{ROOT}::kit::')
-            lines = lines.replace('crate::', f'{ROOT}::internals::')
+            lines = imported(moduled(lines, crate, crates))
+            lines = re.sub('crate::(?!kit::)', 'crate::internals::', lines)
+            lines = lines.replace('crate::', f'{ROOT}::')
         if 'HostRuntime' not in lines:
             lines = lines.replace('rt.alloc()', f'{ROOT}::Global')
         lines = f'{MAIN}{lines}# Ok(())\n# }}\n```\n'
@@ -159,8 +160,8 @@ def condition(crate: str) -> str:
     return next((f'#[cfg({when})]\n' for crates, when in BUILT_FOR.items() if crate in crates), '')
 
 
-def files_of(crate: str, crates: dict[str, list[str]], seen: set[int]) -> dict[str, str]:
-    """The files of a crate, by path. Adds to `seen` the rows of FAST that matched."""
+def files_of(crate: str, crates: dict[str, list[str]], seen: set[object]) -> dict[str, str]:
+    """The files of a crate, by path. Adds to `seen` as `fast` does."""
     folder, files = f'crates/{crate}/src', {}
     below = [name for name in crates[crate] if name in KIT or name in crates]
     sources = {name[:-3]: read(f'{folder}/{name}') for name in files_below(folder)}
@@ -194,12 +195,13 @@ def all_files() -> dict[str, str]:
     crates = {crate.strip(): names.split() for crate, colon, names in rows if colon}
     crates = {crate: names for crate, names in crates.items() if not crate.startswith('definition')}
     files: dict[str, str] = {}
-    seen: set[int] = set()
+    seen: set[object] = set()
     for crate in crates:
         files.update(files_of(crate, crates, seen))
-    if unseen := set(range(len(FAST))) - seen:
-        raise Failed(f'no source has what row {min(unseen) + 1} of FAST in tools/rust_text.py '
-                     'makes faster by its text')
+    for it in (*range(len(FAST)), *FOUND) if seen else ():
+        if it not in seen:
+            what = it if it in FOUND else f'what row {it} of FAST'
+            raise Failed(f'no source has {what}, which tools/rust_text.py makes faster by its text')
     made, docs, rest = re.split(r'^((?://!.*\n)+)', files[f'{FACADE}/mod.rs'], 1, re.M)
     files[f'{FACADE}/mod.rs'] = made + rest
     files['lib.rs'] = root(docs, list(crates), [crate for crate, _ in STARTS])

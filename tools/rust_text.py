@@ -55,27 +55,29 @@ REWRITTEN = [(re.compile(pattern, re.M), new) for pattern, new in [
     # Windows has no file of the name prn.
     (r'^((?:pub )?mod prn;)', r'#[path = "satellite.rs"]\n\1'),
     # What a later version may add to. In one package each match of the sources still has all cases.
-    (r'^((?:#\[.*\]\n)*pub enum (?:Answer|Event|LineRefusal|Refusal|Report|SlotState) '
-     r'|#\[derive\(.*\bError\)\]\n(?:#\[.*\]\n)*pub enum )', r'#[non_exhaustive]\n\1'),
+    (r'^((?:#\[(?!non_).*\]\n)*pub enum (?:Answer|Event|LineRefusal|Refusal|Report|SlotState) '
+     r'|#\[derive\(.*\bError\)\]\n(?:#\[(?!non_).*\]\n)*pub enum )', r'#[non_exhaustive]\n\1'),
     # No gaps where lines fell away.
     (r'\n{3,}', r'\n\n'), (r'\{\n\n', '{\n'), (r'\n\n(?=[ \t]*\})', '\n'), (r'\A\n+', ''),
 ]]
 
 # What makes lanes as fast as by `rt`. An operation on 64 lanes of words counts as 64 to rustc until
 # it makes vectors of them, which it does last: it leaves short functions as calls, and keeps in
-# memory what they take by a reference. Each row has to match somewhere.
+# memory what they take by a reference. Each row has to match somewhere, and what is in FOUND too.
 LANES = re.compile(r'\b[iu]\d+x\d+\b')
 INLINED = '#[inline(always)]\n'
 FAST = [(re.compile(pattern, re.M), new) for pattern, new in [
     (r'\n    let low = two_windows\(table, at\[0\], at\[1\]\);\n'
      r'    let high = two_windows\(table, at\[2\], at\[3\]\);\n'
      r'    low\.shuffle\(high, SIXTY_FOUR\)\n\}', '\n    u8x64::from_places(table, at)\n}'),
-    (r'^(?=const (?:THIRTY_TWO|SIXTY_FOUR): |fn two_windows\()', '#[allow(dead_code)]\n'),
+    (r'(?:^///.*\n)*^fn two_windows\([^{]*\{\n(?:    .*\n)*?    u8x16::from_slice\(&table\[first'
+     r'\.\.\]\)\.shuffle\(u8x16::from_slice\(&table\[second\.\.\]\), THIRTY_TWO\)\n\}\n+', ''),
     (r'\b([iu]\d+x\d+)::from_slice\(&([\w.]+)\[([^\[\]]*)\.\.\]\)',
      lambda it: f'{it[1]}::from_slice_at({"&" * ("." in it[2])}{it[2]}, {it[3]})'),
     (r'^( *)#\[cold\]\n *#\[inline\(never\)\]\n(?=.*\(&(?:mut )?self\b)', r'\1' + INLINED),
 ]]
 FUNCTION = re.compile(r'^( *)(?:pub(?:\([a-z]+\))? )?fn ((?:[^{;/\[]|\[[^\]]*\])*) \{$', re.M)
+FOUND = ('a method that gives 64 bytes', 'a structure of lanes')
 TOLD = re.compile(r'inline\((?:always|never)\)\]\n(?: *///.*\n)*\Z')
 
 
@@ -106,18 +108,20 @@ def stripped(text: str) -> str:
     return text
 
 
-def fast(sources: dict[str, str], seen: set[int]) -> dict[str, str]:
-    """The sources of a crate that works on lanes. Adds to `seen` the rows of FAST that matched."""
+def fast(sources: dict[str, str], seen: set[object]) -> dict[str, str]:
+    """The sources of a crate that works on lanes. Adds to `seen` the rows of FAST that matched, and
+    what is there of FOUND."""
     fields = re.findall(r'\bstruct (\w+) \{\n((?:    .*\n)*)', ''.join(sources.values()))
     types = {name for name, rows in fields if LANES.search(re.sub('//.*', '', rows))}
 
     def inlined(found: re.Match[str]) -> str:
         taken, _, given = found[2].partition('->')
         of_self = given if 'self' in taken else ''
-        short = ('[u8; 64]' in of_self or LANES.search(found[2])
-                 or types.intersection(re.findall(r'\w+', taken + of_self)))
+        is_found = '[u8; 64]' in of_self, bool(types & {*re.findall(r'\w+', taken + of_self)})
+        seen.update(name for name, it in zip(FOUND, is_found) if it)
+        is_short = any(is_found) or LANES.search(found[2])
         told = TOLD.search(found.string, 0, found.start())
-        return (found[1] + INLINED) * bool(short and not told) + found[0]
+        return (found[1] + INLINED) * bool(is_short and not told) + found[0]
 
     for name, text in sources.items():
         for row, (pattern, new) in enumerate(FAST):

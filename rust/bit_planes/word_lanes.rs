@@ -4,14 +4,12 @@
 use crate::kit::lanes::*;
 
 /// The numbers of two times sixteen lanes.
-#[allow(dead_code)]
 const THIRTY_TWO: [usize; 32] = [
     0, 1, 2, 3, 4, 5, 6, 7, 8, 9, 10, 11, 12, 13, 14, 15, 16, 17, 18, 19, 20, 21, 22, 23, 24, 25,
     26, 27, 28, 29, 30, 31,
 ];
 
 /// The numbers of the lanes of a word.
-#[allow(dead_code)]
 const SIXTY_FOUR: [usize; 64] = [
     0, 1, 2, 3, 4, 5, 6, 7, 8, 9, 10, 11, 12, 13, 14, 15, 16, 17, 18, 19, 20, 21, 22, 23, 24, 25,
     26, 27, 28, 29, 30, 31, 32, 33, 34, 35, 36, 37, 38, 39, 40, 41, 42, 43, 44, 45, 46, 47, 48, 49,
@@ -39,9 +37,3 @@ fn four_windows(table: &[u8], at: [usize; 4]) -> u8x64 {
     u8x64::from_places(table, at)
 }
 
-/// Sixteen bytes of a table from a place on, and sixteen from another.
-#[allow(dead_code)]
-#[inline(always)]
-fn two_windows(table: &[u8], first: usize, second: usize) -> u8x32 {
-    u8x16::from_slice_at(table, first).shuffle(u8x16::from_slice_at(table, second), THIRTY_TWO)
-}
