@@ -8,8 +8,8 @@ import time
 
 import children
 import room_folders
-from built import (ANY, APART, NAMES, OUT, THIRD, TOP, clean_environment, find, is_plain_wanted,
-                   level, read, replace, sum_of_sources)
+from built import (ANY, APART, NAMES, OUT, THIRD, TOP, Built, clean_environment, find,
+                   is_plain_wanted, level, read, replace, sum_of_sources)
 from crate_order import job_count, read_crates, side_by_side, with_those_below
 from crate_shares import Shares
 from rooms import RT, prove as prove_in_room
@@ -109,13 +109,14 @@ class Target:
         self.folder, self.text = folder, f'{sources}\n{line}'
         self.mark = os.path.join(folder, 'sources')
 
-    def clear(self, package):
-        """Removes what cargo made of other sources of a package, which a folder has."""
+    def clear(self, package, is_harmed=False):
+        """Removes what cargo made of other sources of a package, which a folder has; or all of it
+        where it isn't what cargo made any more."""
         try:
             is_of_these = read(self.mark).decode() == self.text
         except (OSError, UnicodeDecodeError):
             is_of_these = False
-        if not is_of_these:
+        if is_harmed or not is_of_these:
             run(['cargo', 'clean', '--offline', '--quiet', '--target-dir', self.folder], package)
 
     def keep(self):
@@ -125,8 +126,8 @@ class Target:
 
 def cargo_build(name, folder, target, environment):
     """Builds a program of the package in a folder, and gives its path."""
-    command = ['cargo', 'build', '--offline', '--quiet', '--release', '--target-dir', target,
-               '--message-format', 'json-render-diagnostics', '--bin', name]
+    command = ['cargo', 'build', '--offline', '--locked', '--quiet', '--release', '--target-dir',
+               target, '--message-format', 'json-render-diagnostics', '--bin', name]
     return executable(run(command, folder, env=environment), name)
 
 
@@ -152,7 +153,7 @@ def build_plain(crate, _, line, say):
     run([sys.executable, '-E', '-s', '-S', os.path.join(TOP, 'tools', 'rust'), '--check'], TOP)
     of_cargo = sum_of_sources('cargo')
     target = Target(os.path.join(OUT, 'plain'), of_cargo, line)
-    target.clear(TOP)
+    target.clear(TOP, Built(crate, 'plain').is_harmed())
 
     def build(of_level):
         flags = clean_environment()

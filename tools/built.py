@@ -220,6 +220,15 @@ class Built:
         is_whole = found == sum_of(path) and os.access(path, os.X_OK)
         return path if is_whole else None
 
+    def is_harmed(self):
+        """Whether one of its programs is there, and isn't what was built."""
+        try:
+            _, _, *rows = read(self.stamp).decode().split('\n')
+            known = [row.split(' ', 2)[1:] for row in rows]
+        except (OSError, ValueError):
+            return False
+        return any(sum_of(os.path.join(TOP, path)) not in (None, found) for found, path in known)
+
     def keep(self, paths, sources, line):
         """Keeps that the program is built of sources of this sum: its paths by the levels."""
         rows = [f'{it} {sum_of(path)} {os.path.relpath(path, TOP)}' for it, path in paths.items()]

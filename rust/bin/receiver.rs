@@ -2,6 +2,6 @@
 
 mod start;
 
-fn main() -> std::process::ExitCode {
+fn main() -> impl std::process::Termination {
     seldomplough::run_receiver()
 }
