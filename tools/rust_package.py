@@ -169,7 +169,7 @@ def files_of(crate: str, crates: dict[str, list[str]], seen: set[object]) -> dic
     sources = {name: stripped(text) for name, text in sources.items()}
     for name, text in (fast(sources, seen) if has_lanes else sources).items():
         text = example(text, crate, [*crates]) if name == 'lib' else text
-        text = re.sub(r'^fn main\(', 'pub fn main(', text, flags=re.M)
+        text = re.sub(r'^fn main\(', '#[must_use]\npub fn main(', text, flags=re.M)
         text = imported(moduled(erring(text), crate, below))
         file = {'lib': 'mod', 'main': 'mod', 'prn': 'satellite'}.get(name, name)
         files[f'{module(crate)}/{file}.rs'] = f'{MADE}{folder}/{name}.rt: change that.\n{text}'

@@ -78,7 +78,7 @@ FAST = [(re.compile(pattern, re.M), new) for pattern, new in [
 ]]
 FUNCTION = re.compile(r'^( *)(?:pub(?:\([a-z]+\))? )?fn ((?:[^{;/\[]|\[[^\]]*\])*) \{$', re.M)
 FOUND = ('a method that gives 64 bytes', 'a structure of lanes')
-TOLD = re.compile(r'inline\((?:always|never)\)\]\n(?: *///.*\n)*\Z')
+TOLD = re.compile(r'inline\((?:always|never)\)\]\n(?: *(?:///|#\[).*\n)*\Z')
 
 
 def block_end(text: str, at: int) -> int:

@@ -8,6 +8,7 @@ use crate::packer::{Plain, carry_out};
 use crate::kit::std::io;
 use crate::kit::std::process::ExitCode;
 
+#[must_use]
 pub fn main() -> ExitCode {
     let rt = HostRuntime;
     let (mut reader, mut writer) = (Plain::new(rt.reader()), Plain::new(io::writer(&rt)));

@@ -30,6 +30,7 @@ use crate::receiver_options::{Stored, SystemCommandLine};
 use crate::kit::std::io::{self, Eprint, Print};
 use crate::kit::std::process::ExitCode;
 
+#[must_use]
 pub fn main() -> ExitCode {
     let rt = HostRuntime;
     let (mut reader, mut writer) = (Plain::new(rt.reader()), Plain::new(io::writer(&rt)));
