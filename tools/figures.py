@@ -21,9 +21,6 @@ PAGES = ('*.md', 'docs/*.md', 'docs/*.1', 'python/README.md', 'examples/*/README
 REVISION = re.compile(r'\brevisions?\s+`?([0-9a-f]{7,40})\b')
 NUMBERS = 'no one two three four five six seven eight nine ten eleven twelve'.split()
 
-# Definitions and their rows are no packages. `arrayvec` and `thiserror` may be those of crates.io.
-PROVED_ALONE, OF_CRATES_IO = 2, 2
-
 
 class Figure(NamedTuple):
     """A figure: its page, a pattern with the number as a group, and what counts it below a path."""
@@ -48,12 +45,6 @@ def lines(pattern: str, paths: str) -> Callable[[str], int]:
     """What counts the lines of files that begin with a pattern."""
     return lambda top: sum(len(re.findall(f'^{pattern}', text_of(it), re.M))
                            for it in glob.glob(os.path.join(top, paths)))
-
-
-def packages(top: str) -> int:
-    """The packages that `tools/plain` writes: those of crates, and those of the kit beside them."""
-    crates = lines(r'\w+:', 'crates.txt')(top)
-    return crates - PROVED_ALONE + files('tools/kit/*/Cargo.toml')(top)
 
 
 def runs_of_examples(top: str) -> int:
@@ -91,11 +82,8 @@ FIGURES = (
     Figure('docs/DECISIONS.md', r'the (\S+) edits of `definitions`',
            files('edits/definitions/*.edit')),
     Figure('CONTRIBUTING.md', r'the (\S+) in `must-fail` are', MUST_FAIL),
-    Figure('docs/PLAIN.md', r'made and built (\S+) packages', packages),
-    Figure('docs/PLAIN.md', r'With crates of crates\.io there are (\S+)\.',
-           lambda top: packages(top) - OF_CRATES_IO),
     Figure('docs/PLAIN.md', r'loop by (\S+) tests',
-           lines(r' *#\[test\]', 'tools/kit/lanes/src/*.rs')),
+           lines(r' *#\[test\]', 'rust/kit/lanes/*.rs')),
     Figure('docs/PROOFS.md', r'\): (\S+) refused lines',
            lines(r"    \('.*', \d+\),$", 'tools/runs_rows/scripts.py')),
     Figure('docs/PROOFS.md', r'over `examples` in (\S+) runs', runs_of_examples),
