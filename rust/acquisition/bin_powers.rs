@@ -59,6 +59,10 @@ impl BinPowers {
     /// Adds the first `count` of 64 powers over a period: those of `cell`, the next one, and of
     /// the cells after it.
     fn add(&mut self, cell: usize, count: usize, powers: &[u64; CELLS_AT_ONCE]) {
+        assert!(
+            count <= CELLS_AT_ONCE && cell <= BIN_CELLS - count,
+            "BinPowers::add requires at most CELLS_AT_ONCE powers, of cells of the bin"
+        );
         self.added += count;
         for l in 0..count {
             self.powers[cell + l] += powers[l];

@@ -5,9 +5,10 @@ use crate::acquisition::bin_steps::Steps;
 use crate::acquisition::half_chip_table::{HALF_CHIPS, HalfChipTable};
 use crate::acquisition::half_chip_walk::HalfChipWalk;
 use crate::acquisition::sums::Sums;
+use crate::bit_planes::WORD_PLACES;
 use crate::lane_correlator::{MOST_AT_ONCE, Products};
-use crate::oscillators::{CarrierOsc, CodeOsc, HalfChip};
-use crate::sample_planes::{MAX_SAMPLES, NEAR_BYTES, Planes, SampleSource};
+use crate::oscillators::{CarrierOsc, CodeOsc, HalfChip, MOST_PER_MS};
+use crate::sample_planes::{MAX_SAMPLES, MOST_TIME, NEAR_BYTES, Planes, SampleSource};
 
 /// The greatest sum in size whose half, rounded down, fits in 16 bits.
 pub(crate) const MOST_SMALL: u32 = (1 << 16) - 1;
@@ -41,6 +42,14 @@ impl Fold {
         len: usize,
         steps: Steps,
     ) {
+        assert!(
+            first <= 2 * MOST_TIME,
+            "Fold::fill requires first <= 2 * MOST_TIME"
+        );
+        assert!(
+            len <= MOST_PER_MS as usize,
+            "Fold::fill requires len <= MOST_PER_MS"
+        );
         let mut code = CodeOsc::new(HalfChip::new(0).unwrap(), steps.code);
         let mut carrier = CarrierOsc::new(steps.carrier);
         code.jump(before);
@@ -60,6 +69,7 @@ impl Fold {
     /// Adds a run of samples. The code is at phase `code` at the first of them, and each takes it
     /// `step` on.
     fn take(&mut self, samples: &Planes, code: u64, step: u32, carrier: &CarrierOsc) {
+        assert!(0 < step, "Fold::take requires 0 < step");
         let mut words = carrier.words(0);
         let mut walk = HalfChipWalk::new(code, step);
         for w in 0..(samples.len() + 63) / 64 {
@@ -73,6 +83,10 @@ impl Fold {
     /// follow one another at one half chip are added at once.
     #[inline(always)]
     fn take_word(&mut self, products: &Products, count: usize, walk: &mut HalfChipWalk) {
+        assert!(
+            count <= WORD_PLACES,
+            "Fold::take_word requires count <= WORD_PLACES"
+        );
         let mut done = 0;
         while done < count {
             let len = walk.left.min(count - done).min(MOST_AT_ONCE);

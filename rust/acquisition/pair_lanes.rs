@@ -41,6 +41,10 @@ impl PairLanes {
 /// Puts sixteen pairs in, from place `at` on.
 #[inline(always)]
 fn put_sixteen(cells: &mut [u32; CELLS_AT_ONCE], at: usize, sixteen: &[u32; LANES]) {
+    assert!(
+        at <= CELLS_AT_ONCE - LANES,
+        "put_sixteen requires at + LANES <= CELLS_AT_ONCE"
+    );
     for l in 0..LANES {
         cells[at + l] = sixteen[l];
     }

@@ -72,6 +72,11 @@ impl Plan {
     /// A plan for a satellite: `bins` bins, 0 to 40, to each side of the one at `centre` Hz, -6,000
     /// to 6,000; a dwell of 1 to 10 periods of the code; and a threshold of 1 to 1,000 tenths of
     /// the mean power.
+    ///
+    /// # Errors
+    ///
+    /// One of them is outside its range: the centre is checked first, then the bins, the dwell and
+    /// the threshold.
     pub fn new(
         prn: Prn,
         centre: i32,
@@ -101,21 +106,25 @@ impl Plan {
     }
 
     /// The satellite that is searched for.
+    #[must_use]
     pub fn prn(&self) -> Prn {
         self.prn
     }
 
     /// The Doppler shift of the middle bin in Hz, -6,000 to 6,000.
+    #[must_use]
     pub fn centre(&self) -> i32 {
         self.centre
     }
 
     /// How many bins there are to each side of the middle one: 0 to 40.
+    #[must_use]
     pub fn bins(&self) -> u32 {
         self.bins
     }
 
     /// How many cells there are: `BIN_CELLS` to `MOST_CELLS`.
+    #[must_use]
     pub fn cells(&self) -> u64 {
         BIN_CELLS as u64 * self.bin_count() as u64
     }
@@ -126,17 +135,20 @@ impl Plan {
     }
 
     /// How many periods of the code the dwell has: 1 to 10.
+    #[must_use]
     pub fn dwell(&self) -> u32 {
         self.dwell
     }
 
     /// The threshold in tenths of the mean power: 1 to 1,000.
+    #[must_use]
     pub fn threshold(&self) -> u32 {
         self.threshold
     }
 
     /// The signal of a cell of this plan at the dwell's first sample, from which on it can be
     /// followed; `None` for a cell whose bin isn't one of the plan's.
+    #[must_use]
     pub fn signal(&self, cell: &Cell) -> Option<Signal> {
         if self.bins < cell.bin.unsigned_abs() {
             return None;

@@ -10,7 +10,7 @@ use crate::acquisition::search_room::SearchRoom;
 use crate::acquisition::tally::PowerTally;
 use crate::ca_codes::CodeBook;
 use crate::oscillators::{HalfChip, Settings};
-use crate::sample_planes::SampleSource;
+use crate::sample_planes::{MOST_TIME, SampleSource};
 
 /// The cells of a bin.
 const HALF_CHIPS: u64 = BIN_CELLS as u64;
@@ -38,7 +38,16 @@ pub struct Search {
 impl Search {
     /// A search that has done no cell, for a dwell that begins with sample `start`, at most
     /// `MOST_TIME`. It works in a room until `into_room` gives that back.
+    ///
+    /// # Panics
+    ///
+    /// Plain Rust panics where the start is later than `MOST_TIME`.
+    #[must_use]
     pub fn new(plan: Plan, settings: &Settings, start: u64, mut room: SearchRoom) -> Search {
+        assert!(
+            start <= MOST_TIME,
+            "Search::new requires start <= MOST_TIME"
+        );
         room.begin();
         Search {
             plan,
@@ -56,34 +65,47 @@ impl Search {
     }
 
     /// Ends the search, and gives back the room that it worked in.
+    #[must_use]
     pub fn into_room(self) -> SearchRoom {
         self.room
     }
 
     /// The number of its dwell's first sample.
+    #[must_use]
     pub fn start(&self) -> u64 {
         self.dwell.start
     }
 
     /// The plan of the search.
+    #[must_use]
     pub fn plan(&self) -> Plan {
         self.plan
     }
 
     /// The time, in samples, at which the search's answer is due: four samples for each cell after
     /// the dwell's end.
+    #[must_use]
     pub fn due(&self) -> u64 {
         self.dwell.end() + 4 * self.plan.cells()
     }
 
     /// The number of cells that the search has done.
+    #[must_use]
     pub fn done(&self) -> u64 {
         self.done
     }
 
     /// Does `cells` more cells, or those that are left if these are fewer, over a source that holds
     /// the dwell's samples. The book is any book of codes.
+    ///
+    /// # Panics
+    ///
+    /// Plain Rust panics where the source does not hold the whole dwell.
     pub fn advance<S: SampleSource>(&mut self, cells: u64, source: &S, book: &mut CodeBook) {
+        assert!(
+            source.first() <= self.dwell.start && self.dwell.end() <= source.end(),
+            "Search::advance requires a source that holds the dwell"
+        );
         let left = self.plan.cells() - self.done;
         let end = self.done + cells.min(left);
         if self.ones.is_none() {
@@ -114,6 +136,7 @@ impl Search {
 
     /// The cell that the search names, once it has done all: the first one that no cell exceeds. It
     /// is found where its power is the threshold times the mean power, or more.
+    #[must_use]
     pub fn result(&self) -> Option<Cell> {
         if self.done < self.plan.cells() {
             return None;

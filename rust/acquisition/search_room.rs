@@ -14,7 +14,11 @@ pub struct SearchRoom {
 }
 
 impl SearchRoom {
-    /// Room for one search at a time. An error is memory that it was refused.
+    /// Room for one search at a time.
+    ///
+    /// # Errors
+    ///
+    /// There is no memory.
     pub fn new(alloc: Global) -> Result<SearchRoom, AllocError> {
         Ok(SearchRoom {
             powers: Vec::with_capacity(alloc, 1)?,

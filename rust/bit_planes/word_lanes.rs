@@ -19,6 +19,7 @@ const SIXTY_FOUR: [usize; 64] = [
 /// Bit `number` of each of 64 bytes, the lowest being bit 0: that of lane k is bit k.
 #[inline(always)]
 pub fn bit_of_each(bytes: u8x64, number: u32) -> u64 {
+    assert!(number < 8, "bit_of_each requires number < 8");
     (bytes & u8x64::splat(1 << number))
         .simd_ne(u8x64::splat(0))
         .to_bitmask()

@@ -1,7 +1,7 @@
 // Made by tools/rust of crates/bit_sync/src/bit_sync.rt: change that.
 //! The data bits of a channel, found push by push.
 
-use crate::bit_sync::bit_sum::BitSum;
+use crate::bit_sync::bit_sum::{BitSum, MOST_PUSH};
 use crate::bit_sync::edge_search::EdgeSearch;
 
 /// What comes with a prompt sum that is pushed.
@@ -35,6 +35,7 @@ pub struct BitSync {
 
 impl BitSync {
     /// The state before the first push.
+    #[must_use]
     pub fn new() -> Self {
         BitSync {
             stage: SyncState::Searching(EdgeSearch::new()),
@@ -43,7 +44,15 @@ impl BitSync {
 
     /// Takes the next prompt sum in phase, at most `MOST_PUSH` in size. There may be any number of
     /// pushes.
+    ///
+    /// # Panics
+    ///
+    /// Plain Rust panics where the sum is larger.
     pub fn push(&mut self, ip: i32) -> BitNews {
+        assert!(
+            ip.unsigned_abs() <= MOST_PUSH,
+            "BitSync::push requires |ip| <= MOST_PUSH"
+        );
         match &mut self.stage {
             SyncState::Searching(search) => {
                 if search.push(ip) {
@@ -61,10 +70,18 @@ impl BitSync {
     }
 
     /// Whether the edge is among the pushes.
+    #[must_use]
     pub fn has_edge(&self) -> bool {
         match &self.stage {
             SyncState::Searching(_) => false,
             SyncState::Summing(_) => true,
         }
+    }
+}
+
+impl Default for BitSync {
+    /// The state before the first push.
+    fn default() -> BitSync {
+        BitSync::new()
     }
 }

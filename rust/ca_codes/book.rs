@@ -36,6 +36,7 @@ pub struct CodeBook {
 
 impl CodeBook {
     /// A book that has made no code yet.
+    #[must_use]
     pub fn new() -> CodeBook {
         CodeBook {
             entries: [[0; TABLE]; SATELLITES],

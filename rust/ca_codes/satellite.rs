@@ -27,6 +27,7 @@ impl core::error::Error for PrnFault {}
 
 impl Prn {
     /// The satellite of that number, or `None` outside 1 to 32.
+    #[must_use]
     pub fn new(number: u8) -> Option<Prn> {
         if 1 <= number && number <= LAST_PRN {
             Some(Prn(number))
@@ -36,6 +37,7 @@ impl Prn {
     }
 
     /// The satellite's number, 1 to 32.
+    #[must_use]
     pub fn get(self) -> u8 {
         self.0
     }

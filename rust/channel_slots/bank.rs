@@ -89,6 +89,18 @@ impl Bank {
     /// Takes a run of samples. The timeline has the slots' events over it from then on, and nothing
     /// of before: by time, then by client, then by slot.
     pub fn feed(&mut self, run: &PackedSamples, timeline: &mut Timeline) {
+        assert!(
+            run.format() == self.settings.format(),
+            "Bank::feed requires a run in the format of its settings"
+        );
+        assert!(
+            run.len() <= MAX_SAMPLES,
+            "Bank::feed requires run.len() <= MAX_SAMPLES"
+        );
+        assert!(
+            self.time() <= MOST_TIME - run.len() as u64,
+            "Bank::feed requires at most MOST_TIME samples in all"
+        );
         timeline.clear();
         self.make_room(run.len());
         self.window.take(run);

@@ -17,6 +17,10 @@ pub const MOST_CLIENTS: usize = 8;
 
 /// Idle slots for clients that have these shares of them, by client and then by slot.
 pub fn idle_seats(alloc: Global, shares: &[u8]) -> Result<BoxedSlice<Seat>, AllocError> {
+    assert!(
+        shares.len() <= MOST_CLIENTS,
+        "idle_seats requires shares.len() <= MOST_CLIENTS"
+    );
     let mut seats = Vec::with_capacity(alloc, slots_in(shares))?;
     for index in 0..shares.len() {
         add_idle(alloc, &mut seats, index as u8 + 1, shares[index])?;
@@ -26,6 +30,10 @@ pub fn idle_seats(alloc: Global, shares: &[u8]) -> Result<BoxedSlice<Seat>, Allo
 
 /// The number of slots that clients with some shares have together.
 pub fn slots_in(shares: &[u8]) -> usize {
+    assert!(
+        shares.len() <= MOST_CLIENTS,
+        "slots_in requires shares.len() <= MOST_CLIENTS"
+    );
     let mut slots = 0;
     for share in shares {
         slots += *share as usize;

@@ -7,6 +7,7 @@ use crate::acquisition::{Cell, Plan, SearchRoom, Signal};
 use crate::ca_codes::CodeBook;
 use crate::channels::{Followed, Searched, Window};
 use crate::oscillators::Settings;
+use crate::sample_planes::MOST_TIME;
 use crate::slot_protocol::{Answer, Command, Phase, Refusal, SlotState};
 use crate::kit::std::mem;
 use crate::tracking_loops::News;
@@ -175,6 +176,10 @@ impl Slot {
     /// Does what a client asks of this slot, and answers it: a refused command changes nothing.
     /// The next sample is number `time`, at most `MOST_TIME`.
     pub fn command(&mut self, settings: &Settings, time: u64, command: Command) -> Answer {
+        assert!(
+            time <= MOST_TIME,
+            "Slot::command requires time <= MOST_TIME"
+        );
         match command {
             Command::Acquire { slot: _, plan } => self.acquire(settings, plan, time),
             Command::Hold { slot: _, signal } => self.hold(settings, time, signal),

@@ -6,7 +6,7 @@ use crate::channels::window::Window;
 use crate::acquisition::Signal;
 use crate::ca_codes::{CodeBook, Prn};
 use crate::lane_correlator::{Counts, replica_sums};
-use crate::oscillators::{CarrierOsc, CodeOsc, Settings};
+use crate::oscillators::{CarrierOsc, CodeOsc, MOST_CORRECTION, MOST_SHIFT, Settings};
 
 /// The least step of a code, in 2^-32 chip a sample: below that of any settings.
 const LEAST_STEP: u32 = 200_000_000;
@@ -92,6 +92,14 @@ impl Follower {
     /// code's rate, in 1/65536 chip a second, where a segment has just been opened. Its sums begin
     /// at 0.
     pub fn steer(&mut self, settings: &Settings, v: i64, w: i64) {
+        assert!(
+            v.unsigned_abs() <= u64::from(MOST_SHIFT),
+            "Follower::steer requires |v| <= MOST_SHIFT"
+        );
+        assert!(
+            w.unsigned_abs() <= u64::from(MOST_CORRECTION),
+            "Follower::steer requires |w| <= MOST_CORRECTION"
+        );
         self.code.set_step(settings.code_step(v, w));
         self.carrier.set_step(settings.carrier_step(v));
         self.sums = Counts::NONE;

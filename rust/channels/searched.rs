@@ -5,7 +5,7 @@ use crate::channels::followed::Followed;
 use crate::acquisition::{Cell, MOST_CELLS, MOST_DWELL, Plan, Search, SearchRoom};
 use crate::ca_codes::{CodeBook, Prn};
 use crate::oscillators::{MOST_PER_MS, Settings};
-use crate::sample_planes::SampleSource;
+use crate::sample_planes::{MOST_TIME, SampleSource};
 
 /// The most samples from the first of a search to the time of its answer, whatever the settings.
 pub const MOST_WAIT: u64 = MOST_DWELL as u64 * MOST_PER_MS as u64 + 4 * MOST_CELLS;
@@ -23,6 +23,10 @@ impl Searched {
     /// A search that begins with sample `start`, the next one; `start` is at most `MOST_TIME`. It
     /// works in a room until `into_room` gives that back.
     pub fn start(settings: &Settings, plan: Plan, start: u64, room: SearchRoom) -> Searched {
+        assert!(
+            start <= MOST_TIME,
+            "Searched::start requires start <= MOST_TIME"
+        );
         Searched {
             settings: *settings,
             search: Search::new(plan, settings, start, room),
@@ -82,6 +86,10 @@ impl Searched {
     /// The signal of a cell that was found, tracked from the time on at which the answer was due.
     /// `None` where the cell isn't one that was found.
     pub fn follow(&self, cell: &Cell) -> Option<Followed> {
+        assert!(
+            cell.bin.unsigned_abs() <= self.search.plan().bins(),
+            "Searched::follow requires a cell of its own plan"
+        );
         if !cell.found {
             return None;
         }

@@ -28,6 +28,10 @@ impl Window {
     /// Before the first sample of a recording. It takes its memory at once, and will hold at least
     /// the last `room` samples, which are `MAX_SAMPLES` or more.
     pub fn new(alloc: Global, format: Format, room: usize) -> Result<Window, AllocError> {
+        assert!(
+            MAX_SAMPLES <= room,
+            "Window::new requires MAX_SAMPLES <= room"
+        );
         Ok(Window {
             history: SampleHistory::open(alloc, format, room)?,
             planes: Planes::new(),
@@ -66,6 +70,10 @@ impl Window {
 
     /// Opens the next samples of the recording, for which there is room.
     pub fn take(&mut self, run: &PackedSamples) {
+        assert!(
+            self.history.end() - self.first <= (MAX_SAMPLES - run.len()) as u64,
+            "Window::take requires at most MAX_SAMPLES open samples"
+        );
         self.history.take(run);
     }
 

@@ -4,7 +4,7 @@
 use crate::client_commands::line::entry;
 use crate::client_commands::refusal::LineRefusal;
 use crate::client_commands::words::next_line;
-use crate::slot_protocol::Command;
+use crate::slot_protocol::{Command, MOST_SLOTS};
 
 /// What a line asks, and when.
 #[derive(Clone, Copy, Debug, PartialEq, Eq)]
@@ -29,6 +29,10 @@ impl<'a> Script<'a> {
     /// The script of a client that has a share of 1 to `MOST_SLOTS` slots, from its text: lines,
     /// each ended by a line feed, the last one perhaps not.
     pub fn new(text: &'a [u8], share: u8) -> Script<'a> {
+        assert!(
+            1 <= share && share <= MOST_SLOTS,
+            "Script::new requires 1 <= share <= MOST_SLOTS"
+        );
         Script {
             text,
             share,

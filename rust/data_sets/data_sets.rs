@@ -27,6 +27,7 @@ pub struct DataSets {
 
 impl DataSets {
     /// The state before the first page.
+    #[must_use]
     pub fn new() -> Self {
         DataSets {
             ephemerides: Ephemerides::new(),
@@ -55,5 +56,12 @@ impl DataSets {
             Page::Health(numbers) => Some(Report::Hlt(*numbers)),
             Page::Message(characters) => Some(Report::Msg(*characters)),
         }
+    }
+}
+
+impl Default for DataSets {
+    /// The state before the first page.
+    fn default() -> DataSets {
+        DataSets::new()
     }
 }

@@ -26,6 +26,7 @@ pub enum Report {
 
 impl Report {
     /// The fields whose numbers are reported, in their order. The characters of a message are none.
+    #[must_use]
     pub fn fields(&self) -> &'static [Field] {
         match self {
             Report::Eph(_) => ephemeris_fields(),
@@ -37,6 +38,7 @@ impl Report {
     }
 
     /// The numbers of the report's [`fields`](Report::fields), in their order.
+    #[must_use]
     pub fn values(&self) -> &[i64] {
         match self {
             Report::Eph(numbers) => numbers,
@@ -49,6 +51,7 @@ impl Report {
 
     /// The number of a field, in units of two to the power of its [`exponent`](Field::exponent), or
     /// `None` where the report doesn't have it.
+    #[must_use]
     pub fn value(&self, field: Field) -> Option<i64> {
         match self {
             Report::Eph(numbers) => Some(numbers[place(field)?]),

@@ -6,6 +6,7 @@ use crate::facade::packing_fault::PackingFault;
 use crate::facade::values::{write_f32, write_i8};
 use crate::recordings::{FLOAT_BYTES, MOST_PIECE, Packer, Recipe, ValueKind};
 use crate::kit::std::alloc::{AllocError, Global};
+use crate::kit::std::fmt::{self, Debug, Formatter};
 
 /// Packs a recording's values as a `Receiver` takes them, piece by piece, however they are cut. It
 /// holds the values that don't fill a byte yet.
@@ -33,6 +34,7 @@ impl Packing {
 
     /// The bytes that the values that were taken last filled. After an error there are none; but
     /// values for a recording of another kind change nothing.
+    #[must_use]
     pub fn packed(&self) -> &[u8] {
         self.packed.as_slice()
     }
@@ -82,5 +84,12 @@ impl Packing {
         write_f32(front, &mut self.piece)?;
         self.packer.take(&self.piece, &mut self.packed)?;
         Ok(rest)
+    }
+}
+
+impl Debug for Packing {
+    /// How many bytes the last values filled.
+    fn fmt(&self, f: &mut Formatter) -> fmt::Result {
+        write!(f, "Packing {{ packed: {}, .. }}", self.packed.len())
     }
 }

@@ -8,6 +8,7 @@ use crate::oscillators::Settings;
 use crate::sample_planes::{Format, MAX_SAMPLES, PackedSamples};
 use crate::slot_protocol::{Answer, Command, Refusal, SlotEvent, SlotNo, SlotState};
 use crate::kit::std::alloc::Global;
+use crate::kit::std::fmt::{self, Debug, Formatter};
 
 /// The slots of one to eight clients over one recording, one to eight for each client, and the
 /// events of the samples that came last.
@@ -31,17 +32,20 @@ impl Receiver {
     }
 
     /// How the samples are packed that the receiver takes.
+    #[must_use]
     pub fn format(&self) -> Format {
         self.bank.format()
     }
 
     /// The number of samples that the receiver has taken, at most `MOST_TIME`.
+    #[must_use]
     pub fn time(&self) -> u64 {
         self.bank.time()
     }
 
     /// What the slots emit with the samples that `take` took last: by time, then by client, then by
     /// slot.
+    #[must_use]
     pub fn events(&self) -> &[SlotEvent] {
         self.timeline.events()
     }
@@ -134,6 +138,13 @@ impl Receiver {
     /// The client has no such slot.
     pub fn state(&mut self, client: u8, slot: SlotNo) -> Result<SlotState, Refusal> {
         shown(self.command(client, Command::State { slot }))
+    }
+}
+
+impl Debug for Receiver {
+    /// How many samples it has taken.
+    fn fmt(&self, f: &mut Formatter) -> fmt::Result {
+        write!(f, "Receiver {{ time: {}, .. }}", self.time())
     }
 }
 

@@ -30,6 +30,7 @@ impl Subframe {
     /// The subframe of these words, word 1 first, or `None` unless each word that is there is below
     /// 2^24, word 1 is there and begins with the preamble, and word 2 is there and has an ID of
     /// 1 to 5 (IS-GPS-200, sections 20.3.3.1 and 20.3.3.2).
+    #[must_use]
     pub fn from_words(words: [Option<u32>; SUBFRAME_WORDS]) -> Option<Subframe> {
         if has_header(words[0], words[1]) && words.iter().all(|word| is_word(*word)) {
             Some(Subframe { words })
@@ -40,23 +41,35 @@ impl Subframe {
 
     /// The data of word `i`, d1 to d24 with d24 lowest, or `None` where it did not pass the parity
     /// (IS-GPS-200, section 20.3.5).
+    ///
+    /// # Panics
+    ///
+    /// Plain Rust panics where `i` is not 1 to `SUBFRAME_WORDS`.
+    #[must_use]
     pub fn word(&self, i: usize) -> Option<u32> {
+        assert!(
+            1 <= i && i <= SUBFRAME_WORDS,
+            "Subframe::word requires 1 <= i <= SUBFRAME_WORDS"
+        );
         self.words[i - 1]
     }
 
     /// The subframe's ID, d20 to d22 of the handover word, from 1 to 5 (IS-GPS-200, section
     /// 20.3.3.2).
+    #[must_use]
     pub fn id(&self) -> u8 {
         id_in(self.handover())
     }
 
     /// The time-of-week count, d1 to d17 of the handover word: the start of the next subframe, in
     /// units of 6 seconds (IS-GPS-200, section 20.3.3.2).
+    #[must_use]
     pub fn tow(&self) -> u32 {
         self.handover() >> 7
     }
 
     /// Whether no word is missing.
+    #[must_use]
     pub fn complete(&self) -> bool {
         self.words.iter().all(|word| word.is_some())
     }

@@ -31,6 +31,7 @@ pub struct FrameSync {
 
 impl FrameSync {
     /// A search that no bit was pushed to.
+    #[must_use]
     pub fn new() -> Self {
         FrameSync {
             window: LastBits::new(),
@@ -41,6 +42,7 @@ impl FrameSync {
     }
 
     /// How many bits were pushed.
+    #[must_use]
     pub fn pushed(&self) -> u64 {
         self.pushed
     }
@@ -53,7 +55,15 @@ impl FrameSync {
     /// the preamble (section 20.3.3.1), the second with an ID of 1 to 5 (section 20.3.3.2). The two
     /// bits before it are equal, and so are they to the last two. That search is this project's
     /// own.
+    ///
+    /// # Panics
+    ///
+    /// Plain Rust panics where `MOST_BITS` bits were pushed.
     pub fn push(&mut self, bit: bool) -> Option<Found> {
+        assert!(
+            self.pushed < MOST_BITS,
+            "FrameSync::push requires pushed() < MOST_BITS"
+        );
         let before = self.incoming.take();
         self.window.push(bit);
         self.pushed += 1;
@@ -72,6 +82,13 @@ impl FrameSync {
             subframe: incoming.subframe,
             gap,
         })
+    }
+}
+
+impl Default for FrameSync {
+    /// A search that no bit was pushed to.
+    fn default() -> FrameSync {
+        FrameSync::new()
     }
 }
 

@@ -93,6 +93,11 @@ fn products(table: u8x64, at: u8x64) -> u8x64 {
 /// 255 in the lanes of places `first` to `end` - 1, and 0 in the others.
 #[inline(always)]
 pub(crate) fn mask_of_places(first: usize, end: usize) -> u8x64 {
+    assert!(first <= end, "mask_of_places requires first <= end");
+    assert!(
+        end <= WORD_PLACES,
+        "mask_of_places requires end <= WORD_PLACES"
+    );
     from_place(&FROM_PLACE, first) ^ from_place(&FROM_PLACE, end)
 }
 
@@ -100,5 +105,9 @@ pub(crate) fn mask_of_places(first: usize, end: usize) -> u8x64 {
 /// branch is compiled lane by lane.
 #[inline(always)]
 fn from_place(masks: &[u8], place: usize) -> u8x64 {
+    assert!(
+        masks.len() == 2 * WORD_PLACES && place <= WORD_PLACES,
+        "from_place requires place <= WORD_PLACES, in a table of twice as many"
+    );
     u8x64::from_slice_at(masks, place)
 }

@@ -2,7 +2,7 @@
 //! The message that is read from the prompt sums.
 
 use crate::nav_message::news::MessageNews;
-use crate::bit_sync::{BitNews, BitSync};
+use crate::bit_sync::{BitNews, BitSync, MOST_PUSH};
 use crate::data_sets::{DataSets, Reports};
 use crate::frame_sync::FrameSync;
 use crate::subframes::Page;
@@ -21,6 +21,7 @@ pub struct Message {
 
 impl Message {
     /// A message to which nothing was pushed.
+    #[must_use]
     pub fn new() -> Message {
         Message {
             bits: BitSync::new(),
@@ -35,7 +36,19 @@ impl Message {
     /// and a subframe 300 bits (section 20.3.2). A message takes up to [`MOST_BITS`] bits. A push
     /// brings one at most. What is reported is large and comes rarely, so the caller keeps the room
     /// for it.
+    ///
+    /// # Panics
+    ///
+    /// Plain Rust panics where the sum is larger, or `MOST_BITS` bits have come.
     pub fn push(&mut self, ip: i32, news: &mut MessageNews) {
+        assert!(
+            ip.unsigned_abs() <= MOST_PUSH,
+            "Message::push requires |ip| <= MOST_PUSH"
+        );
+        assert!(
+            self.frames.pushed() < MOST_BITS,
+            "Message::push requires fewer bits than MOST_BITS before it"
+        );
         match self.bits.push(ip) {
             BitNews::Nothing => news.clear(),
             BitNews::Edge => *news = MessageNews::Edge,
@@ -59,7 +72,15 @@ impl Message {
     }
 
     /// Whether the edge of the bits is found.
+    #[must_use]
     pub fn has_edge(&self) -> bool {
         self.bits.has_edge()
+    }
+}
+
+impl Default for Message {
+    /// A message to which nothing was pushed.
+    fn default() -> Message {
+        Message::new()
     }
 }

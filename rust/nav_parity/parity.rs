@@ -46,7 +46,14 @@ const SUMMED: [u32; 6] = [
 /// The data of a word, d1 to d24 with d24 lowest, or `None` where one of the six parity equations
 /// does not hold (IS-GPS-200, section 20.3.5). Bit 29 of `word` is D1 and bit 0 is D30; `prior` is
 /// the last two bits of the word before, 2 * D29* + D30*.
+///
+/// # Panics
+///
+/// Plain Rust panics where the word has more than 30 bits, or the prior more than two.
+#[must_use]
 pub fn check(word: u32, prior: u8) -> Option<u32> {
+    assert!(word < WORD_LIMIT, "check requires word < WORD_LIMIT");
+    assert!(prior < PRIOR_LIMIT, "check requires prior < PRIOR_LIMIT");
     let data = (word >> PARITY_WIDTH) ^ inversion(prior);
     if word & PARITY_MASK == parity_bits(data, prior) {
         Some(data)
@@ -57,7 +64,14 @@ pub fn check(word: u32, prior: u8) -> Option<u32> {
 
 /// The one word that passes with `prior` (2 * D29* + D30*) and has these data, d1 to d24 with d24
 /// lowest. Bit 29 of the word is D1 and bit 0 is D30 (IS-GPS-200, section 20.3.5).
+///
+/// # Panics
+///
+/// Plain Rust panics where the data have more than 24 bits, or the prior more than two.
+#[must_use]
 pub fn encode(data: u32, prior: u8) -> u32 {
+    assert!(data < DATA_LIMIT, "encode requires data < DATA_LIMIT");
+    assert!(prior < PRIOR_LIMIT, "encode requires prior < PRIOR_LIMIT");
     ((data ^ inversion(prior)) << PARITY_WIDTH) | parity_bits(data, prior)
 }
 
@@ -68,6 +82,11 @@ fn inversion(prior: u8) -> u32 {
 
 /// D25 to D30 for these data, D30 lowest.
 fn parity_bits(data: u32, prior: u8) -> u32 {
+    assert!(data < DATA_LIMIT, "parity_bits requires data < DATA_LIMIT");
+    assert!(
+        prior < PRIOR_LIMIT,
+        "parity_bits requires prior < PRIOR_LIMIT"
+    );
     let summed = (u32::from(prior) << DATA_WIDTH) | data;
     let mut bits = 0;
     for mask in SUMMED {

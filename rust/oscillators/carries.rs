@@ -27,6 +27,7 @@ pub(crate) fn signed_half(half: u32) -> i16 {
 /// too.
 #[inline(always)]
 pub(crate) fn carries(low: u32, rooms: i16x64) -> u16x64 {
+    assert!(low < HALF, "carries requires low < HALF");
     i16x64::splat(signed_half(low))
         .simd_gt(rooms)
         .select(u16x64::splat(1), u16x64::splat(0))

@@ -4,7 +4,7 @@
 use crate::oscillators::code_strides::{CodeStrides, HALF_CHIP};
 use crate::oscillators::code_words::CodeWords;
 use crate::oscillators::half_chip::HalfChip;
-use crate::bit_planes::Plane;
+use crate::bit_planes::{PLACES, Plane};
 use crate::ca_codes::{CODE_CHIPS, CodeBook, Prn};
 
 /// The code's cycle of 1,023 chips (IS-GPS-200, section 3.3.2.3), in 2^-32 chip.
@@ -77,6 +77,7 @@ impl CodeOsc {
     /// 1,024. The code goes round as often as the samples take it round. The oscillator stays where
     /// it is, and the book stands for the codes as before.
     pub fn planes(&self, n: usize, book: &mut CodeBook, prn: Prn) -> CodePlanes {
+        assert!(n <= PLACES, "CodeOsc::planes requires n <= PLACES");
         let table = book.table(prn);
         let mut words = self.words(0);
         let mut early = Plane::new();

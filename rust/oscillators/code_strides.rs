@@ -93,6 +93,10 @@ impl CodeStrides {
     /// further in its half chip than there is room for, and 255 in the others.
     #[inline(always)]
     fn stays(&self, part: u32) -> u8x64 {
+        assert!(
+            part < HALF_CHIP,
+            "CodeStrides::stays requires part < HALF_CHIP"
+        );
         let left = self.room_high - carries(part % HALF, self.room_low).cast::<i16>();
         left.simd_gt(i16x64::splat((part / HALF) as i16 - 1))
             .select(u16x64::splat(255), u16x64::splat(0))

@@ -10,6 +10,7 @@ pub struct Doppler(i32);
 
 impl Doppler {
     /// The shift of that many Hz, or `None` outside -16,000 to 16,000.
+    #[must_use]
     pub fn new(hz: i32) -> Option<Doppler> {
         if hz.unsigned_abs() <= MOST_DOPPLER {
             Some(Doppler(hz))
@@ -19,6 +20,7 @@ impl Doppler {
     }
 
     /// The shift in Hz, -16,000 to 16,000.
+    #[must_use]
     pub fn get(self) -> i32 {
         self.0
     }

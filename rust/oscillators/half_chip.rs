@@ -11,6 +11,7 @@ pub struct HalfChip(u16);
 
 impl HalfChip {
     /// The place that many half chips into the code, or `None` above 2,045.
+    #[must_use]
     pub fn new(half_chips: u16) -> Option<HalfChip> {
         if half_chips <= LAST_HALF_CHIP {
             Some(HalfChip(half_chips))
@@ -20,6 +21,7 @@ impl HalfChip {
     }
 
     /// The number of half chips from the code's first chip on, 0 to 2,045.
+    #[must_use]
     pub fn get(self) -> u16 {
         self.0
     }

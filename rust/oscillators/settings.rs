@@ -61,6 +61,10 @@ pub struct Settings {
 impl Settings {
     /// Settings of `rate` samples a second, 2,046,000 to 20,000,000, and an intermediate frequency
     /// of `offset` Hz, of either sign, at most half the rate in size.
+    ///
+    /// # Errors
+    ///
+    /// The rate is outside its range, which is checked first, or the offset is too large.
     pub fn new(rate: u32, offset: i64, format: Format) -> Result<Settings, SettingsFault> {
         if rate < LEAST_RATE || MOST_RATE < rate {
             return Err(SettingsFault::Rate);
@@ -78,21 +82,25 @@ impl Settings {
     }
 
     /// Samples a second, 2,046,000 to 20,000,000.
+    #[must_use]
     pub fn rate(&self) -> u32 {
         self.rate
     }
 
     /// The intermediate frequency in Hz, at most half the rate in size.
+    #[must_use]
     pub fn offset(&self) -> i64 {
         self.offset
     }
 
     /// How the samples are packed.
+    #[must_use]
     pub fn format(&self) -> Format {
         self.format
     }
 
     /// How many whole samples a millisecond has: 2,046 to 20,000.
+    #[must_use]
     pub fn per_ms(&self) -> u32 {
         self.rate / 1000
     }
@@ -100,7 +108,16 @@ impl Settings {
     /// How far a sample takes the carrier's phase, in 2^-32 cycle, modulo a cycle. The Doppler
     /// shift `v` is in 1/65536 Hz, at most 2^30 in size; it adds to the intermediate frequency.
     /// Rounded down, below zero too.
+    ///
+    /// # Panics
+    ///
+    /// Plain Rust panics where `v` is larger.
+    #[must_use]
     pub fn carrier_step(&self, v: i64) -> u32 {
+        assert!(
+            v.unsigned_abs() <= u64::from(MOST_SHIFT),
+            "Settings::carrier_step requires |v| <= MOST_SHIFT"
+        );
         let turns = (self.offset * 65_536 + v) * 65_536;
         turns.div_euclid(self.rate as i64).rem_euclid(1 << 32) as u32
     }
@@ -110,7 +127,17 @@ impl Settings {
     /// in size, corrects the code's rate. A chip is 1,540 cycles of the carrier, and 1,023,000
     /// chips come in a second (IS-GPS-200, section 3.3.1). Rounded down, in the part of `v` and as
     /// a whole.
+    ///
+    /// # Panics
+    ///
+    /// Plain Rust panics where `v` or `w` is larger.
+    #[must_use]
     pub fn code_step(&self, v: i64, w: i64) -> u32 {
+        assert!(
+            v.unsigned_abs() <= u64::from(MOST_SHIFT)
+                && w.unsigned_abs() <= u64::from(MOST_CORRECTION),
+            "Settings::code_step requires |v| <= MOST_SHIFT and |w| <= MOST_CORRECTION"
+        );
         let chips = 1_023_000 * 65_536 + v.div_euclid(1_540) + w;
         (chips * 65_536).div_euclid(self.rate as i64) as u32
     }

@@ -39,6 +39,10 @@ fn put_page(line: &mut Line, kind: &[u8], slot: u8, report: &Report) {
 
 /// Adds fields with their numbers.
 fn put_fields(line: &mut Line, fields: &[Field], values: &[i64]) {
+    assert!(
+        fields.len() == values.len(),
+        "put_fields requires a value for each field"
+    );
     for i in 0..fields.len() {
         put_field(line, fields[i], values[i]);
     }

@@ -6,7 +6,7 @@ use crate::receiver::output::Output;
 use crate::receiver::session::Session;
 use crate::receiver::writing::{put_answers, put_events};
 use crate::devices::{DeviceFault, Sink, Source};
-use crate::sample_planes::{MAX_SAMPLES, PackedSamples};
+use crate::sample_planes::{MAX_SAMPLES, MOST_TIME, PackedSamples};
 
 /// The most bytes of a read.
 const READ_BYTES: usize = 16_384;
@@ -64,6 +64,8 @@ pub fn read_all<R: Source, W: Sink>(
     reader: &mut R,
     out: &mut Output<W>,
 ) -> Result<Stop, DeviceFault> {
+    assert!(limit <= MOST_TIME, "read_all requires limit <= MOST_TIME");
+    assert!(limit % 8 == 0, "read_all requires a limit in whole bytes");
     let mut buffer = [0; READ_BYTES];
     loop {
         // Nothing is held back while the run waits for bytes.

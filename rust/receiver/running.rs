@@ -54,6 +54,8 @@ pub fn run_to<R: Source, W: Sink>(
     reader: &mut R,
     writer: &mut W,
 ) -> Result<u64, RunFault> {
+    assert!(limit <= MOST_TIME, "run_to requires limit <= MOST_TIME");
+    assert!(limit % 8 == 0, "run_to requires a limit that 8 divides");
     // `run_shares` refuses more scripts before it looks at a share.
     let shares = &FOUR_EACH[..scripts.len().min(MOST_CLIENTS)];
     run_shares(alloc, settings, scripts, shares, limit, reader, writer)
@@ -71,6 +73,8 @@ pub fn run_shares<R: Source, W: Sink>(
     reader: &mut R,
     writer: &mut W,
 ) -> Result<u64, RunFault> {
+    assert!(limit <= MOST_TIME, "run_shares requires limit <= MOST_TIME");
+    assert!(limit % 8 == 0, "run_shares requires a limit that 8 divides");
     if scripts.is_empty() || MOST_CLIENTS < scripts.len() {
         return Err(RunFault::Clients);
     }

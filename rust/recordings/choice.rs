@@ -55,7 +55,11 @@ impl core::fmt::Display for ChoiceFault {
 impl core::error::Error for ChoiceFault {}
 
 impl Choice {
-    /// The recipe that makes what is asked, or why there is none.
+    /// The recipe that makes what is asked.
+    ///
+    /// # Errors
+    ///
+    /// There is none, for the reason that the fault names.
     pub fn recipe(&self) -> Result<Recipe, ChoiceFault> {
         match self.fault() {
             Some(fault) => Err(fault),

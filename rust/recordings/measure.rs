@@ -2,7 +2,7 @@
 //! What the values of a recording are like.
 
 use crate::recordings::part::PartRecipe;
-use crate::recordings::recipe::Recipe;
+use crate::recordings::recipe::{MOST_BYTES, Recipe};
 
 /// What is measured of a part of a recording's samples. Sums are of readings, which are twice the
 /// values: of at most 8 * `MOST_BYTES` of them, none above 2^17 in size, so none comes near 2^63.
@@ -22,7 +22,16 @@ pub struct Measure {
 
 impl Recipe {
     /// Measures a part of all samples of some bytes, with sizes by a threshold.
+    ///
+    /// # Panics
+    ///
+    /// Plain Rust panics where there are more than `MOST_BYTES` bytes.
+    #[must_use]
     pub fn measure(&self, part: &PartRecipe, threshold: u64, bytes: &[u8]) -> Measure {
+        assert!(
+            bytes.len() <= MOST_BYTES,
+            "Recipe::measure requires bytes.len() <= MOST_BYTES"
+        );
         let (low, high) = self.kind.ends();
         let count = 8 * bytes.len() / self.sample_bits();
         let (mut sum, mut squares, mut at_ends) = (0_i64, 0_u64, 0_u64);

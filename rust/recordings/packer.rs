@@ -33,6 +33,10 @@ impl Packer {
     /// what was written. An error is memory that it was refused, or a float that is no number: then
     /// nothing is written, and what it held may be gone.
     pub fn take(&mut self, piece: &[u8], written: &mut Vec<u8>) -> Result<(), PackFault> {
+        assert!(
+            piece.len() <= MOST_PIECE,
+            "Packer::take requires piece.len() <= MOST_PIECE"
+        );
         written.clear();
         self.held.extend_from_slice(piece)?;
         match self.recipe.pack(&self.held, written) {

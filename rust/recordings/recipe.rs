@@ -46,19 +46,32 @@ impl Recipe {
         if self.is_paired { 2 } else { 1 }
     }
     /// How many bits of a recording a sample has, 1 to `MOST_SAMPLE_BITS`.
+    #[must_use]
     pub fn sample_bits(&self) -> usize {
         self.parts() * self.kind.bits()
     }
 
     /// How many bytes of a recording each written byte is made of, 1 to `MOST_GROUP`.
+    #[must_use]
     pub fn group(&self) -> usize {
         self.format.per_byte() * self.sample_bits() / 8
     }
 
     /// Packs the bytes of a recording from its beginning on, at most `MOST_BYTES`, as far as they
-    /// fill bytes, in place of what was written. An error is memory that it was refused, or a
-    /// float that is no number.
+    /// fill bytes, in place of what was written.
+    ///
+    /// # Errors
+    ///
+    /// There is no memory, or a float is no number.
+    ///
+    /// # Panics
+    ///
+    /// Plain Rust panics where there are more than `MOST_BYTES` bytes.
     pub fn pack(&self, bytes: &[u8], written: &mut Vec<u8>) -> Result<(), PackFault> {
+        assert!(
+            bytes.len() <= MOST_BYTES,
+            "Recipe::pack requires bytes.len() <= MOST_BYTES"
+        );
         if !self.kind.are_numbers(bytes) {
             return Err(PackFault::NotANumber);
         }
@@ -94,6 +107,10 @@ impl Recipe {
 
     /// The byte of the samples from sample `first` on.
     fn byte(&self, bytes: &[u8], first: usize) -> u8 {
+        assert!(
+            bytes.len() <= MOST_BYTES,
+            "Recipe::byte requires bytes.len() <= MOST_BYTES"
+        );
         let per_byte = self.format.per_byte();
         let width = 8 / per_byte;
         let mut byte = 0;

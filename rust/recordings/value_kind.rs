@@ -32,6 +32,7 @@ pub enum ValueKind {
 
 impl ValueKind {
     /// How many bits a value has: 1, 2, 8, 16 or 32.
+    #[must_use]
     pub fn bits(self) -> usize {
         match self {
             ValueKind::U8 => 8,
@@ -71,6 +72,11 @@ impl ValueKind {
 
     /// Value number `i` of bytes as an integer: twice the value, or for a float an integer that
     /// grows with it.
+    ///
+    /// # Panics
+    ///
+    /// Plain Rust panics where the bytes have no such value.
+    #[must_use]
     pub fn reading(self, bytes: &[u8], i: usize) -> i64 {
         match self {
             ValueKind::U8 => 2 * i64::from(bytes[i]),

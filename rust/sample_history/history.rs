@@ -3,7 +3,9 @@
 
 use crate::sample_history::ring_bytes::{copy_out, grow};
 use crate::kit::circular_buffer::HeapCircularBuffer;
-use crate::sample_planes::{Format, NEAR_BYTES, PackedSamples, Planes, SampleSource};
+use crate::sample_planes::{
+    Format, MAX_SAMPLES, MOST_TIME, NEAR_BYTES, PackedSamples, Planes, SampleSource,
+};
 use crate::kit::std::alloc::{AllocError, Global};
 
 /// The last samples of a stream, packed. The earliest sample of a byte stands in its top bits.
@@ -36,6 +38,18 @@ impl SampleHistory {
 
     /// Takes the next samples of the stream, at most `MAX_SAMPLES`, in the history's packing.
     pub fn take(&mut self, run: &PackedSamples) {
+        assert!(
+            run.format() == self.format,
+            "SampleHistory::take requires a run in its own format"
+        );
+        assert!(
+            run.len() <= MAX_SAMPLES,
+            "SampleHistory::take requires run.len() <= MAX_SAMPLES"
+        );
+        assert!(
+            self.taken <= MOST_TIME - run.len() as u64,
+            "SampleHistory::take requires at most MOST_TIME samples in all"
+        );
         let (bytes, first) = run.place();
         self.take_bytes(bytes, first, run.len());
     }

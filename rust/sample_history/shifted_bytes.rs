@@ -29,6 +29,10 @@ pub(crate) fn filled_byte(before: u8, behind: u8, place: usize) -> u8 {
 
 /// `count` bytes, which are the bits of some bytes from bit `place` on. Zeros follow them.
 pub(crate) fn shifted_bytes(bytes: &[u8], place: usize, count: usize) -> [u8; MOST_RUN_BYTES] {
+    assert!(
+        count <= MOST_RUN_BYTES,
+        "shifted_bytes requires count <= MOST_RUN_BYTES"
+    );
     let at = place / 8;
     let mut out = [0; MOST_RUN_BYTES];
     let mut high = bytes[at];

@@ -25,6 +25,7 @@ pub enum Format {
 
 impl Format {
     /// How many samples a byte holds: 8, 4 or 2.
+    #[must_use]
     pub fn per_byte(self) -> usize {
         match self {
             Format::Real1 => 8,
@@ -45,6 +46,7 @@ impl Format {
     }
 
     /// Whether a sample has a part in quadrature.
+    #[must_use]
     pub fn has_quadrature(self) -> bool {
         match self {
             Format::Real1 => false,
@@ -55,6 +57,7 @@ impl Format {
     }
 
     /// Whether a part of a sample has a magnitude beside its sign.
+    #[must_use]
     pub fn has_sizes(self) -> bool {
         match self {
             Format::Real1 => false,
@@ -65,7 +68,16 @@ impl Format {
     }
 
     /// The byte with its sample `place` made sample `n` of `bytes`. Its other samples are kept.
+    ///
+    /// # Panics
+    ///
+    /// Plain Rust panics where the byte has no such place, or the bytes no such sample.
+    #[must_use]
     pub fn put(self, byte: u8, place: usize, bytes: &[u8], n: usize) -> u8 {
+        assert!(
+            place < self.per_byte(),
+            "Format::put requires place < per_byte()"
+        );
         // The bits in which the old sample and the new one differ are turned over.
         let differing = self.bits_of_sample(&[byte], place) ^ self.bits_of_sample(bytes, n);
         byte ^ (differing << self.last_bit(place))

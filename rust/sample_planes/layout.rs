@@ -2,7 +2,7 @@
 //! Where the samples of a run lie among bytes, and codes of their parts, 64 samples at a time.
 
 use crate::sample_planes::format::BYTE_BITS;
-use crate::bit_planes::{marked_bytes, pick_from_four};
+use crate::bit_planes::{WORDS, marked_bytes, pick_from_four};
 use crate::kit::lanes::*;
 
 /// The bytes that `MAX_SAMPLES` samples of four bits lie in, wherever they begin in a byte, and
@@ -41,6 +41,11 @@ impl WordLayout {
     /// The bytes in which the samples from `64 * w` on lie, that of the first in the last lane.
     #[inline(always)]
     pub(crate) fn bytes(&self, near: &[u8], w: usize) -> u8x64 {
+        assert!(w < WORDS, "WordLayout::bytes requires w < WORDS");
+        assert!(
+            NEAR_BYTES <= near.len(),
+            "WordLayout::bytes requires NEAR_BYTES <= near.len()"
+        );
         let first = 8 * self.width * w;
         let sixteen = 2 * self.width;
         let at = [

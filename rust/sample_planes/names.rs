@@ -8,11 +8,13 @@ static NAMES: [&str; 4] = ["real1", "real2", "iq1", "iq2"];
 
 impl Format {
     /// The names of all packings, for an option that takes one.
+    #[must_use]
     pub fn names() -> &'static [&'static str] {
         NAMES.as_slice()
     }
 
     /// The packing with this name.
+    #[must_use]
     pub fn named(name: &str) -> Option<Format> {
         match name {
             "real1" => Some(Format::Real1),

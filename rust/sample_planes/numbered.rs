@@ -17,7 +17,16 @@ pub struct NumberedSamples<'a> {
 impl<'a> NumberedSamples<'a> {
     /// The samples of a run, the first of them being sample `first` of the recording. The number
     /// after the last fits in a `u64`.
+    ///
+    /// # Panics
+    ///
+    /// Plain Rust panics where a number would be 2^64 or more.
+    #[must_use]
     pub fn new(samples: PackedSamples<'a>, first: u64) -> NumberedSamples<'a> {
+        assert!(
+            samples.len() as u64 <= u64::MAX - first,
+            "NumberedSamples::new requires first + samples.len() < 2^64"
+        );
         NumberedSamples { samples, first }
     }
 }

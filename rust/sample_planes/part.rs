@@ -2,6 +2,7 @@
 //! One part of a run of samples, in phase or in quadrature, as codes of its signs and sizes.
 
 use crate::sample_planes::planes::MAX_SAMPLES;
+use crate::bit_planes::WORDS;
 use crate::kit::lanes::*;
 
 /// The greatest size of a part of a sample, that of a part with a magnitude of 1.
@@ -26,6 +27,7 @@ impl Part {
     /// last lane.
     #[inline(always)]
     pub(crate) fn put(&mut self, w: usize, codes: u8x64) {
+        assert!(w < WORDS, "Part::put requires w < WORDS");
         codes.copy_to_slice(&mut self.codes[64 * w..]);
     }
 
@@ -41,6 +43,7 @@ impl Part {
     /// that is 3 in size. Lane k stands for sample `64 * w + 63 - k`.
     #[inline(always)]
     pub(crate) fn codes(&self, w: usize) -> u8x64 {
+        assert!(w < WORDS, "Part::codes requires w < WORDS");
         u8x64::from_slice_at(&self.codes, 64 * w)
     }
 }

@@ -2,8 +2,9 @@
 //! Both parts of a run of samples, unpacked together.
 
 use crate::sample_planes::format::Format;
-use crate::sample_planes::layout::WordLayout;
+use crate::sample_planes::layout::{NEAR_BYTES, WordLayout};
 use crate::sample_planes::part::Part;
+use crate::sample_planes::planes::MAX_SAMPLES;
 
 /// Makes parts those of `len` samples of `near`, from sample `start` of its first byte on. Where
 /// the samples are real, what `quadrature` has is kept. So is what the parts have after the last
@@ -16,6 +17,11 @@ pub(crate) fn fill_parts(
     start: usize,
     len: usize,
 ) {
+    assert!(len <= MAX_SAMPLES, "fill_parts requires len <= MAX_SAMPLES");
+    assert!(
+        NEAR_BYTES <= near.len(),
+        "fill_parts requires NEAR_BYTES <= near.len()"
+    );
     let width = format.width();
     let has_sizes = format.has_sizes();
     let is_complex = format.has_quadrature();

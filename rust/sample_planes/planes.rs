@@ -5,6 +5,8 @@ use crate::sample_planes::format::Format;
 use crate::sample_planes::layout::NEAR_BYTES;
 use crate::sample_planes::part::Part;
 use crate::sample_planes::parts::fill_parts;
+use crate::bit_planes::WORDS;
+use crate::kit::std::fmt::{self, Debug, Formatter};
 use crate::kit::lanes::*;
 
 /// The most samples that `Planes` hold.
@@ -82,12 +84,14 @@ impl Planes {
 
     /// The part in phase of sample `i`, counted from 0: 1 or -1, and of two bits also 3 or -3.
     pub fn value(&self, i: usize) -> i8 {
+        assert!(i < self.len(), "Planes::value requires i < len()");
         self.in_phase.value(i)
     }
 
     /// The part in quadrature of sample `i`, counted from 0: as `value`, and 0 where the samples
     /// are real.
     pub fn value_q(&self, i: usize) -> i8 {
+        assert!(i < self.len(), "Planes::value_q requires i < len()");
         if self.is_complex {
             self.quadrature.value(i)
         } else {
@@ -109,6 +113,7 @@ impl Planes {
     /// and 8 more for one that is 3 in size. Lane k stands for sample `64 * w + 63 - k`.
     #[inline(always)]
     pub fn codes(&self, w: usize) -> u8x64 {
+        assert!(w < WORDS, "Planes::codes requires w < WORDS");
         self.in_phase.codes(w)
     }
 
@@ -116,11 +121,19 @@ impl Planes {
     /// samples are real.
     #[inline(always)]
     pub fn codes_q(&self, w: usize) -> Option<[u8; 64]> {
+        assert!(w < WORDS, "Planes::codes_q requires w < WORDS");
         if self.is_complex {
             Some(self.quadrature.codes(w).to_array())
         } else {
             None
         }
+    }
+}
+
+impl Debug for Planes {
+    /// How many samples they have.
+    fn fmt(&self, f: &mut Formatter) -> fmt::Result {
+        write!(f, "Planes {{ len: {}, .. }}", self.len())
     }
 }
 
@@ -133,6 +146,11 @@ pub fn unpack(format: Format, bytes: &[u8], first: usize, len: usize) -> Planes 
 
 /// `many` bytes, those of a slice from byte `from` on, and zeros after them.
 fn near_bytes(bytes: &[u8], from: usize, many: usize) -> [u8; NEAR_BYTES] {
+    assert!(
+        many <= bytes.len() && from <= bytes.len() - many,
+        "near_bytes requires from + many <= bytes.len()"
+    );
+    assert!(many <= NEAR_BYTES, "near_bytes requires many <= NEAR_BYTES");
     let mut near = [0; NEAR_BYTES];
     for k in 0..many {
         near[k] = bytes[from + k];

@@ -17,6 +17,7 @@ pub enum Phase {
 impl Phase {
     /// The phase of a channel that is locked or not, and whose edge is found or not. Where it is
     /// found the channel is locked.
+    #[must_use]
     pub fn of(is_locked: bool, has_edge: bool) -> Phase {
         match (is_locked, has_edge) {
             (_, true) => Phase::Edged,
@@ -81,6 +82,7 @@ impl core::error::Error for Refusal {}
 impl Refusal {
     /// The number that is printed: 9 or 10, and 8 where there is no such slot, as for a script's
     /// line whose slot is out of its range.
+    #[must_use]
     pub fn number(self) -> u8 {
         match self {
             Refusal::Busy => 9,

@@ -13,6 +13,7 @@ pub struct SlotNo(u8);
 
 impl SlotNo {
     /// The slot with a number, or `None` where that is outside 0 to 7.
+    #[must_use]
     pub fn new(number: u8) -> Option<SlotNo> {
         if number < MOST_SLOTS {
             Some(SlotNo(number))
@@ -22,6 +23,7 @@ impl SlotNo {
     }
 
     /// The slot's number, 0 to 7.
+    #[must_use]
     pub fn get(self) -> u8 {
         self.0
     }
@@ -46,6 +48,7 @@ pub enum Command {
 
 impl Command {
     /// The slot that is asked.
+    #[must_use]
     pub fn slot(&self) -> SlotNo {
         match self {
             Command::Hold { slot, .. }

@@ -30,11 +30,13 @@ pub enum Field {
 
 impl Field {
     /// The field's name within its table, as `tgd`.
+    #[must_use]
     pub fn name(self) -> &'static str {
         self.layout().name
     }
 
     /// The power of two that is the field's scale factor: 0 where it is counted in its own unit.
+    #[must_use]
     pub fn exponent(self) -> i8 {
         self.layout().exponent
     }

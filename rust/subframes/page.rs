@@ -36,6 +36,7 @@ impl Page {
     /// The page that a subframe holds, by its ID and, in subframes 4 and 5, by its SV ID, whatever
     /// the data ID. `None` where a word is missing or the page is of no [`Kind`] (IS-GPS-200,
     /// section 20.3.3.5.1.1, table 20-V).
+    #[must_use]
     pub fn read(subframe: &Subframe) -> Option<Page> {
         if !subframe.complete() {
             return None;
@@ -57,6 +58,7 @@ impl Page {
     }
 
     /// The page's kind, whose fields name its values.
+    #[must_use]
     pub fn kind(&self) -> Kind {
         match self {
             Page::Clock(_) => Kind::Clock,
@@ -71,6 +73,7 @@ impl Page {
 
     /// The numbers of the page's fields, in the order of its kind's [`fields`](Kind::fields). A
     /// message has none: its characters are no fields.
+    #[must_use]
     pub fn values(&self) -> &[i64] {
         match self {
             Page::Clock(numbers) => numbers,
@@ -85,6 +88,7 @@ impl Page {
 
     /// The number of a field, in units of two to the power of its [`exponent`](Field::exponent), or
     /// `None` where the page is of another kind.
+    #[must_use]
     pub fn value(&self, field: Field) -> Option<i64> {
         if field.kind() == self.kind() {
             Some(self.values()[field.place()])

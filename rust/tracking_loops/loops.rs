@@ -1,10 +1,12 @@
 // Made by tools/rust of crates/tracking_loops/src/loops.rt: change that.
 //! The loops of a tracking channel.
 
+use crate::tracking_loops::limits::{MOST_STEERED_DUMPS, MOST_SUM};
 use crate::tracking_loops::lock::Lock;
 use crate::tracking_loops::news::News;
 use crate::tracking_loops::steering::{FIRST_HOLDING, Steering};
 use crate::lane_correlator::Counts;
+use crate::oscillators::MOST_SHIFT;
 
 /// The loops of one tracking channel, from its first dump on. (This project's own.)
 ///
@@ -22,6 +24,10 @@ impl Loops {
     /// Begins with the carrier's shift `v`, in 1/65536 Hz, at most `MOST_SHIFT` in size, and no
     /// dumps.
     pub fn start(v: i64) -> Self {
+        assert!(
+            v.unsigned_abs() <= u64::from(MOST_SHIFT),
+            "Loops::start requires |v| <= MOST_SHIFT"
+        );
         Loops {
             steering: Steering::start(v),
             lock: Lock::new(),
@@ -31,6 +37,19 @@ impl Loops {
     /// Takes the sums of the next dump, each at most `MOST_SUM` in size, and gives what they make
     /// of the lock. After `Lost` the rules stay the same; a channel ends there.
     pub fn take(&mut self, counts: Counts) -> News {
+        assert!(
+            (counts.ie.unsigned_abs() <= MOST_SUM)
+                & (counts.qe.unsigned_abs() <= MOST_SUM)
+                & (counts.ip.unsigned_abs() <= MOST_SUM)
+                & (counts.qp.unsigned_abs() <= MOST_SUM)
+                & (counts.il.unsigned_abs() <= MOST_SUM)
+                & (counts.ql.unsigned_abs() <= MOST_SUM),
+            "Loops::take requires sums of at most MOST_SUM in size"
+        );
+        assert!(
+            self.dumps() < MOST_STEERED_DUMPS,
+            "Loops::take requires dumps() < MOST_STEERED_DUMPS"
+        );
         self.steering.take(counts);
         if self.steering.dumps < FIRST_HOLDING {
             return News::Nothing;

@@ -42,32 +42,32 @@ fn as_much_as_may_be() {
 }
 
 #[test]
-#[should_panic(expected = "Bank::feed requires length run.now.samples ≤ MAX_SAMPLES")]
+#[should_panic(expected = "Bank::feed requires run.len() <= MAX_SAMPLES")]
 fn a_run_of_1025_samples() {
     let run = PackedSamples::new(Format::Real1, &[0; 129]).part(0, 1_025);
     bank().feed(&run, &mut timeline());
 }
 
 #[test]
-#[should_panic(expected = "Bank::feed requires run.now.packing ≡ (settings_of self.old).packing")]
+#[should_panic(expected = "Bank::feed requires a run in the format of its settings")]
 fn a_run_in_another_packing() {
     bank().feed(&PackedSamples::new(Format::Iq2, &[0; 128]), &mut timeline());
 }
 
 #[test]
-#[should_panic(expected = "BitSync::push requires unsigned_abs ip ≤ MOST_PUSH")]
+#[should_panic(expected = "BitSync::push requires |ip| <= MOST_PUSH")]
 fn a_push_above_its_bound() {
     BitSync::new().push((1 << 18) + 1);
 }
 
 #[test]
-#[should_panic(expected = "BitSync::push requires unsigned_abs ip ≤ MOST_PUSH")]
+#[should_panic(expected = "BitSync::push requires |ip| <= MOST_PUSH")]
 fn the_least_push() {
     BitSync::new().push(i32::MIN);
 }
 
 #[test]
-#[should_panic(expected = "Loops::take requires AreWithin MOST_SUM (counts_in counts)")]
+#[should_panic(expected = "Loops::take requires sums of at most MOST_SUM in size")]
 fn a_sum_above_its_bound() {
     let counts = Counts {
         ql: (1 << 18) + 1,
@@ -77,7 +77,7 @@ fn a_sum_above_its_bound() {
 }
 
 #[test]
-#[should_panic(expected = "Loops::start requires unsigned_abs v ≤ MOST_SHIFT")]
+#[should_panic(expected = "Loops::start requires |v| <= MOST_SHIFT")]
 fn a_shift_above_its_bound() {
     let _ = Loops::start(-(1 << 30) - 1);
 }
