@@ -1,6 +1,8 @@
 """All kinds of inputs, by what their definitions describe."""
-from . import bits, frames, loops, pages, runs, scripts, searches, segments, signal, slots, texts
+from . import (bits, fields, frames, loops, pages, pieces, runs, scripts, searches, segments,
+               signal, slots, texts, totals, windows, words)
 from .registry import KINDS, Kind
 
-__all__ = ['KINDS', 'Kind', 'bits', 'frames', 'loops', 'pages', 'runs', 'scripts', 'searches',
-           'segments', 'signal', 'slots', 'texts']
+__all__ = ['KINDS', 'Kind', 'bits', 'fields', 'frames', 'loops', 'pages', 'pieces', 'runs',
+           'scripts', 'searches', 'segments', 'signal', 'slots', 'texts', 'totals', 'windows',
+           'words']
