@@ -1,8 +1,9 @@
 """All kinds of inputs, by what their definitions describe."""
-from . import (bits, fields, frames, loops, pages, pieces, runs, scripts, searches, segments,
-               signal, slots, texts, totals, windows, words)
+from . import (almanacs, bits, commands, entries, fields, frames, lines, loops, pages, pieces, runs,
+               scripts, searches, segments, sets, signal, slots, streams, texts, totals, windows,
+               words)
 from .registry import KINDS, Kind
 
-__all__ = ['KINDS', 'Kind', 'bits', 'fields', 'frames', 'loops', 'pages', 'pieces', 'runs',
-           'scripts', 'searches', 'segments', 'signal', 'slots', 'texts', 'totals', 'windows',
-           'words']
+__all__ = ['KINDS', 'Kind', 'almanacs', 'bits', 'commands', 'entries', 'fields', 'frames', 'lines',
+           'loops', 'pages', 'pieces', 'runs', 'scripts', 'searches', 'segments', 'sets', 'signal',
+           'slots', 'streams', 'texts', 'totals', 'windows', 'words']

@@ -8,7 +8,6 @@ from typing import Sequence
 
 from .. import antt, values
 from ..reference import signal as reference
-from ..reference.signal import Sample
 from . import drawing
 from .drawing import either, size
 from .registry import Row, kind
@@ -146,61 +145,3 @@ def table_kind(name: str, table: Sequence[int]) -> None:
 
 table_kind('cosines', reference.COSINES)
 table_kind('sines', reference.SINES)
-
-
-def products(value: Sample, cosine: int, sine: int) -> tuple[int, int]:
-    """A sample times the conjugate of the carrier, in phase and in quadrature."""
-    return (value[0] * cosine + value[1] * sine, value[1] * cosine - value[0] * sine)
-
-
-def product_kind(name: str, part: int) -> None:
-    """A kind of one part of a product."""
-    @kind(name, count=40)
-    def _(r: Random) -> Row:
-        value, = drawing.samples(r, 1)
-        cosine, sine = r.choice(list(zip(reference.COSINES, reference.SINES)))
-        return (f'{values.sample(value)} {antt.integer(cosine)} {antt.integer(sine)}',
-                antt.integer(products(value, cosine, sine)[part]))
-
-
-product_kind('wiped_in_phase', 0)
-product_kind('wiped_quadrature', 1)
-
-
-class Products:
-    """Samples, carriers and chips of some offsets, and a range of these."""
-
-    def __init__(self, r: Random) -> None:
-        count = r.randint(1, 6)
-        self.samples = drawing.samples(r, count)
-        self.carriers = [r.choice(list(zip(reference.COSINES, reference.SINES)))
-                         for _ in range(count)]
-        self.chips = [[r.choice([1, -1]) for _ in range(count)] for _ in range(3)]
-        self.first, self.end = ends(r, count)
-
-    def sums(self, chips: Sequence[int]) -> tuple[int, int]:
-        """Both sums with such chips."""
-        parts = [products(self.samples[it], *self.carriers[it]) for it in
-                 range(self.first, self.end)]
-        signs = chips[self.first:self.end]
-        return (sum(a * it for (a, _), it in zip(parts, signs)),
-                sum(b * it for (_, b), it in zip(parts, signs)))
-
-    def sample_text(self) -> str:
-        """The samples, as a function."""
-        return function([values.sample(it) for it in self.samples], '(real (pos 0))')
-
-    def waves(self) -> list[str]:
-        """The carriers, cosine and sine, as functions."""
-        return [whole_function([it[part] for it in self.carriers]) for part in (0, 1)]
-
-    def replica(self) -> str:
-        """The carriers and all chips, as a replica."""
-        cosine, sine = self.waves()
-        early, prompt, late = map(whole_function, self.chips)
-        return antt.record(cos=cosine, sin=sine, early=early, prompt=prompt, late=late)
-
-
-def whole_function(numbers: Sequence[int]) -> str:
-    """A function that gives these whole numbers."""
-    return function([antt.integer(it) for it in numbers], '(pos 0)')
