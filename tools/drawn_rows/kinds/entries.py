@@ -76,7 +76,8 @@ def drawn_entries(r: Random) -> list[Entry]:
 
 @kind('last_time', count=20)
 def last_time(r: Random) -> Row:
-    before, entries = r.randint(0, 9), drawn_entries(r)[:r.choice([0, 1, 9])]
+    """A line has one entry at most."""
+    before, entries = r.randint(0, 9), drawn_entries(r)[:1]
     last = entries[-1].time if entries else before
     return f'{before} {antt.listed(entries, values.entry)}', str(last)
 
