@@ -16,10 +16,18 @@ from .slips import Wrong
 # How many are tried in one check.
 AT_ONCE = 12
 
+# In how many days each has its turn.
+TURNS = 7
+
 
 def read() -> list[Wrong]:
     """All wrong definitions."""
     return [*slips.SLIPS, *slips_of_slots.SLIPS]
+
+
+def of_turn(turn: int) -> list[Wrong]:
+    """Those that have their turn on one of so many days."""
+    return read()[turn::TURNS]
 
 
 def changed(it: Wrong, text: str) -> str:
