@@ -9,7 +9,7 @@ from typing import Optional
 from .. import antt, values
 from ..reference import acquisition as reference
 from ..reference import signal
-from ..reference.signal import Dump, Phases, Segment
+from ..reference.signal import Channel, Dump, Phases, Segment
 from . import drawing
 from .drawing import size
 from .pieces import function
@@ -147,11 +147,11 @@ def replica_of(r: Random) -> Row:
 
 @kind('tracked_channel', group=5, count=20, is_whole=True)
 def tracked_channel(r: Random) -> Row:
-    """Its shift after no dump or one; what else it has, the kind `held_channel` draws."""
+    """What it has, and its shift after no dump or one."""
     text, made = channel(r, False, size(r, drawing.LAST_TIME))
     sums = [drawing.sums(r) for _ in range(r.randint(0, 1))]
-    return (f'{text}.steering {antt.listed(sums, values.sums)}',
-            values.shift(made.steering(sums)))
+    told = Channel(made.satellite, made.start, made.code, lambda _: made.steering(sums))
+    return f'parts_after {text} {antt.listed(sums, values.sums)}', values.parts(told)
 
 
 @kind('doppler_shift', count=20)

@@ -48,6 +48,14 @@ def drawn_alone(r: Random, most: int = 3) -> Alone:
                  (slots, drawn_script(r, slots)))
 
 
+def telling(r: Random) -> Alone:
+    """One that mostly is told of events and of answers at the last time."""
+    it = drawn_alone(r)
+    while r.random() < .9 and not (it.texts('events') and it.texts('answers')):
+        it = drawn_alone(r)
+    return it
+
+
 def texts(them: list[str]) -> str:
     """Texts as a list."""
     return antt.listed(them, antt.text)
@@ -62,7 +70,7 @@ def last_time_kind(name: str, part: str, has_times: bool) -> None:
     """A kind of what a client is told at the last time."""
     @kind(name, group=1, count=6)
     def _(r: Random) -> Row:
-        it = drawn_alone(r)
+        it = telling(r)
         told = it.texts(part)
         return (f'{it.before()} {client_text(it.client)} {values.samples(it.samples)}',
                 timed(it, told) if has_times else texts(told))
@@ -85,7 +93,7 @@ def entries_of(it: Alone, until: int) -> list[Entry]:
 
 @kind('slot_event_texts', group=1, count=6)
 def slot_event_texts(r: Random) -> Row:
-    it = drawn_alone(r)
+    it = telling(r)
     entries, slot = entries_of(it, len(it.samples)), r.randrange(it.client[0])
     told = [one for one in it.texts('events') if one.split()[1] == str(slot)]
     return (f'{it.before()} {values.samples(it.samples)} {entries_text(entries)} {slot}',
@@ -189,6 +197,9 @@ def bank_kind(name: str, told: Callable[[Bank], list[str]], order: str) -> None:
     @kind(name, group=1, count=3)
     def _(r: Random) -> Row:
         it = drawn_bank(r)
+        while r.random() < .9 and not all(list(at_last(it, (part,)))
+                                          for part in ('events', 'answers')):
+            it = drawn_bank(r)
         said = {'settings': values.settings(it.settings), 'samples': values.samples(it.samples),
                 'clients': clients_text(it.clients)}
         return ' '.join(said[one] for one in order.split()), texts(told(it))

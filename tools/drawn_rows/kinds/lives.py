@@ -17,6 +17,7 @@ from .loops import lock_dumps
 from .registry import Row, kind
 from .slots import asked, events, life
 from .texts import drawn_event
+from .windows import nearly_lost
 
 Command = tuple[int, str, tuple[int, ...]]
 
@@ -105,7 +106,7 @@ def last_dump_events(r: Random) -> Row:
 
 @kind('until_lost', group=1, count=3)
 def until_lost(r: Random) -> Row:
-    sums = lock_dumps(r, 52) + [NOTHING] * r.choice([0, 3])
+    sums = r.choice([lock_dumps(r, 3), *[nearly_lost(r)] * 2])
     dumps = [Dump(1, it) for it in sums]
     return (antt.listed(dumps, values.dump),
             antt.listed([Dump(1, it) for it in loops.until_lost(sums)], values.dump))

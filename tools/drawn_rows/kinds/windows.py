@@ -102,9 +102,14 @@ def is_lost_after(r: Random) -> Row:
     return f'{dumps_text(dumps)} {count}', antt.boolean(is_lost)
 
 
+def nearly_lost(r: Random) -> list[Sums]:
+    """Dumps with which the signal is just lost, or isn't yet."""
+    return [BAD] * (FIRST - 1 + 50 * WINDOW + r.choice([-1, 0, 0, 5]))
+
+
 @kind('lost_after', group=1, count=4)
 def lost_after(r: Random) -> Row:
-    dumps = lock_dumps(r)
+    dumps = r.choice([lock_dumps(r, 3), *[nearly_lost(r)] * 2])
     lost = [it for it, news in reference.answers(dumps).by_dump.items() if news == 'lost']
     return dumps_text(dumps), antt.optional(lost[0] if lost else None)
 
