@@ -104,9 +104,9 @@ def last_dump_events(r: Random) -> Row:
             f' {antt.optional(it.dump if is_there else None, values.dump)}', events(told))
 
 
-@kind('until_lost', group=1, count=3)
+@kind('until_lost', group=1, count=2)
 def until_lost(r: Random) -> Row:
-    sums = r.choice([lock_dumps(r, 3), *[nearly_lost(r)] * 2])
+    sums = r.choice([lock_dumps(r, 3), nearly_lost(r)])
     dumps = [Dump(1, it) for it in sums]
     return (antt.listed(dumps, values.dump),
             antt.listed([Dump(1, it) for it in loops.until_lost(sums)], values.dump))
@@ -186,6 +186,8 @@ def still_on(r: Random) -> Row:
 @kind('events_at_end', group=1, count=6)
 def events_at_end(r: Random) -> Row:
     it = Followed(r, early=1)
+    while r.random() < .9 and not it.slot.events(len(it.samples)):
+        it = Followed(r, early=1)
     return (f'{it.samples_text()} {it.commands_text()}',
             events(it.slot.events(len(it.samples))))
 

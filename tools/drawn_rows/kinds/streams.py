@@ -85,7 +85,7 @@ def candidate_from(r: Random) -> Row:
 @kind('starts_from', group=1, count=4)
 def starts_from(r: Random) -> Row:
     bits, place = header(r)
-    most, first = r.choice([0, 1, 2]), r.choice([0, 2, place, place + 1])
+    most, first = r.choice([0, 1, 2, 2, 2]), r.choice([0, 2, place, place, place + 1])
     found = [it for it in range(first, len(bits)) if message.is_candidate(bits, it)]
     return f'{values.bits(bits)} {most} {first}', antt.listed(found[:min(1, most)])
 
