@@ -1,5 +1,5 @@
-"""Wrong definitions of what scripts, lives, texts and lines are made of: turns of tools/turned, of one
-place each, with the kind that must refuse it."""
+"""Wrong definitions of what scripts, lives, texts and lines are made of: turns of tools/turned,
+of one place each, with the kind that must refuse it."""
 from __future__ import annotations
 
 from .slips import PRELUDE, Wrong

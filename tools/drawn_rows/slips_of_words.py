@@ -1,5 +1,5 @@
-"""Wrong definitions of what words, fields, pages and sets are made of: turns of tools/turned, of one
-place each, with the kind that must refuse it."""
+"""Wrong definitions of what words, fields, pages and sets are made of: turns of tools/turned,
+of one place each, with the kind that must refuse it."""
 from __future__ import annotations
 
 from .slips import PRELUDE, Wrong
@@ -56,15 +56,15 @@ SLIPS = (
     Wrong('signed', 'Fields', 'is_signed = true;', 'is_signed = false;'),
     Wrong('place_of', 'Fields', 'field.name', 'name'),
     Wrong('almanac_fields', 'Fields',
-          'unsigned (codes "toa") (bits 91 98 ∷ []) (pos 12)\n    ∷ signed (codes "di") (bits '
-          '99 114 ∷ []) (minus 19',
+          'unsigned (codes "toa") (bits 91 98 ∷ []) (pos 12)\n    ∷ signed (codes "di") '
+          '(bits 99 114 ∷ []) (minus 19',
           'signed (codes "di") (bits 99 114 ∷ []) (minus 19)\n    ∷ unsigned (codes "toa") '
           '(bits 91 98 ∷ []) (pos 12'),
     Wrong('message_fields', 'Fields',
-          'flat_map characters_of_word (range_with_len 4 6)\n    ++ character 271 ∷ character '
-          '279',
-          'character 279 ∷ flat_map characters_of_word (range_with_len 4 6)\n    ++ character '
-          '271'),
+          'flat_map characters_of_word (range_with_len 4 6)\n    ++ character 271 ∷ '
+          'character 279',
+          'character 279 ∷ flat_map characters_of_word (range_with_len 4 6)\n    ++ '
+          'character 271'),
     Wrong('places_of', 'Fields', 'between b.first', 'between b.last'),
     Wrong('word_at_place', 'Fields', '((place - 1)', '((place - 2)'),
     Wrong('number_of', 'Fields', 'number_from_digits 2', 'number_from_digits 3'),
