@@ -1,5 +1,5 @@
-"""Wrong definitions of what sums, samples, codes, windows and cells are made of: turns of tools/turned,
-of one place each, with the kind that must refuse it."""
+"""Wrong definitions of what sums, samples, codes, windows and cells are made of: turns of
+tools/turned, of one place each, with the kind that must refuse it."""
 from __future__ import annotations
 
 from .slips import PRELUDE, Wrong

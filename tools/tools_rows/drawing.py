@@ -26,7 +26,6 @@ OCTAL = ('1440 1620 1710 1744 1133 1455 1131 1454 1626 1504 1642 1750 1764 1772 
          ' 1633 1715 1746 1763 1063 1706 1743 1761 1770 1774 1127 1453 1625 1712').split()
 
 
-
 def first_chips(satellite: int) -> str:
     """The first ten chips of a satellite, one digit for the first, and three for three each."""
     chips = [signal.chip(satellite, it) for it in range(10)]
@@ -100,7 +99,8 @@ def slips(rows: Any, _: str) -> None:
 WRONG_TABLES = (
     ({'Codes.g1_taps': None}, 'Codes.g1_taps is neither drawn nor in the table'),
     ({'Codes.chip': coverage.reached('chip_sign')}, 'Codes.chip is drawn, and stands in the table'),
-    ({'Codes.chips': coverage.reached('chip')}, 'Codes.chips is in the table, and is no definition'),
+    ({'Codes.chips': coverage.reached('chip')},
+     'Codes.chips is in the table, and is no definition'),
     ({'Codes.g1_taps': coverage.reached('ratio')}, 'Codes.g1_taps is not reached by ratio'),
     ({'Codes.g1_taps': coverage.reached('chips')}, 'Codes.g1_taps is not reached by chips'),
     ({'Codes.g1_taps': coverage.reached('')}, 'Codes.g1_taps has no reason: reached'),

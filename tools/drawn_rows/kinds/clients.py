@@ -1,9 +1,9 @@
-"""Kinds of the lines of clients, at one time and all: events before answers, by client,
-slot and script; refused lines among commands; a sample with a dump and one without."""
+"""Kinds of the lines of a client, at one time and all: events before answers, by slot and
+script; refused lines among commands; a sample with a dump and one without."""
 from __future__ import annotations
 
 from random import Random
-from typing import Callable, Iterator, NamedTuple
+from typing import NamedTuple
 
 from .. import antt, values
 from ..reference import lines as reference
@@ -13,7 +13,7 @@ from ..reference.signal import Sample, Settings
 from . import drawing
 from .commands import asked_of
 from .registry import Row, kind
-from .runs import Client, clients_text, drawn_script
+from .runs import Client, drawn_script
 
 
 def client_text(it: Client) -> str:
@@ -160,54 +160,3 @@ def alone(r: Random) -> Row:
     it = drawn_alone(r, 4)
     return (f'{it.before()} {values.samples(it.samples)} {client_text(it.client)}',
             texts(reference.alone_lines(it.settings, it.samples, *it.client)))
-
-
-class Bank(NamedTuple):
-    """One to three clients over a few samples."""
-    settings: Settings
-    samples: list[Sample]
-    clients: list[Client]
-
-    def body(self) -> list[str]:
-        """The lines without the ends."""
-        return reference.body_lines(self.settings, self.samples, self.clients)
-
-    def ends(self) -> list[str]:
-        """The ends."""
-        return reference.end_lines(self.samples, self.clients)
-
-
-def drawn_bank(r: Random, most: int = 2) -> Bank:
-    """Some clients, each with a slot or two."""
-    shares = [r.choice([1, 2]) for _ in range(r.randint(1, most))]
-    return Bank(drawing.slow(r, 8000), drawing.samples(r, r.randint(1, 3)),
-                [(it, drawn_script(r, it)) for it in shares])
-
-
-def at_last(it: Bank, parts: tuple[str, ...]) -> Iterator[str]:
-    """What all clients are told at the last time."""
-    for part in parts:
-        for number, client in enumerate(it.clients, 1):
-            for one in Alone(it.settings, it.samples, client).texts(part):
-                yield reference.joined(number, len(it.samples), one)
-
-
-def bank_kind(name: str, told: Callable[[Bank], list[str]], order: str) -> None:
-    """A kind of some lines of several clients; the arguments are in such an order."""
-    @kind(name, group=1, count=3)
-    def _(r: Random) -> Row:
-        it = drawn_bank(r)
-        while r.random() < .9 and not all(list(at_last(it, (part,)))
-                                          for part in ('events', 'answers')):
-            it = drawn_bank(r)
-        said = {'settings': values.settings(it.settings), 'samples': values.samples(it.samples),
-                'clients': clients_text(it.clients)}
-        return ' '.join(said[one] for one in order.split()), texts(told(it))
-
-
-bank_kind('answer_lines', lambda it: list(at_last(it, ('answers',))), 'settings clients samples')
-bank_kind('lines_at', lambda it: list(at_last(it, ('events', 'answers'))),
-          'settings clients samples')
-bank_kind('body_lines', lambda it: it.body(), 'settings samples clients')
-bank_kind('end_lines', lambda it: it.ends(), 'samples clients')
-bank_kind('full_lines', lambda it: it.body() + it.ends(), 'settings samples clients')

@@ -96,7 +96,8 @@ def is_to(it: Entry, slot: int) -> bool:
 @kind('command_to', count=20)
 def command_to(r: Random) -> Row:
     slot, it = r.randint(0, 2), drawn_entry(r, r.randint(0, 99))
-    return f'{slot} {it.time} {asked_of(it.what)}', antt.optional(it if is_to(it, slot) else None, timed)
+    return (f'{slot} {it.time} {asked_of(it.what)}',
+            antt.optional(it if is_to(it, slot) else None, timed))
 
 
 @kind('commands_to', group=10, count=20)

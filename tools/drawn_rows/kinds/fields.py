@@ -29,6 +29,9 @@ def parts_of(field: Field) -> list[tuple[int, int]]:
     return parts
 
 
+PARTED = [it for of in NAMED for it in FIELDS[of] if len(parts_of(it)) > 1]
+
+
 def part_text(part: tuple[int, int]) -> str:
     """A part of a field."""
     return antt.record(first=part[0], last=part[1])
@@ -168,8 +171,9 @@ def value_of(r: Random) -> Row:
 
 @kind('is_there', group=10, count=20)
 def is_there(r: Random) -> Row:
-    words, field = page_words(r), drawn_field(r)
-    if r.random() < .5:
+    """Many are of fields that stand in two words."""
+    words, field = page_words(r), r.choice([drawn_field(r), r.choice(PARTED)])
+    if r.random() < .7:
         words[(r.choice(field.places) - 1) // 30] = None
     return (f'{values.subframe(words)} {field_text(field)}',
             antt.boolean(reference.is_there(words, field)))

@@ -16,54 +16,9 @@ from .drawing import size
 from .loops import lock_dumps
 from .registry import Row, kind
 from .slots import asked, events, life
-from .texts import drawn_event
 from .windows import nearly_lost
 
 Command = tuple[int, str, tuple[int, ...]]
-
-
-@kind('when', count=20)
-def when(r: Random) -> Row:
-    is_so, event = r.random() < .5, drawn_event(r)
-    return f'{antt.boolean(is_so)} {values.event(event)}', events([event] * is_so)
-
-
-@kind('events_of', count=20)
-def events_of(r: Random) -> Row:
-    number = r.choice([None, size(r, 999)])
-    return (f'gap {antt.optional(number)}',
-            events([] if number is None else [Event('gap', number)]))
-
-
-def numbers(r: Random) -> list[int]:
-    """Some numbers."""
-    return [size(r, 99) for _ in range(r.choice([0, 1, r.randint(2, 6)]))]
-
-
-@kind('last_of', count=20)
-def last_of(r: Random) -> Row:
-    them = numbers(r)
-    return f'{{A = ℕ}} {antt.listed(them)}', antt.optional(them[-1] if them else None)
-
-
-@kind('front_of', count=20)
-def front_of(r: Random) -> Row:
-    them = numbers(r)
-    return f'{{A = ℕ}} {antt.listed(them)}', antt.listed(them[:-1])
-
-
-@kind('news_events', count=20)
-def news_events(r: Random) -> Row:
-    news = r.choice(['nothing', 'lock', 'unlock', 'lost'])
-    return news, events([] if news == 'nothing' else [Event(news)])
-
-
-@kind('steered_events', group=1, count=4)
-def steered_events(r: Random) -> Row:
-    dumps = lock_dumps(r, 3)
-    ends = sorted(loops.answers(dumps).by_dump)
-    dumps = dumps[:r.choice(ends)] if ends else dumps
-    return antt.listed(dumps, values.sums), events(reference.steered_events(dumps))
 
 
 class Counted:
@@ -104,9 +59,9 @@ def last_dump_events(r: Random) -> Row:
             f' {antt.optional(it.dump if is_there else None, values.dump)}', events(told))
 
 
-@kind('until_lost', group=1, count=2)
+@kind('until_lost', group=1, count=4)
 def until_lost(r: Random) -> Row:
-    sums = r.choice([lock_dumps(r, 3), nearly_lost(r)])
+    sums = r.choice([*[lock_dumps(r, 3)] * 2, nearly_lost(r)])
     dumps = [Dump(1, it) for it in sums]
     return (antt.listed(dumps, values.dump),
             antt.listed([Dump(1, it) for it in loops.until_lost(sums)], values.dump))

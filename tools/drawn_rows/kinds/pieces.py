@@ -9,7 +9,7 @@ from typing import Sequence
 from .. import antt, values
 from ..reference import signal as reference
 from . import drawing
-from .drawing import either, size
+from .drawing import either
 from .registry import Row, kind
 from .signal import packed
 

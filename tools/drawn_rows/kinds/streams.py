@@ -1,6 +1,6 @@
 """Kinds of places among bits: bits, words and the two bits before them at either end; headers right
-or with one bit changed, with all their 60 bits or one fewer, and places beside them; a subframe that
-the last bit makes whole, or doesn't."""
+or with one bit changed, with all their 60 bits or one fewer, and places beside them; a subframe
+that the last bit makes whole, or doesn't."""
 from __future__ import annotations
 
 from random import Random

@@ -1,5 +1,5 @@
-"""Kinds of tasks and of what is due of them: shares of both ends and past them, limits at the number
-of samples and to both sides of it, readings that end, fail or go on."""
+"""Kinds of tasks and of what is due of them: shares of both ends and past them, limits at the
+number of samples and to both sides of it, readings that end, fail or go on."""
 from __future__ import annotations
 
 from random import Random

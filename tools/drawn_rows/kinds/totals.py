@@ -1,5 +1,5 @@
-"""Kinds of products and of sums over ranges: of functions, which are given as lists; empty ranges and
-whole ones; tests that nothing passes; answers that may be missing."""
+"""Kinds of products and of sums over ranges: of functions, which are given as lists; empty ranges
+and whole ones; tests that nothing passes; answers that may be missing."""
 from __future__ import annotations
 
 from random import Random

@@ -107,9 +107,9 @@ def nearly_lost(r: Random) -> list[Sums]:
     return [BAD] * (FIRST - 1 + 50 * WINDOW + r.choice([-1, 0, 0, 5]))
 
 
-@kind('lost_after', group=1, count=2)
+@kind('lost_after', group=1, count=4)
 def lost_after(r: Random) -> Row:
-    dumps = r.choice([lock_dumps(r, 3), nearly_lost(r)])
+    dumps = r.choice([*[lock_dumps(r, 3)] * 2, nearly_lost(r)])
     lost = [it for it, news in reference.answers(dumps).by_dump.items() if news == 'lost']
     return dumps_text(dumps), antt.optional(lost[0] if lost else None)
 
