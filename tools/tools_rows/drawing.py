@@ -86,11 +86,16 @@ def terms(rows: Any, _: str) -> None:
 
 
 def slips(rows: Any, _: str) -> None:
-    """Each wrong definition stands in for text that its module has once, and no kind has none."""
+    """Each wrong definition stands in for text that its module has once, and has its turn on one
+    day of a week. No kind has none."""
     texts = read_texts(SPECS)
     for it in wrong.read():
         rows.say(f'{it.module}: {it.new[:40]}', ['its place is not there once'] * (
             texts[it.module].count(it.old) != 1))
+    turns = [it for turn in range(wrong.TURNS) for it in wrong.of_turn(turn)]
+    rows.say('turns of a week', ['one is left out or has two']
+             * (sorted(turns) != sorted(wrong.read())) + ['a day has none']
+             * (not all(map(wrong.of_turn, range(wrong.TURNS)))))
     bare = set(KINDS) - {it.kind for it in wrong.read()}
     rows.say('kinds without a wrong definition', [' '.join(sorted(bare))] * bool(bare))
 
