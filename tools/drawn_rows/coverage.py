@@ -38,6 +38,7 @@ WORDS = {
 DRAWN = 4
 
 EDGE = 'an edge has 301 pushes, and 60 are computed'
+LOSS = 'a signal is lost with 1,199 dumps at least, after each of which it is asked for'
 SEARCH = 'a search has 2,046 cells, and one is computed'
 BITS = 'a page has 302 bits, and they are drawn as the bits of one subframe'
 
@@ -63,6 +64,8 @@ TABLE: Mapping[str, Reason] = {
     'Lives.acquired_channel': Reason('size', limit=SEARCH),
     'Lives.channel_of': Reason('function', 'life_now'),
     'Lives.dumps_of_channel': reached('life_now'), 'Lives.dumps_of_life': reached('life_now'),
+    'Lives.lost_after': Reason('size', 'is_lost', LOSS),
+    'Lives.until_lost': Reason('size', 'life_now', LOSS),
     'Lives.life_with': reached('life_of'), 'Lives.life_after': reached('life_of'),
     'Loops.no_counts': Reason('constant', 'loops_start'),
     'Oscillators.code_cycle': Reason('constant', 'code_phase_after'),

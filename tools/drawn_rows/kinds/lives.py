@@ -7,16 +7,14 @@ from random import Random
 from typing import Optional
 
 from .. import antt, values
-from ..reference import acquisition, loops
+from ..reference import acquisition
 from ..reference import slots as reference
 from ..reference.signal import Dump, NOTHING, Sample, Settings
 from ..reference.slots import Event, Life, Slot
 from . import drawing
 from .drawing import size
-from .loops import lock_dumps
 from .registry import Row, kind
 from .slots import asked, events, life
-from .windows import nearly_lost
 
 Command = tuple[int, str, tuple[int, ...]]
 
@@ -57,14 +55,6 @@ def last_dump_events(r: Random) -> Row:
     told = it.events() if is_there and now == it.dump.time else []
     return (f'{it.life()} {now} {it.dumps() if is_there else "[]"}'
             f' {antt.optional(it.dump if is_there else None, values.dump)}', events(told))
-
-
-@kind('until_lost', group=1, count=4)
-def until_lost(r: Random) -> Row:
-    sums = r.choice([*[lock_dumps(r, 3)] * 2, nearly_lost(r)])
-    dumps = [Dump(1, it) for it in sums]
-    return (antt.listed(dumps, values.dump),
-            antt.listed([Dump(1, it) for it in loops.until_lost(sums)], values.dump))
 
 
 @kind('life_wanting', count=20)

@@ -11,7 +11,7 @@ from ..reference.loops import FIRST, LIMIT, WINDOW
 from ..reference.signal import Sums
 from .bits import changes
 from .drawing import either, sums
-from .loops import BAD, GOOD, lock_dumps, windows
+from .loops import BAD, GOOD, windows
 from .registry import Row, kind
 
 
@@ -100,18 +100,6 @@ def is_lost_after(r: Random) -> Row:
     dumps, count = after_bad_ones(r, 50)
     is_lost = count >= 50 and not good_among(dumps, 50, count)
     return f'{dumps_text(dumps)} {count}', antt.boolean(is_lost)
-
-
-def nearly_lost(r: Random) -> list[Sums]:
-    """Dumps with which the signal is just lost, or isn't yet."""
-    return [BAD] * (FIRST - 1 + 50 * WINDOW + r.choice([-1, 0, 0, 5]))
-
-
-@kind('lost_after', group=1, count=4)
-def lost_after(r: Random) -> Row:
-    dumps = r.choice([*[lock_dumps(r, 3)] * 2, nearly_lost(r)])
-    lost = [it for it, news in reference.answers(dumps).by_dump.items() if news == 'lost']
-    return dumps_text(dumps), antt.optional(lost[0] if lost else None)
 
 
 @kind('pushes_by', group=1, count=2)
