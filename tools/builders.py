@@ -8,8 +8,8 @@ import time
 
 import children
 import room_folders
-from built import (ANY, APART, THIRD, TOP, clean_environment, find, is_plain_wanted, level, read,
-                   replace, sum_of_sources)
+from built import (ANY, APART, NAMES, OUT, THIRD, TOP, Built, clean_environment, find,
+                   is_plain_wanted, level, read, replace, sum_of_sources)
 from crate_order import job_count, read_crates, side_by_side, with_those_below
 from crate_shares import Shares
 from rooms import RT, prove as prove_in_room
@@ -106,29 +106,29 @@ class Target:
     goes by the times of files, which can mislead it, so nothing is left of other sources."""
 
     def __init__(self, folder, sources, line):
-        self.folder, self.text = os.path.join(folder, 'target'), f'{sources}\n{line}'
-        self.mark = os.path.join(self.folder, 'sources')
+        self.folder, self.text = folder, f'{sources}\n{line}'
+        self.mark = os.path.join(folder, 'sources')
 
-    def clear(self):
-        """Removes what cargo made of other sources."""
+    def clear(self, package, is_harmed=False):
+        """Removes what cargo made of other sources of a package, which a folder has; or all of it
+        where it isn't what cargo made any more."""
         try:
             is_of_these = read(self.mark).decode() == self.text
         except (OSError, UnicodeDecodeError):
             is_of_these = False
-        if not is_of_these:
-            run(['cargo', 'clean', '--offline', '--quiet', '--target-dir', self.folder],
-                os.path.dirname(self.folder))
+        if is_harmed or not is_of_these:
+            run(['cargo', 'clean', '--offline', '--quiet', '--target-dir', self.folder], package)
 
     def keep(self):
         """Keeps that all in it is of these sources."""
         replace(self.mark, self.text)
 
 
-def cargo_build(package, folder, target, environment):
-    """Builds the program of a package in a folder, and gives its path."""
-    command = ['cargo', 'build', '--offline', '--quiet', '--release', '--target-dir', target,
-               '--message-format', 'json-render-diagnostics', '-p', package]
-    return executable(run(command, folder, env=environment), package)
+def cargo_build(name, folder, target, environment):
+    """Builds a program of the package in a folder, and gives its path."""
+    command = ['cargo', 'build', '--offline', '--locked', '--quiet', '--release', '--target-dir',
+               target, '--message-format', 'json-render-diagnostics', '--bin', name]
+    return executable(run(command, folder, env=environment), name)
 
 
 def build_apart(name, sources, line, say):
@@ -136,37 +136,35 @@ def build_apart(name, sources, line, say):
     level."""
     folder = os.path.join(TOP, APART[name])
     say('this build is by cargo, and takes some seconds')
-    target = Target(folder, sources, line)
-    target.clear()
+    target = Target(os.path.join(folder, 'target'), sources, line)
+    target.clear(folder)
     paths = {ANY: cargo_build(name, folder, target.folder, clean_environment())}
     if sum_of_sources('apart') == sources:
         target.keep()
     return paths
 
 
-def build_plain(crate, sources, line, say):
+def build_plain(crate, _, line, say):
     """Builds a program of plain Rust by cargo: for any processor, and on x86-64 for the third level
     too, side by side; or for the processor at hand alone, where that is asked for. Gives its paths
     by the levels."""
-    folder = os.path.join(TOP, 'plain')
     say('cargo builds it in about half a minute, as plain Rust, which isn\'t proved'
         f'{hint("plain")}')
-    run([sys.executable, '-E', '-s', '-S', os.path.join(TOP, 'tools', 'plain'), folder], TOP)
-    target = Target(folder, sources, line)
-    target.clear()
-    # All builds below share this file.
-    run(['cargo', 'generate-lockfile', '--offline', '--quiet'], folder)
+    run([sys.executable, '-E', '-s', '-S', os.path.join(TOP, 'tools', 'rust'), '--check'], TOP)
+    of_cargo = sum_of_sources('cargo')
+    target = Target(os.path.join(OUT, 'plain'), of_cargo, line)
+    target.clear(TOP, Built(crate, 'plain').is_harmed())
 
     def build(of_level):
         flags = clean_environment()
         if of_level != ANY:
             flags['RUSTFLAGS'] = f'-C target-cpu={of_level} {WITHIN_32_BYTES}'
-        return cargo_build(crate, folder, os.path.join(target.folder, of_level), flags)
+        return cargo_build(NAMES[crate], TOP, os.path.join(target.folder, of_level), flags)
 
     levels = [ANY, THIRD] if 'host: x86_64-' in line else [ANY]
     if os.environ.get('RECEIVER_PLAIN') == HERE and level() in levels:
         levels = [level()]
     paths = dict(side_by_side({it: [] for it in levels}, build, job_count()))
-    if sum_of_sources('plain') == sources:
+    if sum_of_sources('cargo') == of_cargo:
         target.keep()
     return paths

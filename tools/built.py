@@ -15,23 +15,26 @@ OUT = os.path.join(TOP, 'out')
 # proved, so cargo builds them wherever they are built.
 APART = {'maker': 'benchmarks/maker'}
 
+# What cargo calls the programs of plain Rust, by their crates.
+NAMES = {'receiver_cli': 'seldomplough-receiver', 'packer_cli': 'seldomplough-pack'}
+
 # What the files of sources end with, and the folders among them that make no program of a kind.
 SOURCES = ('.rt', '.antt', '.rs', '.toml', '.txt')
 NO_SOURCES = {'proved': {'out', 'must-fail'}, 'plain': {'out', 'must-fail', 'specs', 'proofs'},
-              'apart': {'target'}}
+              'cargo': set(), 'apart': {'target'}}
 
-# The folders and files that a program is made of: a proved one, one of plain Rust, and those that
-# stand apart.
+# What cargo builds a program of plain Rust of, and what writes that.
+OF_CARGO = ('Cargo.toml', 'Cargo.lock', 'rust')
+OF_RUST = ('crates.txt', 'crates', 'tools/rust', 'tools/rust_package.py', 'tools/rust_text.py')
+
+# The folders and files that a program is made of: a proved one, one of plain Rust, what cargo takes
+# of this, and those that stand apart.
 PARTS = {
     'proved': ('crates.txt', 'HANDLES', 'crates', 'tools/build', 'tools/built.py',
                'tools/builders.py', 'tools/crate_order.py', 'tools/crate_shares.py',
                'tools/rooms.py', 'tools/rt_once'),
-    'plain': ('crates.txt', 'crates', 'tools/build', 'tools/built.py', 'tools/builders.py',
-              'tools/kit', 'tools/plain', 'tools/plain_additions.py', 'tools/plain_checks.py',
-              'tools/plain_docs.py', 'tools/plain_folder.py', 'tools/plain_memory.py',
-              'tools/plain_packages.py', 'tools/plain_premises.py', 'tools/plain_registry.py',
-              'tools/plain_terms.py', 'tools/plain_text.py', 'tools/plain_traits.py',
-              'tools/plain_words.py', 'tools/plain_workspace.py'),
+    'plain': (*OF_CARGO, *OF_RUST, 'tools/build', 'tools/built.py', 'tools/builders.py'),
+    'cargo': (*OF_CARGO, 'tools/builders.py'),
     'apart': (*APART.values(), 'tools/build', 'tools/built.py', 'tools/builders.py'),
 }
 
@@ -216,6 +219,15 @@ class Built:
             return None
         is_whole = found == sum_of(path) and os.access(path, os.X_OK)
         return path if is_whole else None
+
+    def is_harmed(self):
+        """Whether one of its programs is there, and isn't what was built."""
+        try:
+            _, _, *rows = read(self.stamp).decode().split('\n')
+            known = [row.split(' ', 2)[1:] for row in rows]
+        except (OSError, ValueError):
+            return False
+        return any(sum_of(os.path.join(TOP, path)) not in (None, found) for found, path in known)
 
     def keep(self, paths, sources, line):
         """Keeps that the program is built of sources of this sum: its paths by the levels."""

@@ -16,7 +16,8 @@ SPECS = os.path.join(TOP, 'crates', 'definitions', 'specs')
 ROWS = os.path.join(TOP, 'crates', 'definition_rows', 'proofs')
 
 # Statements of laws, which define nothing.
-LAWS = {'TextLaws', 'Laws', 'SlotLaws', 'EventLaws', 'PrintedLaws', 'DistinctLaws', 'Lib'}
+LAWS = {'TextLaws', 'Laws', 'SlotLaws', 'EventLaws', 'PrintedLaws', 'DistinctLaws', 'LoopLaws',
+        'ReportLaws', 'SizeLaws', 'Lib'}
 
 
 def read_texts(folder: str) -> dict[str, str]:

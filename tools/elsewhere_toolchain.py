@@ -107,12 +107,13 @@ def environment(it: Elsewhere, home: str, flags: list[str]) -> dict[str, str]:
 
 
 def executables(it: Elsewhere, work: str, flags: list[str], *words: str) -> list[str]:
-    """The paths of what cargo builds for a processor of the workspace `plain` in a folder, by its
-    words and flags of rustc."""
+    """The paths of what cargo builds of the package for a processor, in a folder, by its words and
+    flags of rustc."""
     command = [it.of.cargo, *words, '--offline', '--quiet', '--release', '--target', it.target]
-    command += ['--message-format', 'json-render-diagnostics']
+    command += ['--message-format', 'json-render-diagnostics', '--package', 'seldomplough']
+    command += ['--target-dir', os.path.join(work, 'target')]
     kept = environment(it, os.path.join(work, 'home'), flags)
-    messages = str(run(command, os.path.join(work, 'plain'), env=kept))
+    messages = str(run(command, built.TOP, env=kept))
     made = (json.loads(line) for line in messages.split('\n') if line.startswith('{'))
     return sorted(found['executable'] for found in made if found.get('executable'))
 

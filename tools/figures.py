@@ -11,6 +11,10 @@ import sys
 from typing import Callable, Iterator, NamedTuple, Optional
 
 sys.path.insert(0, os.path.dirname(os.path.realpath(__file__)))
+from drawn_rows import coverage, wrong
+from drawn_rows.checks import texts_of_definitions
+from drawn_rows.definitions import Definitions
+from drawn_rows.kinds import KINDS
 from pack_pieces import choices
 from pack_reference import kind_of
 from pack_rows import by_hand
@@ -20,9 +24,6 @@ from page_text import CHOSEN
 PAGES = ('*.md', 'docs/*.md', 'docs/*.1', 'python/README.md', 'examples/*/README.md')
 REVISION = re.compile(r'\brevisions?\s+`?([0-9a-f]{7,40})\b')
 NUMBERS = 'no one two three four five six seven eight nine ten eleven twelve'.split()
-
-# Definitions and their rows are no packages. `arrayvec` and `thiserror` may be those of crates.io.
-PROVED_ALONE, OF_CRATES_IO = 2, 2
 
 
 class Figure(NamedTuple):
@@ -50,12 +51,6 @@ def lines(pattern: str, paths: str) -> Callable[[str], int]:
                            for it in glob.glob(os.path.join(top, paths)))
 
 
-def packages(top: str) -> int:
-    """The packages that `tools/plain` writes: those of crates, and those of the kit beside them."""
-    crates = lines(r'\w+:', 'crates.txt')(top)
-    return crates - PROVED_ALONE + files('tools/kit/*/Cargo.toml')(top)
-
-
 def runs_of_examples(top: str) -> int:
     """The runs of `tools/examples-check`: one for each script, and those that it names."""
     named = lines('(?:judge|refused) ', 'tools/examples-check')(top)
@@ -81,6 +76,26 @@ def turned(top: str, column: int) -> int:
     return sum(int(row.split('|')[column]) for row in rows)
 
 
+def told_definitions() -> list[coverage.Told]:
+    """All definitions, each with the kinds that draw it."""
+    return coverage.told_of(Definitions(texts_of_definitions()))
+
+
+def all_definitions(_: str) -> int:
+    """How many definitions there are, types among them."""
+    return len(told_definitions())
+
+
+def drawn_definitions(_: str) -> int:
+    """How many of them are drawn themselves."""
+    return sum(bool(it.kinds) for it in told_definitions())
+
+
+def types_of_definitions(_: str) -> int:
+    """How many of them are types."""
+    return len(Definitions(texts_of_definitions()).types)
+
+
 EDITS = files('edits/*/*.edit', 'crates/*/must-fail/*.edit')
 MUST_FAIL = files('crates/*/must-fail/*.edit')
 
@@ -91,11 +106,8 @@ FIGURES = (
     Figure('docs/DECISIONS.md', r'the (\S+) edits of `definitions`',
            files('edits/definitions/*.edit')),
     Figure('CONTRIBUTING.md', r'the (\S+) in `must-fail` are', MUST_FAIL),
-    Figure('docs/PLAIN.md', r'made and built (\S+) packages', packages),
-    Figure('docs/PLAIN.md', r'With crates of crates\.io there are (\S+)\.',
-           lambda top: packages(top) - OF_CRATES_IO),
     Figure('docs/PLAIN.md', r'loop by (\S+) tests',
-           lines(r' *#\[test\]', 'tools/kit/lanes/src/*.rs')),
+           lines(r' *#\[test\]', 'rust/kit/lanes/*.rs')),
     Figure('docs/PROOFS.md', r'\): (\S+) refused lines',
            lines(r"    \('.*', \d+\),$", 'tools/runs_rows/scripts.py')),
     Figure('docs/PROOFS.md', r'over `examples` in (\S+) runs', runs_of_examples),
@@ -107,6 +119,12 @@ FIGURES = (
     Figure('docs/PROOFS.md', r'cases with (\S+) lines, and fails', lambda it: compared(it, 3)),
     Figure('docs/PROOF-IN-ONE-PAGE.md', r'definitions at (\S+) places', lambda it: turned(it, 2)),
     Figure('docs/PROOF-IN-ONE-PAGE.md', r'examples refused (\S+)\.', lambda it: turned(it, 3)),
+    Figure('docs/PROOFS.md', r'drawn\*\*: (\S+) kinds of inputs', lambda _: len(KINDS)),
+    Figure('docs/PROOFS.md', r'inputs for (\S+) of the \S+ definitions', drawn_definitions),
+    Figure('docs/PROOFS.md', r'inputs for \S+ of the (\S+) definitions', all_definitions),
+    Figure('docs/PROOFS.md', r'refuses\*\*: (\S+) wrong definitions', lambda _: len(wrong.read())),
+    Figure('docs/PROOFS.md', r'why there are none\. (\S+) are types', types_of_definitions),
+    Figure('docs/PROOFS.md', r'are types\. (\S+) others', lambda _: len(coverage.TABLE)),
     Figure('docs/PAGE.md', r'runs all (\S+) examples', files('examples/*.expected')),
     Figure('docs/PAGE.md', r'the (\S+) bundled examples', lambda _: len(CHOSEN)),
 )

@@ -6,63 +6,37 @@ from __future__ import annotations
 
 import hashlib
 import os
-import shutil
-import sys
 import tempfile
 
 import built
-from builders import run
 from built import TOP
 from wasm_toolchain import FEATURES, KEPT, TARGET, Say, Toolchain, build, environment, flags_of
-from wasm_toolchain import make_kept, toolchain, write
+from wasm_toolchain import make_kept, toolchain
 
+# The bank's package, and the profile of its build.
+PACKAGE, PROFILE = 'bank', 'page'
 CRATE = os.path.join(TOP, 'page', 'wasm')
-# The root of the build. cargo names what is built by its path from there on, and by its whole path
-# where it lies outside, of which other bytes would come. A standard library that is made here has
-# no bitcode, which `lto` would need.
-ROOT = """[workspace]
-resolver = "3"
-members = ["page/wasm"]
-exclude = ["plain"]
-
-[profile.release]
-codegen-units = 1
-lto = "off"
-panic = "abort"
-strip = "symbols"
-"""
 TOOLCHAIN = os.path.join(TOP, 'tools', 'wasm_toolchain.py')
-
-
-def make_workspace(folder: str) -> None:
-    """Writes the sources as plain Rust."""
-    writer = os.path.join(TOP, 'tools', 'plain')
-    run([sys.executable, '-E', '-s', '-S', writer, os.path.join(folder, 'plain')], TOP)
 
 
 def make_banks(of: Toolchain, say: Say) -> dict[str, bytes]:
     """Makes the banks, by their names."""
     with tempfile.TemporaryDirectory() as work:
         work = os.path.realpath(work)
-        make_workspace(work)
-        crate = os.path.join(work, 'page', 'wasm')
-        write(os.path.join(work, 'Cargo.toml'), ROOT)
-        skipped = shutil.ignore_patterns('target', 'Cargo.lock', '.*')
-        shutil.copytree(CRATE, crate, ignore=skipped)
         banks = {}
         for name, features in FEATURES.items():
-            flags = [*flags_of(of, features, say), f'--remap-path-prefix={work}=.']
+            flags = [*flags_of(of, features, say), f'--remap-path-prefix={TOP}=.']
             kept = environment(of, os.path.join(work, 'home'), flags)
             say(f'builds the bank for {features}, which is of plain Rust and not proved')
-            target = os.path.join(work, 'target', name)
-            build(of, crate, kept, '--target-dir', target)
-            banks[name] = built.read(os.path.join(target, TARGET, 'release', 'bank.wasm'))
+            target = os.path.join(work, name)
+            build(of, TOP, kept, '--package', PACKAGE, '--profile', PROFILE, '--target-dir', target)
+            banks[name] = built.read(os.path.join(target, TARGET, PROFILE, f'{PACKAGE}.wasm'))
         return banks
 
 
 def sum_of_banks(of: Toolchain) -> str:
     """The sum of all that the banks are made of."""
-    made = hashlib.sha256(f'{of}\n{built.sum_of_sources("plain")}\n'.encode())
+    made = hashlib.sha256(f'{of}\n{built.sum_of_sources("cargo")}\n'.encode())
     for path in sorted(built.files_below(CRATE, {'target'})) + [
         os.path.realpath(__file__),
         TOOLCHAIN,

@@ -29,8 +29,7 @@ PACKAGES = 'rustc-web cargo-web rust-web-src lld'
 # seconds of processors, and tests would end no sooner.
 OF_TESTS = ('test', 'proc_macro', 'getopts')
 
-# An empty crate: cargo builds the standard library beside it. In the workspace of plain Rust it
-# would find two crates `std`, since the stand-in there is called so too.
+# An empty crate: cargo builds the standard library beside it.
 EMPTY = '[package]\nname = "empty"\nedition = "2024"\n\n[lib]\n\n[workspace]\n' + ''.join(
     f'\n[profile.release.package.{it}]\nopt-level = 0\n' for it in OF_TESTS
 )
@@ -99,7 +98,7 @@ def write(path: str, text: str) -> None:
 
 def build(of: Toolchain, folder: str, kept: dict[str, str], *more: str) -> None:
     """Builds a crate for the target, in an environment."""
-    words = [of.cargo, 'build', '--offline', '--quiet', '--release', '--target', TARGET, *more]
+    words = [of.cargo, 'build', '--offline', '--quiet', '--target', TARGET, *more]
     run(words, folder, env=kept)
 
 
@@ -115,7 +114,7 @@ def make_library(of: Toolchain, library: str, to: str) -> None:
         # What std has that isn't stable. It goes without backtraces, of which there are none here.
         kept['RUSTC_BOOTSTRAP'] = '1'
         of_std = ['build-std=std,panic_abort,test', 'build-std-features=panic-unwind']
-        build(of, work, kept, *(word for it in of_std for word in ('-Z', it)))
+        build(of, work, kept, '--release', *(word for it in of_std for word in ('-Z', it)))
         made = os.path.join(work, 'target', TARGET, 'release', 'deps')
         os.makedirs(to)
         for name in os.listdir(made):

@@ -55,8 +55,6 @@ add_docs() {
     cp "$top/python/README.md" "$docs/python"
     cp -r "$top"/docs/*.md "$top/docs/pictures" "$docs/docs"
     cp -r "$top/examples" "$docs"
-    # What cargo may have left there.
-    rm -rf "$docs"/examples/rust/{target,Cargo.lock}
     python3 "$top/tools/package/pages.py" "$docs"
     # The commands of the pages, as they stand there.
     for name in receiver pack; do

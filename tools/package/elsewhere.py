@@ -15,13 +15,13 @@ sys.dont_write_bytecode = True
 sys.path.insert(0, os.path.dirname(os.path.dirname(os.path.realpath(__file__))))
 import children
 from builders import Failed
+from built import TOP
 from elsewhere_toolchain import elsewhere, executables, flags_of
-from page_wasm import make_workspace
 
 # The processors of other architectures for which packages were tried.
 ARCHITECTURES = {'arm64': 'aarch64'}
 # The programs, as cargo and the package call them.
-PROGRAMS = {'receiver_cli': 'receiver', 'packer_cli': 'pack'}
+PROGRAMS = {'seldomplough-receiver': 'receiver', 'seldomplough-pack': 'pack'}
 
 
 def say(text: str) -> None:
@@ -35,12 +35,10 @@ def make(processor: str, folder: str) -> str:
     say(f'cargo build for {processor} by {it.versions}')
     with tempfile.TemporaryDirectory() as work:
         work = os.path.realpath(work)
-        make_workspace(work)
         # The strip of this system may know no other processor.
-        flags = [*flags_of(it, say), '-Cstrip=symbols', f'--remap-path-prefix={work}=.']
-        crates = [word for crate in PROGRAMS for word in ('-p', crate)]
+        flags = [*flags_of(it, say), '-Cstrip=symbols', f'--remap-path-prefix={TOP}=.']
         os.makedirs(folder)
-        for path in executables(it, work, flags, 'build', *crates):
+        for path in executables(it, work, flags, 'build', '--bins'):
             shutil.copy(path, os.path.join(folder, PROGRAMS[os.path.basename(path)]))
     return it.qemu
 

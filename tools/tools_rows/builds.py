@@ -8,7 +8,10 @@ import built
 from .commands import changes, contents, refused, run, write
 from .small_checkout import LIBRARY, Checkout
 
-PROGRAM = 'plain/target/%s/release/receiver_cli'
+PROGRAM = 'out/plain/%s/release/seldomplough-receiver'
+
+# What is said where the sources as Rust are those of other sources.
+STALE = "rust: rust/version/mod.rs isn't what tools/rust writes\n"
 
 # What a processor needs for the higher of two levels.
 FLAGS = 'tools/package/x86-64-v3.flags'
@@ -59,12 +62,16 @@ def by_content(rows, folder):
     rows.say('./receiver, sources of a future time',
              checkout.prints('1.0.2', PATH=checkout.bare))
     # As where the clock was put back after the build.
-    date_all(checkout.at('plain'), 4e9)
+    date_all(checkout.at('out/plain'), 4e9)
     checkout.set_version('1.0.3')
     rows.say('./receiver, after a build of a future time', checkout.prints('1.0.3'))
-    with open(checkout.at('tools/plain_text.py'), 'a', encoding='utf-8') as file:
+    with open(checkout.at('tools/rust_text.py'), 'a', encoding='utf-8') as file:
         file.write("\n\nREWRITTEN.append((re.compile('1[.]0[.]3'), '7.0.0'))\n")
-    rows.say('./receiver, another tools/plain_text.py', checkout.prints('7.0.0'))
+    outcome = checkout.run('receiver')
+    is_told = outcome.status == 1 and not outcome.said and STALE in outcome.errors
+    rows.say('./receiver, another tools/rust_text.py', [str(outcome)[-300:]] * (not is_told))
+    checkout.write_rust()
+    rows.say('./receiver, written by another tools/rust_text.py', checkout.prints('7.0.0'))
     moved = os.path.join(folder, 'moved here')
     os.rename(checkout.top, moved)
     checkout.top = moved
@@ -156,6 +163,7 @@ def failures(rows, folder):
         return
     checkout = Checkout(folder)
     write(checkout.at('crates/receiver_cli/src/main.rt'), 'fn main() {\n    nothing();\n}\n')
+    checkout.write_rust()
     outcome = checkout.run('receiver')
     faults = [] if outcome.status == 1 and not outcome.said else [f'status {outcome.status}']
     for text in 'cannot find function `nothing`', 'receiver: it could not be built':

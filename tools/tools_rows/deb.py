@@ -130,7 +130,7 @@ def same_bytes(rows, folder):
           '[docs/pack.1](docs/pack.1).\n')
     other = os.path.join(folder, 'another checkout')
     shutil.copytree(checkout.top, other, copy_function=shutil.copyfile)
-    for tool in 'deb', 'plain':
+    for tool in 'deb', 'rust':
         os.chmod(os.path.join(other, 'tools', tool), 0o700)
     kit = checkout.add_rt('rattle-kit-1 for rows')
     first, outcome = a_package(rows, folder, 'first', checkout.top, RECEIVER_PLAIN=None,

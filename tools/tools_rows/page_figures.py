@@ -18,8 +18,7 @@ TOOL = 'tools/manual-check'
 SMALL = {
     'crates.txt': '# A line: names.\ndefinitions:\ndefinition_rows: definitions\n'
                   '\nbits:\nwords: bits\n',
-    'tools/kit/std/Cargo.toml': '', 'tools/kit/lanes/Cargo.toml': '', 'tools/kit/README.md': '',
-    'tools/kit/lanes/src/tests.rs': '#[test]\nfn a() {}\n    #[test]\n    fn b() {}\n// #[test]\n',
+    'rust/kit/lanes/tests.rs': '#[test]\nfn a() {}\n    #[test]\n    fn b() {}\n// #[test]\n',
     'tools/examples-check': "judge() {\n}\nfor a in b; do\n    judge a\ndone\njudge c\nrefused 1\n",
     'tools/second_receiver/stdout': 'runs 7 lines 4321 differences 0\nok 5\n',
     'tools/runs_rows/scripts.py': "ROWS = (\n    ('0 a', 7),\n    (0, 'b', 8),\n"
@@ -34,7 +33,7 @@ SMALL = {
 }
 WANTED = {
     'There are': 4, 'edits of': 1, 'tries the': 1, 'Of the': 4, 'in `must-fail` are': 1,
-    'made and built': 4, 'With crates of': 2, 'loop by': 2, 'over `examples` in': 3,
+    'loop by': 2, 'over `examples` in': 3,
     'built `pack`': 33, 'both receivers': 7, 'lines, and fails': 4321, 'definitions at': 34,
     'examples refused': 24, 'runs all': 2, 'refused lines': 2,
 }
@@ -92,12 +91,12 @@ def figures_of_manual_check(rows, folder):
     page = os.path.join(top, 'docs', 'PLAIN.md')
     with open(page, encoding='utf-8') as file:
         text = file.read()
-    write(page, re.sub(r'(made\s+and\s+built) \S+', r'\1 99', text))
+    write(page, re.sub(r'(loop\s+by) \S+', r'\1 99', text))
     said = io.StringIO()
     with contextlib.redirect_stdout(said):
         found = list(manual_check(top).wrong_figures())
     faults = [f'{found}'] * (len(found) != 1 or not found[0].startswith(
-        "docs/PLAIN.md says 'made and built 99 packages', and there are "))
+        "docs/PLAIN.md says 'loop by 99 tests', and there are "))
     faults += [f'said {said.getvalue()!r}'] * ('no whole history' not in said.getvalue())
     rows.say(f'figures of {TOOL}', faults)
 

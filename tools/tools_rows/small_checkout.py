@@ -2,6 +2,7 @@
 an option where they are asked for help. All its tools are the real ones. A row may give it an `rt`
 of the kit's kind, which proves nothing."""
 import os
+import re
 import shutil
 import signal
 import subprocess
@@ -9,7 +10,7 @@ import sys
 
 from hanging import HANGS
 
-from .commands import copied, run, write
+from .commands import TOP, copied, run, write
 
 MAIN = '''//! A program that prints its version, or its help.
 use std::env;
@@ -23,15 +24,17 @@ fn main(rt: HostRuntime) {
     }
 }
 '''
-CRATES = 'version:\nreceiver_cli: version\npacker_cli: version\n'
+CRATES = 'version:\nreceiver_cli: version\npacker_cli: version\nseldomplough: version\n'
 LIBRARY = 'crates/version/src/lib.rt'
 
-SECOND = '[package]\nname = "second_receiver"\nversion = "1.0.0"\nedition = "2024"\n'
+FACADE = '//! The library.\n\npub use version::VERSION;\n'
+LOCK = 'version = 4\n\n[[package]]\nname = "seldomplough"\nversion = "1.0.0"\n'
 
 # Its rt notes each call. `lib` waits where a file says so. `run` makes the program, or takes one
 # that lies beside it.
 RT = '''#!%s
 import os
+import re
 import shutil
 import sys
 import time
@@ -101,19 +104,18 @@ class Checkout:
     def __init__(self, folder, name='checkout'):
         self.folder = folder
         self.top = copied(folder, 'tools', 'receiver', 'pack', 'HANDLES', 'LICENSE-MIT',
-                          'LICENSE-APACHE', 'Makefile', name=name)
+                          'LICENSE-APACHE', 'Makefile', 'rust/kit', 'rust/bin', name=name)
         os.makedirs(os.path.join(self.top, '.git'))
         write(self.at('crates.txt'), CRATES)
-        # The second receiver stands on crates that aren't here.
-        shutil.rmtree(self.at('tools/second_receiver'))
-        write(self.at('tools/second_receiver/Cargo.toml'), SECOND)
-        write(self.at('tools/second_receiver/src/lib.rs'), '')
         for crate, called in ('receiver_cli', 'receiver'), ('packer_cli', 'pack'):
             write(self.at(f'crates/{crate}/src/main.rt'), MAIN % called)
-        # The size of its programs is no matter, and how long they take to build is.
-        with open(self.at('tools/plain_workspace.py'), encoding='utf-8') as file:
-            text = file.read()
-        write(self.at('tools/plain_workspace.py'), text.replace('lto = true', 'opt-level = 0'))
+        write(self.at('crates/seldomplough/src/lib.rt'), FACADE)
+        # The other members stand on crates that aren't here. The size of its programs is no matter,
+        # and how long they take to build is.
+        with open(os.path.join(TOP, 'Cargo.toml'), encoding='utf-8') as file:
+            text = re.sub('members = .*', 'members = []', file.read())
+        write(self.at('Cargo.toml'), text.replace('lto = true', 'opt-level = 0'))
+        write(self.at('Cargo.lock'), LOCK)
         self.set_version('1.0.1')
         self.path = linked_path(os.path.join(folder, 'bin'), 'cargo', 'rustc', 'rustup', 'cc', 'ld')
         self.bare = linked_path(os.path.join(folder, 'bare'))
@@ -125,6 +127,11 @@ class Checkout:
     def set_version(self, version):
         """Has its programs print a version."""
         write(self.at(LIBRARY), f'//! The version.\n\npub const VERSION: &str = "{version}";\n')
+        self.write_rust()
+
+    def write_rust(self):
+        """Has tools/rust write its sources as Rust."""
+        subprocess.run([sys.executable, self.at('tools/rust')], check=True)
 
     def add_rt(self, line):
         """Puts an `rt` that calls itself so before all else in the PATH. Gives its folder."""

@@ -9,9 +9,8 @@ from .commands import TOP, copied, refused, run, write
 
 sys.path.insert(0, os.path.join(TOP, 'tools'))
 from built import FLAGS, THIRD, level
-from plain_additions import asking_text
 
-SOURCE = 'tools/kit/lanes/src/start.rs'
+SOURCE = 'rust/bin/start.rs'
 
 # The bit of each flag of /proc/cpuinfo, by the constant that has to name it. Beside these the first
 # has XSAVE, and that the system uses it.
@@ -26,10 +25,7 @@ OF_SYSTEM = [26, 27]
 # A bit of each answer that no processor has.
 NEVER = {'FIRST': 16, 'SAVED': 31, 'SEVENTH': 22, 'EXTENDED': 18}
 
-# What has the lanes ask at the start of a program.
-START = ['--cfg', 'feature="start"']
-
-# A program that needs nothing of the lanes.
+# A program with std.
 MAIN = 'use std::process::id;\n\nfn main() {\n    println!("{}", id());\n}\n'
 
 # Another one, without std, which is linked as one piece in a fifteenth of the time.
@@ -75,49 +71,55 @@ def questions(rows, _):
     rows.say('the flags of x86-64-v3', [f'{flags}'] * (flags != set(read(FLAGS).split())))
 
 
-def program(folder, text, *options):
-    """A program of this text over the lanes of a folder, for the third level. Gives its path, or
-    the outcome of what failed."""
-    rustc = ['rustc', '--edition', '2024', '-Copt-level=1', f'-Ctarget-cpu={THIRD}']
-    linked = ['-Clto', '-Cpanic=abort', '-lc'] if text == BARE else ['-Clto']
-    write(os.path.join(folder, 'main.rs'), asking_text(text))
-    for words in (['--crate-type', 'rlib', '--crate-name', 'lanes', *options,
-                   'tools/kit/lanes/src/lib.rs'],
-                  [*linked, '--extern', 'lanes=liblanes.rlib', 'main.rs']):
-        outcome = run([*rustc, *words], folder)
-        if outcome.status:
-            return None, outcome
-    return os.path.join(folder, 'main'), None
+def program(top, text):
+    """A program of this text that asks at its start, for the third level. Gives its path, or the
+    outcome of what failed."""
+    linked = ['-Cpanic=abort', '-lc'] if text == BARE else []
+    source = os.path.join(top, 'rust', 'bin', 'main.rs')
+    write(source, re.sub(r'^(?=use )', 'mod start;\n\n', text, count=1, flags=re.M))
+    outcome = run(['rustc', '--edition', '2024', '-Copt-level=1', f'-Ctarget-cpu={THIRD}',
+                   '-Clto', *linked, source], top)
+    return os.path.join(top, 'main'), outcome if outcome.status else None
 
 
 def refusals(rows, folder):
     """A program begins where the processor is of the level, and else ends with one line and status
-    1. So does one that asks for a bit that no processor has, of each answer. A library that no
-    program asks for the feature leaves it. All programs but those of two cases have no std."""
+    1. So does one that asks for a bit that no processor has, of each answer. All programs but those
+    of two cases have no std."""
     if not shutil.which('rustc') or 'x86_64-unknown-linux' not in run(['rustc', '-Vv'], '/').said:
         return
     is_third = level() == THIRD
     first, *others = NEVER
-    for names, options, main in (([], START, MAIN), ([first], START, MAIN),
-                                 *(([name], START, BARE) for name in others), ([*NEVER], [], BARE)):
+    for names, main in ([], MAIN), ([first], MAIN), *(([name], BARE) for name in others):
         asked = ' and '.join(names) or 'as it is'
-        top = copied(folder, 'tools/kit/lanes', name=f'asks {len(os.listdir(folder))}')
+        top = copied(folder, 'rust/bin', name=f'asks {len(os.listdir(folder))}')
         path = os.path.join(top, SOURCE)
         text = read(path)
         for name in names:
             text = re.sub(rf'({name}: u32 = bits\(\[)', rf'\g<1>{NEVER[name]}, ', text)
         write(path, text)
-        made, fault = program(top, main, *options)
+        made, fault = program(top, main)
         if fault:
             rows.say(f'a program that asks, {asked}', [fault.errors[-300:]])
             continue
         outcome = run([made], top)
-        if options and (names or not is_third):
+        if names or not is_third:
             faults = refused(outcome, re.escape(LINE), 1)
         else:
             is_right = outcome.status == 0 and not outcome.errors and outcome.said
-            faults = [str(outcome)] * (is_third and not is_right)
-        rows.say(f'a program that asks, {asked}, {options}', faults)
+            faults = [str(outcome)] * (not is_right)
+        rows.say(f'a program that asks, {asked}', faults)
 
 
-ROWS = (questions, refusals)
+def libraries(rows, _):
+    """The programs alone ask: the library has no code that runs before that of who depends on it."""
+    top, asking = os.path.join(TOP, 'rust'), set()
+    for at, _, names in os.walk(top):
+        for name in names:
+            path = os.path.join(at, name)
+            if re.search('init_array|global_asm', read(path)):
+                asking.add(os.path.relpath(path, top))
+    rows.say('what asks', [f'{asking}'] * (asking != {'bin/start.rs'}))
+
+
+ROWS = (questions, refusals, libraries)

@@ -52,6 +52,10 @@ impl BitSync {
 
     /// Takes the next prompt sum in phase, at most `MOST_PUSH` in size. There may be any number of
     /// pushes.
+    ///
+    /// # Panics
+    ///
+    /// Plain Rust panics where the sum is larger.
     pub fn push(&mut self, ip: i32) -> BitNews
         requires { unsigned_abs ip ≤ MOST_PUSH }
         ensures stands { (pushes : List ℤ) → StandsFor pushes self.old

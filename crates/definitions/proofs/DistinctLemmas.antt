@@ -160,10 +160,10 @@ values-back (f ∷ fields) (z ∷ values) named e h =
 
 -- ---- words
 
-abbrev IsWords : List (List ℕ) → Type 0
+abbrev pub IsWords : List (List ℕ) → Type 0
 IsWords words = AllByRecursion IsWord words
 
-words-back : (words : List (List ℕ)) → IsWords words → words_of (words_text words) ≡ words
+pub words-back : (words : List (List ℕ)) → IsWords words → words_of (words_text words) ≡ words
 unfolding pieces_ended_by
 words-back [] h = refl
 words-back (w ∷ []) h = only-word w h.0
@@ -178,7 +178,7 @@ some-append : (s t : List ℕ) → nat_eq (length t) 0 ≡ false → nat_eq (len
 some-append [] t some = some
 some-append (b ∷ s) t some = some-cons b (s ++ t)
 
-signed-word : (z : ℤ) → IsWord (signed_decimal z)
+pub signed-word : (z : ℤ) → IsWord (signed_decimal z)
 signed-word z = record { some = some z; whole = signed-without 32 (inl (omega arith)) z }
   where
     some : (z : ℤ) → nat_eq (length (signed_decimal z)) 0 ≡ false

@@ -23,7 +23,7 @@ length-bits : (pushes : List ℤ) (k : ℕ) → length pushes ≡ suc k
     → length (bits_after pushes (Some k)) ≡ 0
 length-bits pushes k e = let one : length pushes - k ≡ 1 = omega (arith, e) in rw one refl
 
-clash : {b : Bool} → b ≡ true → b ≡ false → ⊥
+pub clash : {b : Bool} → b ≡ true → b ≡ false → ⊥
 clash t f = cc
 
 edge-last : (ps : List ℤ) (p : ℤ) (k : ℕ) → edge_of (ps ++ p ∷ []) ≡ Some k → edge_of ps ≡ None

@@ -37,11 +37,11 @@ use Rattle.definitions.proofs.ReportLemmas.{is-report, is-almanac_set, with-alma
 abbrev pub All : (Event → Type 0) → List Event → Type 0
 All P es = AllByRecursion P es
 
-all-append : (P : Event → Type 0) (es fs : List Event) → All P es → All P fs → All P (es ++ fs)
+pub all-append : (P : Event → Type 0) (es fs : List Event) → All P es → All P fs → All P (es ++ fs)
 all-append P [] fs he hf = hf
 all-append P (e ∷ es) fs he hf = (he.0, all-append P es fs he.1 hf)
 
-all-when : (P : Event → Type 0) (b : Bool) (e : Event) → (b ≡ true → P e) → All P (when b e)
+pub all-when : (P : Event → Type 0) (b : Bool) (e : Event) → (b ≡ true → P e) → All P (when b e)
 all-when P true e h = (h refl, tt)
 all-when P false e h = tt
 

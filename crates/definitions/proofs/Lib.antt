@@ -52,3 +52,8 @@ pub mod FoundLemmas
 pub mod CellLemmas
 pub mod PageLemmas
 pub mod LastPageLemmas
+mod LoopStepLemmas
+mod EmissionLemmas
+mod SizeLemmas
+mod TurnLemmas
+mod NewsLemmas

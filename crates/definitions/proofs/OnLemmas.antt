@@ -46,7 +46,7 @@ clash : {b : Bool} → b ≡ false → b ≡ true → ⊥
 clash f t = cc
 
 -- what is over by a time is over by the last
-over-stays : (settings : Settings) (xs : List Sample) (t : ℕ) (life : Life)
+pub over-stays : (settings : Settings) (xs : List Sample) (t : ℕ) (life : Life)
     → is_over settings (take t xs) life ≡ true → is_over settings xs life ≡ true
 over-stays settings xs t life over =
     ap (λ zs. is_over settings zs life) (sym (take-append-drop t xs))

@@ -30,3 +30,6 @@ pub mod SlotLaws
 pub mod EventLaws
 pub mod PrintedLaws
 pub mod DistinctLaws
+pub mod LoopLaws
+pub mod ReportLaws
+pub mod SizeLaws

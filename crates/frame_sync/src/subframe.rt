@@ -64,6 +64,10 @@ impl Subframe {
 
     /// The data of word `i`, d1 to d24 with d24 lowest, or `None` where it did not pass the parity
     /// (IS-GPS-200, section 20.3.5).
+    ///
+    /// # Panics
+    ///
+    /// Plain Rust panics where `i` is not 1 to `SUBFRAME_WORDS`.
     #[must_use]
     pub fn word(&self, i: usize) -> Option<u32>
         requires from_one { 1 ≤ i }

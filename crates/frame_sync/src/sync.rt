@@ -71,6 +71,10 @@ impl FrameSync {
     /// the preamble (section 20.3.3.1), the second with an ID of 1 to 5 (section 20.3.3.2). The two
     /// bits before it are equal, and so are they to the last two. That search is this project's
     /// own.
+    ///
+    /// # Panics
+    ///
+    /// Plain Rust panics where `MOST_BITS` bits were pushed.
     pub fn push(&mut self, bit: bool) -> Option<Found>
         requires { pushed_of self.old < MOST_BITS }
         ensures counted { pushed_of self.new ≡ pushed_of self.old + 1 }

@@ -49,6 +49,10 @@ impl Message {
     /// and a subframe 300 bits (section 20.3.2). A message takes up to [`MOST_BITS`] bits. A push
     /// brings one at most. What is reported is large and comes rarely, so the caller keeps the room
     /// for it.
+    ///
+    /// # Panics
+    ///
+    /// Plain Rust panics where the sum is larger, or `MOST_BITS` bits have come.
     pub fn push(&mut self, ip: i32, news: &mut MessageNews)
         requires small { unsigned_abs ip ≤ MOST_PUSH }
         requires room { bit_count self.old < MOST_BITS }

@@ -51,6 +51,10 @@ const SUMMED: [u32; 6] = [
 /// The data of a word, d1 to d24 with d24 lowest, or `None` where one of the six parity equations
 /// does not hold (IS-GPS-200, section 20.3.5). Bit 29 of `word` is D1 and bit 0 is D30; `prior` is
 /// the last two bits of the word before, 2 * D29* + D30*.
+///
+/// # Panics
+///
+/// Plain Rust panics where the word has more than 30 bits, or the prior more than two.
 #[tactic(auto, using(crate::proofs::Checked::checking))]
 #[must_use]
 pub fn check(word: u32, prior: u8) -> Option<u32>
@@ -71,6 +75,10 @@ pub fn check(word: u32, prior: u8) -> Option<u32>
 
 /// The one word that passes with `prior` (2 * D29* + D30*) and has these data, d1 to d24 with d24
 /// lowest. Bit 29 of the word is D1 and bit 0 is D30 (IS-GPS-200, section 20.3.5).
+///
+/// # Panics
+///
+/// Plain Rust panics where the data have more than 24 bits, or the prior more than two.
 #[must_use]
 pub fn encode(data: u32, prior: u8) -> u32
     requires is_data { «data» < DATA_LIMIT }

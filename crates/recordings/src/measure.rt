@@ -25,6 +25,10 @@ pub struct Measure {
 
 impl Recipe {
     /// Measures a part of all samples of some bytes, with sizes by a threshold.
+    ///
+    /// # Panics
+    ///
+    /// Plain Rust panics where there are more than `MOST_BYTES` bytes.
     #[must_use]
     pub fn measure(&self, part: &PartRecipe, threshold: u64, bytes: &[u8]) -> Measure
         requires place { part.now.place < parts_of self.now }

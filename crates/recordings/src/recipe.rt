@@ -94,6 +94,10 @@ impl Recipe {
     /// # Errors
     ///
     /// There is no memory, or a float is no number.
+    ///
+    /// # Panics
+    ///
+    /// Plain Rust panics where there are more than `MOST_BYTES` bytes.
     pub fn pack(&self, bytes: &[u8], written: &mut Vec<u8>) -> Result<(), PackFault>
         requires { length bytes.now ≤ MOST_BYTES }
         ensures packed { OnOk result (IsPacked self.now bytes.now written.new.items) }

@@ -81,6 +81,10 @@ impl ValueKind {
 
     /// Value number `i` of bytes as an integer: twice the value, or for a float an integer that
     /// grows with it.
+    ///
+    /// # Panics
+    ///
+    /// Plain Rust panics where the bytes have no such value.
     #[must_use]
     pub fn reading(self, bytes: &[u8], i: usize) -> i64
         requires { bits_of self * (i + 1) ≤ 8 * length bytes.now }

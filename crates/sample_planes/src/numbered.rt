@@ -29,6 +29,10 @@ impl<'a> Model for NumberedSamples<'a> {
 impl<'a> NumberedSamples<'a> {
     /// The samples of a run, the first of them being sample `first` of the recording. The number
     /// after the last fits in a `u64`.
+    ///
+    /// # Panics
+    ///
+    /// Plain Rust panics where a number would be 2^64 or more.
     #[must_use]
     pub fn new(samples: PackedSamples<'a>, first: u64) -> NumberedSamples<'a>
         requires { first + length samples.samples < 2 ^ 64 }

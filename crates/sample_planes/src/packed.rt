@@ -38,6 +38,10 @@ impl<'a> Model for PackedSamples<'a> {
 
 impl<'a> PackedSamples<'a> {
     /// All samples of `bytes`. There are fewer than 2^64 of them.
+    ///
+    /// # Panics
+    ///
+    /// Plain Rust panics where they are 2^64 samples or more.
     #[must_use]
     pub fn new(format: Format, bytes: &'a [u8]) -> PackedSamples<'a>
         requires { sample_count (packing_of format) bytes.now < 2 ^ 64 }
@@ -110,6 +114,10 @@ impl<'a> PackedSamples<'a> {
     }
 
     /// The first `n` samples, and those after them. There are at least `n`.
+    ///
+    /// # Panics
+    ///
+    /// Plain Rust panics where there are fewer than `n`.
     #[must_use]
     pub fn split_at(&self, n: usize) -> (PackedSamples<'a>, PackedSamples<'a>)
         requires { n ≤ length self.now.samples }
@@ -128,6 +136,11 @@ impl<'a> PackedSamples<'a> {
 
     /// The `len` samples from sample `first` of them on, which is counted from 0. There are at
     /// least `first + len`.
+    ///
+    /// # Panics
+    ///
+    /// Plain Rust panics where there are fewer than `first + len`.
+    #[inline]
     #[must_use]
     pub fn part(&self, first: usize, len: usize) -> PackedSamples<'a>
         requires { first + len ≤ length self.now.samples }
@@ -141,6 +154,10 @@ impl<'a> PackedSamples<'a> {
     }
 
     /// Unpacks them all, at most `MAX_SAMPLES`.
+    ///
+    /// # Panics
+    ///
+    /// Plain Rust panics where there are more than `MAX_SAMPLES`.
     #[must_use]
     pub fn unpack(&self) -> Planes
         requires { length self.now.samples ≤ MAX_SAMPLES }
@@ -155,6 +172,10 @@ impl<'a> PackedSamples<'a> {
 
     /// Unpacks them all, at most `MAX_SAMPLES`, into planes that are kept: whatever these held
     /// before, they hold just the samples, and nothing of their size is moved.
+    ///
+    /// # Panics
+    ///
+    /// Plain Rust panics where there are more than `MAX_SAMPLES`.
     pub fn unpack_into(&self, planes: &mut Planes)
         requires { length self.now.samples ≤ MAX_SAMPLES }
         ensures { planes.new ≡ self.now.samples }

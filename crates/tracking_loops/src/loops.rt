@@ -62,16 +62,16 @@ impl Loops {
             → news_in result ≡ news_of (dumps ++ counts_in counts ∷ []) }
     {
         prove!(
-            counts.ie.unsigned_abs() <= MOST_SUM
-                && counts.qe.unsigned_abs() <= MOST_SUM
-                && counts.ip.unsigned_abs() <= MOST_SUM
-                && counts.qp.unsigned_abs() <= MOST_SUM
-                && counts.il.unsigned_abs() <= MOST_SUM
-                && counts.ql.unsigned_abs() <= MOST_SUM,
+            (counts.ie.unsigned_abs() <= MOST_SUM)
+                & (counts.qe.unsigned_abs() <= MOST_SUM)
+                & (counts.ip.unsigned_abs() <= MOST_SUM)
+                & (counts.qp.unsigned_abs() <= MOST_SUM)
+                & (counts.il.unsigned_abs() <= MOST_SUM)
+                & (counts.ql.unsigned_abs() <= MOST_SUM),
             "Loops::take requires sums of at most MOST_SUM in size"
         );
         prove!(
-            self.steering.dumps < MOST_STEERED_DUMPS,
+            self.dumps() < MOST_STEERED_DUMPS,
             "Loops::take requires dumps() < MOST_STEERED_DUMPS"
         );
         self.steering.take(counts);

@@ -1,7 +1,7 @@
 //! The recording and the printed lines, as devices.
 
 use crate::border;
-use receiver::{DeviceFault, Sink, Source};
+use seldomplough::internals::receiver::{DeviceFault, Sink, Source};
 
 /// The bytes of the recording, as they are.
 pub struct Recording;

@@ -4,9 +4,9 @@ use crate::border::Given;
 use crate::files::Recording;
 use crate::numbers::{self, Ending, PAIRED, SWAPPED};
 use crate::packing::{MOST_HALVES, ending_of};
-use receiver::Source;
-use recordings::{Choice, MOST_BYTES, Measure, PartRecipe, Recipe, ValueKind};
-use sample_planes::Format;
+use seldomplough::internals::receiver::Source;
+use seldomplough::internals::recordings::{Choice, MOST_BYTES, Measure, PartRecipe, Recipe, ValueKind};
+use seldomplough::internals::sample_planes::Format;
 
 const FLOAT_BYTES: usize = size_of::<f32>();
 

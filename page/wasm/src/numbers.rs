@@ -1,7 +1,7 @@
 //! The numbers that cross the border. `page/worker.js` names them too.
 
-use recordings::ValueKind;
-use sample_planes::Format;
+use seldomplough::internals::recordings::ValueKind;
+use seldomplough::internals::sample_planes::Format;
 
 /// How a run or a measurement ended.
 #[derive(Clone, Copy, Debug, PartialEq, Eq)]

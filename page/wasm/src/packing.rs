@@ -2,11 +2,11 @@
 
 use crate::files::Recording;
 use crate::numbers::{self, CONJUGATE, Ending, PACKED, PAIRED, QUADRATURE, SWAPPED};
-use kit::alloc::Global;
-use kit::vec::Vec as Bytes;
-use receiver::{DeviceFault, Source};
-use recordings::{Choice, ChoiceFault, MOST_PIECE, PackFault, Packer, ValueKind};
-use sample_planes::Format;
+use seldomplough::internals::std::alloc::Global;
+use seldomplough::internals::std::vec::Vec as Bytes;
+use seldomplough::internals::receiver::{DeviceFault, Source};
+use seldomplough::internals::recordings::{Choice, ChoiceFault, MOST_PIECE, PackFault, Packer, ValueKind};
+use seldomplough::internals::sample_planes::Format;
 
 /// Twice the greatest threshold or centre but for floats, as `pack` takes it.
 pub const MOST_HALVES: f64 = 2_000_001.0;

@@ -4,11 +4,11 @@ use crate::border::Given;
 use crate::files::{Lines, Recording};
 use crate::numbers::{self, Ending, PACKED};
 use crate::packing::{Asked, Packed};
-use channel_slots::MOST_TIME;
-use kit::alloc::Global;
-use oscillators::{Settings, SettingsFault};
-use receiver::{RunFault, Source, run_shares};
-use recordings::PackFault;
+use seldomplough::internals::channel_slots::MOST_TIME;
+use seldomplough::internals::std::alloc::Global;
+use seldomplough::internals::oscillators::{Settings, SettingsFault};
+use seldomplough::internals::receiver::{RunFault, Source, run_shares};
+use seldomplough::internals::recordings::PackFault;
 
 /// Runs scripts over the recording, for clients with these shares of the slots.
 pub fn run(

@@ -1,13 +1,14 @@
 //! The libraries see to what their functions require: each call here breaks a premise, and ends in
 //! a panic that names it.
 
-use bit_sync::BitSync;
-use channel_slots::{Bank, Timeline};
-use lane_correlator::Counts;
-use oscillators::Settings;
-use sample_planes::{Format, PackedSamples, Planes};
-use std::alloc::Global;
-use tracking_loops::Loops;
+use seldomplough::internals::bit_sync::BitSync;
+use seldomplough::internals::channel_slots::{Bank, Timeline};
+use seldomplough::internals::lane_correlator::Counts;
+use seldomplough::internals::nav_parity;
+use seldomplough::internals::oscillators::Settings;
+use seldomplough::internals::sample_planes::{Format, PackedSamples, Planes};
+use seldomplough::internals::std::alloc::Global;
+use seldomplough::internals::tracking_loops::Loops;
 
 /// A bank over a recording of real samples of one bit.
 fn bank() -> Bank {
@@ -41,32 +42,32 @@ fn as_much_as_may_be() {
 }
 
 #[test]
-#[should_panic(expected = "Bank::feed requires length run.now.samples ≤ MAX_SAMPLES")]
+#[should_panic(expected = "Bank::feed requires run.len() <= MAX_SAMPLES")]
 fn a_run_of_1025_samples() {
     let run = PackedSamples::new(Format::Real1, &[0; 129]).part(0, 1_025);
     bank().feed(&run, &mut timeline());
 }
 
 #[test]
-#[should_panic(expected = "Bank::feed requires run.now.packing ≡ (settings_of self.old).packing")]
+#[should_panic(expected = "Bank::feed requires a run in the format of its settings")]
 fn a_run_in_another_packing() {
     bank().feed(&PackedSamples::new(Format::Iq2, &[0; 128]), &mut timeline());
 }
 
 #[test]
-#[should_panic(expected = "BitSync::push requires unsigned_abs ip ≤ MOST_PUSH")]
+#[should_panic(expected = "BitSync::push requires |ip| <= MOST_PUSH")]
 fn a_push_above_its_bound() {
     BitSync::new().push((1 << 18) + 1);
 }
 
 #[test]
-#[should_panic(expected = "BitSync::push requires unsigned_abs ip ≤ MOST_PUSH")]
+#[should_panic(expected = "BitSync::push requires |ip| <= MOST_PUSH")]
 fn the_least_push() {
     BitSync::new().push(i32::MIN);
 }
 
 #[test]
-#[should_panic(expected = "Loops::take requires AreWithin MOST_SUM (counts_in counts)")]
+#[should_panic(expected = "Loops::take requires sums of at most MOST_SUM in size")]
 fn a_sum_above_its_bound() {
     let counts = Counts {
         ql: (1 << 18) + 1,
@@ -76,7 +77,7 @@ fn a_sum_above_its_bound() {
 }
 
 #[test]
-#[should_panic(expected = "Loops::start requires unsigned_abs v ≤ MOST_SHIFT")]
+#[should_panic(expected = "Loops::start requires |v| <= MOST_SHIFT")]
 fn a_shift_above_its_bound() {
     let _ = Loops::start(-(1 << 30) - 1);
 }
@@ -87,17 +88,18 @@ fn a_word_of_31_bits() {
     let _ = nav_parity::check(1 << 30, 0);
 }
 
-// What a run or a sample of it is asked for by the way is checked in a debug build alone.
+// What a run or a sample of it is asked for by the way is checked in a debug build alone, which says
+// the condition.
 #[cfg(debug_assertions)]
 #[test]
-#[should_panic(expected = "PackedSamples::part requires first + len ≤ length self.now.samples")]
+#[should_panic(expected = "assertion failed: ")]
 fn a_part_that_ends_behind_its_run() {
     let _ = PackedSamples::new(Format::Real1, &[0; 128]).part(usize::MAX, 2);
 }
 
 #[cfg(debug_assertions)]
 #[test]
-#[should_panic(expected = "Planes::value requires i < length self.now")]
+#[should_panic(expected = "assertion failed: ")]
 fn a_sample_that_is_not_there() {
     let _ = Planes::new().value(0);
 }

@@ -9,7 +9,7 @@ fn is_of_threads<T: Debug + Send + Sync>() {}
 /// Says each type once, in the order of its library.
 macro_rules! all_of_threads {
     ($($library:ident: $($of:ty),+;)+) => {{
-        $({ use $library::*; $(is_of_threads::<$of>();)+ })+
+        $({ use seldomplough::internals::$library::*; $(is_of_threads::<$of>();)+ })+
     }};
 }
 
@@ -40,10 +40,13 @@ fn public_types_are_of_threads() {
         recordings: PartRecipe, Recipe, Stretch;
         sample_history: SampleHistory;
         sample_planes: Format, NumberedSamples, PackedSamples, Planes;
-        seldomplough: Packing, PackingFault, Receiver, TooManySamples;
         slot_protocol: Answer, Command, Event, Phase, Refusal, SlotEvent, SlotNo, SlotState;
         subframes: AlmanacField, ClockField, Eph2Field, Eph3Field, Field, HealthField, Kind, Page;
         subframes: UtcField;
         tracking_loops: Loops, News;
     }
+    is_of_threads::<seldomplough::Packing>();
+    is_of_threads::<seldomplough::PackingFault>();
+    is_of_threads::<seldomplough::Receiver>();
+    is_of_threads::<seldomplough::TooManySamples>();
 }

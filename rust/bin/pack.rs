@@ -1,0 +1,7 @@
+//! The program `pack`: see its --help.
+
+mod start;
+
+fn main() -> impl std::process::Termination {
+    seldomplough::run_pack()
+}

@@ -1,0 +1,56 @@
+// Made by tools/rust of crates/recordings/src/lib.rt: change that.
+//! Recordings as people have them, packed as the receiver reads them.
+//!
+//! A `Choice` says what a recording is and what is asked of it, and gives the `Recipe` that makes
+//! it. A `Packer` takes the recording piece by piece: what it writes is proved to be the packing of
+//! all that came, however it was cut, by the definition that the receiver reads by. A `Stretch`
+//! says which bytes are wanted, and `Recipe::measure` shows what the values are like: of that only
+//! the number of samples is proved.
+//!
+#![cfg_attr(feature = "internals", doc = "```")]
+#![cfg_attr(not(feature = "internals"), doc = "```ignore")]
+//! # fn main() -> Result<(), std::boxed::Box<dyn core::error::Error>> {
+//! use seldomplough::kit::std::vec::Vec;
+//! use seldomplough::internals::recordings::{Choice, Packer, Stretch, ValueKind};
+//! use seldomplough::internals::sample_planes::Format;
+//!
+//! // Bytes without a sign around 127.5, as two bits each: those farther off than 60 are large.
+//! let choice = Choice {
+//!     kind: ValueKind::U8,
+//!     is_paired: false,
+//!     format: Format::Real2,
+//!     threshold: 120,
+//!     centre: 255,
+//!     centre_q: 255,
+//!     is_swapped: false,
+//!     is_conjugate: false,
+//!     takes_quadrature: false,
+//! };
+//! let mut packer = Packer::new(seldomplough::Global, choice.recipe()?)?;
+//! let mut written = Vec::new(seldomplough::Global);
+//! // All but the first two bytes, and at most a million.
+//! let mut stretch = Stretch::new(2, 1_000_000);
+//! packer.take(stretch.part(&[0, 0, 120, 140, 200, 30]), &mut written)?;
+//! # Ok(())
+//! # }
+//! ```
+
+mod choice;
+mod fault;
+mod measure;
+mod numbers;
+mod packer;
+mod part;
+mod recipe;
+mod stretch;
+mod value_kind;
+
+pub use choice::{Choice, ChoiceFault};
+pub use fault::PackFault;
+pub use measure::Measure;
+pub use numbers::{FLOAT_BYTES, INFINITY, READING_LIMIT};
+pub use packer::{MOST_PIECE, Packer};
+pub use part::PartRecipe;
+pub use recipe::{MOST_BYTES, MOST_GROUP, MOST_SAMPLE_BITS, Recipe};
+pub use stretch::Stretch;
+pub use value_kind::ValueKind;
