@@ -10,6 +10,7 @@ use crate::value_codes::ValueCodes;
 use sample_planes::Format;
 
 /// The codes of the values of a recording of bytes: a table for each part, by the value of a byte.
+#[derive(Drop)]
 pub(crate) struct ByteCodes {
     recipe: Recipe,
     in_phase: [u8; BYTE_VALUES],

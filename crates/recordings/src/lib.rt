@@ -32,6 +32,7 @@ mod byte_codes;
 mod choice;
 mod fault;
 mod measure;
+mod number_codes;
 mod numbers;
 mod packer;
 mod part;
@@ -39,6 +40,7 @@ mod recipe;
 mod stretch;
 mod value_codes;
 mod value_kind;
+mod values;
 
 pub use choice::{Choice, ChoiceFault};
 pub use fault::PackFault;

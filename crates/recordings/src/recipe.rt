@@ -8,10 +8,13 @@ ghost use Rattle.recordings.specs.declared.recipe.TheConstants.{MOST_BYTES};
 ghost use Rattle.recordings.specs.declared.numbers.TheConstants.{READING_LIMIT};
 ghost use Rattle.recordings.specs.declared.numbers.TheConstants.{SIGN_AND_SIZE_LIMIT};
 
+use crate::byte_codes::ByteCodes;
 use crate::fault::PackFault;
+use crate::number_codes::NumberCodes;
 use crate::part::PartRecipe;
 use crate::value_codes::ValueCodes;
 use crate::value_kind::ValueKind;
+use crate::values::{Floats, HighFirst, LowFirst};
 use sample_planes::Format;
 use std::alloc::AllocError;
 
@@ -116,8 +119,25 @@ impl Recipe {
             self.pack_by_table(bytes, written)?;
             return Ok(());
         }
-        self.pack_with(self, bytes, written)?;
+        self.pack_by_kind(bytes, written)?;
         Ok(())
+    }
+
+    /// Packs values of each kind by codes that are quick for it.
+    fn pack_by_kind(&self, bytes: &[u8], written: &mut Vec<u8>) -> Result<(), AllocError>
+        requires few { length bytes.now ≤ MOST_BYTES }
+        requires empty { written.old.items ≡ [] }
+        ensures { OnOk result (IsPacked self.now bytes.now written.new.items) }
+    {
+        if self.kind.bits() == 8 && bytes.len() >= LEAST_FOR_TABLE {
+            return self.pack_with(&ByteCodes::new(self), bytes, written);
+        }
+        match self.kind {
+            ValueKind::I16 => self.pack_with(&NumberCodes::new(self, LowFirst), bytes, written),
+            ValueKind::I16Be => self.pack_with(&NumberCodes::new(self, HighFirst), bytes, written),
+            ValueKind::F32 => self.pack_with(&NumberCodes::new(self, Floats), bytes, written),
+            _ => self.pack_with(self, bytes, written),
+        }
     }
 
     /// Packs by the codes of values. Each format has loops of its own.

@@ -1,9 +1,10 @@
 //! The codes of a recording's values: the bits that are written of each.
 
-ghost use Rattle.std.specs.Prelude.{◌≡◌, ◌+◌, ◌*◌, ◌<◌, ◌≤◌, ◌^◌, ℕ, Bool, length};
+ghost use Rattle.std.specs.Prelude.{◌≡◌, ◌+◌, ◌*◌, ◌<◌, ◌≤◌, ◌^◌, ℕ, Bool, length, unsigned_abs};
 ghost use Rattle.sample_planes.specs.Packings.{packing_of};
 ghost use Rattle.recordings.specs.Readings.{bits_of, reading};
 ghost use Rattle.recordings.specs.Recordings.{part_code, part_in, code_width};
+ghost use Rattle.recordings.specs.declared.numbers.TheConstants.{READING_LIMIT};
 ghost use Rattle.recordings.specs.declared.recipe.Recipe.{Recipe as DeclaredRecipe};
 
 use crate::recipe::Recipe;
@@ -25,20 +26,32 @@ pub(crate) trait ValueCodes {
         ensures few { result < 2 ^ code_width (packing_of format) };
 }
 
-impl ValueCodes for Recipe {
-    ghost recipe = { λ r. r };
-
-    fn code(&self, format: Format, is_quadrature: bool, bytes: &[u8], i: usize) -> u8 {
+impl Recipe {
+    /// The code of a value for a part.
+    #[inline(always)]
+    pub(crate) fn code_of(&self, format: Format, is_quadrature: bool, value: i64) -> u8
+        requires { unsigned_abs value < READING_LIMIT }
+        ensures value { result ≡ part_code (packing_of format) (part_in self.now is_quadrature)
+            self.now.threshold value }
+        ensures few { result < 2 ^ code_width (packing_of format) }
+    {
         let part = if is_quadrature {
             &self.quadrature
         } else {
             &self.in_phase
         };
-        let value = self.kind.reading(bytes, i);
         if format.has_sizes() {
             2 * part.sign(value) + part.size(self.threshold, value)
         } else {
             part.sign(value)
         }
+    }
+}
+
+impl ValueCodes for Recipe {
+    ghost recipe = { λ r. r };
+
+    fn code(&self, format: Format, is_quadrature: bool, bytes: &[u8], i: usize) -> u8 {
+        self.code_of(format, is_quadrature, self.kind.reading(bytes, i))
     }
 }
