@@ -35,6 +35,7 @@ mod measure;
 mod number_codes;
 mod numbers;
 mod packer;
+mod packing;
 mod part;
 mod recipe;
 mod stretch;
