@@ -1,0 +1,116 @@
+"""What the words of a subframe say that no other line has: flags, and the page with SV ID 63.
+
+Bits count from 1 within the subframe, as in IS-GPS-200, figure 20-1. Each word has 24 data bits and
+six places of parity."""
+
+from __future__ import annotations
+
+from dataclasses import dataclass
+from typing import Dict, Optional, Sequence
+
+from seldomplough.dates import SUBFRAMES_A_WEEK
+from seldomplough.events import Sub
+
+WORD_BITS, DATA_BITS = 30, 24
+
+# Where the flags stand: the telemetry word's (section 20.3.3.1), the handover word's (20.3.3.2).
+INTEGRITY_STATUS, ALERT, ANTI_SPOOF = 23, 48, 49
+
+# The page of configurations: its subframe and SV ID (sections 20.3.3.5.1.3 and 20.3.3.5.1.4).
+CONFIGURATIONS_SUBFRAME, CONFIGURATIONS_SV = 4, 63
+CONFIGURATION_BITS, HEALTH_BITS = 4, 6
+# The first bits of the stretches that have the configurations of satellites 1 to 32 side by side,
+# and how many each has; and those of the healths of satellites 25 to 32.
+CONFIGURATIONS = (69, 4), (91, 6), (121, 6), (151, 6), (181, 6), (211, 4)
+HEALTHS = (229, 1), (241, 4), (271, 3)
+FIRST_OF_HEALTHS = 25
+
+# Where each page has its SV ID, and which subframes have almanacs.
+SV_ID = 63, 6
+PAGES = 4, 5
+
+# The subframes in a frame, and the frames after which pages come again (section 20.3.4.1).
+SUBFRAMES, FRAMES = 5, 25
+# The satellites whose almanacs subframe 4 has, by its pages (table 20-V).
+SATELLITES_OF_4 = {2: 25, 3: 26, 4: 27, 5: 28, 7: 29, 8: 30, 9: 31, 10: 32}
+MOST_OF_5 = 24
+
+
+@dataclass(frozen=True)
+class Flags:
+    """The flags of a subframe that `satellite` sent, None where the word is damaged.
+
+    With `alert` the user range accuracy may be worse than the message says. `anti_spoof` says that
+    the P code is encrypted. With `integrity_status` the signal has the enhanced level of integrity
+    assurance."""
+
+    satellite: Optional[int]
+    integrity_status: Optional[bool]
+    alert: Optional[bool]
+    anti_spoof: Optional[bool]
+
+
+@dataclass(frozen=True)
+class Configurations:
+    """The page with SV ID 63: whether anti-spoof is on and the configuration of satellites 1 to 32,
+    and the health of satellites 25 to 32, six bits each."""
+
+    satellite: Optional[int]
+    anti_spoof: Dict[int, bool]
+    configurations: Dict[int, int]
+    healths: Dict[int, int]
+
+
+def bits(words: Sequence[Optional[int]], first: int, count: int) -> Optional[int]:
+    """The number that bits of one word are, None where the word is damaged."""
+    word = words[(first - 1) // WORD_BITS]
+    if word is None:
+        return None
+    after = DATA_BITS - (first - 1) % WORD_BITS - count
+    return word >> after & (1 << count) - 1
+
+
+def flags_of(sub: Sub, satellite: Optional[int] = None) -> Flags:
+    """The flags of a subframe."""
+    found = (bits(sub.words, it, 1) for it in (INTEGRITY_STATUS, ALERT, ANTI_SPOOF))
+    return Flags(satellite, *(None if it is None else bool(it) for it in found))
+
+
+def sv_id(sub: Sub) -> Optional[int]:
+    """The SV ID of a whole subframe 4 or 5, None of any other."""
+    is_page = sub.id in PAGES and None not in sub.words
+    return bits(sub.words, *SV_ID) if is_page else None
+
+
+def configurations_of(sub: Sub, satellite: Optional[int] = None) -> Optional[Configurations]:
+    """What a whole subframe says that is the page of configurations, None of any other."""
+    if sub.id != CONFIGURATIONS_SUBFRAME or sv_id(sub) != CONFIGURATIONS_SV:
+        return None
+    codes = _row(sub, CONFIGURATIONS, CONFIGURATION_BITS, 1)
+    return Configurations(
+        satellite,
+        {at: bool(it >> 3) for at, it in codes.items()},
+        {at: it & 7 for at, it in codes.items()},
+        _row(sub, HEALTHS, HEALTH_BITS, FIRST_OF_HEALTHS),
+    )
+
+
+def _row(sub: Sub, stretches: Sequence[Sequence[int]], size: int, number: int) -> Dict[int, int]:
+    """The values of so many bits each that stand in these stretches, by satellite from a number."""
+    result: Dict[int, int] = {}
+    for first, count in stretches:
+        for at in range(count):
+            value = bits(sub.words, first + size * at, size)
+            assert value is not None
+            result[number + len(result)] = value
+    return result
+
+
+def place_of(sub: Sub) -> Optional[int]:
+    """The satellite whose almanac has its place in this subframe, by the time of week."""
+    # The time of week is that of the next subframe. Pages begin anew with each week.
+    frame = (sub.tow - 1) % SUBFRAMES_A_WEEK // SUBFRAMES
+    page = frame % FRAMES + 1
+    if sub.id == 4:
+        return SATELLITES_OF_4.get(page)
+    return page if sub.id == 5 and page <= MOST_OF_5 else None
