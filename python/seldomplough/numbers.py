@@ -6,6 +6,7 @@ from __future__ import annotations
 
 import argparse
 import re
+from datetime import datetime
 from typing import Callable, List, Set
 
 from seldomplough.failures import shown
@@ -69,6 +70,19 @@ def decimal(low: float, high: float) -> Callable[[str], float]:
         return value
 
     return take
+
+
+DAY = re.compile('[0-9]{4}-[0-9]{2}-[0-9]{2}')
+
+
+def day(word: str) -> datetime:
+    """A date such as `2020-08-07`."""
+    try:
+        if DAY.fullmatch(word):
+            return datetime.fromisoformat(word)
+    except ValueError:
+        pass
+    raise argparse.ArgumentTypeError(f"'{shown(word)}' is no date such as 2020-08-07")
 
 
 def satellites(word: str) -> List[int]:

@@ -45,7 +45,8 @@ TIME_EXACT = {
 ALMANAC_WORDS = '8b94d2 900db4 518676 c8ef52 fb083d c193ea 93c53d 3f9b5e d6803b b73b4a'
 ALMANAC = {
     'sv': 17, 'health': 61, 'e': 1.6413688659668e-02, 'toa_s': 819200,
-    'sqrta_sqrt_m': 6194.4892578125, 'af0_s': -5.55038452148438e-04, 'af1_s_per_s': 1.72440195456147e-09,
+    'sqrta_sqrt_m': 6194.4892578125, 'af0_s': -5.55038452148438e-04,
+    'af1_s_per_s': 1.72440195456147e-09,
 }  # fmt: skip
 # The angles, in semicircles (a second).
 ALMANAC_ANGLES = {

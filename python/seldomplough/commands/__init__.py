@@ -19,6 +19,7 @@ NAMES = (
     'campaign',
     'ubx',
     'sigmf',
+    'rinex',
     'rinex-check',
     'plots',
     'watch',
