@@ -59,6 +59,23 @@ class Leap(NamedTuple):
     day: Optional[int] = None
 
 
+class Times:
+    """Knows the time of week of the last whole subframe 1 of each slot: that of the clock's page in
+    the next `eph` line."""
+
+    def __init__(self) -> None:
+        self._tows: Dict[Tuple[int, int], int] = {}
+
+    def feed(self, line: Sub) -> None:
+        """Takes the next subframe."""
+        if line.id == CLOCK_SUBFRAME and None not in line.words:
+            self._tows[line.client, line.slot] = line.tow
+
+    def of(self, line: Eph) -> Optional[int]:
+        """The time of week of a line's subframe 1, in 6 s as `sub` has it."""
+        return self._tows.get((line.client, line.slot))
+
+
 class Message:
     """What a run's lines have for a navigation file. `near` is a date, or None for today.
 
@@ -72,7 +89,7 @@ class Message:
         self.unknown = self.timeless = 0
         """How many `eph` lines were left out: of an unknown satellite, without a subframe 1."""
         self._sets: Set[Tuple[int, int, Tuple[int, ...]]] = set()
-        self._tows: Dict[Tuple[int, int], int] = {}
+        self._times = Times()
 
     def take(self, lines: Iterable[Line]) -> None:
         """Takes all lines of a run."""
@@ -83,11 +100,11 @@ class Message:
                 self.utc = line
             elif isinstance(line, Eph):
                 self._take_ephemeris(line, satellite)
-            elif line.id == CLOCK_SUBFRAME and None not in line.words:
-                self._tows[line.client, line.slot] = line.tow
+            else:
+                self._times.feed(line)
 
     def _take_ephemeris(self, line: Eph, satellite: Optional[int]) -> None:
-        tow = self._tows.get((line.client, line.slot))
+        tow = self._times.of(line)
         if satellite is None:
             self.unknown += 1
         elif tow is None:

@@ -17,6 +17,7 @@ NAMES = (
     'crystal',
     'merge',
     'campaign',
+    'almanac',
     'ubx',
     'sigmf',
     'rinex',
