@@ -8,11 +8,9 @@ from typing import Iterator, Sequence
 
 from seldomplough.almanacs import Known
 from seldomplough.dates import WEEKS
-from seldomplough.fields import PI
+from seldomplough.fields import INCLINATION, PI
 from seldomplough.lines import Alm
 
-# The inclination that `di` is counted from, in semicircles (section 20.3.3.5.2.1).
-INCLINATION = Fraction(3, 10)
 # The accuracy's index of a satellite of which none is known: no prediction (20.3.3.3.1.3).
 NO_URA = 15
 # What SEM has where the message has nothing: the satellite's own number, and its configuration.

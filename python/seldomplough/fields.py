@@ -131,7 +131,10 @@ ALM = (
     _signed('af0', 11, -20, 's'),
     _signed('af1', 11, -38, 's_per_s'),
 )
-"""The 13 fields of an `alm` line: table 20-VI. `di` is the inclination above 0.3 semicircles."""
+"""The 13 fields of an `alm` line: table 20-VI."""
+
+INCLINATION = Fraction(3, 10)
+"""What the inclination of an almanac is above `di`, in semicircles (section 20.3.3.5.2.1)."""
 
 UTC = (
     _unsigned('data', 2, 0, None),

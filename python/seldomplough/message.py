@@ -14,15 +14,12 @@ from dataclasses import dataclass, fields
 from typing import Callable, Dict, Iterator, Optional, Tuple, Type, TypeVar, Union
 
 from seldomplough import files
-from seldomplough.fields import DEGREES_A_SEMICIRCLE, PI
+from seldomplough.fields import DEGREES_A_SEMICIRCLE, INCLINATION, PI
 from seldomplough.lines import Alm, Als, Eph, Hlt, Input, Line, SlotLine, Sub, Utc
 from seldomplough.lines import read as read_lines
 from seldomplough.pages import Page
 from seldomplough.satellites import with_satellites
 from seldomplough.words import Configurations, Flags, configurations_of, flags_of
-
-# What is added to `di`, the inclination of an almanac, in semicircles (section 20.3.3.5.2.1).
-INCLINATION = 0.3
 
 
 @dataclass(frozen=True)
@@ -100,12 +97,12 @@ class Almanac:
     @property
     def i_rad(self) -> float:
         """The inclination itself: `di` is what it has above 0.3 semicircles."""
-        return INCLINATION * float(PI) + self.di_rad
+        return float(INCLINATION * PI) + self.di_rad
 
     @property
     def i_deg(self) -> float:
         """The same in degrees."""
-        return INCLINATION * DEGREES_A_SEMICIRCLE + self.di_deg
+        return float(INCLINATION * DEGREES_A_SEMICIRCLE) + self.di_deg
 
 
 @dataclass(frozen=True)

@@ -1,7 +1,6 @@
 """What the words of a subframe say that no other line has: flags, and the page with SV ID 63.
 
-Bits count from 1 within the subframe, as in IS-GPS-200, figure 20-1. Each word has 24 data bits and
-six places of parity."""
+Bits count from 1 within the subframe, as in IS-GPS-200, figure 20-1."""
 
 from __future__ import annotations
 
@@ -10,11 +9,6 @@ from typing import Dict, Optional, Sequence
 
 from seldomplough.dates import SUBFRAMES_A_WEEK
 from seldomplough.events import Sub
-
-WORD_BITS, DATA_BITS = 30, 24
-
-# Where the flags stand: the telemetry word's (section 20.3.3.1), the handover word's (20.3.3.2).
-INTEGRITY_STATUS, ALERT, ANTI_SPOOF = 23, 48, 49
 
 # The page of configurations: its subframe and SV ID (sections 20.3.3.5.1.3 and 20.3.3.5.1.4).
 CONFIGURATIONS_SUBFRAME, CONFIGURATIONS_SV = 4, 63
@@ -61,25 +55,15 @@ class Configurations:
     healths: Dict[int, int]
 
 
-def bits(words: Sequence[Optional[int]], first: int, count: int) -> Optional[int]:
-    """The number that bits of one word are, None where the word is damaged."""
-    word = words[(first - 1) // WORD_BITS]
-    if word is None:
-        return None
-    after = DATA_BITS - (first - 1) % WORD_BITS - count
-    return word >> after & (1 << count) - 1
-
-
 def flags_of(sub: Sub, satellite: Optional[int] = None) -> Flags:
     """The flags of a subframe."""
-    found = (bits(sub.words, it, 1) for it in (INTEGRITY_STATUS, ALERT, ANTI_SPOOF))
-    return Flags(satellite, *(None if it is None else bool(it) for it in found))
+    return Flags(satellite, sub.integrity_status, sub.alert, sub.anti_spoof)
 
 
 def sv_id(sub: Sub) -> Optional[int]:
     """The SV ID of a whole subframe 4 or 5, None of any other."""
     is_page = sub.id in PAGES and None not in sub.words
-    return bits(sub.words, *SV_ID) if is_page else None
+    return sub.bits(*SV_ID) if is_page else None
 
 
 def configurations_of(sub: Sub, satellite: Optional[int] = None) -> Optional[Configurations]:
@@ -100,7 +84,7 @@ def _row(sub: Sub, stretches: Sequence[Sequence[int]], size: int, number: int) -
     result: Dict[int, int] = {}
     for first, count in stretches:
         for at in range(count):
-            value = bits(sub.words, first + size * at, size)
+            value = sub.bits(first + size * at, size)
             assert value is not None
             result[number + len(result)] = value
     return result

@@ -19,7 +19,7 @@ from made_pages import lines_of, satellite, sub, subframe
 from seldomplough import ubx
 from seldomplough.lines import Sub
 from seldomplough.message import Almanac, Almanacs, Ephemeris, Healths, Time, Value, read
-from seldomplough.words import Configurations, Flags, bits, place_of
+from seldomplough.words import Configurations, Flags, place_of
 
 # Words that were drawn by chance, and what gpsd 3.22 (gpsdecode) says of them.
 CONFIGURED = '8bb254 901eb0 7f54d0 b2bfad 3783d4 01040b 9fdb23 ab5da0 95e133 53dc17'
@@ -199,5 +199,6 @@ def test_configurations_are_those_of_gpsd() -> None:
 
 
 def test_bits_of_a_damaged_word() -> None:
-    assert bits((0xFFFFFF, None), 31, 1) is None
-    assert bits((0xFFFFF0, None), 17, 8) == 0xF0
+    it = Sub(1, 5, 0, 4, 9, (0xFFFFF0, None, *[0] * 8))
+    assert it.bits(31, 1) is None
+    assert it.bits(17, 8) == 0xF0

@@ -257,6 +257,15 @@ def test_dates_that_are_none(run: Command, date: str) -> None:
     refused(run('rinex', '--week-near', date), 2, 'is no date such as 2020-08-07')
 
 
+def test_dates_that_are_far(run: Command) -> None:
+    for date in ('1980-01-05', '0001-01-01', '3000-01-01', '9999-12-31'):
+        outcome = run('rinex', '--week-near', date, given=REAL.encode())
+        refused(outcome, 2, f'{date} is outside 1980-01-06 to 2999-12-31')
+    for date, week in (('1980-01-06', 69), ('2999-12-31', 69 + 1024 * 52)):
+        [it] = rinex_back.records(written(run, REAL, '--week-near', date), 3)
+        assert it.week == week
+
+
 def test_words_that_are_refused(run: Command) -> None:
     refused(run('rinex', '--version', '3.05'), 2, '--version')
     refused(run('rinex', given=b'x\n'), 1, "line 1 isn't one that the receiver prints")

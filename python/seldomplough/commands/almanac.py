@@ -29,11 +29,11 @@ import argparse
 from typing import Dict, Iterable, List
 
 from seldomplough import files, tables
-from seldomplough.almanac_text import INCLINATION, sem, yuma
+from seldomplough.almanac_text import sem, yuma
 from seldomplough.almanacs import Gathered, Known, usual_time
 from seldomplough.commands import options
 from seldomplough.failures import Failure
-from seldomplough.fields import DEGREES_A_SEMICIRCLE
+from seldomplough.fields import DEGREES_A_SEMICIRCLE, INCLINATION
 from seldomplough.lines import read
 from seldomplough.tables import Cell
 
