@@ -9,7 +9,7 @@ from typing import Dict, Iterable, Iterator, List, NamedTuple, Optional, Set, Tu
 from seldomplough import dates
 from seldomplough.lines import Alm, Eph, Hlt, Line, Sub
 from seldomplough.message import healths_of
-from seldomplough.navigation import SHORT_WEEKS, Times
+from seldomplough.navigation import Times
 from seldomplough.satellites import with_satellites
 from seldomplough.words import configurations_of, place_of, sv_id
 
@@ -138,7 +138,7 @@ class Gathered:
         short = self._short_weeks.get(line.integer('toa'))
         if short is not None:
             known = dates.week_of(self.today) if about is None else about // dates.SECONDS_A_WEEK
-            return dates.nearest_week(short, SHORT_WEEKS, known)
+            return dates.nearest_week(short, dates.SHORT_WEEKS, known)
         return None if about is None else dates.weeks_apart(int(line.value('toa')), about)
 
 

@@ -12,7 +12,10 @@ from seldomplough.failures import Failure
 
 EPOCH = datetime(1980, 1, 6)
 WEEKS = 1024
+# Some weeks' numbers are modulo this.
+SHORT_WEEKS = 256
 SECONDS_A_WEEK = 604800
+SECONDS_A_DAY = 86400
 # Subframes of 6 s in a week, by which `sub` lines count.
 SUBFRAMES_A_WEEK = 100800
 SECONDS_A_SUBFRAME = 6

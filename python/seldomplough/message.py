@@ -10,145 +10,26 @@ names are those of `seldomplough.fields`, so that they are those of `json` and `
 
 from __future__ import annotations
 
-from dataclasses import dataclass, fields
+from dataclasses import fields
 from typing import Callable, Dict, Iterator, Optional, Tuple, Type, TypeVar, Union
 
 from seldomplough import files
-from seldomplough.fields import DEGREES_A_SEMICIRCLE, INCLINATION, PI
 from seldomplough.lines import Alm, Als, Eph, Hlt, Input, Line, SlotLine, Sub, Utc
 from seldomplough.lines import read as read_lines
 from seldomplough.pages import Page
 from seldomplough.satellites import with_satellites
-from seldomplough.words import Configurations, Flags, configurations_of, flags_of
+from seldomplough.values import Almanac, Almanacs, Ephemeris, Healths, Time
+from seldomplough.words import Configurations, Corrections, Flags
+from seldomplough.words import configurations_of, corrections_of, flags_of
 
+__all__ = [
+    'Almanac', 'Almanacs', 'Configurations', 'Corrections', 'Ephemeris', 'Flags', 'Healths', 'Time',
+    'Value', 'healths_of', 'read', 'values',
+]  # fmt: skip
 
-@dataclass(frozen=True)
-class Ephemeris:
-    """Clock and ephemeris of an `eph` line. `wn` is the week modulo 1024."""
-
-    satellite: Optional[int]
-    wn: int
-    l2: int
-    ura: int
-    health: int
-    iodc: int
-    l2p: int
-    tgd_s: float
-    toc_s: float
-    af2_s_per_s2: float
-    af1_s_per_s: float
-    af0_s: float
-    iode: int
-    crs_m: float
-    dn_rad_per_s: float
-    dn_deg_per_s: float
-    m0_rad: float
-    m0_deg: float
-    cuc_rad: float
-    e: float
-    cus_rad: float
-    sqrta_sqrt_m: float
-    toe_s: float
-    fit: int
-    aodo_s: float
-    cic_rad: float
-    om0_rad: float
-    om0_deg: float
-    cis_rad: float
-    i0_rad: float
-    i0_deg: float
-    crc_m: float
-    w_rad: float
-    w_deg: float
-    omdot_rad_per_s: float
-    omdot_deg_per_s: float
-    idot_rad_per_s: float
-    idot_deg_per_s: float
-
-    @property
-    def a_m(self) -> float:
-        """The semi-major axis."""
-        return self.sqrta_sqrt_m**2
-
-
-@dataclass(frozen=True)
-class Almanac:
-    """The almanac of the satellite `sv`, of an `alm` line. `satellite` is the one that sent it."""
-
-    satellite: Optional[int]
-    sv: int
-    e: float
-    toa_s: float
-    di_rad: float
-    di_deg: float
-    omdot_rad_per_s: float
-    omdot_deg_per_s: float
-    health: int
-    sqrta_sqrt_m: float
-    om0_rad: float
-    om0_deg: float
-    w_rad: float
-    w_deg: float
-    m0_rad: float
-    m0_deg: float
-    af0_s: float
-    af1_s_per_s: float
-
-    @property
-    def i_rad(self) -> float:
-        """The inclination itself: `di` is what it has above 0.3 semicircles."""
-        return float(INCLINATION * PI) + self.di_rad
-
-    @property
-    def i_deg(self) -> float:
-        """The same in degrees."""
-        return float(INCLINATION * DEGREES_A_SEMICIRCLE) + self.di_deg
-
-
-@dataclass(frozen=True)
-class Almanacs:
-    """An `als` line: almanacs of all satellites for one time, and their healths by satellite."""
-
-    satellite: Optional[int]
-    toa_s: float
-    healths: Dict[int, int]
-
-
-@dataclass(frozen=True)
-class Time:
-    """The ionosphere and coordinated universal time, of a `utc` line. Weeks are modulo 256."""
-
-    satellite: Optional[int]
-    al0_s: float
-    al1_s_per_semicircle: float
-    al2_s_per_semicircle2: float
-    al3_s_per_semicircle3: float
-    be0_s: float
-    be1_s_per_semicircle: float
-    be2_s_per_semicircle2: float
-    be3_s_per_semicircle3: float
-    a0_s: float
-    a1_s_per_s: float
-    tot_s: float
-    wnt: int
-    dtls_s: float
-    wnlsf: int
-    dn: int
-    dtlsf_s: float
-
-
-@dataclass(frozen=True)
-class Healths:
-    """The page with SV ID 51, of an `hlt` line: the health of satellites 1 to 24, six bits each,
-    and the time of the almanacs. The week `wna` is modulo 256."""
-
-    satellite: Optional[int]
-    toa_s: float
-    wna: int
-    healths: Dict[int, int]
-
-
-Value = Union[Ephemeris, Almanac, Almanacs, Time, Healths, Flags, Configurations]
+Value = Union[
+    Ephemeris, Almanac, Almanacs, Time, Healths, Flags, Configurations, Corrections
+]  # fmt: skip
 V = TypeVar('V', Ephemeris, Almanac, Time)
 KINDS = (Eph, Alm, Als, Utc, Hlt, Sub)
 # How many satellites an `hlt` line has.
@@ -157,7 +38,7 @@ HEALTHS = 24
 
 def read(source: Input, say: Callable[[str], None] = files.say) -> Iterator[Value]:
     """The values of the printed lines of a source, in their order. A `sub` line has its flags, and
-    after them what its page has where that is the one with SV ID 63."""
+    after them what its page has where that is one with SV ID 52 or 63."""
     lines: Iterator[Tuple[SlotLine, Optional[int]]] = with_satellites(
         read_lines(source, say), *KINDS
     )
@@ -180,9 +61,8 @@ def values(line: Line, satellite: Optional[int] = None) -> Iterator[Value]:
         yield Healths(satellite, toa, wna, healths_of(line))
     elif isinstance(line, Sub):
         yield flags_of(line, satellite)
-        found = configurations_of(line, satellite)
-        if found is not None:
-            yield found
+        found = configurations_of(line, satellite), corrections_of(line, satellite)
+        yield from (it for it in found if it is not None)
 
 
 def healths_of(line: Hlt) -> Dict[int, int]:

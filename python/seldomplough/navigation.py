@@ -27,8 +27,6 @@ LEAST_LONG = 240
 UNKNOWN_FIT = 0
 
 CLOCK_SUBFRAME = 1
-SHORT_WEEKS = 256
-SECONDS_A_DAY = 86400
 
 
 class Broadcast(NamedTuple):
@@ -149,7 +147,7 @@ def fit_hours(line: Eph) -> int:
 
 def utc_week(line: Utc, about: int) -> int:
     """The week of the reference time of UTC, where the present one is `about`."""
-    return dates.nearest_week(line.integer('wnt'), SHORT_WEEKS, about)
+    return dates.nearest_week(line.integer('wnt'), dates.SHORT_WEEKS, about)
 
 
 def leap(line: Utc, last: Broadcast) -> Leap:
@@ -160,8 +158,8 @@ def leap(line: Utc, last: Broadcast) -> Leap:
     now, then = line.integer('dtls'), line.integer('dtlsf')
     if now == then:
         return Leap(now)
-    week = dates.nearest_week(line.integer('wnlsf'), SHORT_WEEKS, last.week_sent)
+    week = dates.nearest_week(line.integer('wnlsf'), dates.SHORT_WEEKS, last.week_sent)
     day = line.integer('dn')
-    change = week * dates.SECONDS_A_WEEK + day * SECONDS_A_DAY + now
+    change = week * dates.SECONDS_A_WEEK + day * dates.SECONDS_A_DAY + now
     is_over = last.week * dates.SECONDS_A_WEEK + last.sent_s >= change
     return Leap(then if is_over else now, then, week, day)

@@ -59,6 +59,16 @@ def integers(words: Sequence[int], name: str) -> Dict[str, int]:
     }
 
 
+def put(words: List[int], name: str, **values: int) -> None:
+    """Puts values into the fields of a list."""
+    for field, value in values.items():
+        places = [it for a, b in PLACES[name][field] for it in range(a, b + 1)]
+        for at, place in enumerate(reversed(places)):
+            mask = 1 << 23 - (place - 1) % 30
+            words[(place - 1) // 30] &= ~mask
+            words[(place - 1) // 30] |= mask * (value >> at & 1)
+
+
 def page(kind: str, time: int, found: Dict[str, int], slot: int = 0) -> str:
     """The line of a kind of page of these integers."""
     texts = []

@@ -14,10 +14,10 @@ import almanac_back
 import made_pages
 import pytest
 from conftest import HANGS, Command, refused
-from made_pages import ephemeris, lines_of, satellite, sub, subframe
+from made_pages import ephemeris, lines_of, put, satellite, sub, subframe
 from test_message import ALMANAC_WORDS, CONFIGURED, HEALTHS_OF_LAST, HEALTHY, words_of
 from test_message import CONFIGURATIONS, HEALTHS
-from test_rinex import REAL_WORDS, put
+from test_rinex import REAL_WORDS
 
 from seldomplough import ubx
 

@@ -9,17 +9,18 @@ import os
 import random
 import shutil
 import subprocess
+from datetime import datetime
 from typing import Any, Dict, List
 
 import made_pages
 import pytest
 from conftest import EXAMPLES, HANGS
-from made_pages import lines_of, satellite, sub, subframe
+from made_pages import lines_of, put, satellite, sub, subframe
 
 from seldomplough import ubx
 from seldomplough.lines import Sub
 from seldomplough.message import Almanac, Almanacs, Ephemeris, Healths, Time, Value, read
-from seldomplough.words import Configurations, Flags, place_of
+from seldomplough.words import Configurations, Corrections, Flags, place_of
 
 # Words that were drawn by chance, and what gpsd 3.22 (gpsdecode) says of them.
 CONFIGURED = '8bb254 901eb0 7f54d0 b2bfad 3783d4 01040b 9fdb23 ab5da0 95e133 53dc17'
@@ -54,6 +55,13 @@ ALMANAC_ANGLES = {
     'm0': -3.24211716651917e-01,
 }  # fmt: skip
 OMEGA_DOT = -4.62750904262066e-09
+# Of these, gpsd 3.22 has the same where a correction is in one word. It joins the others in another
+# way than figure 20-1 has them, so that these are by hand: the 3rd, 7th and so on.
+CORRECTED = '8b0000 000490 742258 83ea64 f7bcb9 bdf69e d04f3b 116f85 47d18b 517bd1'
+CORRECTIONS = [
+    -30, 22, 8, 15, -22, 25, 15, 30, -4, -18, 27, -9, -10, -25, -19, 1, 15, 14, -15, 5, -17, -31,
+    20, 31, 17, -30, -11, 5, -5, -12,
+]  # fmt: skip
 # The record that RTKLIB's convbin 2.4.3 b34 wrote of the messages of the real recording.
 REAL = {
     'af0_s': -0.262667890638e-03, 'af1_s_per_s': -0.111413100967e-10, 'af2_s_per_s2': 0, 'iode': 94,
@@ -154,6 +162,43 @@ def test_flags() -> None:
     assert values_of(damaged.replace(f'{words[1]:06x}', '------')) == [
         Flags(None, None, None, None)
     ]
+
+
+def test_corrections() -> None:
+    flags, it = values_of(satellite(3) + sub(9, words_of(CORRECTED)))
+    assert isinstance(flags, Flags) and isinstance(it, Corrections)
+    assert (it.satellite, it.availability) == (3, 0)
+    for count, metres in zip(CORRECTIONS, it.corrections_m):
+        close(metres, 0.3 * count)
+    assert len(it.corrections_m) == 30
+    # Here the first has the least number of six bits, and both bits before it are 1.
+    none = CORRECTED.replace('742258', '74e018')
+    _, it = values_of(sub(9, words_of(none)))
+    assert isinstance(it, Corrections) and it.availability == 3
+    assert [at for at, metres in enumerate(it.corrections_m) if metres is None] == [0]
+    damaged = sub(9, words_of(CORRECTED)).replace('517bd1', '------')
+    for text in (damaged, sub(9, subframe(5, 9, words_of(CORRECTED)[2:]))):
+        assert len(values_of(text)) == 1
+
+
+@pytest.mark.parametrize(
+    'week, number, near, day',
+    [
+        # Days at whose end leap seconds came, and the days of their weeks, counted from Sunday.
+        (1929, 7, datetime(2016, 10, 1), datetime(2016, 12, 31)),
+        (1929, 7, datetime(2018, 10, 1), datetime(2016, 12, 31)),
+        (1851, 3, datetime(2015, 6, 1), datetime(2015, 6, 30)),
+        (1694, 7, datetime(2012, 6, 1), datetime(2012, 6, 30)),
+    ],
+)
+def test_the_day_of_a_leap_second(week: int, number: int, near: datetime, day: datetime) -> None:
+    words = words_of(TIMED)
+    put(words, 'utc_fields', wnlsf=week % 256, dn=number)
+    _, it = values_of(lines_of('utc', 9, words))
+    assert isinstance(it, Time) and it.leap_day(near) == day
+    put(words, 'utc_fields', dtls=18, dtlsf=18)
+    _, it = values_of(lines_of('utc', 9, words))
+    assert isinstance(it, Time) and it.leap_day(near) is None
 
 
 def test_almanacs_of_one_time() -> None:

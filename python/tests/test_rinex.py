@@ -14,7 +14,7 @@ import made_pages
 import pytest
 import rinex_back
 from conftest import EXAMPLES, HANGS, Command, refused
-from made_pages import ephemeris, lines_of, satellite, subframe
+from made_pages import ephemeris, lines_of, put, satellite, subframe
 
 from seldomplough import dates, rinex, ubx
 from seldomplough.lines import Sub, read
@@ -42,16 +42,6 @@ END = f'{"":60}END OF HEADER\n'
 needs_convbin = pytest.mark.skipif(
     shutil.which('convbin') is None, reason="RTKLIB's convbin is not in the PATH"
 )
-
-
-def put(words: List[int], name: str, **values: int) -> None:
-    """Puts values into the fields of a list."""
-    for field, value in values.items():
-        places = [it for a, b in made_pages.PLACES[name][field] for it in range(a, b + 1)]
-        for at, place in enumerate(reversed(places)):
-            mask = 1 << 23 - (place - 1) % 30
-            words[(place - 1) // 30] &= ~mask
-            words[(place - 1) // 30] |= mask * (value >> at & 1)
 
 
 def made(seed: int, tow: int = 73766, **given: int) -> List[List[int]]:
