@@ -18,8 +18,8 @@ SATELLITE = '([1-9]|[12][0-9]|3[0-2])'
 
 # A raw value of a line, an exact one that follows from it, and that as the nearest float.
 Raw = Union[int, str, bool, None]
-Exact = Union[int, Fraction, str]
-Nearest = Union[int, float, str]
+Exact = Union[int, Fraction, str, None]
+Nearest = Union[int, float, str, None]
 
 
 @dataclass(frozen=True)

@@ -6,13 +6,18 @@ from dataclasses import dataclass
 from fractions import Fraction
 from typing import Any, ClassVar, Optional, Sequence, Tuple
 
-from seldomplough.bases import NATURAL, SATELLITE, SIGNED, SLOT, Exact, Raw, SlotLine
+from seldomplough.bases import NATURAL, SATELLITE, SIGNED, SLOT, Raw, SlotLine
 
 # Bits of a message in a second, and seconds of the smallest unit of the time of week in `sub`.
 BITS_A_SECOND = 50
 SECONDS_A_SUBFRAME = 6
 # How far apart the bins of a search are, in Hz.
 HZ_A_BIN = 250
+
+# A word's places in the subframe, and how many of them have data (IS-GPS-200, figure 20-1).
+WORD_BITS, DATA_BITS = 30, 24
+# Where the flags stand: the telemetry word's (section 20.3.3.1), the handover word's (20.3.3.2).
+INTEGRITY_STATUS, ALERT, ANTI_SPOOF = 23, 48, 49
 
 WORD = '([0-9a-f]{6}|------)'
 WORD_NAMES = tuple(f'w{it}' for it in range(1, 11))
@@ -152,7 +157,14 @@ class Sub(SlotLine):
     kind = 'sub'
     form: ClassVar[str] = f' {SLOT} ([0-7]) {NATURAL}' + f' {WORD}' * 10
     names: ClassVar[Tuple[str, ...]] = ('slot', 'id', 'tow', *WORD_NAMES)
-    derived_names: ClassVar[Tuple[str, ...]] = ('next_subframe_s',)
+    derived_names: ClassVar[Tuple[str, ...]] = (
+        'next_subframe_s',
+        'words_passed',
+        'words_failed',
+        'integrity_status',
+        'alert',
+        'anti_spoof',
+    )
 
     @classmethod
     def of_words(cls, words: Sequence[str]) -> Sub:
@@ -175,6 +187,40 @@ class Sub(SlotLine):
         """The time of week, in seconds, at which the next subframe begins."""
         return SECONDS_A_SUBFRAME * self.tow
 
-    def derived(self) -> Tuple[Exact, ...]:
-        """The values that follow from the raw ones, by `derived_names`."""
-        return (self.next_subframe_s,)
+    @property
+    def words_passed(self) -> int:
+        """How many words have the parity that they were sent with."""
+        return len(self.words) - self.words_failed
+
+    @property
+    def words_failed(self) -> int:
+        """How many words are damaged: their parity fails."""
+        return self.words.count(None)
+
+    @property
+    def integrity_status(self) -> Optional[bool]:
+        """The flag of the telemetry word: the signal has the enhanced level of integrity assurance.
+        Like the others it is None where its word is damaged."""
+        return self._flag(INTEGRITY_STATUS)
+
+    @property
+    def alert(self) -> Optional[bool]:
+        """The alert flag of the handover word: the accuracy may be worse than the message says."""
+        return self._flag(ALERT)
+
+    @property
+    def anti_spoof(self) -> Optional[bool]:
+        """The anti-spoof flag of the handover word: the P code is encrypted."""
+        return self._flag(ANTI_SPOOF)
+
+    def bits(self, first: int, count: int) -> Optional[int]:
+        """The number that bits of one word are, None where it is damaged. `first` counts from 1
+        within the subframe."""
+        word = self.words[(first - 1) // WORD_BITS]
+        if word is None:
+            return None
+        return word >> DATA_BITS - (first - 1) % WORD_BITS - count & (1 << count) - 1
+
+    def _flag(self, place: int) -> Optional[bool]:
+        value = self.bits(place, 1)
+        return None if value is None else bool(value)

@@ -6,13 +6,16 @@ semicircles there, and in radians by the standard's value of pi. All values are 
 from __future__ import annotations
 
 from fractions import Fraction
-from typing import NamedTuple, Optional
+from typing import Iterator, NamedTuple, Optional, Tuple
 
 # The value of pi that the standard gives for these angles (IS-GPS-200, section 20.3.3.4.3).
 PI = Fraction(31415926535898, 10**13)
 
 # The units of angles, and what they are called in radians.
 RADIANS = {'semicircles': 'rad', 'semicircles_per_s': 'rad_per_s'}
+# The same in degrees, of which a semicircle has these.
+DEGREES = {'semicircles': 'deg', 'semicircles_per_s': 'deg_per_s'}
+DEGREES_A_SEMICIRCLE = 180
 
 
 class Field(NamedTuple):
@@ -49,6 +52,18 @@ class Field(NamedTuple):
     def radians(self, integer: int) -> Fraction:
         """The value of an integer of this field, an angle or its rate, in radians (per second)."""
         return self.value(integer) * PI
+
+    def degrees(self, integer: int) -> Fraction:
+        """The same in degrees (per second)."""
+        return self.value(integer) * DEGREES_A_SEMICIRCLE
+
+    def named(self, integer: int) -> Iterator[Tuple[str, Fraction]]:
+        """What an integer of this field means, under names with a unit."""
+        if self.unit:
+            yield f'{self.name}_{self.unit}', self.value(integer)
+        if self.unit in RADIANS:
+            yield f'{self.name}_{RADIANS[self.unit]}', self.radians(integer)
+            yield f'{self.name}_{DEGREES[self.unit]}', self.degrees(integer)
 
 
 def _unsigned(name: str, bits: int, exponent: int, unit: Optional[str], step: int = 1) -> Field:
@@ -116,7 +131,10 @@ ALM = (
     _signed('af0', 11, -20, 's'),
     _signed('af1', 11, -38, 's_per_s'),
 )
-"""The 13 fields of an `alm` line: table 20-VI. `di` is the inclination above 0.3 semicircles."""
+"""The 13 fields of an `alm` line: table 20-VI."""
+
+INCLINATION = Fraction(3, 10)
+"""What the inclination of an almanac is above `di`, in semicircles (section 20.3.3.5.2.1)."""
 
 UTC = (
     _unsigned('data', 2, 0, None),

@@ -6,6 +6,7 @@ from __future__ import annotations
 
 import argparse
 import re
+from datetime import datetime
 from typing import Callable, List, Set
 
 from seldomplough.failures import shown
@@ -69,6 +70,24 @@ def decimal(low: float, high: float) -> Callable[[str], float]:
         return value
 
     return take
+
+
+DAY = re.compile('[0-9]{4}-[0-9]{2}-[0-9]{2}')
+# Weeks are counted from the first of these days on.
+FIRST_DAY, LAST_DAY = '1980-01-06', '2999-12-31'
+
+
+def day(word: str) -> datetime:
+    """A date such as `2020-08-07`."""
+    try:
+        value = datetime.fromisoformat(word) if DAY.fullmatch(word) else None
+    except ValueError:
+        value = None
+    if value is None:
+        raise argparse.ArgumentTypeError(f"'{shown(word)}' is no date such as 2020-08-07")
+    if not FIRST_DAY <= word <= LAST_DAY:
+        raise argparse.ArgumentTypeError(f'{word} is outside {FIRST_DAY} to {LAST_DAY}')
+    return value
 
 
 def satellites(word: str) -> List[int]:

@@ -4,6 +4,7 @@ from __future__ import annotations
 
 from collections import deque
 from typing import Deque, Dict, Generic, Iterable, Iterator, List, Optional, Tuple, Type, TypeVar
+from typing import cast
 
 from seldomplough.bases import Line, SlotLine
 from seldomplough.events import Acq, Lost
@@ -69,8 +70,8 @@ class _Waiting(Generic[S]):
         return next(iter(self.named)) if len(self.named) == 1 else None
 
 
-def with_satellites(lines: Iterable[Line], kind: Type[S]) -> Iterator[Tuple[S, Optional[int]]]:
-    """The lines of a kind, in their order, each with its satellite or None.
+def with_satellites(lines: Iterable[Line], *kinds: Type[S]) -> Iterator[Tuple[S, Optional[int]]]:
+    """The lines of one or several kinds, in their order, each with its satellite or None.
 
     It is the one that the lines before say, as `Satellites` does, or else the one that the next
     `acq`, `lost` or `state` line of the slot names by saying that the slot tracks or holds it. It
@@ -80,10 +81,10 @@ def with_satellites(lines: Iterable[Line], kind: Type[S]) -> Iterator[Tuple[S, O
     of_slots: Dict[Tuple[int, int], List[_Waiting[S]]] = {}
     for line in lines:
         before = satellites.feed(line)
-        if isinstance(line, kind):
-            it = _Waiting(line, before)
+        if isinstance(line, kinds):
+            it = _Waiting(cast(S, line), before)
             waiting.append(it)
-            of_slots.setdefault((line.client, line.slot), []).append(it)
+            of_slots.setdefault((it.line.client, it.line.slot), []).append(it)
         elif isinstance(line, (Acq, Lost, State)):
             after = line.satellite if isinstance(line, (StateHold, StateTrack)) else None
             for it in of_slots.pop((line.client, line.slot), ()):

@@ -65,6 +65,11 @@ class Satellite:
     bits: Optional[int] = None
     lost: Optional[int] = None
     subframes: int = 0
+    words_failed: int = 0
+    """How many words of these were damaged."""
+    alert: Optional[bool] = None
+    anti_spoof: Optional[bool] = None
+    """The flags of the last handover word that wasn't."""
     moments: Moments = field(default_factory=Moments)
     week: Optional[int] = None
     """The number of the week, modulo 1024, as the ephemeris has it."""
@@ -150,6 +155,9 @@ def _take_message(it: Satellite, line: SlotLine) -> None:
     """Takes a line of a satellite's message."""
     if isinstance(line, Sub):
         it.subframes += 1
+        it.words_failed += line.words_failed
+        if line.alert is not None:
+            it.alert, it.anti_spoof = line.alert, line.anti_spoof
         if it.tow is not None:
             it.units += (line.tow - it.tow) % dates.SUBFRAMES_A_WEEK
         it.tow = line.tow

@@ -5,6 +5,7 @@ from __future__ import annotations
 import argparse
 import csv
 import json
+from types import MappingProxyType
 from typing import Mapping, Sequence, Union
 
 from seldomplough import files
@@ -13,8 +14,8 @@ Cell = Union[int, float, str, None]
 TEXT, JSON, CSV = 'text', 'json', 'csv'
 
 
-def add(parser: argparse.ArgumentParser) -> None:
-    """Adds the words that choose how a table is written."""
+def add(parser: argparse.ArgumentParser, others: Mapping[str, str] = MappingProxyType({})) -> None:
+    """Adds the words that choose how a table is written, and others with what they say."""
     parser.set_defaults(table=TEXT)
     choice = parser.add_mutually_exclusive_group()
     choice.add_argument(
@@ -23,6 +24,8 @@ def add(parser: argparse.ArgumentParser) -> None:
     choice.add_argument(
         '--csv', action='store_const', const=CSV, dest='table', help='CSV, with names of columns'
     )
+    for name, text in others.items():
+        choice.add_argument(f'--{name}', action='store_const', const=name, dest='table', help=text)
 
 
 def write(

@@ -69,6 +69,12 @@ def test_words_that_fail_are_null(run: Command) -> None:
     text = '1 5 sub 0 1 7 ------' + ' 00000a' * 9 + '\n'
     record = json.loads(run('json', given=text.encode()).said)
     assert (record['w1'], record['w2'], record['next_subframe_s']) == (None, 10, 42)
+    assert (record['words_passed'], record['words_failed']) == (9, 1)
+    assert (record['integrity_status'], record['alert'], record['anti_spoof']) == (
+        None,
+        False,
+        False,
+    )
 
 
 OK = '{"kind": "ok", "client": 1, "time": 5}\n'

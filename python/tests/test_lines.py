@@ -36,8 +36,8 @@ def test_made_lines_of_each_kind_come_back(kind: str) -> None:
         assert (line.kind, line.time, line.text()) == (kind, time, text)
         assert len(line.raw()) == len(line.names)
         assert len(line.derived()) == len(line.derived_names)
-        exact = [it for it in line.derived() if not isinstance(it, str)]
-        nearest = [it for it in line.nearest() if not isinstance(it, str)]
+        exact = [it for it in line.derived() if isinstance(it, (int, Fraction))]
+        nearest = [it for it in line.nearest() if isinstance(it, (int, float))]
         assert nearest == [float(it) for it in exact]
 
 
@@ -82,7 +82,11 @@ def test_values_of_subframes_sets_and_messages() -> None:
     line = lines.parse(SUB.replace('901327', '------'))
     assert isinstance(line, lines.Sub)
     assert line.words[:3] == (0x8B0114, None, 0x115000)
-    assert line.derived() == (6 * 73766,)
+    assert line.derived() == (6 * 73766, 9, 1, False, None, None)
+    line = lines.parse(SUB.replace('8b0114', '------'))
+    assert line.derived() == (6 * 73766, 9, 1, None, False, True)
+    line = lines.parse(SUB.replace('8b0114', '8b0116').replace('901327', '901347'))
+    assert line.derived() == (6 * 73766, 10, 0, True, True, False)
     almanacs = lines.parse(ALS)
     assert isinstance(almanacs, lines.Als) and almanacs.toa_s == 602112
     text = 'GPS 25'.encode() + bytes([0o370, 0o7]) + b' ' * 14

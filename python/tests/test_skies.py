@@ -88,6 +88,24 @@ def test_week_and_time() -> None:
     assert it.date(1, TODAY) == datetime(2000, 12, 22, 2, 56, 48)
 
 
+def test_damaged_words_and_flags() -> None:
+    texts = ['1 400 acq 0 1 found 0 0 9']
+    # Alert and anti-spoof, then anti-spoof alone with two damaged words, then no handover word.
+    middle = WORDS[13:-7]
+    for words in (
+        f'000000 000060{middle} 000000',
+        f'------ 000020{middle} ------',
+        f'000000 ------{middle} 000000',
+    ):
+        texts.append(f'1 900 sub 0 2 73767 {words}')
+    (it,) = fed(texts[0]).rows()
+    assert (it.words_failed, it.alert, it.anti_spoof) == (0, None, None)
+    (it,) = fed(*texts[:2]).rows()
+    assert (it.words_failed, it.alert, it.anti_spoof) == (0, True, True)
+    (it,) = fed(*texts).rows()
+    assert (it.subframes, it.words_failed, it.alert, it.anti_spoof) == (3, 3, False, True)
+
+
 @pytest.mark.parametrize(
     'tows, expected',
     [
@@ -121,6 +139,7 @@ def test_real_message(run: Command, plain: Dict[str, str]) -> None:
     (row,) = rows_of(outcome.said).values()
     assert (row['satellite'], row['subframes'], row['week'], row['health']) == (3, 3, 69, 0)
     assert row['gps_time'] == '2020-08-07 02:56:48'
+    assert (row['words_failed'], row['alert'], row['anti_spoof']) == (0, 0, 1)
 
 
 def test_made_satellites(run: Command, plain: Dict[str, str], tmp_path: Path) -> None:

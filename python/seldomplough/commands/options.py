@@ -67,3 +67,14 @@ def add_jobs(parser: argparse.ArgumentParser) -> None:
         metavar='N',
         help='runs at once; one for each processor if not given',
     )
+
+
+def add_week(parser: argparse.ArgumentParser) -> None:
+    """The date by which weeks are chosen, since the message has their numbers modulo 1024."""
+    parser.add_argument(
+        '--week-near',
+        type=numbers.day,
+        metavar='DATE',
+        help='the week is the one nearest to this date, as 2020-08-07; the last one up to today if '
+        'not given',
+    )

@@ -19,8 +19,8 @@ from typing import Iterable, Iterator, List, NamedTuple, Optional
 from seldomplough import files, rinex
 from seldomplough.commands import options
 from seldomplough.failures import Failure, one_line
-from seldomplough.fields import RADIANS
 from seldomplough.lines import Eph, read
+from seldomplough.navigation import meant
 from seldomplough.rinex import Record
 from seldomplough.satellites import with_satellites
 
@@ -28,9 +28,6 @@ from seldomplough.satellites import with_satellites
 ROUNDING = Fraction(1, 10**14)
 # The epoch has `toc`. The others aren't compared.
 APART = ('toc', 'iode3', 'fit', 'aodo')
-# User range accuracy: the last index whose metres are a power of the square root of two
-# (IS-GPS-200, section 20.3.3.3.1.3).
-LAST_ROOT = 6
 
 
 class Compared(NamedTuple):
@@ -95,15 +92,6 @@ def compare(line: Eph, record: Optional[Record]) -> Optional[Compared]:
         if abs(value - shown) > unit / 2 + abs(value) * ROUNDING:
             wrong.append(f'{name}: {float(shown)} and not {float(value)}')
     return Compared(len(names) + 1, wrong)
-
-
-def meant(line: Eph, name: str) -> Fraction:
-    """What RINEX calls the value of a field."""
-    if name == 'ura':
-        index = line.integer('ura')
-        return Fraction(round(2 ** (1 + index / 2 if index <= LAST_ROOT else index - 2), 1))
-    is_angle = line.table[line.places[name]].unit in RADIANS
-    return line.radians(name) if is_angle else line.value(name)
 
 
 def said(line: Eph, satellite: Optional[int], compared: Optional[Compared]) -> Iterator[str]:

@@ -3,7 +3,8 @@
 It searches for all 32 satellites, tracks those that are found, and prints a table: the Doppler
 shift in Hz, the C/N0 in dB-Hz, the half chip at which the code began when it was found, since when
 it is locked, when the edge of its data bits was found (both in s of the recording), how many
-subframes came, the time of week with its date by GPS time, and its health (0 is healthy).
+subframes came, the time of week with its date by GPS time, its health (0 is healthy), how many
+words of the subframes failed by their parity, and the alert and anti-spoof flags of the last one.
 
 The recording is read once, from a file or a pipe. The searches themselves go on to track what they
 find, and each satellite that is missing is searched for anew every 10 s. So a satellite that was
@@ -94,7 +95,8 @@ def watch(recording: Recording, search: Search, arguments: argparse.Namespace) -
 
 COLUMNS = (
     'satellite', 'doppler_hz', 'cn0_db_hz', 'half_chip', 'found_s', 'locked_s', 'bits_s', 'lost_s',
-    'subframes', 'week', 'time_of_week_s', 'gps_time', 'health',
+    'subframes', 'week', 'time_of_week_s', 'gps_time', 'health', 'words_failed', 'alert',
+    'anti_spoof',
 )  # fmt: skip
 
 
@@ -113,6 +115,8 @@ def row_of(it: Satellite, rate: int, rollovers: Optional[int], today: datetime) 
         it.time_of_week_s,
         None if date is None else date.isoformat(' '),
         it.health,
+        it.words_failed,
+        *(None if flag is None else int(flag) for flag in (it.alert, it.anti_spoof)),
     ]
     return dict(zip(COLUMNS, values))
 
