@@ -1,5 +1,6 @@
 // Made by tools/rust of crates/recordings/src/packing.rt: change that.
-//! Packing by a recipe.
+//! Packing by a recipe. Each value has a code, by what is quick for its kind (`ValueCodes`). The
+//! codes of a group of a recording's bytes are put together into one byte.
 
 use crate::kit::std::vec::Vec;
 use crate::recordings::byte_codes::ByteCodes;

@@ -1,4 +1,5 @@
-//! Packing by a recipe.
+//! Packing by a recipe. Each value has a code, by what is quick for its kind (`ValueCodes`). The
+//! codes of a group of a recording's bytes are put together into one byte.
 
 ghost use Rattle.std.specs.Prelude.{◌≡◌, ◌+◌, ◌*◌, ◌/◌, ◌<◌, ◌≤◌, ◌^◌, if◌then◌else◌};
 ghost use Rattle.definitions.specs.Samples.{samples_per_byte};
