@@ -12,15 +12,15 @@ BUNDLED = os.path.join(TOP, 'examples', 'three_satellites.real1')
 CELLS = 2046 * 81
 
 
-def receivers(words):
+def receivers(words, crate='receiver_cli', program='receiver'):
     """The programs by their names. Each word is NAME=PATH; without any it is the one built here."""
     if any('=' not in word for word in words):
         sys.exit(sys.modules['__main__'].__doc__)
     if words:
         return {name: os.path.abspath(path) for name, path in (it.split('=', 1) for it in words)}
-    ran = subprocess.run([os.path.join(TOP, 'tools', 'build'), 'receiver_cli', 'receiver'],
-                         check=True, stdout=subprocess.PIPE, encoding='utf-8')
-    return {'receiver': ran.stdout.strip()}
+    ran = subprocess.run([os.path.join(TOP, 'tools', 'build'), crate, program], check=True,
+                         stdout=subprocess.PIPE, encoding='utf-8')
+    return {program: ran.stdout.strip()}
 
 
 def spent(command, samples=os.devnull, lines=os.devnull, folder=None):

@@ -34,6 +34,11 @@ fn table(recipe: &Recipe, is_quadrature: bool) -> [u8; BYTE_VALUES] {
 
 impl ValueCodes for ByteCodes {
     #[inline(always)]
+    fn value_bits(&self) -> usize {
+        8
+    }
+
+    #[inline(always)]
     fn code(&self, _format: Format, is_quadrature: bool, bytes: &[u8], i: usize) -> u8 {
         let byte = bytes[i] as usize;
         if is_quadrature {

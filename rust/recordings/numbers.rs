@@ -72,10 +72,10 @@ pub(crate) fn float_order(bits: u32) -> i32 {
 
 /// Whether each whole float of bytes is a number.
 pub fn are_numbers(bytes: &[u8]) -> bool {
+    let mut all = true;
+    // No float ends the loop, so that the compiler can look at several at once.
     for i in 0..bytes.len() / FLOAT_BYTES {
-        if four_bytes(bytes, FLOAT_BYTES * i) % SIGN_BIT > INFINITY {
-            return false;
-        }
+        all = all & (four_bytes(bytes, FLOAT_BYTES * i) % SIGN_BIT <= INFINITY);
     }
-    true
+    all
 }

@@ -1,5 +1,6 @@
 // Made by tools/rust of crates/recordings/src/packing.rt: change that.
-//! Packing by a recipe.
+//! Packing by a recipe. Each value has a code, by what is quick for its kind (`ValueCodes`). The
+//! codes of a group of a recording's bytes are put together into one byte.
 
 use crate::kit::std::vec::Vec;
 use crate::recordings::byte_codes::ByteCodes;
@@ -11,6 +12,9 @@ use crate::recordings::value_kind::ValueKind;
 use crate::recordings::values::{Floats, HighFirst, LowFirst};
 use crate::sample_planes::Format;
 use crate::kit::std::alloc::AllocError;
+
+/// The most bits of a value.
+const MOST_VALUE_BITS: usize = 32;
 
 /// From so many bytes on it pays to make a table of what each is made into.
 const LEAST_FOR_TABLE: usize = 2048;
@@ -98,9 +102,10 @@ impl Recipe {
         bytes: &[u8],
         written: &mut Vec<u8>,
     ) -> Result<(), AllocError> {
-        let per_byte = format.per_byte();
-        for i in 0..bytes.len() / self.group() {
-            written.push(self.byte(codes, format, is_paired, bytes, per_byte * i))?;
+        let group = group_of(format, is_paired, codes.value_bits());
+        for i in 0..bytes.len() / group {
+            let part = &bytes[group * i..group * i + group];
+            written.push(self.byte(codes, format, is_paired, part))?;
         }
         Ok(())
     }
@@ -118,27 +123,20 @@ impl Recipe {
     fn table(&self) -> [u8; BYTE_VALUES] {
         let mut table = [0; BYTE_VALUES];
         for byte in 0..BYTE_VALUES {
-            table[byte] = self.byte(self, self.format, self.is_paired, &[byte as u8], 0);
+            table[byte] = self.byte(self, self.format, self.is_paired, &[byte as u8]);
         }
         table
     }
 
-    /// The byte of the samples from sample `first` on, where the caller knows the format and
-    /// whether values are pairs.
+    /// The byte of the first samples, where the caller knows the format and whether values are
+    /// pairs.
     #[inline(always)]
-    fn byte<C: ValueCodes>(
-        &self,
-        codes: &C,
-        format: Format,
-        is_paired: bool,
-        bytes: &[u8],
-        first: usize,
-    ) -> u8 {
+    fn byte<C: ValueCodes>(&self, codes: &C, format: Format, is_paired: bool, bytes: &[u8]) -> u8 {
         let per_byte = format.per_byte();
         let width = 8 / per_byte;
         let mut byte = 0;
         for n in 0..per_byte {
-            byte = (byte << width) | self.bits(codes, format, is_paired, bytes, first + n);
+            byte = (byte << width) | self.bits(codes, format, is_paired, bytes, n);
         }
         byte
     }
@@ -153,10 +151,11 @@ impl Recipe {
         bytes: &[u8],
         n: usize,
     ) -> u8 {
-        let first = first_value(is_paired, n);
-        let in_phase = codes.code(format, false, bytes, first + self.in_phase.place);
+        let place = value_number(is_paired, n, self.in_phase.place);
+        let in_phase = codes.code(format, false, bytes, place);
         if format.has_quadrature() {
-            let quadrature = codes.code(format, true, bytes, first + self.quadrature.place);
+            let place = value_number(is_paired, n, self.quadrature.place);
+            let quadrature = codes.code(format, true, bytes, place);
             if format.has_sizes() {
                 4 * in_phase + quadrature
             } else {
@@ -168,8 +167,17 @@ impl Recipe {
     }
 }
 
-/// The number of the first value of sample `n`, of which there are at most `8 * MOST_BYTES`.
+/// How many bytes of a recording each written byte is made of, by how many bits a value has.
 #[inline(always)]
-fn first_value(is_paired: bool, n: usize) -> usize {
-    if is_paired { 2 * n } else { n }
+fn group_of(format: Format, is_paired: bool, value_bits: usize) -> usize {
+    let parts = if is_paired { 2 } else { 1 };
+    format.per_byte() * (parts * value_bits) / 8
+}
+
+/// The number of a value of sample `n`, of which there are at most `8 * MOST_BYTES`, by its place
+/// in it.
+#[inline(always)]
+fn value_number(is_paired: bool, n: usize, place: usize) -> usize {
+    // Of a place that is below two, the compiler knows that the value lies in its group.
+    if is_paired { 2 * n + place.min(1) } else { n }
 }

@@ -6,6 +6,9 @@ use crate::sample_planes::Format;
 
 /// What gives the codes of a recording's values by a recipe.
 pub(crate) trait ValueCodes {
+    /// How many bits a value has.
+    fn value_bits(&self) -> usize;
+
     /// The code of value `i` of some bytes for the part in phase, or for that in quadrature: the
     /// bit of its sign, and where the packing has sizes that of its size after it.
     fn code(&self, format: Format, is_quadrature: bool, bytes: &[u8], i: usize) -> u8;
@@ -29,6 +32,10 @@ impl Recipe {
 }
 
 impl ValueCodes for Recipe {
+    fn value_bits(&self) -> usize {
+        self.kind.bits()
+    }
+
     fn code(&self, format: Format, is_quadrature: bool, bytes: &[u8], i: usize) -> u8 {
         self.code_of(format, is_quadrature, self.kind.reading(bytes, i))
     }

@@ -5,6 +5,9 @@ use crate::recordings::numbers::{FLOAT_BYTES, float_order, four_bytes, of_16_bit
 
 /// The values of one kind.
 pub(crate) trait Values {
+    /// How many bits a value has.
+    fn bits(&self) -> usize;
+
     /// Value number `i` of bytes as an integer: twice the value, or for a float an integer that
     /// grows with it.
     fn reading(&self, bytes: &[u8], i: usize) -> i32;
@@ -24,6 +27,11 @@ pub(crate) struct Floats;
 
 impl Values for LowFirst {
     #[inline(always)]
+    fn bits(&self) -> usize {
+        16
+    }
+
+    #[inline(always)]
     fn reading(&self, bytes: &[u8], i: usize) -> i32 {
         2 * of_16_bits(two_bytes(bytes[2 * i], bytes[2 * i + 1]))
     }
@@ -31,12 +39,22 @@ impl Values for LowFirst {
 
 impl Values for HighFirst {
     #[inline(always)]
+    fn bits(&self) -> usize {
+        16
+    }
+
+    #[inline(always)]
     fn reading(&self, bytes: &[u8], i: usize) -> i32 {
         2 * of_16_bits(two_bytes(bytes[2 * i + 1], bytes[2 * i]))
     }
 }
 
 impl Values for Floats {
+    #[inline(always)]
+    fn bits(&self) -> usize {
+        32
+    }
+
     #[inline(always)]
     fn reading(&self, bytes: &[u8], i: usize) -> i32 {
         float_order(four_bytes(bytes, FLOAT_BYTES * i))

@@ -1,8 +1,8 @@
 -- Codes of values, and tables of them.
-use Rattle.std.proofs.Common.{◌≡◌, ℕ, ◌+◌, ◌*◌, ◌^◌, ◌<◌, ◌≤◌, List, [], ◌∷◌, refl, sym, ap, ◌∙◌}
+use Rattle.std.proofs.Common.{◌≡◌, ℕ, ◌+◌, ◌*◌, ◌^◌, ◌<◌, List, [], ◌∷◌, refl, sym, ap, ◌∙◌}
 use Rattle.std.proofs.Common.{arith}
 use Rattle.std.specs.Prelude.{Bool, true, false, if◌then◌else◌, ℤ, slice_index}
-use Rattle.definitions.specs.Samples.{Packing, real1, real2, iq1, iq2}
+use Rattle.definitions.specs.Samples.{Packing}
 use Rattle.sample_planes.specs.Packings.{has_sizes}
 use Rattle.recordings.specs.Readings.{bits_of, reading}
 use Rattle.recordings.specs.Recordings.{part_code, code_width, packing_in, sign_bit, size_bit}

@@ -158,38 +158,37 @@ size-bit part threshold value = by (nat_lt threshold (unsigned_abs (value -ℤ p
     by true = omega arith
     by false = omega arith
 
-byte_in : (packing : Packing) (recipe : Recipe) (bytes : List ℕ) (first byte k : ℕ)
+byte_in : (packing : Packing) (recipe : Recipe) (bytes : List ℕ) (byte k : ℕ)
     → HasDigits (width_of packing) (samples_per_byte packing) byte
-    (λ j. code_in packing recipe bytes (first + j))
+    (λ j. code_in packing recipe bytes j)
     → k < samples_per_byte packing
-    → sample packing (byte ∷ []) k ≡ sample_in packing recipe bytes (first + k)
-byte_in real1 recipe bytes first byte k d h =
-    real1_byte byte k (sign_in recipe recipe.in_phase bytes (first + k)) _ h
+    → sample packing (byte ∷ []) k ≡ sample_in packing recipe bytes k
+byte_in real1 recipe bytes byte k d h =
+    real1_byte byte k (sign_in recipe recipe.in_phase bytes k) _ h
     (sign-bit recipe.in_phase _) d refl
-byte_in real2 recipe bytes first byte k d h =
-    real2_byte byte k (sign_in recipe recipe.in_phase bytes (first + k))
-    (size_in recipe recipe.in_phase bytes (first + k)) _ h
+byte_in real2 recipe bytes byte k d h =
+    real2_byte byte k (sign_in recipe recipe.in_phase bytes k)
+    (size_in recipe recipe.in_phase bytes k) _ h
     (sign-bit recipe.in_phase _) (size-bit recipe.in_phase _ _) d refl
-byte_in iq1 recipe bytes first byte k d h =
-    iq1_byte byte k (sign_in recipe recipe.in_phase bytes (first + k))
-    (sign_in recipe recipe.quadrature bytes (first + k)) _ h
+byte_in iq1 recipe bytes byte k d h =
+    iq1_byte byte k (sign_in recipe recipe.in_phase bytes k)
+    (sign_in recipe recipe.quadrature bytes k) _ h
     (sign-bit recipe.in_phase _) (sign-bit recipe.quadrature _) d refl
-byte_in iq2 recipe bytes first byte k d h =
-    iq2_byte byte k (sign_in recipe recipe.in_phase bytes (first + k))
-    (size_in recipe recipe.in_phase bytes (first + k))
-    (sign_in recipe recipe.quadrature bytes (first + k))
-    (size_in recipe recipe.quadrature bytes (first + k)) _ h
+byte_in iq2 recipe bytes byte k d h =
+    iq2_byte byte k (sign_in recipe recipe.in_phase bytes k)
+    (size_in recipe recipe.in_phase bytes k)
+    (sign_in recipe recipe.quadrature bytes k)
+    (size_in recipe recipe.quadrature bytes k) _ h
     (sign-bit recipe.in_phase _) (size-bit recipe.in_phase _ _)
     (sign-bit recipe.quadrature _) (size-bit recipe.quadrature _ _) d refl
 
-pub byte_of_samples : (recipe : Recipe) (bytes : List ℕ) (first byte k : ℕ)
+pub byte_of_samples : (recipe : Recipe) (bytes : List ℕ) (byte k : ℕ)
     → HasDigits (width_of (packing_in recipe)) (samples_per_byte (packing_in recipe)) byte
-    (λ j. code_of recipe bytes (first + j))
+    (λ j. code_of recipe bytes j)
     → k < samples_per_byte (packing_in recipe)
-    → sample (packing_in recipe) (byte ∷ []) k ≡ sample_of recipe bytes (first + k)
+    → sample (packing_in recipe) (byte ∷ []) k ≡ sample_of recipe bytes k
 unfolding code_of sample_of
-byte_of_samples recipe bytes first byte k d h =
-    byte_in (packing_in recipe) recipe bytes first byte k d h
+byte_of_samples recipe bytes byte k d h = byte_in (packing_in recipe) recipe bytes byte k d h
 
 -- the bits of a sample, where the packing is known by another name
 pub code_by : (packing : Packing) (recipe : Recipe) (bytes : List ℕ) (n : ℕ)
@@ -212,59 +211,61 @@ by_packing iq1 recipe bytes n i q a b = rw (a, b) refl
 by_packing iq2 recipe bytes n i q a b = rw (a, b) refl
 
 -- the code of a part of sample n, by another name of the recipe and of its packing
-pub record AreNames (recipe own : Recipe) (packing : Packing) (paired : Bool) (n first : ℕ) :
-    Type 0 where
+pub record AreNames (recipe own : Recipe) (packing : Packing) (paired : Bool) : Type 0 where
   pub recipe_is : own ≡ recipe
   pub packing_is : packing ≡ packing_in recipe
   pub paired_is : paired ≡ recipe.is_paired
-  pub first_is : first ≡ (if paired then 2 else 1) * n
 
-abbrev pub IsCode : Recipe → Packing → PartRecipe → List ℕ → ℕ → ℕ → Type 0
-IsCode own packing part bytes at code =
-    code ≡ part_code packing part own.threshold (reading own.kind bytes at)
+pub record IsCode (own : Recipe) (packing : Packing) (paired : Bool) (part : PartRecipe)
+    (bytes : List ℕ) (n place code : ℕ) : Type 0 where
+  pub at : ℕ
+  pub at_is : at ≡ (if paired then 2 else 1) * n + place
+  pub code_is : code ≡ part_code packing part own.threshold (reading own.kind bytes at)
 
 code_by_parts : (recipe own : Recipe) (packing : Packing) (paired : Bool) (bytes : List ℕ)
-    (n first i q : ℕ) → AreNames recipe own packing paired n first
-    → IsCode own packing own.in_phase bytes (first + recipe.in_phase.place) i
-    → IsCode own packing own.quadrature bytes (first + recipe.quadrature.place) q
+    (n i q : ℕ) → AreNames recipe own packing paired
+    → IsCode own packing paired own.in_phase bytes n recipe.in_phase.place i
+    → IsCode own packing paired own.quadrature bytes n recipe.quadrature.place q
     → (if has_quadrature packing then (if has_sizes packing then 4 * i + q else 2 * i + q) else i)
     ≡ code_of recipe bytes n
 unfolding code_of
-code_by_parts recipe own packing paired bytes n first i q names a b =
+code_by_parts recipe own packing paired bytes n i q names a b =
     rw names.packing_is (by_packing (packing_in recipe) recipe bytes n i q (in_own recipe.in_phase i
     (rw names.recipe_is at a)) (in_own recipe.quadrature q (rw names.recipe_is at b)))
   where
-    in_own : (part : PartRecipe) (x : ℕ)
-        → IsCode recipe packing part bytes (first + part.place) x
+    in_own : (part : PartRecipe) (x : ℕ) → IsCode recipe packing paired part bytes n part.place x
         → x ≡ part_code (packing_in recipe) part recipe.threshold (value_of recipe part bytes n)
-    in_own part x e =
-        let at : first + part.place ≡ parts_of recipe * n + part.place =
-        ap (λ (k : ℕ). k + part.place) (names.first_is
-        ∙ ap (λ (p : Bool). (if p then 2 else 1) * n) names.paired_is) in
-        rw (names.packing_is, at) at e
+    in_own part x c =
+        let at : c.at ≡ parts_of recipe * n + part.place =
+        c.at_is ∙ ap (λ (p : Bool). (if p then 2 else 1) * n + part.place) names.paired_is in
+        rw (names.packing_is, at) at c.code_is
 
 pub code_with_sizes : (recipe own : Recipe) (packing : Packing) (paired : Bool) (bytes : List ℕ)
-    (n first i q : ℕ) → AreNames recipe own packing paired n first
+    (n i q : ℕ) → AreNames recipe own packing paired
     → has_quadrature packing ≡ true → has_sizes packing ≡ true
-    → IsCode own packing own.in_phase bytes (first + recipe.in_phase.place) i
-    → IsCode own packing own.quadrature bytes (first + recipe.quadrature.place) q
+    → IsCode own packing paired own.in_phase bytes n recipe.in_phase.place i
+    → IsCode own packing paired own.quadrature bytes n recipe.quadrature.place q
     → 4 * i + q ≡ code_of recipe bytes n
-code_with_sizes recipe own packing paired bytes n first i q names complex sizes a b =
-    rw (complex, sizes) at (code_by_parts recipe own packing paired bytes n first i q names a b)
+code_with_sizes recipe own packing paired bytes n i q names complex sizes a b =
+    rw (complex, sizes) at (code_by_parts recipe own packing paired bytes n i q names a b)
 
 pub code_of_signs : (recipe own : Recipe) (packing : Packing) (paired : Bool) (bytes : List ℕ)
-    (n first i q : ℕ) → AreNames recipe own packing paired n first
+    (n i q : ℕ) → AreNames recipe own packing paired
     → has_quadrature packing ≡ true → has_sizes packing ≡ false
-    → IsCode own packing own.in_phase bytes (first + recipe.in_phase.place) i
-    → IsCode own packing own.quadrature bytes (first + recipe.quadrature.place) q
+    → IsCode own packing paired own.in_phase bytes n recipe.in_phase.place i
+    → IsCode own packing paired own.quadrature bytes n recipe.quadrature.place q
     → 2 * i + q ≡ code_of recipe bytes n
-code_of_signs recipe own packing paired bytes n first i q names complex signs a b =
-    rw (complex, signs) at (code_by_parts recipe own packing paired bytes n first i q names a b)
+code_of_signs recipe own packing paired bytes n i q names complex signs a b =
+    rw (complex, signs) at (code_by_parts recipe own packing paired bytes n i q names a b)
 
 pub code_of_real : (recipe own : Recipe) (packing : Packing) (paired : Bool) (bytes : List ℕ)
-    (n first i : ℕ) → AreNames recipe own packing paired n first
+    (n i : ℕ) → AreNames recipe own packing paired
     → has_quadrature packing ≡ false
-    → IsCode own packing own.in_phase bytes (first + recipe.in_phase.place) i
+    → IsCode own packing paired own.in_phase bytes n recipe.in_phase.place i
     → i ≡ code_of recipe bytes n
-code_of_real recipe own packing paired bytes n first i names real a =
-    rw real at (code_by_parts recipe own packing paired bytes n first i _ names a refl)
+code_of_real recipe own packing paired bytes n i names real a =
+    rw real at (code_by_parts recipe own packing paired bytes n i _ names a (record {
+      at = (if paired then 2 else 1) * n + recipe.quadrature.place;
+      at_is = refl;
+      code_is = refl;
+    }))

@@ -1,7 +1,7 @@
 -- Recordings in pieces.
 use Rattle.std.proofs.Common.{◌≡◌, ℕ, zero, suc, ◌+◌, ◌*◌, ◌/◌, ◌%◌, ◌<◌, ◌≤◌, List, [], ◌∷◌}
 use Rattle.std.proofs.Common.{◌++◌, length, take, drop, refl, sym, ap, ◌∙◌, arith, append_assoc}
-use Rattle.std.proofs.Common.{length-append}
+use Rattle.std.proofs.Common.{length-append, length-drop}
 use Rattle.std.specs.Prelude.{map, slice_index}
 use Rattle.std.specs.List.{range_with_len}
 use Rattle.std.proofs.lemmas.List.{get_or_append_left, get_or-append-add, map-append}
@@ -10,7 +10,7 @@ use Rattle.std.proofs.Math.Path.{ap₂}
 use Rattle.std.proofs.Math.Nat.{mul-le-mul_left, mul-le-mul_right, mul-add-div_right}
 use Rattle.std.proofs.Math.Nat.{div-mul-le_self}
 use Rattle.std.specs.Prelude.{Bool, true, false, if◌then◌else◌}
-use Rattle.recordings.proofs.RecipeLemmas.{some_bits}
+use Rattle.recordings.proofs.RecipeLemmas.{some_bits, AreNames}
 use Rattle.std.proofs.Math.Seq.{drop-append-add, split_at}
 use Rattle.definitions.specs.Samples.{Sample, Packing, real1, real2, iq1, iq2}
 use Rattle.definitions.specs.Samples.{sample, samples, samples_from, samples_per_byte, sample_count}
@@ -275,6 +275,57 @@ alone recipe bytes i k one there h =
         ≤ sample_bits recipe * (samples_per_byte (packing_in recipe) * 1) =
         mul-le-mul_left (sample_bits recipe) (omega (arith, h)) in
         omega (arith, all, some)
+
+-- how many bytes make one, by other names of the recipe and of its packing
+pub group_is : (recipe own : Recipe) (packing : Packing) (paired : Bool) (bits group : ℕ)
+    → AreNames recipe own packing paired → bits ≡ bits_of own.kind
+    → group ≡ samples_per_byte packing * ((if paired then 2 else 1) * bits) / 8
+    → group ≡ group_of recipe
+group_is recipe own packing paired bits group names b e =
+    e ∙ rw (b, names.recipe_is, names.packing_is, names.paired_is) refl
+
+-- the bytes of group number i are there
+pub group_within : (group len i : ℕ) → i < len / group → group * i + group ≤ len
+group_within group len i h =
+    let all : group * i + group ≡ (i + 1) * group = grind arith in
+    let a : (i + 1) * group ≤ len / group * group = mul-le-mul_right group (omega (arith, h)) in
+    rw all (omega (arith, a, div-mul-le_self len group))
+
+-- the samples of group number i are those of its bytes alone
+pub in_group : (recipe : Recipe) (bytes : List ℕ) (i k : ℕ)
+    → group_of recipe * i + group_of recipe ≤ length bytes
+    → k < samples_per_byte (packing_in recipe)
+    → sample_of recipe (take (group_of recipe) (drop (group_of recipe * i) bytes)) k
+    ≡ sample_of recipe bytes (samples_per_byte (packing_in recipe) * i + k)
+in_group recipe bytes i k there h =
+    let group : ℕ = group_of recipe in
+    let front : List ℕ = take (group * i) bytes in
+    let part : List ℕ = take group (drop (group * i) bytes) in
+    let rest : List ℕ = drop group (drop (group * i) bytes) in
+    let all : front ++ (part ++ rest) ≡ bytes =
+    ap (λ (l : List ℕ). front ++ l) (take-append-drop group (drop (group * i) bytes))
+    ∙ take-append-drop (group * i) bytes in
+    let before : sample_bits recipe * (samples_per_byte (packing_in recipe) * i)
+    ≡ 8 * length front =
+    groups recipe i ∙ ap (λ (n : ℕ). 8 * n)
+    (omega (arith, length-take-le (group * i) bytes (omega (arith, there)))) in
+    sym (ap (λ (l : List ℕ). sample_of recipe l (samples_per_byte (packing_in recipe) * i + k))
+    (sym all)
+    ∙ sample-back recipe front (part ++ rest) (samples_per_byte (packing_in recipe) * i) k before
+    ∙ sample-front recipe part rest k within)
+  where
+    within : sample_bits recipe * (k + 1)
+        ≤ 8 * length (take (group_of recipe) (drop (group_of recipe * i) bytes))
+    within =
+        let left : group_of recipe ≤ length (drop (group_of recipe * i) bytes) =
+        rw (length-drop (group_of recipe * i) bytes) (omega (arith, there)) in
+        let long : length (take (group_of recipe) (drop (group_of recipe * i) bytes))
+        ≡ group_of recipe = length-take-le (group_of recipe) (drop (group_of recipe * i) bytes) left
+        in
+        let some : sample_bits recipe * (k + 1)
+        ≤ sample_bits recipe * (samples_per_byte (packing_in recipe) * 1) =
+        mul-le-mul_left (sample_bits recipe) (omega (arith, h)) in
+        rw long (omega (arith, groups recipe 1, some))
 
 -- ---- pieces
 

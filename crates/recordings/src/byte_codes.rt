@@ -50,6 +50,11 @@ impl ValueCodes for ByteCodes {
     ghost recipe = { λ c. c.recipe };
 
     #[inline(always)]
+    fn value_bits(&self) -> usize {
+        8
+    }
+
+    #[inline(always)]
     fn code(&self, _format: Format, is_quadrature: bool, bytes: &[u8], i: usize) -> u8 {
         let byte = bytes[i] as usize;
         if is_quadrature {

@@ -32,6 +32,11 @@ impl<V: Values + Drop> ValueCodes for NumberCodes<V> {
     ghost recipe = { λ c. c.recipe };
 
     #[inline(always)]
+    fn value_bits(&self) -> usize {
+        self.values.bits()
+    }
+
+    #[inline(always)]
     fn code(&self, format: Format, is_quadrature: bool, bytes: &[u8], i: usize) -> u8 {
         let value = i64::from(self.values.reading(bytes, i));
         self.recipe.code_of(format, is_quadrature, value)

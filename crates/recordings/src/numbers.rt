@@ -111,10 +111,10 @@ pub fn are_numbers(bytes: &[u8]) -> bool
     ensures some { result ≡ false → (i : ℕ) × (FLOAT_BYTES * (i + 1) ≤ length bytes.now)
         × (¬ IsNumber (four_bytes bytes.now (FLOAT_BYTES * i))) }
 {
+    let mut all = true;
+    // No float ends the loop, so that the compiler can look at several at once.
     for i in 0..bytes.len() / FLOAT_BYTES {
-        if four_bytes(bytes, FLOAT_BYTES * i) % SIGN_BIT > INFINITY {
-            return false;
-        }
+        all = all & (four_bytes(bytes, FLOAT_BYTES * i) % SIGN_BIT <= INFINITY);
     }
-    true
+    all
 }

@@ -1,9 +1,11 @@
-//! Packing by a recipe.
+//! Packing by a recipe. Each value has a code, by what is quick for its kind (`ValueCodes`). The
+//! codes of a group of a recording's bytes are put together into one byte.
 
-ghost use Rattle.std.specs.Prelude.{◌≡◌, ◌+◌, ◌*◌, ◌<◌, ◌≤◌, ◌^◌, if◌then◌else◌};
+ghost use Rattle.std.specs.Prelude.{◌≡◌, ◌+◌, ◌*◌, ◌/◌, ◌<◌, ◌≤◌, ◌^◌, if◌then◌else◌};
 ghost use Rattle.definitions.specs.Samples.{samples_per_byte};
 ghost use Rattle.sample_planes.specs.Packings.{packing_of};
 ghost use Rattle.recordings.specs.declared.recipe.TheConstants.{MOST_BYTES};
+ghost use Rattle.recordings.specs.declared.packing.TheConstants.{MOST_VALUE_BITS};
 
 use crate::byte_codes::ByteCodes;
 use crate::fault::PackFault;
@@ -14,6 +16,9 @@ use crate::value_kind::ValueKind;
 use crate::values::{Floats, HighFirst, LowFirst};
 use sample_planes::Format;
 use std::alloc::AllocError;
+
+/// The most bits of a value.
+const MOST_VALUE_BITS: usize = 32;
 
 /// From so many bytes on it pays to make a table of what each is made into.
 const LEAST_FOR_TABLE: usize = 2048;
@@ -26,7 +31,7 @@ impl Recipe {
     ghost use Rattle.recordings.specs.Recordings.{sample_bits, packing_in};
     ghost use Rattle.recordings.specs.declared.recipe.TheConstants.{BYTE_VALUES};
     ghost use Rattle.recordings.specs.Recordings.{code_of, sample_of};
-    ghost use Rattle.recordings.specs.Recordings.{group_of, IsPacked, IsTable};
+    ghost use Rattle.recordings.specs.Recordings.{group_of as group_in, IsPacked, IsTable};
 
     /// Packs the bytes of a recording from its beginning on, at most `MOST_BYTES`, as far as they
     /// fill bytes, in place of what was written.
@@ -137,16 +142,17 @@ impl Recipe {
         requires empty { written.old.items ≡ [] }
         ensures { OnOk result (IsPacked self.now bytes.now written.new.items) }
     {
-        let per_byte = format.per_byte();
-        for i in 0..bytes.len() / self.group() {
-            written.push(self.byte(codes, format, is_paired, bytes, per_byte * i))?;
+        let group = group_of(format, is_paired, codes.value_bits());
+        for i in 0..bytes.len() / group {
+            let part = &bytes[group * i..group * i + group];
+            written.push(self.byte(codes, format, is_paired, part))?;
         }
         Ok(())
     }
 
     /// Packs bytes of which each is made into one.
     fn pack_by_table(&self, bytes: &[u8], written: &mut Vec<u8>) -> Result<(), AllocError>
-        requires alone { group_of self.now ≡ 1 }
+        requires alone { group_in self.now ≡ 1 }
         requires empty { written.old.items ≡ [] }
         ensures { OnOk result (IsPacked self.now bytes.now written.new.items) }
     {
@@ -159,42 +165,34 @@ impl Recipe {
 
     /// What each byte is made into, where it is made into one.
     fn table(&self) -> [u8; BYTE_VALUES]
-        requires alone { group_of self.now ≡ 1 }
+        requires alone { group_in self.now ≡ 1 }
         ensures { IsTable self.now BYTE_VALUES result }
     {
         let mut table = [0; BYTE_VALUES];
         for byte in 0..BYTE_VALUES {
-            table[byte] = self.byte(self, self.format, self.is_paired, &[byte as u8], 0);
+            table[byte] = self.byte(self, self.format, self.is_paired, &[byte as u8]);
         }
         table
     }
 
-    /// The byte of the samples from sample `first` on, where the caller knows the format and
-    /// whether values are pairs.
+    /// The byte of the first samples, where the caller knows the format and whether values are
+    /// pairs.
     #[inline(always)]
-    fn byte<C: ValueCodes>(
-        &self,
-        codes: &C,
-        format: Format,
-        is_paired: bool,
-        bytes: &[u8],
-        first: usize,
-    ) -> u8
+    fn byte<C: ValueCodes>(&self, codes: &C, format: Format, is_paired: bool, bytes: &[u8]) -> u8
         requires recipe { C.recipe codes.now ≡ self.now }
         requires format { packing_of format ≡ packing_in self.now }
         requires paired { is_paired ≡ self.now.is_paired }
         requires few { length bytes.now ≤ MOST_BYTES }
-        requires within { sample_bits self.now * (first + samples_per_byte (packing_in self.now))
+        requires within { sample_bits self.now * samples_per_byte (packing_in self.now)
             ≤ 8 * length bytes.now }
         ensures { (k : ℕ) → k < samples_per_byte (packing_in self.now)
-            → sample (packing_in self.now) (result ∷ []) k
-            ≡ sample_of self.now bytes.now (first + k) }
+            → sample (packing_in self.now) (result ∷ []) k ≡ sample_of self.now bytes.now k }
     {
         let per_byte = format.per_byte();
         let width = 8 / per_byte;
         let mut byte = 0;
         for n in 0..per_byte {
-            byte = (byte << width) | self.bits(codes, format, is_paired, bytes, first + n);
+            byte = (byte << width) | self.bits(codes, format, is_paired, bytes, n);
         }
         byte
     }
@@ -217,10 +215,11 @@ impl Recipe {
         ensures value { result ≡ code_of self.now bytes.now n }
         ensures few { result < 2 ^ width_of (packing_in self.now) }
     {
-        let first = first_value(is_paired, n);
-        let in_phase = codes.code(format, false, bytes, first + self.in_phase.place);
+        let place = value_number(is_paired, n, self.in_phase.place);
+        let in_phase = codes.code(format, false, bytes, place);
         if format.has_quadrature() {
-            let quadrature = codes.code(format, true, bytes, first + self.quadrature.place);
+            let place = value_number(is_paired, n, self.quadrature.place);
+            let quadrature = codes.code(format, true, bytes, place);
             if format.has_sizes() {
                 4 * in_phase + quadrature
             } else {
@@ -232,11 +231,25 @@ impl Recipe {
     }
 }
 
-/// The number of the first value of sample `n`, of which there are at most `8 * MOST_BYTES`.
+/// How many bytes of a recording each written byte is made of, by how many bits a value has.
 #[inline(always)]
-fn first_value(is_paired: bool, n: usize) -> usize
-    requires { n < 8 * MOST_BYTES }
-    ensures { result ≡ (if is_paired then 2 else 1) * n }
+fn group_of(format: Format, is_paired: bool, value_bits: usize) -> usize
+    requires { value_bits ≤ MOST_VALUE_BITS }
+    ensures { result ≡ samples_per_byte (packing_of format)
+        * ((if is_paired then 2 else 1) * value_bits) / 8 }
 {
-    if is_paired { 2 * n } else { n }
+    let parts = if is_paired { 2 } else { 1 };
+    format.per_byte() * (parts * value_bits) / 8
+}
+
+/// The number of a value of sample `n`, of which there are at most `8 * MOST_BYTES`, by its place
+/// in it.
+#[inline(always)]
+fn value_number(is_paired: bool, n: usize, place: usize) -> usize
+    requires few { n < 8 * MOST_BYTES }
+    requires place { place < (if is_paired then 2 else 1) }
+    ensures { result ≡ (if is_paired then 2 else 1) * n + place }
+{
+    // Of a place that is below two, the compiler knows that the value lies in its group.
+    if is_paired { 2 * n + place.min(1) } else { n }
 }

@@ -15,6 +15,10 @@ pub(crate) trait ValueCodes {
     /// The recipe.
     ghost recipe: { Self → DeclaredRecipe };
 
+    /// How many bits a value has.
+    fn value_bits(&self) -> usize
+        ensures { result ≡ bits_of (recipe self.now).kind };
+
     /// The code of value `i` of some bytes for the part in phase, or for that in quadrature: the
     /// bit of its sign, and where the packing has sizes that of its size after it.
     fn code(&self, format: Format, is_quadrature: bool, bytes: &[u8], i: usize) -> u8
@@ -50,6 +54,10 @@ impl Recipe {
 
 impl ValueCodes for Recipe {
     ghost recipe = { λ r. r };
+
+    fn value_bits(&self) -> usize {
+        self.kind.bits()
+    }
 
     fn code(&self, format: Format, is_quadrature: bool, bytes: &[u8], i: usize) -> u8 {
         self.code_of(format, is_quadrature, self.kind.reading(bytes, i))

@@ -13,6 +13,10 @@ pub(crate) trait Values {
     /// The kind.
     ghost kind: { Self → DeclaredKind };
 
+    /// How many bits a value has.
+    fn bits(&self) -> usize
+        ensures { result ≡ bits_of (kind self.now) };
+
     /// Value number `i` of bytes as an integer: twice the value, or for a float an integer that
     /// grows with it.
     fn reading(&self, bytes: &[u8], i: usize) -> i32
@@ -37,6 +41,11 @@ impl Values for LowFirst {
     ghost kind = { λ v. I16 };
 
     #[inline(always)]
+    fn bits(&self) -> usize {
+        16
+    }
+
+    #[inline(always)]
     fn reading(&self, bytes: &[u8], i: usize) -> i32 {
         2 * of_16_bits(two_bytes(bytes[2 * i], bytes[2 * i + 1]))
     }
@@ -46,6 +55,11 @@ impl Values for HighFirst {
     ghost kind = { λ v. I16Be };
 
     #[inline(always)]
+    fn bits(&self) -> usize {
+        16
+    }
+
+    #[inline(always)]
     fn reading(&self, bytes: &[u8], i: usize) -> i32 {
         2 * of_16_bits(two_bytes(bytes[2 * i + 1], bytes[2 * i]))
     }
@@ -53,6 +67,11 @@ impl Values for HighFirst {
 
 impl Values for Floats {
     ghost kind = { λ v. F32 };
+
+    #[inline(always)]
+    fn bits(&self) -> usize {
+        32
+    }
 
     #[inline(always)]
     fn reading(&self, bytes: &[u8], i: usize) -> i32 {

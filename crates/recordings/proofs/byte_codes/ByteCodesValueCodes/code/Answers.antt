@@ -1,4 +1,4 @@
-use Rattle.std.proofs.Common.{◌≡◌, ◌<◌, ℕ, arith}
+use Rattle.std.proofs.Common.{arith}
 use Rattle.recordings.proofs.CodeLemmas.{few_codes, by_table}
 use Rattle.recordings.proofs.byte_codes.ByteCodesValueCodes.code.Goals as goal
 

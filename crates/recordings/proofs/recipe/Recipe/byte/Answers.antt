@@ -27,5 +27,5 @@ returns g c k h =
     let per : c.per_byte-per_byte.result ≡ samples_per_byte (packing_in c.args.self.now) =
     c.per_byte-per_byte.ensures ∙ ap samples_per_byte c.requires.format in
     let all : c.loop-n.n ≡ samples_per_byte (packing_in c.args.self.now) = omega (arith, per) in
-    byte_of_samples c.args.self.now c.args.bytes.now c.args.first c.loop-n.byte k
+    byte_of_samples c.args.self.now c.args.bytes.now c.loop-n.byte k
     (rw all at c.loop-n.invariant) h

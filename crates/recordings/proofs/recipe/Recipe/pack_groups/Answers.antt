@@ -1,7 +1,8 @@
-use Rattle.std.proofs.Common.{◌≡◌, ℕ, ◌*◌, length, length-append, refl, ◌∙◌, ap, sym}
+use Rattle.std.proofs.Common.{◌≡◌, ℕ, ◌+◌, ◌-◌, ◌*◌, length, length-append, refl, ◌∙◌, ap, sym, arith}
 use Rattle.definitions.specs.Samples.{samples_per_byte}
 use Rattle.recordings.specs.Recordings.{group_of, packing_in, samples_of}
-use Rattle.recordings.proofs.StreamLemmas.{none, one_more, all_groups}
+use Rattle.recordings.proofs.StreamLemmas.{none, one_more, all_groups, group_is, group_within}
+use Rattle.recordings.proofs.StreamLemmas.{in_group}
 use Rattle.recordings.proofs.recipe.Recipe.pack_groups.Goals as goal
 
 pub loop-i-init : goal.loop-i-init
@@ -12,19 +13,34 @@ loop-i-init g c = record {
 
 pub loop-i-preserved : goal.loop-i-preserved
 loop-i-preserved g c =
-    let per : c.per_byte-per_byte.result ≡ samples_per_byte (packing_in c.args.self.now) =
-    c.per_byte-per_byte.ensures ∙ ap samples_per_byte c.requires.format in
+    let group : c.group_of-group.result ≡ group_of c.args.self.now =
+    group_is c.args.self.now _ _ c.args.is_paired _ _ (record {
+      recipe_is = c.requires.recipe;
+      packing_is = c.requires.format;
+      paired_is = c.requires.paired;
+    }) c.value_bits.ensures c.group_of-group.ensures in
+    let width : c.group_of-group.result * c.loop-i.i + c.group_of-group.result
+    - c.group_of-group.result * c.loop-i.i ≡ c.group_of-group.result = omega arith in
+    let there = group_within c.group_of-group.result (length c.args.bytes.now) c.loop-i.i
+    c.loop-i-test.true in
     record {
       count = rw (c.in_ok-push.ensures.items, length-append, c.loop-i.invariant.count) refl;
       same = rw c.in_ok-push.ensures.items (one_more c.args.self.now c.args.bytes.now
           c.loop-i.written.items c.byte.result c.loop-i.i c.loop-i.invariant.same
-          (λ k h. rw per at (c.byte.ensures k h)));
+          (λ k h. (rw (width, group) at (c.byte.ensures k h))
+          ∙ in_group c.args.self.now c.args.bytes.now c.loop-i.i k (rw group at there) h));
     }
 
 pub returns : goal.returns
 returns g c =
-    let all = all_groups c.loop-i.i (length c.args.bytes.now) c.group.result
-    (group_of c.args.self.now) c.group.ensures.value c.loop-i.auto.i-end c.loop-i-test.false in
+    let group : c.group_of-group.result ≡ group_of c.args.self.now =
+    group_is c.args.self.now _ _ c.args.is_paired _ _ (record {
+      recipe_is = c.requires.recipe;
+      packing_is = c.requires.format;
+      paired_is = c.requires.paired;
+    }) c.value_bits.ensures c.group_of-group.ensures in
+    let all = all_groups c.loop-i.i (length c.args.bytes.now) c.group_of-group.result
+    (group_of c.args.self.now) group c.loop-i.auto.i-end c.loop-i-test.false in
     record {
       whole = c.loop-i.invariant.count ∙ all;
       same =

@@ -1,7 +1,7 @@
 use Rattle.std.proofs.Common.{◌∙◌, ◌<◌, ◌^◌, ap, arith}
 use Rattle.std.specs.Prelude.{ℤ, pos, ◌*ℤ◌, ◌+ℤ◌, unsigned_abs}
 use Rattle.std.proofs.lemmas.Int.{ints}
-use Rattle.recordings.specs.Readings.{reading, signed, float_order}
+use Rattle.recordings.specs.Readings.{reading, signed}
 use Rattle.recordings.proofs.ReadingLemmas.{doubled, odd, widened}
 use Rattle.recordings.proofs.value_kind.ValueKind.reading.Goals as goal
 
