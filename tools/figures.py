@@ -11,6 +11,10 @@ import sys
 from typing import Callable, Iterator, NamedTuple, Optional
 
 sys.path.insert(0, os.path.dirname(os.path.realpath(__file__)))
+from drawn_rows import coverage, wrong
+from drawn_rows.checks import texts_of_definitions
+from drawn_rows.definitions import Definitions
+from drawn_rows.kinds import KINDS
 from pack_pieces import choices
 from pack_reference import kind_of
 from pack_rows import by_hand
@@ -72,6 +76,26 @@ def turned(top: str, column: int) -> int:
     return sum(int(row.split('|')[column]) for row in rows)
 
 
+def told_definitions() -> list[coverage.Told]:
+    """All definitions, each with the kinds that draw it."""
+    return coverage.told_of(Definitions(texts_of_definitions()))
+
+
+def all_definitions(_: str) -> int:
+    """How many definitions there are, types among them."""
+    return len(told_definitions())
+
+
+def drawn_definitions(_: str) -> int:
+    """How many of them are drawn themselves."""
+    return sum(bool(it.kinds) for it in told_definitions())
+
+
+def types_of_definitions(_: str) -> int:
+    """How many of them are types."""
+    return len(Definitions(texts_of_definitions()).types)
+
+
 EDITS = files('edits/*/*.edit', 'crates/*/must-fail/*.edit')
 MUST_FAIL = files('crates/*/must-fail/*.edit')
 
@@ -95,6 +119,12 @@ FIGURES = (
     Figure('docs/PROOFS.md', r'cases with (\S+) lines, and fails', lambda it: compared(it, 3)),
     Figure('docs/PROOF-IN-ONE-PAGE.md', r'definitions at (\S+) places', lambda it: turned(it, 2)),
     Figure('docs/PROOF-IN-ONE-PAGE.md', r'examples refused (\S+)\.', lambda it: turned(it, 3)),
+    Figure('docs/PROOFS.md', r'drawn\*\*: (\S+) kinds of inputs', lambda _: len(KINDS)),
+    Figure('docs/PROOFS.md', r'inputs for (\S+) of the \S+ definitions', drawn_definitions),
+    Figure('docs/PROOFS.md', r'inputs for \S+ of the (\S+) definitions', all_definitions),
+    Figure('docs/PROOFS.md', r'refuses\*\*: (\S+) wrong definitions', lambda _: len(wrong.read())),
+    Figure('docs/PROOFS.md', r'why there are none\. (\S+) are types', types_of_definitions),
+    Figure('docs/PROOFS.md', r'are types\. (\S+) others', lambda _: len(coverage.TABLE)),
     Figure('docs/PAGE.md', r'runs all (\S+) examples', files('examples/*.expected')),
     Figure('docs/PAGE.md', r'the (\S+) bundled examples', lambda _: len(CHOSEN)),
 )

@@ -90,7 +90,7 @@ impl Bank {
     /// of before: by time, then by client, then by slot.
     pub fn feed(&mut self, run: &PackedSamples, timeline: &mut Timeline) {
         assert!(
-            run.format() == self.settings.format(),
+            run.format() == self.format(),
             "Bank::feed requires a run in the format of its settings"
         );
         assert!(

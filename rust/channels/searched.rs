@@ -86,10 +86,6 @@ impl Searched {
     /// The signal of a cell that was found, tracked from the time on at which the answer was due.
     /// `None` where the cell isn't one that was found.
     pub fn follow(&self, cell: &Cell) -> Option<Followed> {
-        assert!(
-            cell.bin.unsigned_abs() <= self.search.plan().bins(),
-            "Searched::follow requires a cell of its own plan"
-        );
         if !cell.found {
             return None;
         }

@@ -70,10 +70,7 @@ impl Window {
 
     /// Opens the next samples of the recording, for which there is room.
     pub fn take(&mut self, run: &PackedSamples) {
-        assert!(
-            self.history.end() - self.first <= (MAX_SAMPLES - run.len()) as u64,
-            "Window::take requires at most MAX_SAMPLES open samples"
-        );
+        debug_assert!(self.history.end() - self.first <= (MAX_SAMPLES - run.len()) as u64);
         self.history.take(run);
     }
 

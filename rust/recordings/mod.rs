@@ -35,15 +35,20 @@
 //! # }
 //! ```
 
+mod byte_codes;
 mod choice;
 mod fault;
 mod measure;
+mod number_codes;
 mod numbers;
 mod packer;
+mod packing;
 mod part;
 mod recipe;
 mod stretch;
+mod value_codes;
 mod value_kind;
+mod values;
 
 pub use choice::{Choice, ChoiceFault};
 pub use fault::PackFault;

@@ -57,13 +57,17 @@ pub fn four_bytes(bytes: &[u8], at: usize) -> u32 {
     two_bytes(bytes[at], bytes[at + 1]) + 65536 * two_bytes(bytes[at + 2], bytes[at + 3])
 }
 
+/// A number of 16 bits and two's complement.
+#[inline(always)]
+pub(crate) fn of_16_bits(n: u32) -> i32 {
+    ((n + HALF_OF_16_BITS) % (2 * HALF_OF_16_BITS)) as i32 - HALF_OF_16_BITS as i32
+}
+
 /// The bits of a float as an integer that grows with it.
-pub fn float_order(bits: u32) -> i64 {
-    if bits < SIGN_BIT {
-        i64::from(bits)
-    } else {
-        -i64::from(bits - SIGN_BIT)
-    }
+#[inline(always)]
+pub(crate) fn float_order(bits: u32) -> i32 {
+    let size = (bits % SIGN_BIT) as i32;
+    if bits < SIGN_BIT { size } else { -size }
 }
 
 /// Whether each whole float of bytes is a number.

@@ -1,10 +1,8 @@
 // Made by tools/rust of crates/recordings/src/value_kind.rt: change that.
 //! The kinds of values that recordings have.
 
-use crate::recordings::numbers::{
-    FLOAT_BYTES, HALF_OF_16_BITS, are_numbers, float_order, four_bytes, sign_of, signed, sized,
-    two_bytes,
-};
+use crate::recordings::numbers::{are_numbers, sign_of, signed, sized};
+use crate::recordings::values::{Floats, HighFirst, LowFirst, Values};
 
 /// The kind of the values of a recording.
 #[derive(Clone, Copy, Debug, PartialEq, Eq)]
@@ -81,13 +79,9 @@ impl ValueKind {
         match self {
             ValueKind::U8 => 2 * i64::from(bytes[i]),
             ValueKind::I8 => 2 * signed(128, u32::from(bytes[i])),
-            ValueKind::I16 => {
-                2 * signed(HALF_OF_16_BITS, two_bytes(bytes[2 * i], bytes[2 * i + 1]))
-            }
-            ValueKind::I16Be => {
-                2 * signed(HALF_OF_16_BITS, two_bytes(bytes[2 * i + 1], bytes[2 * i]))
-            }
-            ValueKind::F32 => float_order(four_bytes(bytes, FLOAT_BYTES * i)),
+            ValueKind::I16 => i64::from(LowFirst.reading(bytes, i)),
+            ValueKind::I16Be => i64::from(HighFirst.reading(bytes, i)),
+            ValueKind::F32 => i64::from(Floats.reading(bytes, i)),
             ValueKind::Bits2Low => {
                 2 * (2 * signed(2, u32::from((bytes[i / 4] >> (2 * (i % 4))) % 4)) + 1)
             }

@@ -38,18 +38,9 @@ impl SampleHistory {
 
     /// Takes the next samples of the stream, at most `MAX_SAMPLES`, in the history's packing.
     pub fn take(&mut self, run: &PackedSamples) {
-        assert!(
-            run.format() == self.format,
-            "SampleHistory::take requires a run in its own format"
-        );
-        assert!(
-            run.len() <= MAX_SAMPLES,
-            "SampleHistory::take requires run.len() <= MAX_SAMPLES"
-        );
-        assert!(
-            self.taken <= MOST_TIME - run.len() as u64,
-            "SampleHistory::take requires at most MOST_TIME samples in all"
-        );
+        debug_assert!(run.format() == self.format);
+        debug_assert!(run.len() <= MAX_SAMPLES);
+        debug_assert!(self.taken <= MOST_TIME - run.len() as u64);
         let (bytes, first) = run.place();
         self.take_bytes(bytes, first, run.len());
     }

@@ -74,6 +74,7 @@ impl<'a> PackedSamples<'a> {
     /// # Panics
     ///
     /// Plain Rust panics where there are fewer than `n`.
+    #[inline]
     #[must_use]
     pub fn split_at(&self, n: usize) -> (PackedSamples<'a>, PackedSamples<'a>) {
         assert!(

@@ -2,6 +2,7 @@
 brackets where they need them."""
 from __future__ import annotations
 
+import itertools
 from typing import Any, Callable, Iterable, Optional, Sequence, Union
 
 # The least run of equal elements that is told once.
@@ -31,21 +32,21 @@ def record(**fields: object) -> str:
     return '(record { ' + ' '.join(f'{name} = {it};' for name, it in fields.items()) + ' })'
 
 
-def runs(items: Sequence[str]) -> list[tuple[str, int]]:
-    """The runs of equal items."""
+def runs(values: Iterable[Any], text: Callable[[Any], str]) -> list[tuple[str, int]]:
+    """The runs of values that have one text. Of equal values that is made once."""
     found: list[tuple[str, int]] = []
-    for it in items:
+    for value, same in itertools.groupby(values):
+        it, count = text(value), len(list(same))
         if found and found[-1][0] == it:
-            found[-1] = (it, found[-1][1] + 1)
-        else:
-            found.append((it, 1))
+            count += found.pop()[1]
+        found.append((it, count))
     return found
 
 
 def listed(values: Iterable[Any], text: Callable[[Any], str] = str) -> str:
     """A list. A long run of equal elements is told once, so that it's read faster."""
     made = '[]'
-    for it, count in reversed(runs([text(value) for value in values])):
+    for it, count in reversed(runs(values, text)):
         made = (f'replicate {count} {it} ++ {made}' if count >= RUN
                 else f'{it} ∷ ' * count + made)
     return made if made == '[]' else f'({made})'

@@ -22,13 +22,16 @@ def words_in(text: str) -> set[str]:
 
 
 class Definitions:
-    """The names of each module, and what each rests on, by the modules' texts."""
+    """The names of each module, the types among them, the type of each other, and what each rests
+    on, by the modules' texts."""
 
     def __init__(self, texts: dict[str, str]) -> None:
         self.names: dict[str, list[str]] = {}
         self.homes: dict[str, str] = {}
         self.imports: dict[str, dict[str, str]] = {}
         self.bodies: dict[Key, str] = {}
+        self.types: list[Key] = []
+        self.heads: dict[Key, str] = {}
         self.unfoldable: set[Key] = {(LIBRARY, it) for it in UNFOLDED.values()}
         self.found: dict[Key, frozenset[Key]] = {}
         for module, text in texts.items():
@@ -44,6 +47,7 @@ class Definitions:
         for it in statements(text):
             made = re.match(r'pub (data|record) (\w+)', it)
             if made:
+                self.types.append((module, made[2]))
                 variants = re.findall(r'^  (\w+) :', it, re.M) if made[1] == 'data' else []
                 for name in (made[2], *variants):
                     self.put(module, name)
@@ -58,6 +62,7 @@ class Definitions:
         key = (module, head[2])
         if key not in self.bodies:
             self.put(module, head[2])
+            self.heads[key] = ' '.join(text[head.end():].split()).removeprefix(': ')
         if head[1] == 'unfoldable ':
             self.unfoldable.add(key)
         self.bodies[key] = self.bodies.get(key, '') + text[head.end():]

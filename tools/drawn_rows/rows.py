@@ -25,13 +25,17 @@ use Rattle.std.specs.Prelude.{if◌then◌else◌, ◌==◌}
 APART = {'xor': 'mathlib.Core.Bool', 'digits': 'Rattle.std.specs.Fmt',
          'is_some': 'Rattle.std.specs.Option'}
 
-# Short names: six sums, and what is computed of a channel, which has a function in it.
+# Short names: six sums, and what is computed of a channel, which has a function in it, at first and
+# after some dumps.
 HELPERS = {
     'counts6': '''abbrev counts6 : ℤ → ℤ → ℤ → ℤ → ℤ → ℤ → Counts
 counts6 ie qe ip qp il ql = record { ie = ie; qe = qe; ip = ip; qp = qp; il = il; ql = ql }
 ''',
     'parts_of': '''abbrev parts_of : Channel → List ℕ × Shift
 parts_of c = (c.prn ∷ c.start ∷ c.code ∷ [], c.steering [])
+''',
+    'parts_after': '''abbrev parts_after : Channel → List Counts → List ℕ × Shift
+parts_after c dumps = (c.prn ∷ c.start ∷ c.code ∷ [], c.steering dumps)
 ''',
 }
 

@@ -12,7 +12,9 @@ from .commands import TOP, changes, contents, run
 TOOLS = os.path.join(TOP, 'tools')
 sys.path.insert(0, TOOLS)
 from definition_trials import SPECS, read_texts
-from drawn_rows import antt, rows as drawn, wrong
+from drawn_rows import antt, coverage, rows as drawn, wrong
+from drawn_rows.checks import texts_of_definitions
+from drawn_rows.definitions import Definitions
 from drawn_rows.kinds import KINDS
 from drawn_rows.reference import fields, loops, message, scripts, sets, signal
 from drawn_rows.reference.signal import Settings, Shift, Sums
@@ -22,7 +24,6 @@ DRAWN = os.path.join(TOOLS, 'drawn-rows')
 # The first ten chips of each satellite: one digit for the first, three for three each.
 OCTAL = ('1440 1620 1710 1744 1133 1455 1131 1454 1626 1504 1642 1750 1764 1772 1775 1776 1156 1467'
          ' 1633 1715 1746 1763 1063 1706 1743 1761 1770 1774 1127 1453 1625 1712').split()
-
 
 
 def first_chips(satellite: int) -> str:
@@ -85,13 +86,49 @@ def terms(rows: Any, _: str) -> None:
 
 
 def slips(rows: Any, _: str) -> None:
-    """Each wrong definition stands in for text that its module has once, and no kind has none."""
+    """Each wrong definition stands in for text that its module has once, and has its turn on one
+    day of a week. No kind has none."""
     texts = read_texts(SPECS)
     for it in wrong.read():
         rows.say(f'{it.module}: {it.new[:40]}', ['its place is not there once'] * (
             texts[it.module].count(it.old) != 1))
+    turns = [it for turn in range(wrong.TURNS) for it in wrong.of_turn(turn)]
+    rows.say('turns of a week', ['one is left out or has two']
+             * (sorted(turns) != sorted(wrong.read())) + ['a day has none']
+             * (not all(map(wrong.of_turn, range(wrong.TURNS)))))
     bare = set(KINDS) - {it.kind for it in wrong.read()}
     rows.say('kinds without a wrong definition', [' '.join(sorted(bare))] * bool(bare))
+
+
+# Tables that are wrong: what is put into the right one, and what is said of it.
+WRONG_TABLES = (
+    ({'Codes.g1_taps': None}, 'Codes.g1_taps is neither drawn nor in the table'),
+    ({'Codes.chip': coverage.reached('chip_sign')}, 'Codes.chip is drawn, and stands in the table'),
+    ({'Codes.chips': coverage.reached('chip')},
+     'Codes.chips is in the table, and is no definition'),
+    ({'Codes.g1_taps': coverage.reached('ratio')}, 'Codes.g1_taps is not reached by ratio'),
+    ({'Codes.g1_taps': coverage.reached('chips')}, 'Codes.g1_taps is not reached by chips'),
+    ({'Codes.g1_taps': coverage.reached('')}, 'Codes.g1_taps has no reason: reached'),
+    ({'Codes.g1_taps': coverage.Reason('size')}, 'Codes.g1_taps has no reason: size'),
+    ({'Codes.g1_taps': coverage.Reason('dull')}, 'Codes.g1_taps has no reason: dull'),
+    ({'Codes.g1_taps': coverage.Reason('function')}, 'Codes.g1_taps is none: function'),
+    ({'Codes.g1_taps': coverage.Reason('relation')}, 'Codes.g1_taps is none: relation'),
+    ({'Lives.life_with': coverage.Reason('constant')}, 'Lives.life_with is none: constant'),
+)
+
+
+def covered(rows: Any, _: str) -> None:
+    """Each definition is drawn, or in the table with a reason that is so."""
+    definitions = Definitions(texts_of_definitions())
+    rows.say('definitions that are drawn or not', coverage.faults(definitions))
+    for changed, said in WRONG_TABLES:
+        table = {name: it for name, it in {**coverage.TABLE, **changed}.items() if it}
+        found = coverage.faults(definitions, table)
+        rows.say(f'a table of which {said}', [f'it says {found}'] * (found != [said]))
+    told = [it.line() for it in coverage.told_of(definitions)]
+    for line in ('Codes.chip: drawn by chip', 'Codes.g1_taps: constant, one value, which takes'
+                 ' nothing; reached by chip', 'Acquisition.Plan: type, a type of values'):
+        rows.say(f'the line {line}', ['it is missing'] * (line not in told))
 
 
 def words(rows: Any, folder: str) -> None:
@@ -100,14 +137,15 @@ def words(rows: Any, folder: str) -> None:
     for given, said in ((['--only', 'nothing'], 'no kind nothing'),
                         (['--seed', 'x'], "invalid seed value: 'x'"),
                         (['--inputs', '0'], "invalid positive value: '0'"),
-                        (['--wrong', '--list'], 'not allowed with argument --wrong')):
+                        (['--wrong', '--list'], 'not allowed with argument --wrong'),
+                        (['--turn', '--wrong'], 'not allowed with argument --turn')):
         outcome = run([DRAWN, *given], folder)
         is_said = outcome.errors.endswith(f'{said}\n') and not outcome.said
         rows.say(f'tools/drawn-rows {" ".join(given)}', [str(outcome)[-300:]]
                  * (outcome.status != 2 or not is_said))
     listed = run([DRAWN, '--list', '--only', 'chip'], folder)
-    rows.say('tools/drawn-rows --list', [str(listed)[-300:]] * (listed.said != 'chip chip 8\n')
+    rows.say('tools/drawn-rows --list', [str(listed)[-300:]] * (listed.said != 'chip chip 8 1\n')
              + changes(before, contents(folder)))
 
 
-ROWS = (worked, draws, terms, slips, words)
+ROWS = (worked, draws, terms, slips, covered, words)

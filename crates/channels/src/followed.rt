@@ -123,6 +123,8 @@ impl Followed {
     /// Takes the samples of a window up to number `to`, or to the next dump if that comes before.
     /// It answers whether that came: then it is the window's, which else keeps its own. The book is
     /// any book of codes.
+    // Else it is inlined whole into the slot, which has no registers left for it.
+    #[inline(never)]
     pub fn take(&mut self, to: u64, window: &mut Window, book: &mut CodeBook) -> bool
         requires begun { at_of self.old ≤ to }
         requires early { to ≤ MOST_TIME }

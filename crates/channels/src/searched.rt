@@ -146,10 +146,6 @@ impl Searched {
             → Follows settings (found_channel settings plan begun (cell_in cell.now)) xs f) }
         ensures begins { IfSome result (λ f. HasBegun (due_of self.now) true f) }
     {
-        prove!(
-            cell.bin.unsigned_abs() <= self.search.plan().bins(),
-            "Searched::follow requires a cell of its own plan"
-        );
         if !cell.found {
             return None;
         }

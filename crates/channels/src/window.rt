@@ -116,10 +116,7 @@ impl Window {
         ensures room { room_of (history_of self.new) ≡ room_of (history_of self.old) }
         ensures dump { dump_of self.new ≡ dump_of self.old }
     {
-        prove!(
-            self.history.end() - self.first <= (MAX_SAMPLES - run.len()) as u64,
-            "Window::take requires at most MAX_SAMPLES open samples"
-        );
+        prove!(self.history.end() - self.first <= (MAX_SAMPLES - run.len()) as u64);
         self.history.take(run);
     }
 

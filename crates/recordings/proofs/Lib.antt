@@ -1,6 +1,7 @@
 pub mod ReadingLemmas
 pub mod DigitLemmas
 pub mod RecipeLemmas
+pub mod CodeLemmas
 pub mod StreamLemmas
 pub mod StretchLemmas
 pub mod ReadingRows

@@ -1,7 +1,8 @@
 -- Readings by what the code computes of the bytes.
-use Rattle.std.proofs.Common.{◌≡◌, ℕ, ◌-◌, ◌*◌, ◌<◌, ◌≤◌, ◌^◌, arith}
+use Rattle.std.proofs.Common.{◌≡◌, ℕ, ◌+◌, ◌-◌, ◌*◌, ◌%◌, ◌<◌, ◌≤◌, ◌^◌, inl, inr, sym, ◌∙◌, arith}
+use Rattle.std.proofs.lemmas.Bool.{cases_lt}
 use Rattle.std.specs.Prelude.{ℤ, pos, ◌+ℤ◌, ◌-ℤ◌, ◌*ℤ◌, neg_ℤ, unsigned_abs}
-use mir.Syntax.{w64}
+use mir.Syntax.{w32, w64}
 use mir.Val.{to_z, of_z}
 use Rattle.std.proofs.lemmas.Int.{ints}
 use Rattle.std.proofs.lemmas.Bool.Decides.{nat_tests}
@@ -57,3 +58,36 @@ sized-2 bits e = rw e (omega (arith, ints))
 pub sized-3 : (bits : ℕ) → bits ≡ 3 → neg_ℤ (pos 3) ≡ sized bits
 unfolding sized
 sized-3 bits e = rw e (omega (arith, ints))
+
+-- ---- in 32 bits
+
+pub doubled_32 : (r : ℤ) → unsigned_abs r ≤ 32768
+    → to_z w32 (of_z w32 (pos 2 *ℤ to_z w32 (of_z w32 r))) ≡ pos 2 *ℤ r
+doubled_32 r small = omega (arith, ints)
+
+pub kept_32 : (r : ℤ) → unsigned_abs r < 2 ^ 31 → to_z w32 (of_z w32 r) ≡ r
+kept_32 r small = omega (arith, ints)
+
+pub of_16_bits : (n : ℕ) → n < 65536
+    → to_z w32 (of_z w32 (to_z w32 ((n + 32768) % 65536) -ℤ pos 32768)) ≡ signed 32768 n
+of_16_bits n h = elim (cases_lt n 32768) [
+  | inl below ↦ at_low below ∙ sym (signed-low 32768 n below)
+  | inr above ↦ at_high above ∙ sym (signed-high 32768 n above)
+]
+  where
+    at_low : n < 32768
+        → to_z w32 (of_z w32 (to_z w32 ((n + 32768) % 65536) -ℤ pos 32768)) ≡ pos n
+    at_low below =
+        let m : (n + 32768) % 65536 ≡ n + 32768 = omega (arith, below) in rw m (omega (arith, ints))
+
+    at_high : 32768 ≤ n
+        → to_z w32 (of_z w32 (to_z w32 ((n + 32768) % 65536) -ℤ pos 32768))
+        ≡ pos n -ℤ pos (2 * 32768)
+    at_high above =
+        let m : (n + 32768) % 65536 ≡ n - 32768 = omega (arith, above, h) in
+        rw m (omega (arith, ints, above, h))
+
+-- and then in 64
+pub widened : (r x : ℤ) → unsigned_abs r < 2 ^ 31 → x ≡ to_z w32 (of_z w32 r)
+    → to_z w64 (of_z w64 x) ≡ r
+widened r x small e = rw e (omega (arith, ints))

@@ -8,15 +8,16 @@ use Rattle.std.proofs.Math.Path.{ap₂}
 use Rattle.definitions.specs.Samples.{Packing, real1, real2, iq1}
 use Rattle.definitions.specs.Samples.{iq2, real, sign_of, sample, Sample}
 use Rattle.definitions.specs.Samples.{samples_per_byte, bit_in}
-use Rattle.sample_planes.specs.Packings.{width_of}
-use Rattle.recordings.specs.Readings.{bits_of}
+use Rattle.sample_planes.specs.Packings.{width_of, has_quadrature, has_sizes}
+use Rattle.recordings.specs.Readings.{bits_of, reading}
 use Rattle.recordings.specs.declared.value_kind.ValueKind.{ValueKind}
 use Rattle.recordings.specs.declared.value_kind.ValueKind.TheVariants.{U8, I8, I16, I16Be, F32}
 use Rattle.recordings.specs.declared.value_kind.ValueKind.TheVariants.{Bits2Low, SignSizeLow}
 use Rattle.recordings.specs.declared.value_kind.ValueKind.TheVariants.{Bits1Low, Bits1High}
 use Rattle.std.specs.Prelude.{◌-ℤ◌, unsigned_abs, int_lt, nat_lt}
 use Rattle.recordings.specs.Recordings.{sign_bit, size_bit, sign_in, size_in, code_in, code_of}
-use Rattle.recordings.specs.Recordings.{sample_in, sample_of, packing_in}
+use Rattle.recordings.specs.Recordings.{sample_in, sample_of, packing_in, part_code}
+use Rattle.recordings.specs.Recordings.{value_of, parts_of}
 use Rattle.recordings.specs.declared.part.PartRecipe.{PartRecipe}
 use Rattle.recordings.specs.declared.recipe.Recipe.{Recipe}
 use Rattle.recordings.proofs.DigitLemmas.{HasDigits}
@@ -140,7 +141,7 @@ iq2_byte byte k s m t u digit h hs hm ht hu d e =
 
 -- ---- a byte of the samples of a recipe
 
-sign-bit : (part : PartRecipe) (value : ℤ) → sign_bit part value < 2
+pub sign-bit : (part : PartRecipe) (value : ℤ) → sign_bit part value < 2
 sign-bit part value = by part.is_turned (int_lt value part.centre)
   where
     by : (turned below : Bool)
@@ -150,7 +151,7 @@ sign-bit part value = by part.is_turned (int_lt value part.centre)
     by false true = omega arith
     by false false = omega arith
 
-size-bit : (part : PartRecipe) (threshold : ℕ) (value : ℤ) → size_bit part threshold value < 2
+pub size-bit : (part : PartRecipe) (threshold : ℕ) (value : ℤ) → size_bit part threshold value < 2
 size-bit part threshold value = by (nat_lt threshold (unsigned_abs (value -ℤ part.centre)))
   where
     by : (far : Bool) → (if far then 1 else 0) < 2
@@ -195,3 +196,75 @@ pub code_by : (packing : Packing) (recipe : Recipe) (bytes : List ℕ) (n : ℕ)
     → packing_in recipe ≡ packing → code_of recipe bytes n ≡ code_in packing recipe bytes n
 unfolding code_of
 code_by packing recipe bytes n e = ap (λ (p : Packing). code_in p recipe bytes n) e
+
+-- ---- the bits of a sample, by the codes of its parts
+
+by_packing : (packing : Packing) (recipe : Recipe) (bytes : List ℕ) (n i q : ℕ)
+    → i ≡ part_code packing recipe.in_phase recipe.threshold
+    (value_of recipe recipe.in_phase bytes n)
+    → q ≡ part_code packing recipe.quadrature recipe.threshold
+    (value_of recipe recipe.quadrature bytes n)
+    → (if has_quadrature packing then (if has_sizes packing then 4 * i + q else 2 * i + q) else i)
+    ≡ code_in packing recipe bytes n
+by_packing real1 recipe bytes n i q a b = a
+by_packing real2 recipe bytes n i q a b = a
+by_packing iq1 recipe bytes n i q a b = rw (a, b) refl
+by_packing iq2 recipe bytes n i q a b = rw (a, b) refl
+
+-- the code of a part of sample n, by another name of the recipe and of its packing
+pub record AreNames (recipe own : Recipe) (packing : Packing) (paired : Bool) (n first : ℕ) :
+    Type 0 where
+  pub recipe_is : own ≡ recipe
+  pub packing_is : packing ≡ packing_in recipe
+  pub paired_is : paired ≡ recipe.is_paired
+  pub first_is : first ≡ (if paired then 2 else 1) * n
+
+abbrev pub IsCode : Recipe → Packing → PartRecipe → List ℕ → ℕ → ℕ → Type 0
+IsCode own packing part bytes at code =
+    code ≡ part_code packing part own.threshold (reading own.kind bytes at)
+
+code_by_parts : (recipe own : Recipe) (packing : Packing) (paired : Bool) (bytes : List ℕ)
+    (n first i q : ℕ) → AreNames recipe own packing paired n first
+    → IsCode own packing own.in_phase bytes (first + recipe.in_phase.place) i
+    → IsCode own packing own.quadrature bytes (first + recipe.quadrature.place) q
+    → (if has_quadrature packing then (if has_sizes packing then 4 * i + q else 2 * i + q) else i)
+    ≡ code_of recipe bytes n
+unfolding code_of
+code_by_parts recipe own packing paired bytes n first i q names a b =
+    rw names.packing_is (by_packing (packing_in recipe) recipe bytes n i q (in_own recipe.in_phase i
+    (rw names.recipe_is at a)) (in_own recipe.quadrature q (rw names.recipe_is at b)))
+  where
+    in_own : (part : PartRecipe) (x : ℕ)
+        → IsCode recipe packing part bytes (first + part.place) x
+        → x ≡ part_code (packing_in recipe) part recipe.threshold (value_of recipe part bytes n)
+    in_own part x e =
+        let at : first + part.place ≡ parts_of recipe * n + part.place =
+        ap (λ (k : ℕ). k + part.place) (names.first_is
+        ∙ ap (λ (p : Bool). (if p then 2 else 1) * n) names.paired_is) in
+        rw (names.packing_is, at) at e
+
+pub code_with_sizes : (recipe own : Recipe) (packing : Packing) (paired : Bool) (bytes : List ℕ)
+    (n first i q : ℕ) → AreNames recipe own packing paired n first
+    → has_quadrature packing ≡ true → has_sizes packing ≡ true
+    → IsCode own packing own.in_phase bytes (first + recipe.in_phase.place) i
+    → IsCode own packing own.quadrature bytes (first + recipe.quadrature.place) q
+    → 4 * i + q ≡ code_of recipe bytes n
+code_with_sizes recipe own packing paired bytes n first i q names complex sizes a b =
+    rw (complex, sizes) at (code_by_parts recipe own packing paired bytes n first i q names a b)
+
+pub code_of_signs : (recipe own : Recipe) (packing : Packing) (paired : Bool) (bytes : List ℕ)
+    (n first i q : ℕ) → AreNames recipe own packing paired n first
+    → has_quadrature packing ≡ true → has_sizes packing ≡ false
+    → IsCode own packing own.in_phase bytes (first + recipe.in_phase.place) i
+    → IsCode own packing own.quadrature bytes (first + recipe.quadrature.place) q
+    → 2 * i + q ≡ code_of recipe bytes n
+code_of_signs recipe own packing paired bytes n first i q names complex signs a b =
+    rw (complex, signs) at (code_by_parts recipe own packing paired bytes n first i q names a b)
+
+pub code_of_real : (recipe own : Recipe) (packing : Packing) (paired : Bool) (bytes : List ℕ)
+    (n first i : ℕ) → AreNames recipe own packing paired n first
+    → has_quadrature packing ≡ false
+    → IsCode own packing own.in_phase bytes (first + recipe.in_phase.place) i
+    → i ≡ code_of recipe bytes n
+code_of_real recipe own packing paired bytes n first i names real a =
+    rw real at (code_by_parts recipe own packing paired bytes n first i _ names a refl)

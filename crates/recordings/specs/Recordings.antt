@@ -1,11 +1,11 @@
 -- What the samples of a recording become, and the bytes that they are packed into.
 use Rattle.std.specs.Prelude.{◌≡◌, ℕ, ◌+◌, ◌*◌, ◌/◌, ℤ, pos, ◌*ℤ◌, ◌-ℤ◌, unsigned_abs}
-use Rattle.std.specs.Prelude.{if◌then◌else◌, nat_lt, int_lt, List, [], ◌∷◌, length, map}
+use Rattle.std.specs.Prelude.{if◌then◌else◌, nat_lt, int_lt, List, [], ◌∷◌, length, map, Bool}
 use Rattle.std.specs.Prelude.{◌<◌, slice_index}
 use Rattle.std.specs.List.{range_with_len}
 use Rattle.definitions.specs.Samples.{Sample, Packing, real1, real2, iq1, iq2, real, sign_of}
 use Rattle.definitions.specs.Samples.{samples, sample, samples_per_byte, sample_count}
-use Rattle.sample_planes.specs.Packings.{packing_of}
+use Rattle.sample_planes.specs.Packings.{packing_of, has_sizes}
 use Rattle.recordings.specs.Readings.{bits_of, reading}
 use Rattle.recordings.specs.declared.part.PartRecipe.{PartRecipe}
 use Rattle.recordings.specs.declared.recipe.Recipe.{Recipe}
@@ -101,3 +101,24 @@ abbrev pub IsTable : Recipe → ℕ → List ℕ → Type 0
 IsTable recipe count table =
     (byte k : ℕ) → byte < count → k < samples_per_byte (packing_in recipe)
     → sample (packing_in recipe) (slice_index table byte ∷ []) k ≡ sample_of recipe (byte ∷ []) k
+
+-- the part in phase, or that in quadrature
+abbrev pub part_in : Recipe → Bool → PartRecipe
+part_in recipe is_quadrature = if is_quadrature then recipe.quadrature else recipe.in_phase
+
+-- how many bits a part has in a packing
+abbrev pub code_width : Packing → ℕ
+code_width packing = if has_sizes packing then 2 else 1
+
+-- the bits of a part that is made of a value: that of its sign, and where there is one, then that
+-- of its size
+abbrev pub part_code : Packing → PartRecipe → ℕ → ℤ → ℕ
+part_code packing part threshold value =
+    if has_sizes packing then 2 * sign_bit part value + size_bit part threshold value
+    else sign_bit part value
+
+-- the codes of a part, by the first values of a byte
+abbrev pub IsCodeTable : Recipe → PartRecipe → ℕ → List ℕ → Type 0
+IsCodeTable recipe part count table =
+    (byte : ℕ) → byte < count → slice_index table byte
+    ≡ part_code (packing_in recipe) part recipe.threshold (reading recipe.kind (byte ∷ []) 0)

@@ -28,15 +28,20 @@
 //!     packer.take(stretch.part(&[0, 0, 120, 140, 200, 30]), &mut written)?;
 #![tactic(auto)]
 
+mod byte_codes;
 mod choice;
 mod fault;
 mod measure;
+mod number_codes;
 mod numbers;
 mod packer;
+mod packing;
 mod part;
 mod recipe;
 mod stretch;
+mod value_codes;
 mod value_kind;
+mod values;
 
 pub use choice::{Choice, ChoiceFault};
 pub use fault::PackFault;

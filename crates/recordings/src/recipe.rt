@@ -1,17 +1,15 @@
 //! How a recording's samples are packed.
 
-ghost use Rattle.std.specs.Prelude.{◌≡◌, ◌+◌, ◌*◌, ◌%◌, ◌<◌, ◌≤◌, ◌^◌, if◌then◌else◌};
+ghost use Rattle.std.specs.Prelude.{◌≡◌, ◌+◌, ◌*◌, ◌%◌, ◌<◌, ◌≤◌, if◌then◌else◌};
 ghost use Rattle.definitions.specs.Samples.{samples_per_byte};
 ghost use Rattle.sample_planes.specs.Packings.{packing_of};
 ghost use Rattle.recordings.specs.Readings.{bits_of};
+ghost use Rattle.recordings.specs.declared.recipe.TheConstants.{MOST_BYTES};
 ghost use Rattle.recordings.specs.declared.numbers.TheConstants.{READING_LIMIT};
-ghost use Rattle.recordings.specs.declared.numbers.TheConstants.{SIGN_AND_SIZE_LIMIT};
 
-use crate::fault::PackFault;
 use crate::part::PartRecipe;
 use crate::value_kind::ValueKind;
 use sample_planes::Format;
-use std::alloc::AllocError;
 
 /// The most bytes that samples are read from at once.
 pub const MOST_BYTES: usize = 1 << 20;
@@ -24,9 +22,6 @@ pub const MOST_GROUP: usize = 64;
 
 /// How many values a byte has.
 pub const BYTE_VALUES: usize = 256;
-
-/// From so many bytes on it pays to make a table of what each is made into.
-const LEAST_FOR_TABLE: usize = 2048;
 
 /// How a recording's samples are packed.
 #[derive(Clone, Copy, Debug, PartialEq, Eq)]
@@ -50,15 +45,10 @@ pub struct Recipe {
 }
 
 impl Recipe {
-    ghost use Rattle.std.specs.Prelude.{ℕ, [], ◌∷◌, length, unsigned_abs, OnOk, Err};
-    ghost use Rattle.recordings.specs.Readings.{AreNumbers};
-    ghost use Rattle.definitions.specs.Samples.{sample};
-    ghost use Rattle.sample_planes.specs.Packings.{width_of};
-    ghost use Rattle.recordings.specs.Recordings.{parts_of, sample_bits, packing_in, value_of};
-    ghost use Rattle.recordings.specs.declared.recipe.TheConstants.{MOST_BYTES, BYTE_VALUES};
+    ghost use Rattle.std.specs.Prelude.{length, unsigned_abs};
+    ghost use Rattle.recordings.specs.Recordings.{parts_of, sample_bits, value_of};
     ghost use Rattle.recordings.specs.declared.recipe.TheConstants.{MOST_SAMPLE_BITS, MOST_GROUP};
-    ghost use Rattle.recordings.specs.Recordings.{sign_in, sign_and_size, code_of, sample_of};
-    ghost use Rattle.recordings.specs.Recordings.{group_of, IsPacked, IsTable};
+    ghost use Rattle.recordings.specs.Recordings.{group_of};
 
     /// How many values a sample has.
     pub(crate) fn parts(&self) -> usize
@@ -84,131 +74,6 @@ impl Recipe {
         ensures few { result ≤ MOST_GROUP }
     {
         self.format.per_byte() * self.sample_bits() / 8
-    }
-
-    /// Packs the bytes of a recording from its beginning on, at most `MOST_BYTES`, as far as they
-    /// fill bytes, in place of what was written.
-    ///
-    /// # Errors
-    ///
-    /// There is no memory, or a float is no number.
-    ///
-    /// # Panics
-    ///
-    /// Plain Rust panics where there are more than `MOST_BYTES` bytes.
-    pub fn pack(&self, bytes: &[u8], written: &mut Vec<u8>) -> Result<(), PackFault>
-        requires { length bytes.now ≤ MOST_BYTES }
-        ensures packed { OnOk result (IsPacked self.now bytes.now written.new.items) }
-        ensures numbers { OnOk result (AreNumbers self.now.kind bytes.now) }
-        ensures fault { (result ≡ Err PackFault.NotANumber) → ¬ AreNumbers self.now.kind bytes.now }
-    {
-        prove!(
-            bytes.len() <= MOST_BYTES,
-            "Recipe::pack requires bytes.len() <= MOST_BYTES"
-        );
-        if !self.kind.are_numbers(bytes) {
-            return Err(PackFault::NotANumber);
-        }
-        written.clear();
-        if self.group() == 1 && bytes.len() >= LEAST_FOR_TABLE {
-            self.pack_by_table(bytes, written)?;
-            return Ok(());
-        }
-        let per_byte = self.format.per_byte();
-        for i in 0..bytes.len() / self.group() {
-            written.push(self.byte(bytes, per_byte * i))?;
-        }
-        Ok(())
-    }
-
-    /// Packs bytes of which each is made into one.
-    fn pack_by_table(&self, bytes: &[u8], written: &mut Vec<u8>) -> Result<(), AllocError>
-        requires alone { group_of self.now ≡ 1 }
-        requires empty { written.old.items ≡ [] }
-        ensures { OnOk result (IsPacked self.now bytes.now written.new.items) }
-    {
-        let table = self.table();
-        for i in 0..bytes.len() {
-            written.push(table[bytes[i] as usize])?;
-        }
-        Ok(())
-    }
-
-    /// What each byte is made into, where it is made into one.
-    fn table(&self) -> [u8; BYTE_VALUES]
-        requires alone { group_of self.now ≡ 1 }
-        ensures { IsTable self.now BYTE_VALUES result }
-    {
-        let mut table = [0; BYTE_VALUES];
-        for byte in 0..BYTE_VALUES {
-            table[byte] = self.byte(&[byte as u8], 0);
-        }
-        table
-    }
-
-    /// The byte of the samples from sample `first` on.
-    fn byte(&self, bytes: &[u8], first: usize) -> u8
-        requires few { length bytes.now ≤ MOST_BYTES }
-        requires within { sample_bits self.now * (first + samples_per_byte (packing_in self.now))
-            ≤ 8 * length bytes.now }
-        ensures { (k : ℕ) → k < samples_per_byte (packing_in self.now)
-            → sample (packing_in self.now) (result ∷ []) k
-            ≡ sample_of self.now bytes.now (first + k) }
-    {
-        prove!(
-            bytes.len() <= MOST_BYTES,
-            "Recipe::byte requires bytes.len() <= MOST_BYTES"
-        );
-        let per_byte = self.format.per_byte();
-        let width = 8 / per_byte;
-        let mut byte = 0;
-        for n in 0..per_byte {
-            byte = (byte << width) | self.bits(bytes, first + n);
-        }
-        byte
-    }
-
-    /// The bits of sample `n` of some bytes, as a number: the sample's first bit is the highest.
-    fn bits(&self, bytes: &[u8], n: usize) -> u8
-        requires few { length bytes.now ≤ MOST_BYTES }
-        requires within { sample_bits self.now * (n + 1) ≤ 8 * length bytes.now }
-        ensures value { result ≡ code_of self.now bytes.now n }
-        ensures few { result < 2 ^ width_of (packing_in self.now) }
-    {
-        match self.format {
-            Format::Real1 => self.sign(&self.in_phase, bytes, n),
-            Format::Real2 => self.sign_and_size(&self.in_phase, bytes, n),
-            Format::Iq1 => {
-                2 * self.sign(&self.in_phase, bytes, n) + self.sign(&self.quadrature, bytes, n)
-            }
-            Format::Iq2 => {
-                4 * self.sign_and_size(&self.in_phase, bytes, n)
-                    + self.sign_and_size(&self.quadrature, bytes, n)
-            }
-        }
-    }
-
-    /// The bit of the sign of a part of sample `n`.
-    fn sign(&self, part: &PartRecipe, bytes: &[u8], n: usize) -> u8
-        requires place { part.now.place < parts_of self.now }
-        requires few { length bytes.now ≤ MOST_BYTES }
-        requires within { sample_bits self.now * (n + 1) ≤ 8 * length bytes.now }
-        ensures value { result ≡ sign_in self.now part.now bytes.now n }
-        ensures bit { result < 2 }
-    {
-        part.sign(self.value(part, bytes, n))
-    }
-
-    /// The bits of a part's sign and size.
-    fn sign_and_size(&self, part: &PartRecipe, bytes: &[u8], n: usize) -> u8
-        requires place { part.now.place < parts_of self.now }
-        requires few { length bytes.now ≤ MOST_BYTES }
-        requires within { sample_bits self.now * (n + 1) ≤ 8 * length bytes.now }
-        ensures value { result ≡ sign_and_size self.now part.now bytes.now n }
-        ensures bits { result < SIGN_AND_SIZE_LIMIT }
-    {
-        let value = self.value(part, bytes, n);
-        2 * part.sign(value) + part.size(self.threshold, value)
     }
 
     /// The value that a part is made of.

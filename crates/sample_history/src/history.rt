@@ -70,18 +70,9 @@ impl SampleHistory {
         ensures taken { taken_of self.new ≡ taken_of self.old + length run.now.samples }
         ensures kept { first_of self.new ≤ taken_of self.new - room_of self.new }
     {
-        prove!(
-            run.format() == self.format,
-            "SampleHistory::take requires a run in its own format"
-        );
-        prove!(
-            run.len() <= MAX_SAMPLES,
-            "SampleHistory::take requires run.len() <= MAX_SAMPLES"
-        );
-        prove!(
-            self.taken <= MOST_TIME - run.len() as u64,
-            "SampleHistory::take requires at most MOST_TIME samples in all"
-        );
+        prove!(run.format() == self.format);
+        prove!(run.len() <= MAX_SAMPLES);
+        prove!(self.taken <= MOST_TIME - run.len() as u64);
         let (bytes, first) = run.place();
         self.take_bytes(bytes, first, run.len());
     }

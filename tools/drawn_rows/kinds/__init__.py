@@ -1,6 +1,10 @@
 """All kinds of inputs, by what their definitions describe."""
-from . import bits, frames, loops, pages, runs, scripts, searches, segments, signal, slots, texts
+from . import (almanacs, banks, bits, cells, clients, commands, entries, events, fields, frames,
+               lines, lives, loops, pages, pieces, runs, scripts, searches, segments, sets, signal,
+               slots, streams, tasks, texts, totals, windows, words)
 from .registry import KINDS, Kind
 
-__all__ = ['KINDS', 'Kind', 'bits', 'frames', 'loops', 'pages', 'runs', 'scripts', 'searches',
-           'segments', 'signal', 'slots', 'texts']
+__all__ = ['KINDS', 'Kind', 'almanacs', 'banks', 'bits', 'cells', 'clients', 'commands', 'entries',
+           'events', 'fields', 'frames', 'lines', 'lives', 'loops', 'pages', 'pieces', 'runs',
+           'scripts', 'searches', 'segments', 'sets', 'signal', 'slots', 'streams', 'tasks',
+           'texts', 'totals', 'windows', 'words']

@@ -1,25 +1,43 @@
-use Rattle.std.proofs.Common.{◌∙◌, ap, sym}
-use Rattle.definitions.specs.Samples.{real1, real2, iq1, iq2}
-use Rattle.sample_planes.specs.Packings.{packing_of}
-use Rattle.recordings.proofs.RecipeLemmas.{code_by}
+use Rattle.std.proofs.Common.{◌≡◌, ◌∙◌, sym, ℕ}
+use Rattle.recordings.proofs.RecipeLemmas.{code_with_sizes, code_of_signs, code_of_real}
 use Rattle.recordings.proofs.recipe.Recipe.bits.Goals as goal
 
-pub returns-in-Real1-clause-value : goal.returns-in-Real1-clause-value
-returns-in-Real1-clause-value c =
-    c.sign.ensures.value ∙ sym (code_by real1 c.args.self.now c.args.bytes.now c.args.n
-    (ap packing_of c.in-Real1.is))
+pub returns-then-has_sizes-clause-value : goal.returns-then-has_sizes-clause-value
+returns-then-has_sizes-clause-value g c =
+    code_with_sizes c.args.self.now _ _ c.args.is_paired c.args.bytes.now c.args.n _ _ _
+    (record {
+      recipe_is = c.requires.recipe;
+      packing_is = c.requires.format;
+      paired_is = c.requires.paired;
+      first_is = c.first_value-first.ensures;
+    })
+    (sym c.has_quadrature.ensures ∙ c.if-has_quadrature.true)
+    (sym c.has_sizes.ensures ∙ c.if-has_sizes.true)
+    c.code-in_phase.ensures.value
+    c.code-quadrature.ensures.value
 
-pub returns-in-Real2-clause-value : goal.returns-in-Real2-clause-value
-returns-in-Real2-clause-value c =
-    c.sign_and_size.ensures.value ∙ sym (code_by real2 c.args.self.now c.args.bytes.now c.args.n
-    (ap packing_of c.in-Real2.is))
+pub returns-else-has_sizes-clause-value : goal.returns-else-has_sizes-clause-value
+returns-else-has_sizes-clause-value g c =
+    code_of_signs c.args.self.now _ _ c.args.is_paired c.args.bytes.now c.args.n _ _ _
+    (record {
+      recipe_is = c.requires.recipe;
+      packing_is = c.requires.format;
+      paired_is = c.requires.paired;
+      first_is = c.first_value-first.ensures;
+    })
+    (sym c.has_quadrature.ensures ∙ c.if-has_quadrature.true)
+    (sym c.has_sizes.ensures ∙ c.if-has_sizes.false)
+    c.code-in_phase.ensures.value
+    c.code-quadrature.ensures.value
 
-pub returns-in-Iq1-clause-value : goal.returns-in-Iq1-clause-value
-returns-in-Iq1-clause-value c =
-    rw (c.sign-in-Iq1.ensures.value, c.sign-in-Iq1-2.ensures.value)
-    (sym (code_by iq1 c.args.self.now c.args.bytes.now c.args.n (ap packing_of c.in-Iq1.is)))
-
-pub returns-in-Iq2-clause-value : goal.returns-in-Iq2-clause-value
-returns-in-Iq2-clause-value c =
-    rw (c.sign_and_size-in-Iq2.ensures.value, c.sign_and_size-in-Iq2-2.ensures.value)
-    (sym (code_by iq2 c.args.self.now c.args.bytes.now c.args.n (ap packing_of c.in-Iq2.is)))
+pub returns-else-has_quadrature-clause-value : goal.returns-else-has_quadrature-clause-value
+returns-else-has_quadrature-clause-value g c =
+    code_of_real c.args.self.now _ _ c.args.is_paired c.args.bytes.now c.args.n _ _
+    (record {
+      recipe_is = c.requires.recipe;
+      packing_is = c.requires.format;
+      paired_is = c.requires.paired;
+      first_is = c.first_value-first.ensures;
+    })
+    (sym c.has_quadrature.ensures ∙ c.if-has_quadrature.false)
+    c.code-in_phase.ensures.value

@@ -2,7 +2,7 @@ use Rattle.std.proofs.Common.{◌∙◌, ◌<◌, ◌^◌, ap, arith}
 use Rattle.std.specs.Prelude.{ℤ, pos, ◌*ℤ◌, ◌+ℤ◌, unsigned_abs}
 use Rattle.std.proofs.lemmas.Int.{ints}
 use Rattle.recordings.specs.Readings.{reading, signed, float_order}
-use Rattle.recordings.proofs.ReadingLemmas.{doubled, odd, kept}
+use Rattle.recordings.proofs.ReadingLemmas.{doubled, odd, widened}
 use Rattle.recordings.proofs.value_kind.ValueKind.reading.Goals as goal
 
 pub returns-in-U8-clause-value : goal.returns-in-U8-clause-value
@@ -18,24 +18,19 @@ returns-in-I8-clause-value c =
     (c.signed.ensures.value ∙ ap (signed 128) c.from-in-I8.ensures))
 
 pub returns-in-I16-clause-value : goal.returns-in-I16-clause-value
-unfolding reading
 returns-in-I16-clause-value c =
-    let small : unsigned_abs c.signed-in-I16.result < 2 ^ 31 = omega arith in
-    rw c.in-I16.is (doubled c.signed-in-I16.result small ∙ ap (λ (z : ℤ). pos 2 *ℤ z)
-    (c.signed-in-I16.ensures.value ∙ ap (signed 32768) c.two_bytes.ensures.value))
+    rw c.in-I16.is (widened c.reading.result c.from-in-I16.result c.reading.ensures.small
+    c.from-in-I16.ensures ∙ c.reading.ensures.value)
 
 pub returns-in-I16Be-clause-value : goal.returns-in-I16Be-clause-value
-unfolding reading
 returns-in-I16Be-clause-value c =
-    let small : unsigned_abs c.signed-in-I16Be.result < 2 ^ 31 = omega arith in
-    rw c.in-I16Be.is (doubled c.signed-in-I16Be.result small ∙ ap (λ (z : ℤ). pos 2 *ℤ z)
-    (c.signed-in-I16Be.ensures.value ∙ ap (signed 32768) c.two_bytes-in-I16Be.ensures.value))
+    rw c.in-I16Be.is (widened c.reading-in-I16Be.result c.from-in-I16Be.result c.reading-in-I16Be.ensures.small
+    c.from-in-I16Be.ensures ∙ c.reading-in-I16Be.ensures.value)
 
 pub returns-in-F32-clause-value : goal.returns-in-F32-clause-value
-unfolding reading
 returns-in-F32-clause-value c =
-    rw c.in-F32.is (kept c.float_order.result c.float_order.ensures.small ∙
-    c.float_order.ensures.value ∙ ap float_order c.four_bytes.ensures.value)
+    rw c.in-F32.is (widened c.reading-in-F32.result c.from-in-F32.result c.reading-in-F32.ensures.small
+    c.from-in-F32.ensures ∙ c.reading-in-F32.ensures.value)
 
 pub returns-in-Bits2Low-clause-value : goal.returns-in-Bits2Low-clause-value
 unfolding reading
