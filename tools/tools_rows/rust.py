@@ -167,30 +167,23 @@ def versions(rows, _):
     rows.say('the version of Cargo.toml', [f'{said}, not {version()}'] * (said != version()))
 
 
-def exported_by(root):
-    """The names that the root of a crate exports."""
-    lists = re.findall(r'^pub use [^;]*?(\{[^}]*\}|\w+);', root, re.M)
-    return set(re.findall(r'\w+', ' '.join(lists)))
+def exported():
+    """The types that the library exports."""
+    uses = re.findall(r'^pub use [\w:]+::(?:\{([^}]*)\}|(\w+));',
+                      read(os.path.join(TOP, 'rust/facade/mod.rs')), re.M)
+    names = re.findall(r'\w+', ' '.join(several or one for several, one in uses))
+    return {name for name in names if re.match('[A-Z].*[a-z]', name)}
 
 
 def threads(rows, _):
-    """The test of threads names each type that a crate exports."""
+    """The test of threads names each type that the library exports."""
     tests = read(os.path.join(TOP, 'tools/second_receiver/tests/threads.rs'))
-    tried, top, count = re.findall(r'^ +(\w+): (.*);$', tests, re.M), os.path.join(TOP, 'rust'), 0
-    tried += [('facade', ' '.join(re.findall('seldomplough::([A-Z]\\w+)', tests)))]
-    for crate in sorted(os.listdir(top)):
-        root = os.path.join(top, crate, 'mod.rs')
-        if crate in ('kit', 'bin', 'assertions') or crate.endswith('_tests') \
-                or not os.path.exists(root):
-            continue
-        code = ''.join(read(os.path.join(top, crate, it)) for it in os.listdir(
-            os.path.join(top, crate)) if it.endswith('.rs'))
-        declared = set(re.findall(r'^pub (?:struct|enum) (\w+)', code, re.M))
-        names = exported_by(read(root)) & declared
-        count += len(names)
-        of = set(re.findall(r'\w+', ' '.join(types for name, types in tried if name == crate)))
-        rows.say(f'the threads of {crate}', [f'{it} is not tried' for it in sorted(names - of)])
-    rows.say('the threads of all crates', [f'{count} types'] * (count < 50))
+    tried = set(re.findall(r'\w+', re.search(r'all_of_threads! \{\n([^}]*)\}', tests)[1]))
+    types = exported()
+    rows.say('the threads of exported types',
+             [f'{it} is not tried' for it in sorted(types - tried)]
+             + [f'{it} is not exported' for it in sorted(tried - types)]
+             + [f'{len(types)} types'] * (len(types) < 50))
 
 
 ROWS = (texts, words, checks, fast, versions, threads)
