@@ -42,18 +42,10 @@
 #![deny(unsafe_code)]
 // Names that only clauses use, which fell away.
 #![allow(dead_code, unused_imports, unused_variables)]
-// What the parts show is for this project alone.
-#![cfg_attr(
-    feature = "internals",
-    allow(
-        missing_debug_implementations,
-        clippy::len_without_is_empty,
-        clippy::missing_errors_doc,
-        clippy::missing_panics_doc,
-        clippy::must_use_candidate,
-        clippy::new_without_default
-    )
-)]
+// The lints are for what is exported. The parts that `internals` shows are for this project alone.
+#![cfg_attr(not(feature = "internals"), warn(clippy::missing_errors_doc))]
+#![cfg_attr(feature = "internals", allow(missing_debug_implementations))]
+#![cfg_attr(feature = "internals", allow(clippy::all, clippy::pedantic))]
 
 extern crate alloc;
 

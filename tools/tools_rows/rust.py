@@ -7,8 +7,8 @@ import sys
 from .commands import TOP, changes, contents, copied, refused, run, write
 
 sys.path.insert(0, os.path.join(TOP, 'tools'))
-from built import version
-from rust_text import stripped
+from built import version  # noqa: E402
+from rust_text import stripped  # noqa: E402
 
 SOURCE = '''//! A source.
 
@@ -131,7 +131,8 @@ def checks(rows, folder):
     write(path, f'{text}\n/// One more.\npub fn one_more() {{}}\n')
     line = "rust: rust/nav_parity/parity.rs isn't what tools/rust writes"
     rows.say('another source', refused(rust('--check'), line, 1))
-    gone = write(os.path.join(top, 'rust/nav_parity/gone.rs'), '// Made by tools/rust of nothing.\n')
+    gone = os.path.join(top, 'rust/nav_parity/gone.rs')
+    write(gone, '// Made by tools/rust of nothing.\n')
     own = write(os.path.join(top, 'rust/nav_parity/own.rs'), '// My own.\n')
     rows.say('a file of another', refused(rust(), "rust: rust/nav_parity/own.rs isn't a .*", 1)
              + ['it is gone'] * (not os.path.exists(own) or not os.path.exists(gone)))
