@@ -43,7 +43,6 @@
 // Names that only clauses use, which fell away.
 #![allow(dead_code, unused_imports, unused_variables)]
 // The lints are for what is exported. The parts that `internals` shows are for this project alone.
-#![cfg_attr(not(feature = "internals"), warn(clippy::missing_errors_doc))]
 #![cfg_attr(feature = "internals", allow(missing_debug_implementations))]
 #![cfg_attr(feature = "internals", allow(clippy::all, clippy::pedantic))]
 

@@ -46,16 +46,14 @@ impl core::error::Error for {name} {{}}'''
 # The lines around an example, so that it can end early. rustdoc shows none of them.
 EXAMPLE = re.compile(r'^//!     .*\n(?:(?://!\n)*//!     .*\n)*', re.M)
 MAIN = '# fn main() -> Result<(), std::boxed::Box<dyn core::error::Error>> {\n'
-FENCE = '''#![cfg_attr(feature = "internals", doc = "```")]
-#![cfg_attr(not(feature = "internals"), doc = "```ignore")]
-'''
+FENCE = ('#![cfg_attr(feature = "internals", doc = "```")]\n'
+         '#![cfg_attr(not(feature = "internals"), doc = "```ignore")]\n')
 
 HEAD = '''#![cfg_attr(not(any(test, feature = "programs")), no_std)]
 #![deny(unsafe_code)]
 // Names that only clauses use, which fell away.
 #![allow(dead_code, unused_imports, unused_variables)]
 // The lints are for what is exported. The parts that `internals` shows are for this project alone.
-#![cfg_attr(not(feature = "internals"), warn(clippy::missing_errors_doc))]
 #![cfg_attr(feature = "internals", allow(missing_debug_implementations))]
 #![cfg_attr(feature = "internals", allow(clippy::all, clippy::pedantic))]
 
@@ -120,8 +118,7 @@ def imported(text: str) -> str:
 def shown(kind: str, name: str, attributes: str, item: str) -> str:
     """The lines that write an error of a type, by what its attributes say."""
     if kind == 'struct':
-        words = ''.join(re.findall(r'#.error.(.*).]', attributes))
-        return f'        f.write_str({words})\n'
+        return f'        f.write_str({"".join(re.findall("#.error.(.*).]", attributes))})\n'
     arms = re.findall(r'#\[error\((".*")\)\]\n(?: *///.*\n)* *(\w+)(\()?', item)
     return '        match self {\n' + ''.join(
         f'            {name}::{variant}(value) => write!(f, {words}, value),\n' if held else

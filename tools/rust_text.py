@@ -3,7 +3,7 @@ another way than Rust is put in Rust's."""
 from __future__ import annotations
 
 import re
-from typing import Callable
+from typing import Any
 
 
 class Failed(Exception):
@@ -67,7 +67,7 @@ REWRITTEN = [(re.compile(pattern, re.M), new) for pattern, new in [
 # memory what they take by a reference. Each row has to match somewhere, and what is in FOUND too.
 LANES = re.compile(r'\b[iu]\d+x\d+\b')
 INLINED = '#[inline(always)]\n'
-ROWS: list[tuple[str, str | Callable[[re.Match[str]], str]]] = [
+FAST: list[Any] = [(re.compile(pattern, re.M), new) for pattern, new in [
     (r'\n    let low = two_windows\(table, at\[0\], at\[1\]\);\n'
      r'    let high = two_windows\(table, at\[2\], at\[3\]\);\n'
      r'    low\.shuffle\(high, SIXTY_FOUR\)\n\}', '\n    u8x64::from_places(table, at)\n}'),
@@ -76,8 +76,7 @@ ROWS: list[tuple[str, str | Callable[[re.Match[str]], str]]] = [
     (r'\b([iu]\d+x\d+)::from_slice\(&([\w.]+)\[([^\[\]]*)\.\.\]\)',
      lambda it: f'{it[1]}::from_slice_at({"&" * ("." in it[2])}{it[2]}, {it[3]})'),
     (r'^( *)#\[cold\]\n *#\[inline\(never\)\]\n(?=.*\(&(?:mut )?self\b)', r'\1' + INLINED),
-]
-FAST = [(re.compile(pattern, re.M), new) for pattern, new in ROWS]
+]]
 FUNCTION = re.compile(r'^( *)(?:pub(?:\([a-z]+\))? )?fn ((?:[^{;/\[]|\[[^\]]*\])*) \{$', re.M)
 FOUND = ('a method that gives 64 bytes', 'a structure of lanes')
 TOLD = re.compile(r'inline\((?:always|never)\)\]\n(?: *(?:///|#\[).*\n)*\Z')
