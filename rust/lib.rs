@@ -42,6 +42,9 @@
 #![deny(unsafe_code)]
 // Names that only clauses use, which fell away.
 #![allow(dead_code, unused_imports, unused_variables)]
+// The lints are for what is exported. The parts that `internals` shows are for this project alone.
+#![cfg_attr(feature = "internals", allow(missing_debug_implementations))]
+#![cfg_attr(feature = "internals", allow(clippy::all, clippy::pedantic))]
 
 extern crate alloc;
 

@@ -46,14 +46,16 @@ impl core::error::Error for {name} {{}}'''
 # The lines around an example, so that it can end early. rustdoc shows none of them.
 EXAMPLE = re.compile(r'^//!     .*\n(?:(?://!\n)*//!     .*\n)*', re.M)
 MAIN = '# fn main() -> Result<(), std::boxed::Box<dyn core::error::Error>> {\n'
-FENCE = '''#![cfg_attr(feature = "internals", doc = "```")]
-#![cfg_attr(not(feature = "internals"), doc = "```ignore")]
-'''
+FENCE = ('#![cfg_attr(feature = "internals", doc = "```")]\n'
+         '#![cfg_attr(not(feature = "internals"), doc = "```ignore")]\n')
 
 HEAD = '''#![cfg_attr(not(any(test, feature = "programs")), no_std)]
 #![deny(unsafe_code)]
 // Names that only clauses use, which fell away.
 #![allow(dead_code, unused_imports, unused_variables)]
+// The lints are for what is exported. The parts that `internals` shows are for this project alone.
+#![cfg_attr(feature = "internals", allow(missing_debug_implementations))]
+#![cfg_attr(feature = "internals", allow(clippy::all, clippy::pedantic))]
 
 extern crate alloc;
 
@@ -108,7 +110,7 @@ def imported(text: str) -> str:
     paths = sorted(path for word, path in PRELUDE if re.search(word, code) and not re.search(
         rf'\b{path.split(" ")[-1].split("::")[-1]}\b(?!::)', named))
     uses = ''.join(f'use crate::kit::std::{path};\n' for path in paths)
-    head = len(re.match(r'(?:(?://!.*|#!\[.*)\n)*\n*', text)[0])
+    head = len(re.split(r'^(?!//!|#!\[|$)', text, 1, re.M)[0])
     gap = '\n' * bool(uses and not text.startswith('use ', head))
     return text[:head] + uses + gap + text[head:]
 
@@ -116,7 +118,7 @@ def imported(text: str) -> str:
 def shown(kind: str, name: str, attributes: str, item: str) -> str:
     """The lines that write an error of a type, by what its attributes say."""
     if kind == 'struct':
-        return f'        f.write_str({re.search(r"#.error.(.*).]", attributes)[1]})\n'
+        return f'        f.write_str({"".join(re.findall("#.error.(.*).]", attributes))})\n'
     arms = re.findall(r'#\[error\((".*")\)\]\n(?: *///.*\n)* *(\w+)(\()?', item)
     return '        match self {\n' + ''.join(
         f'            {name}::{variant}(value) => write!(f, {words}, value),\n' if held else

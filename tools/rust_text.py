@@ -3,6 +3,7 @@ another way than Rust is put in Rust's."""
 from __future__ import annotations
 
 import re
+from typing import Any
 
 
 class Failed(Exception):
@@ -66,7 +67,7 @@ REWRITTEN = [(re.compile(pattern, re.M), new) for pattern, new in [
 # memory what they take by a reference. Each row has to match somewhere, and what is in FOUND too.
 LANES = re.compile(r'\b[iu]\d+x\d+\b')
 INLINED = '#[inline(always)]\n'
-FAST = [(re.compile(pattern, re.M), new) for pattern, new in [
+FAST: list[Any] = [(re.compile(pattern, re.M), new) for pattern, new in [
     (r'\n    let low = two_windows\(table, at\[0\], at\[1\]\);\n'
      r'    let high = two_windows\(table, at\[2\], at\[3\]\);\n'
      r'    low\.shuffle\(high, SIXTY_FOUR\)\n\}', '\n    u8x64::from_places(table, at)\n}'),

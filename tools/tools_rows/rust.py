@@ -7,8 +7,8 @@ import sys
 from .commands import TOP, changes, contents, copied, refused, run, write
 
 sys.path.insert(0, os.path.join(TOP, 'tools'))
-from built import version
-from rust_text import stripped
+from built import version  # noqa: E402
+from rust_text import stripped  # noqa: E402
 
 SOURCE = '''//! A source.
 
@@ -131,7 +131,8 @@ def checks(rows, folder):
     write(path, f'{text}\n/// One more.\npub fn one_more() {{}}\n')
     line = "rust: rust/nav_parity/parity.rs isn't what tools/rust writes"
     rows.say('another source', refused(rust('--check'), line, 1))
-    gone = write(os.path.join(top, 'rust/nav_parity/gone.rs'), '// Made by tools/rust of nothing.\n')
+    gone = os.path.join(top, 'rust/nav_parity/gone.rs')
+    write(gone, '// Made by tools/rust of nothing.\n')
     own = write(os.path.join(top, 'rust/nav_parity/own.rs'), '// My own.\n')
     rows.say('a file of another', refused(rust(), "rust: rust/nav_parity/own.rs isn't a .*", 1)
              + ['it is gone'] * (not os.path.exists(own) or not os.path.exists(gone)))
@@ -167,30 +168,23 @@ def versions(rows, _):
     rows.say('the version of Cargo.toml', [f'{said}, not {version()}'] * (said != version()))
 
 
-def exported_by(root):
-    """The names that the root of a crate exports."""
-    lists = re.findall(r'^pub use [^;]*?(\{[^}]*\}|\w+);', root, re.M)
-    return set(re.findall(r'\w+', ' '.join(lists)))
+def exported():
+    """The types that the library exports."""
+    uses = re.findall(r'^pub use [\w:]+::(?:\{([^}]*)\}|(\w+));',
+                      read(os.path.join(TOP, 'rust/facade/mod.rs')), re.M)
+    names = re.findall(r'\w+', ' '.join(several or one for several, one in uses))
+    return {name for name in names if re.match('[A-Z].*[a-z]', name)}
 
 
 def threads(rows, _):
-    """The test of threads names each type that a crate exports."""
+    """The test of threads names each type that the library exports."""
     tests = read(os.path.join(TOP, 'tools/second_receiver/tests/threads.rs'))
-    tried, top, count = re.findall(r'^ +(\w+): (.*);$', tests, re.M), os.path.join(TOP, 'rust'), 0
-    tried += [('facade', ' '.join(re.findall('seldomplough::([A-Z]\\w+)', tests)))]
-    for crate in sorted(os.listdir(top)):
-        root = os.path.join(top, crate, 'mod.rs')
-        if crate in ('kit', 'bin', 'assertions') or crate.endswith('_tests') \
-                or not os.path.exists(root):
-            continue
-        code = ''.join(read(os.path.join(top, crate, it)) for it in os.listdir(
-            os.path.join(top, crate)) if it.endswith('.rs'))
-        declared = set(re.findall(r'^pub (?:struct|enum) (\w+)', code, re.M))
-        names = exported_by(read(root)) & declared
-        count += len(names)
-        of = set(re.findall(r'\w+', ' '.join(types for name, types in tried if name == crate)))
-        rows.say(f'the threads of {crate}', [f'{it} is not tried' for it in sorted(names - of)])
-    rows.say('the threads of all crates', [f'{count} types'] * (count < 50))
+    tried = set(re.findall(r'\w+', re.search(r'all_of_threads! \{\n([^}]*)\}', tests)[1]))
+    types = exported()
+    rows.say('the threads of exported types',
+             [f'{it} is not tried' for it in sorted(types - tried)]
+             + [f'{it} is not exported' for it in sorted(tried - types)]
+             + [f'{len(types)} types'] * (len(types) < 50))
 
 
 ROWS = (texts, words, checks, fast, versions, threads)

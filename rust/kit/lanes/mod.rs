@@ -161,7 +161,13 @@ macro_rules! swizzles {
             #[must_use]
             pub fn swizzle(self, positions: [usize; 64]) -> Self {
                 let all = self.0.as_flattened();
-                Lanes(parts(|p| from_fn(|k| all[positions[16 * p + k]])))
+                let mut out = self.0;
+                for p in 0..4 {
+                    for k in 0..16 {
+                        out[p][k] = all[positions[16 * p + k]];
+                    }
+                }
+                Lanes(out)
             }
         })*
     };
