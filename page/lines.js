@@ -17,8 +17,10 @@ import { TABLES, greatest, least } from './fields.js';
  *   code_phase_chips: number }} Acq
  * @typedef {OfSlot & { kind: 'lock' | 'unlock' | 'lost' | 'bits' }} Change
  * @typedef {OfSlot & { kind: 'gap', bits: number, late_s: number }} Gap
+ * @typedef {boolean | null} Flag null where the word that has it is damaged
  * @typedef {OfSlot & { kind: 'sub', id: number, tow: number, words: (number | null)[],
- *   next_subframe_s: number }} Sub a word is null where its parity fails
+ *   next_subframe_s: number, words_passed: number, words_failed: number, integrity_status: Flag,
+ *   alert: Flag, anti_spoof: Flag }} Sub a word is null where its parity fails
  * @typedef {OfSlot & { kind: 'eph' | 'alm' | 'utc' | 'hlt', values: number[] }} Page
  * @typedef {OfSlot & { kind: 'als', toa: number, healths: number[], toa_s: number }} Als
  * @typedef {OfSlot & { kind: 'msg', hex: string, characters: string }} Msg
@@ -51,6 +53,8 @@ const REFUSALS = [
 
 /** Bits of a message in a second, seconds of a subframe, and Hz between bins of a search. */
 const BITS_A_SECOND = 50, SECONDS_A_SUBFRAME = 6, HZ_A_BIN = 250;
+/** Data bits of a word. */
+const DATA_BITS = 24;
 /** Shifts count parts of a Hz or of a chip a second. */
 const PARTS = 65536;
 /** Seconds of the unit in which `als` has its time. */
@@ -96,10 +100,15 @@ for (const kind of /** @type {const} */ (['lock', 'unlock', 'lost', 'bits'])) {
 }
 add('gap', ` ${SLOT} ${NATURAL}`, (words, base) =>
   ({ kind: 'gap', ...base, bits: +words[4], late_s: +words[4] / BITS_A_SECOND }));
-add('sub', ` ${SLOT} ([0-7]) ${NATURAL}${` ${WORD}`.repeat(10)}`, (words, base) =>
-  ({ kind: 'sub', ...base, id: +words[4], tow: +words[5],
-    words: words.slice(6).map((it) => (it === '------' ? null : parseInt(it, 16))),
-    next_subframe_s: SECONDS_A_SUBFRAME * +words[5] }));
+add('sub', ` ${SLOT} ([0-7]) ${NATURAL}${` ${WORD}`.repeat(10)}`, (found, base) => {
+  const words = found.slice(6).map((it) => (it === '------' ? null : parseInt(it, 16)));
+  const words_failed = words.filter((it) => it === null).length;
+  return { kind: 'sub', ...base, id: +found[4], tow: +found[5], words,
+    next_subframe_s: SECONDS_A_SUBFRAME * +found[5],
+    words_passed: words.length - words_failed, words_failed,
+    integrity_status: flag(words[0], 23), alert: flag(words[1], 18),
+    anti_spoof: flag(words[1], 19) };
+});
 for (const kind of /** @type {const} */ (['eph', 'alm', 'utc', 'hlt'])) {
   const table = TABLES[kind];
   const words = table.map((it) => ` ${it.name}=${SIGNED}:${it.exponent}`).join('');
@@ -135,6 +144,14 @@ export const KINDS = [...FORMS.keys()];
 function check(value, low, high, name) {
   if (value >= low && value <= high) return;
   throw new Failure(`has ${name}${value}, outside ${low} to ${high}`);
+}
+
+/**
+ * The data bit of a word that has a number, from 1 on (IS-GPS-200, 20.3.3.1 and 20.3.3.2).
+ * @param {number | null} word @param {number} number @returns {Flag}
+ */
+function flag(word, number) {
+  return word === null ? null : (word >> DATA_BITS - number & 1) === 1;
 }
 
 // The characters of a special message: ASCII, and 370 octal, a degree (IS-GPS-200, 20.3.3.5.1.8).

@@ -147,11 +147,10 @@ export class Sky {
     const pass = this.#going(slot, null, line.time, 'tracking');
     if (line.kind === 'count') takeSums(pass, line);
     else if (line.kind === 'sub') {
-      const failed = line.words.filter((it) => it === null).length;
       pass.subframes += 1;
-      pass.failed += failed;
+      pass.failed += line.words_failed;
       pass.tow = line.tow;
-      slot.subframes.push({ time: line.time, id: line.id, failed });
+      slot.subframes.push({ time: line.time, id: line.id, failed: line.words_failed });
     } else if ('values' in line || line.kind === 'als' || line.kind === 'msg') {
       if (line.kind === 'eph') pass.health = integerOf(line, 'health');
       this.pages.push({ pass, line });

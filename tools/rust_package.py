@@ -173,7 +173,7 @@ def files_of(crate: str, crates: dict[str, list[str]], seen: set[object]) -> dic
         text = example(text, crate, [*crates]) if name == 'lib' else text
         text = re.sub(r'^fn main\(', '#[must_use]\npub fn main(', text, flags=re.M)
         text = imported(moduled(erring(text), crate, below))
-        file = {'lib': 'mod', 'main': 'mod', 'prn': 'satellite'}.get(name, name)
+        file = 'mod' if name in ('lib', 'main') else name
         files[f'{module(crate)}/{file}.rs'] = f'{MADE}{folder}/{name}.rt: change that.\n{text}'
     return files
 

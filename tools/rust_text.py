@@ -38,7 +38,6 @@ REWRITTEN = [(re.compile(pattern, re.M), new) for pattern, new in [
     # Tests and programs are given the right to touch the world; Rust's take it.
     (r'^([ \t]*fn \w+)\(rt: HostRuntime\)([^{]*\{)', r'\1()\2\n    let rt = HostRuntime;'),
     (r'\bexpect\((&?\$?rt, "[^"]*")\)', r'expect((\1).1)'),
-    (r'\bFail::new\(', 'Fail::from('),
     # The stable std has no vectors of numbers.
     (r'\bstd::simd::prelude\b', 'crate::kit::lanes'),
     (r'\bstd::ops::DerefSlice\b', 'core::ops::Deref'),
@@ -51,10 +50,6 @@ REWRITTEN = [(re.compile(pattern, re.M), new) for pattern, new in [
     (r'^(use std::fmt::\{.*), Write\};', r'\1};'),
     # No part of Rust before 1.87.
     (r'\.cast_unsigned\(\)', ' as u64'),
-    (r'(\(\w+ as \w+\))\.cast_signed\(\)', r'(\1 as i64)'),
-    (r'\.cast_signed\(\)', ' as i64'),
-    # Windows has no file of the name prn.
-    (r'^((?:pub )?mod prn;)', r'#[path = "satellite.rs"]\n\1'),
     # What a later version may add to. In one package each match of the sources still has all cases.
     (r'^((?:#\[(?!non_).*\]\n)*pub enum (?:Answer|Event|LineRefusal|Refusal|Report|SlotState) '
      r'|#\[derive\(.*\bError\)\]\n(?:#\[(?!non_).*\]\n)*pub enum )', r'#[non_exhaustive]\n\1'),

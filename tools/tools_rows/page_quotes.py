@@ -87,9 +87,11 @@ def quotes_of_manual_check(rows, folder):
     top = with_own_docs(folder)
     page = os.path.join(top, 'docs', 'PROOF-IN-ONE-PAGE.md')
     text = text_of(page)
+    loop = int(re.search(r'parity\.rt:(\d+):', text)[1])
     for said, other, wanted in (
             ('pub untouched', 'pub touched', 'quotes `pub record RunsTask'),
-            ('parity.rt:97:', 'parity.rt:98:', 'line 98 of parity.rt is no loop'),
+            (f'parity.rt:{loop}:', f'parity.rt:{loop + 1}:',
+             f'line {loop + 1} of parity.rt is no loop'),
             ('WordRows.antt:13:', 'WordRows.antt:12:', 'line 12 of proofs/WordRows.antt is not')):
         write(page, text.replace(said, other))
         found = [it for it in manual_check(top).stale_quotes() if 'ONE-PAGE' in it]

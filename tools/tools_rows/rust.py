@@ -44,8 +44,8 @@ pub fn is_small()
 {}
 
 #[test]
-fn a_test(rt: HostRuntime) -> Result<(), Fail> {
-    Fail::new("{")
+fn a_test(rt: HostRuntime) {
+    assert_one(&rt, one().expect(rt, "{"));
 }
 '''
 AS_RUST = '''//! A source.
@@ -71,9 +71,9 @@ impl Count {
 pub fn is_small() {}
 
 #[test]
-fn a_test() -> Result<(), Fail> {
+fn a_test() {
     let rt = HostRuntime;
-    Fail::from("{")
+    assert_one(&rt, one().expect((rt, "{").1));
 }
 '''
 
