@@ -53,7 +53,7 @@ def code_error(r: Random) -> Row:
 
 @kind('loops_after_dump', count=100)
 def loops_after_dump(r: Random) -> Row:
-    taken, last, now = r.choice([0, 197, 198, 199, 200, size(r, 1000)]), sums(r), sums(r)
+    taken, last, now = r.choice([0, 197, 198, 199, 200, 256, 4095, 65535, size(r, 1 << 30)]), sums(r), sums(r)
     u = r.choice([either(r, LIMIT), r.choice([1, -1]) * (LIMIT - size(r, 700000))])
     before = Loops(taken, last, u, reference.limited(u + either(r, 700000)),
                    either(r, drawing.GREATEST_CORRECTION))
@@ -71,7 +71,7 @@ def loops_after(r: Random) -> Row:
 
 def close_window(r: Random) -> list[Sums]:
     """A window of sums of either sign that is good or bad by one."""
-    half = r.randint(1, 40)
+    half = r.choice([r.randint(1, 40), r.randint(33000, 90000)])
     one = Sums(0, 0, r.choice([1, -1]) * (2 * half + r.randint(-1, 1)), 0, 0, 0)
     two = Sums(0, 0, 0, r.choice([1, -1]) * half, 0, 0)
     others = [Sums(0, 0, *it, 0, 0) for it in SIGNS[:r.choice([0, 4, 6])]]
