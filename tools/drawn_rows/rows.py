@@ -86,12 +86,20 @@ def drawn(kind: Kind, seed: str, count: int) -> list[Equation]:
             for at in range(0, count, kind.group)]
 
 
+def count_by_seed(kind: Kind, at: int, seeds: int, share: float) -> list[int]:
+    """How many inputs of the kind at a place each seed draws: as many as it says where these are
+    computed soon; else all seeds share what there is, and one at least is drawn."""
+    if kind.group >= SOON:
+        return [kind.usual] * seeds
+    count = max(1, round(share * kind.usual))
+    return [(count + (at + it) % seeds) // seeds for it in range(seeds)]
+
+
 def drawn_of_all(kinds: Iterable[Kind], seeds: Sequence[str], inputs: int) -> list[Equation]:
-    """Some inputs of each kind, by each seed alike: as many as it says where these are computed
-    soon, and about so many of all others that there are."""
-    share = inputs / USUAL / len(seeds)
-    return [it for kind in kinds for seed in seeds for it in drawn(
-        kind, seed, kind.usual if kind.group >= SOON else max(1, round(share * kind.usual)))]
+    """Some inputs of each kind, about so many of all those that aren't computed soon."""
+    return [it for at, kind in enumerate(kinds)
+            for seed, count in zip(seeds, count_by_seed(kind, at, len(seeds), inputs / USUAL))
+            for it in drawn(kind, seed, count)]
 
 
 def imports(words: set[str], definitions: Definitions) -> list[str]:

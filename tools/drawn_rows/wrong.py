@@ -15,7 +15,7 @@ from .rows import MODULE, drawn, module_text
 from .slips import Wrong
 
 # How many are tried in one check.
-AT_ONCE = 24
+AT_ONCE = 60
 
 # In how many days each has its turn.
 TURNS = 7

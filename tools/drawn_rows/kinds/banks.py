@@ -48,7 +48,7 @@ def bank_kind(name: str, told: Callable[[Bank], list[str]], order: str) -> None:
     @kind(name, group=1, count=3)
     def _(r: Random) -> Row:
         it = drawn_bank(r)
-        while r.random() < .9 and not all(list(at_last(it, (part,)))
+        while r.random() < .99 and not all(list(at_last(it, (part,)))
                                           for part in ('events', 'answers')):
             it = drawn_bank(r)
         said = {'settings': values.settings(it.settings), 'samples': values.samples(it.samples),

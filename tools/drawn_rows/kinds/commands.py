@@ -162,6 +162,7 @@ def command_with(r: Random) -> Row:
 def command_in(r: Random) -> Row:
     slots, verb = r.choice([1, 4, 8]), r.choice(list(VERBS))
     words = spoilt_words(r, right_words(r, verb))
-    given = [r.choice([verb] * 5 + ['fly', 'Stop', verb + 'p', verb[:-1]]), *words] if r.random() < .9 else []
+    name = r.choice([verb] * 5 + ['fly', 'Stop', verb + 'p', verb[:-1]])
+    given = [name, *words] if r.random() < .9 else []
     made = reference.command([it.encode() for it in given], slots)
     return f'verbs {slots} {antt.listed(given, antt.text)}', asked_of(made)

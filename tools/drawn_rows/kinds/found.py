@@ -1,5 +1,5 @@
-"""Kinds of lives and searches: a life after each command, whatever the samples were; of which samples
-something is asked, where the answer itself is too large to be computed and stays a word."""
+"""Kinds of lives and searches: a life after each command, whatever the samples were; of which
+samples something is asked, where the answer itself is too large to be computed and stays a word."""
 from __future__ import annotations
 
 from random import Random
@@ -43,13 +43,14 @@ def life_with(r: Random) -> Row:
 
 
 def searched(r: Random) -> tuple[Search, str]:
-    """A search, and its life, whose `counts` came later than its start or earlier."""
+    """A search, and its life. By the time of its `counts` it would be due where it isn't, and not
+    be due where it is."""
     it = Search(r)
     start = values.start('acquire', it.plan)
-    return it, life(start, 1, r.choice([0, it.begun + 9]), it.begun)
+    return it, life(start, 1, (it.begun + 9) * (it.count >= it.due), it.begun)
 
 
-@kind('life_after', group=1, count=8, unfolded=())
+@kind('life_after', group=1, count=2, unfolded=())
 def life_after(r: Random) -> Row:
     """Whether the latest life is on is asked of the samples up to the command."""
     it, latest = searched(r)
@@ -62,7 +63,7 @@ def life_after(r: Random) -> Row:
             f'life_with (Some {latest}) {on} {time} {request}')
 
 
-@kind('is_over_searched', group=1, count=8, of='is_over', unfolded=('is_over',))
+@kind('is_over_searched', group=1, count=1, of='is_over', unfolded=('is_over',))
 def is_over_searched(r: Random) -> Row:
     """A search is over when it is due, counted from its start, and has found nothing."""
     it, latest = searched(r)
@@ -71,7 +72,7 @@ def is_over_searched(r: Random) -> Row:
     return arguments, f'{nothing}is_lost {arguments}'
 
 
-@kind('acquired_channel', group=1, count=8, unfolded=())
+@kind('acquired_channel', group=1, count=3, unfolded=())
 def acquired_channel(r: Random) -> Row:
     """There is one from the due time on, where the signal is found."""
     it = Search(r)
@@ -81,7 +82,7 @@ def acquired_channel(r: Random) -> Row:
     return f'{settings} {it.samples} {plan} {it.begun}', told
 
 
-@kind('life_view_searched', group=1, count=8, of='life_view', unfolded=())
+@kind('life_view_searched', group=1, count=2, of='life_view', unfolded=())
 def life_view_searched(r: Random) -> Row:
     """How far a search has come is counted from its start."""
     it, latest = searched(r)
@@ -90,7 +91,7 @@ def life_view_searched(r: Random) -> Row:
     return f'{values.settings(it.settings)} {it.samples} {latest} None', told
 
 
-@kind('view_of_searched', group=1, count=8, of='view_of', unfolded=('view_of',))
+@kind('view_of_searched', group=1, count=1, of='view_of', unfolded=('view_of',))
 def view_of_searched(r: Random) -> Row:
     """Its channel is that of a search from its start on."""
     it, latest = searched(r)
@@ -103,6 +104,8 @@ def view_of_searched(r: Random) -> Row:
 @kind('view_of', group=1, count=4)
 def view_of(r: Random) -> Row:
     it = Followed(r)
+    while r.random() < .8 and not (it.slot.life and it.slot.life.dumps(len(it.samples))):
+        it = Followed(r)
     now = it.slot.on(len(it.samples))
     shown = now.view(len(it.samples)) if now else View('idle')
     return f'{it.samples_text()} {it.now()}', values.view(shown)
@@ -128,7 +131,7 @@ def lost_after(r: Random) -> Row:
     return dumps, f'least_below (is_lost_with {dumps}) {count + 1}'
 
 
-@kind('result_of', group=1, count=4, unfolded=('result_of',))
+@kind('result_of', group=1, count=1, unfolded=('result_of',))
 def result_of(r: Random) -> Row:
     """Its cell is that of the powers from the start on."""
     it = Search(r)

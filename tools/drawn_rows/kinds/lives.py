@@ -23,8 +23,9 @@ class Counted:
     """A holding life, dumps that have come, and one more. Dumps come at a time each."""
 
     def __init__(self, r: Random) -> None:
-        self.wanted, self.since = r.choice([1, 1, r.randint(0, 4)]), r.randint(0, 9)
         times = sorted(r.randint(1, 20) for _ in range(r.randint(0, 6)))
+        self.wanted = r.choice([1, 1, r.randint(0, 4)])
+        self.since = r.choice([r.randint(0, 9), (times or [0])[-1]])
         self.before = [Dump(it, NOTHING) for it in times]
         self.dump = Dump((times or [1])[-1] + r.randint(0, 3), drawing.sums(r))
 

@@ -23,7 +23,8 @@ def is_printable(r: Random) -> Row:
 
 def number_text(r: Random) -> str:
     """Digits, with or without a sign, or what is near to a number."""
-    digits = ''.join(r.choice('0123456789') for _ in range(r.choice([1, 2, 12, 13, 13, 14, 65, 78])))
+    count = r.choice([1, 2, 12, 13, 13, 14, 65, 78])
+    digits = ''.join(r.choice('0123456789') for _ in range(count))
     return r.choice([digits, digits, digits, '-' + digits, '-' + digits, r.choice(ODD_NUMBERS)])
 
 

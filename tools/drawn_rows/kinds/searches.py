@@ -111,7 +111,7 @@ class Search:
 
     def __init__(self, r: Random) -> None:
         self.settings, self.plan = Settings(1000, 0), drawing.plan(r, bins=0)
-        self.begun = r.randint(0, 9)
+        self.begun = r.randint(1, 9)
         self.due = reference.due_time(self.settings, self.plan, self.begun)
         self.count = self.due + r.choice([-1, 0, 0, 0, 1])
         self.samples = f'(replicate {self.count} (real (pos 1)))'
