@@ -114,7 +114,8 @@ def bank_events_at_end(r: Random) -> Row:
     told = [antt.record(client=client, slot=number, time=len(samples), event=values.event(it))
             for client, number in keys if client == mine for it in slot.events(len(samples))]
     pairs = antt.listed([f'({client}, {number})' for client, number in keys])
-    return (f'{values.settings(settings)} {pairs} (λ c. λ s. if c == {mine} then {commands} else [])'
+    asked_for = f'(λ c. λ s. if c == {mine} then {commands} else [])'
+    return (f'{values.settings(settings)} {pairs} {asked_for}'
             f' {values.samples(samples)}', antt.listed(told))
 
 
