@@ -87,11 +87,9 @@ def drawn(kind: Kind, seed: str, count: int) -> list[Equation]:
 
 
 def count_by_seed(kind: Kind, at: int, seeds: int, share: float) -> list[int]:
-    """How many inputs of the kind at a place each seed draws: as many as it says where these are
-    computed soon; else all seeds share what there is, and one at least is drawn."""
-    if kind.group >= SOON:
-        return [kind.usual] * seeds
-    count = max(1, round(share * kind.usual))
+    """How many inputs of the kind at a place each seed draws. Together they draw as many as it says
+    where these are computed soon, else a share of them, and one at least."""
+    count = kind.usual if kind.group >= SOON else max(1, round(share * kind.usual))
     return [(count + (at + it) % seeds) // seeds for it in range(seeds)]
 
 

@@ -18,7 +18,7 @@ from .slips import Wrong
 AT_ONCE = 60
 
 # In how many days each has its turn.
-TURNS = 7
+TURNS = 10
 
 
 def read() -> list[Wrong]:

@@ -3,6 +3,7 @@ what is told sample by sample, time by time and client by client."""
 from __future__ import annotations
 
 from random import Random
+from typing import Optional
 
 from .. import antt, values
 from ..reference.fields import FIELDS
@@ -28,7 +29,8 @@ def reported_with(r: Random) -> Row:
 
 @kind('with_first', count=20)
 def with_first(r: Random) -> Row:
-    first, others = r.choice([None, size(r, 9)]), r.choice([None, [], [size(r, 9), size(r, 9)]])
+    first: Optional[int] = r.choice([None, size(r, 9)])
+    others: Optional[list[int]] = r.choice([None, [], [size(r, 9), size(r, 9)]])
     told = None if first is None or others is None else [first, *others]
     return (f'{{A = ℕ}} {antt.optional(first)} {antt.optional(others, antt.listed)}',
             antt.optional(told, antt.listed))
