@@ -9,8 +9,10 @@ from typing import Iterable, Mapping, NamedTuple, Sequence
 from .definitions import Definitions, words_in
 from .kinds.registry import KINDS, Kind, Row
 
-# How many inputs of all kinds are drawn where each has as many as it says.
-USUAL = sum(it.usual for it in KINDS.values())
+# Inputs of kinds with equations of so many are computed soon, and are drawn all; of the others so
+# many are drawn where each has as many as it says.
+SOON = 10
+USUAL = sum(it.usual for it in KINDS.values() if it.group < SOON)
 
 MODULE = 'DrawnRows'
 
@@ -18,7 +20,7 @@ HEAD = '''-- Drawn rows.
 use Rattle.std.proofs.Common.{◌≡◌, [], ◌∷◌, ◌++◌, refl}
 use Rattle.std.specs.Prelude.{ℕ, ℤ, pos, negsuc, List, Bool, true, false, Option, Some, None}
 use Rattle.std.specs.Prelude.{Result, Ok, Err, codes, get_or, replicate, map, not}
-use Rattle.std.specs.Prelude.{if◌then◌else◌, ◌==◌}
+use Rattle.std.specs.Prelude.{if◌then◌else◌, ◌==◌, ◌||◌, ◌&&◌}
 '''
 
 # Where the words stand that the library of the prover has apart.
@@ -84,11 +86,18 @@ def drawn(kind: Kind, seed: str, count: int) -> list[Equation]:
             for at in range(0, count, kind.group)]
 
 
+def count_by_seed(kind: Kind, at: int, seeds: int, share: float) -> list[int]:
+    """How many inputs of the kind at a place each seed draws. Together they draw as many as it says
+    where these are computed soon, else a share of them, and one at least."""
+    count = kind.usual if kind.group >= SOON else max(1, round(share * kind.usual))
+    return [(count + (at + it) % seeds) // seeds for it in range(seeds)]
+
+
 def drawn_of_all(kinds: Iterable[Kind], seeds: Sequence[str], inputs: int) -> list[Equation]:
-    """Some inputs of each kind, and about so many of all that there are, by each seed alike."""
-    share = inputs / USUAL / len(seeds)
-    return [it for kind in kinds for seed in seeds
-            for it in drawn(kind, seed, max(1, round(share * kind.usual)))]
+    """Some inputs of each kind, about so many of all those that aren't computed soon."""
+    return [it for at, kind in enumerate(kinds)
+            for seed, count in zip(seeds, count_by_seed(kind, at, len(seeds), inputs / USUAL))
+            for it in drawn(kind, seed, count)]
 
 
 def imports(words: set[str], definitions: Definitions) -> list[str]:

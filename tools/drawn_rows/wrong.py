@@ -7,24 +7,24 @@ from typing import Optional, Sequence
 
 from definition_trials import imports, modules_above, modules_below, numbered, refusals
 
-from . import (slips, slips_of_lines, slips_of_parts, slips_of_slots, slips_of_sums,
-               slips_of_words)
+from . import (slips, slips_of_joints, slips_of_lines, slips_of_parts, slips_of_slots,
+               slips_of_sums, slips_of_words)
 from .definitions import Definitions
 from .kinds import KINDS
 from .rows import MODULE, drawn, module_text
 from .slips import Wrong
 
 # How many are tried in one check.
-AT_ONCE = 24
+AT_ONCE = 60
 
 # In how many days each has its turn.
-TURNS = 7
+TURNS = 10
 
 
 def read() -> list[Wrong]:
     """All wrong definitions."""
     return [it for module in (slips, slips_of_slots, slips_of_sums, slips_of_words, slips_of_lines,
-                              slips_of_parts) for it in module.SLIPS]
+                              slips_of_parts, slips_of_joints) for it in module.SLIPS]
 
 
 def of_turn(turn: int) -> list[Wrong]:

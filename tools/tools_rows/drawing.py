@@ -113,7 +113,8 @@ WRONG_TABLES = (
     ({'Codes.g1_taps': coverage.Reason('dull')}, 'Codes.g1_taps has no reason: dull'),
     ({'Codes.g1_taps': coverage.Reason('function')}, 'Codes.g1_taps is none: function'),
     ({'Codes.g1_taps': coverage.Reason('relation')}, 'Codes.g1_taps is none: relation'),
-    ({'Lives.life_with': coverage.Reason('constant')}, 'Lives.life_with is none: constant'),
+    ({'Lives.dumps_of_channel': coverage.Reason('constant')},
+     'Lives.dumps_of_channel is none: constant'),
 )
 
 

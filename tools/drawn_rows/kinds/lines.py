@@ -140,9 +140,9 @@ def almanacs_text(r: Random) -> Row:
             antt.text(reference.event_text(slot, event)))
 
 
-@kind('refusal_text', count=10)
+@kind('refusal_text', count=20)
 def refusal_text(r: Random) -> Row:
-    number = r.randint(1, 10)
+    number = r.choice([1, 10, 9, r.randint(1, 10)])
     return str(number), antt.text(f'err {number}')
 
 

@@ -18,7 +18,8 @@ from .registry import Row, kind
 
 @kind('kind_of_page', count=400)
 def kind_of_page(r: Random) -> Row:
-    subframe, satellite = r.choice([4, 5, r.randrange(8)]), r.randrange(64)
+    subframe = r.choice([4, 5, r.randrange(8)])
+    satellite = r.choice([r.choice([0, 1, 32, 33, 51, 55, 56]), r.randrange(64)])
     return (f'{subframe} {satellite}',
             antt.optional(reference.kind_of_page(subframe, satellite)))
 
@@ -31,7 +32,7 @@ def page_words(r: Random) -> Words:
     if ident in (4, 5):
         satellite = r.choice([55, 56, 51, 1, 32, 0, 33, 63, r.randrange(64)])
         words[2] = (words[2] or 0) & ~(63 << 16) | satellite << 16
-    if r.random() < .1:
+    if r.random() < .25:
         words[r.randrange(10)] = None
     return words
 

@@ -52,7 +52,10 @@ def sign_of(r: Random) -> Row:
 @kind('bit_in', count=40)
 def bit_in(r: Random) -> Row:
     data = packed(r)[1]
-    place = r.choice([0, 8 * len(data) - 1, r.randrange(8 * len(data))])
+    if r.random() < .1:
+        # More bytes than 12 or 16 bits count.
+        data = [0] * r.choice([4096, 65536]) + [r.randint(1, 255)]
+    place = r.choice([0, *range(8 * len(data) - 8, 8 * len(data)), r.randrange(8 * len(data))])
     return f'{antt.listed(data)} {place}', str(data[place // 8] >> 7 - place % 8 & 1)
 
 

@@ -101,7 +101,7 @@ text_kind('due_text', 6)
 
 @kind('bank_events_at_end', group=1, count=4)
 def bank_events_at_end(r: Random) -> Row:
-    """Two slots that have the same commands."""
+    """Slots of which those of one client have commands."""
     settings, samples = drawing.slow(r, 5000), drawing.samples(r, r.randint(1, 4))
     slot, verb = slots.Slot(settings, samples), r.choice(['hold', 'track'])
     given = (drawing.satellite(r), 0, r.randint(2040, 2045))
@@ -110,10 +110,12 @@ def bank_events_at_end(r: Random) -> Row:
     commands = antt.listed([antt.record(time=0, request=values.request(verb, given)),
                             antt.record(time=0, request='(counts 9)')])
     keys = [(r.randint(1, 8), r.randint(0, 7)) for _ in range(r.randint(0, 2))]
+    mine = r.choice([it[0] for it in keys] or [1])
     told = [antt.record(client=client, slot=number, time=len(samples), event=values.event(it))
-            for client, number in keys for it in slot.events(len(samples))]
+            for client, number in keys if client == mine for it in slot.events(len(samples))]
     pairs = antt.listed([f'({client}, {number})' for client, number in keys])
-    return (f'{values.settings(settings)} {pairs} (λ c. λ s. {commands})'
+    asked_for = f'(λ c. λ s. if c == {mine} then {commands} else [])'
+    return (f'{values.settings(settings)} {pairs} {asked_for}'
             f' {values.samples(samples)}', antt.listed(told))
 
 
