@@ -38,7 +38,6 @@ WORDS = {
 DRAWN = 4
 
 EDGE = 'an edge has 301 pushes, and 60 are computed'
-LOSS = 'a signal is lost with 1,199 dumps at least, after each of which it is asked for'
 BITS = 'a page has 302 bits, and they are drawn as the bits of one subframe'
 
 # All definitions that aren't drawn.
@@ -57,7 +56,6 @@ TABLE: Mapping[str, Reason] = {
     'Fields.characters_of_word': reached('message_fields'),
     'Lives.channel_of': Reason('function', 'life_now'),
     'Lives.dumps_of_channel': reached('life_now'),
-    'Lives.until_lost': Reason('size', 'life_now', LOSS),
     'Loops.no_counts': Reason('constant', 'loops_start'),
     'Oscillators.code_cycle': Reason('constant', 'code_phase_after'),
     'Oscillators.carrier_cycle': Reason('constant', 'carrier_phase_after'),

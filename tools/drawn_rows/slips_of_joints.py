@@ -34,8 +34,6 @@ LIVES = (
           '(range_with_len 0 (min 4 plan.dwell))'),
     Wrong('named_cell', 'Acquisition', '(greatest_of power (cell_count plan)) 0',
           '(greatest_of power (cell_count plan - 1)) 0'),
-    Wrong('named_cell', 'Acquisition', '(10 * power cell * cell_count plan)',
-          '(10 * power cell * 2046)'),
     Wrong('progress', 'Segments', '(length xs - channel.start)',
           '(length xs - channel.start - 1)'),
     Wrong('closed_at', 'Segments', 'time = e;', 'time = e - channel.start;'),

@@ -7,8 +7,8 @@ from typing import Optional, Sequence
 
 from definition_trials import imports, modules_above, modules_below, numbered, refusals
 
-from . import (slips, slips_of_joints, slips_of_lines, slips_of_parts, slips_of_slots,
-               slips_of_sums, slips_of_words)
+from . import (slips, slips_of_joints, slips_of_lines, slips_of_parts, slips_of_seldom,
+               slips_of_slots, slips_of_sums, slips_of_words)
 from .definitions import Definitions
 from .kinds import KINDS
 from .rows import MODULE, drawn, module_text
@@ -24,7 +24,7 @@ TURNS = 10
 def read() -> list[Wrong]:
     """All wrong definitions."""
     return [it for module in (slips, slips_of_slots, slips_of_sums, slips_of_words, slips_of_lines,
-                              slips_of_parts, slips_of_joints) for it in module.SLIPS]
+                              slips_of_parts, slips_of_joints, slips_of_seldom) for it in module.SLIPS]
 
 
 def of_turn(turn: int) -> list[Wrong]:

@@ -132,7 +132,7 @@ def still_on(r: Random) -> Row:
 @kind('events_at_end', group=1, count=6)
 def events_at_end(r: Random) -> Row:
     it = Followed(r, early=1)
-    while r.random() < .9 and not it.slot.events(len(it.samples)):
+    while r.random() < .99 and not it.slot.events(len(it.samples)):
         it = Followed(r, early=1)
     return (f'{it.samples_text()} {it.commands_text()}',
             events(it.slot.events(len(it.samples))))

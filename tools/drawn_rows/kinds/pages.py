@@ -19,7 +19,7 @@ from .registry import Row, kind
 @kind('kind_of_page', count=400)
 def kind_of_page(r: Random) -> Row:
     subframe = r.choice([4, 5, r.randrange(8)])
-    satellite = r.choice([r.choice([0, 1, 32, 33, 51, 55, 56]), r.randrange(64)])
+    satellite = r.choice([r.choice([0, 1, 32, 33, *range(50, 58)]), r.randrange(64)])
     return (f'{subframe} {satellite}',
             antt.optional(reference.kind_of_page(subframe, satellite)))
 

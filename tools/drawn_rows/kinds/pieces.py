@@ -113,17 +113,24 @@ def register_after(r: Random) -> Row:
             antt.listed(reference.REGISTERS[count][of]))
 
 
-@kind('selection_of', count=32)
+def stages(satellites: Sequence[int]) -> str:
+    """The stages of these satellites."""
+    return antt.listed([reference.STAGES[it - 1] for it in satellites], antt.listed)
+
+
+@kind('selection_of', group=2, count=2, is_whole=True)
 def selection_of(r: Random) -> Row:
-    satellite = drawing.satellite(r)
-    return str(satellite), antt.listed(reference.STAGES[satellite - 1])
+    """All satellites."""
+    satellites = r.sample(range(1, 33), 32)
+    return f'map selection_of {antt.listed(satellites)}', stages(satellites)
 
 
-@kind('code_phase_selections', count=32, is_whole=True)
+@kind('code_phase_selections', group=2, count=2, is_whole=True)
 def code_phase_selections(r: Random) -> Row:
-    satellite = drawing.satellite(r)
-    return (f'get_or code_phase_selections {satellite - 1} []',
-            antt.listed(reference.STAGES[satellite - 1]))
+    """All satellites."""
+    satellites = r.sample(range(1, 33), 32)
+    return (f'map (λ it. get_or code_phase_selections (it - 1) []) {antt.listed(satellites)}',
+            stages(satellites))
 
 
 @kind('chip_after', group=5, count=10)

@@ -78,9 +78,12 @@ def body(r: Random) -> Row:
 
 @kind('alone_to_end', group=1, count=3)
 def alone_to_end(r: Random) -> Row:
-    it = Drawn(r, most=1)
-    (slots, script), = it.clients
-    lines = reference.alone_lines(it.settings, it.samples, slots, script)
+    it, lines = Drawn(r, most=1), []
+    while not any(line.startswith(f'{len(it.samples)} ') for line in lines):
+        # Something is told at the last time too.
+        it = Drawn(r, most=1)
+        (slots, script), = it.clients
+        lines = reference.alone_lines(it.settings, it.samples, slots, script)
     client = antt.record(slots=slots, script=antt.text(script))
     return (f'{it.arguments()} {client}',
             antt.listed([*lines, f'{len(it.samples)} end'], antt.text))

@@ -111,9 +111,12 @@ def carrier_phase_after(r: Random) -> Row:
 
 def sign_kind(name: str, ahead: int) -> None:
     """A kind of the sign of the chip so far ahead of a phase."""
-    @kind(name, count=6)
+    @kind(name, count=30)
     def _(r: Random) -> Row:
-        satellite, number = drawing.satellite(r), r.choice([0, 1, 1021, 1022, size(r, 1022)])
+        # The first chips are computed soonest.
+        satellite, number = drawing.satellite(r), size(r, 20)
+        if r.random() < .1:
+            number = r.choice([1021, 1022, size(r, 1022)])
         within = r.choice([0, HALF_CHIP - 1, HALF_CHIP, CYCLE - 1, r.randrange(CYCLE)])
         phase = (number << 32) + within
         return f'{satellite} {phase}', antt.integer(reference.chip_sign(satellite, phase + ahead))

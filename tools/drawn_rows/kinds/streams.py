@@ -107,7 +107,7 @@ def starts_of_header(r: Random) -> Row:
 def starts_from_near(r: Random) -> Row:
     """A second header 299 or 300 bits after the first one, or 301."""
     (bits, place), words = whole_header(r), frames.data_words(r)
-    bits = bits + some_bits(r, r.choice([235, 235, 236, 237])) + [r.randint(0, 1)] * 2
+    bits = bits + some_bits(r, r.choice([237, 237, 238, 239])) + [r.randint(0, 1)] * 2
     bits = frames.with_words(bits, words)[:len(bits) + 60]
     found = [it for it in message.starts(bits) if it >= place]
     return f'{values.bits(bits)} 2 {place}', antt.listed(found[:2])

@@ -101,16 +101,18 @@ text_kind('due_text', 6)
 
 @kind('bank_events_at_end', group=1, count=4)
 def bank_events_at_end(r: Random) -> Row:
-    """Slots of which those of one client have commands."""
+    """Slots of which one of a client, or all of it, have commands. They tell of a dump that ends
+    with the last sample."""
     settings, samples = drawing.slow(r, 5000), drawing.samples(r, r.randint(1, 4))
     slot, verb = slots.Slot(settings, samples), r.choice(['hold', 'track'])
-    given = (drawing.satellite(r), 0, r.randint(2040, 2045))
+    given = (drawing.satellite(r), 0, 2045)
     slot.answer(0, verb, given)
     slot.answer(0, 'counts', (9,))
+    samples = samples[:slot.life.dumps(len(samples))[-1].time]
     commands = antt.listed([antt.record(time=0, request=values.request(verb, given)),
                             antt.record(time=0, request='(counts 9)')])
-    keys = [(r.randint(1, 8), r.randint(0, 7)) for _ in range(r.randint(0, 2))]
-    mine = r.choice([it[0] for it in keys] or [1])
+    keys = [(r.randint(1, 4), r.randint(5, 7)), (r.randint(5, 8), r.randint(0, 3))]
+    mine = r.choice(keys)[0]
     told = [antt.record(client=client, slot=number, time=len(samples), event=values.event(it))
             for client, number in keys if client == mine for it in slot.events(len(samples))]
     pairs = antt.listed([f'({client}, {number})' for client, number in keys])
