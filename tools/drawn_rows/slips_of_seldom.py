@@ -1,7 +1,7 @@
 """Wrong definitions of what is seldom come upon, each with the kind that must refuse it."""
 from __future__ import annotations
 
-from .slips import Wrong
+from .slips import REMAINDER, Wrong
 
 SLIPS = (
     Wrong('entries_after_blank', 'Scripts', '(last_time before here) lines',
@@ -25,6 +25,13 @@ SLIPS = (
           '    ++ (if is_steered life.start then steered_events (counts_of dumps) else [])',
           '(if is_steered life.start then steered_events (counts_of dumps) else [])\n'
           '    ++ when (nat_lt 0 (unprinted_count life (front_of dumps))) (count d.counts)'),
+    Wrong('events_at_end_asked', 'Events', '(life_now settings (front_of xs) commands)',
+          '(life_now settings xs commands)'),
+    Wrong('ratio', 'Loops', '(max 1 b)', '(max 1 (b % 2 ^ 40))', REMAINDER),
+    Wrong('loops_after_dump', 'Loops', 'nat_lt (l.taken + 1) 200',
+          'nat_lt ((l.taken + 1) % 4096) 200', REMAINDER),
+    Wrong('almanacs_text', 'Texts', 'signed_decimal set.toa', 'decimal (natural set.toa)',
+          'Rattle.definitions.specs.Sums.{natural}'),
     Wrong('until_lost', 'Lives', 'Some k ↦ take k dumps', 'Some k ↦ take (k + 1) dumps'),
     Wrong('bank_events_at_end', 'Banks', '(asked client slot)', '(asked slot client)'),
     Wrong('starts_from_near', 'Frames', 'starts_from bits k (n + 300)',

@@ -18,7 +18,10 @@ from .slips import Wrong
 AT_ONCE = 60
 
 # In how many days each has its turn.
-TURNS = 10
+TURNS = 14
+
+# About as many equations as this are computed while the copies of one are read.
+PER_COPY = 6
 
 
 def read() -> list[Wrong]:
@@ -27,9 +30,19 @@ def read() -> list[Wrong]:
                               slips_of_parts, slips_of_joints, slips_of_seldom) for it in module.SLIPS]
 
 
+def cost(it: Wrong) -> float:
+    """About what it costs to try one: its copies, and the equations of its kind."""
+    kind = KINDS[it.kind]
+    return PER_COPY + kind.usual / kind.group
+
+
 def of_turn(turn: int) -> list[Wrong]:
-    """Those that have their turn on one of so many days."""
-    return read()[turn::TURNS]
+    """Those that have their turn on one of so many days: the costliest first, each on the day that
+    costs least so far."""
+    days: list[list[Wrong]] = [[] for _ in range(TURNS)]
+    for it in sorted(read(), key=cost, reverse=True):
+        min(days, key=lambda day: sum(map(cost, day))).append(it)
+    return days[turn]
 
 
 def changed(it: Wrong, text: str) -> str:

@@ -63,6 +63,18 @@ def life_after(r: Random) -> Row:
             f'life_with (Some {latest}) {on} {time} {request}')
 
 
+@kind('events_at_end_asked', group=1, count=1, of='events_at_end',
+      unfolded=('events_at_end', 'front_of'))
+def events_at_end_asked(r: Random) -> Row:
+    """Which life is on is asked of the samples before the last one."""
+    settings, made = values.settings(drawing.settings(r)), drawing.samples(r, r.randint(1, 6))
+    commands = antt.listed([antt.record(time=it, request=values.request(*asked(r)))
+                            for it in range(r.randint(0, 2))])
+    return (f'{settings} {values.samples(made)} {commands}',
+            f'life_events {settings} {values.samples(made)}'
+            f' (life_now {settings} {values.samples(made[:-1])} {commands})')
+
+
 @kind('is_over_searched', group=1, count=1, of='is_over', unfolded=('is_over',))
 def is_over_searched(r: Random) -> Row:
     """A search is over when it is due, counted from its start, and has found nothing."""

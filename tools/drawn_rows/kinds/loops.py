@@ -28,7 +28,7 @@ def clamp_shift(r: Random) -> Row:
 
 @kind('ratio')
 def ratio(r: Random) -> Row:
-    number, by = either(r, 1 << 37), size(r, 1 << 37)
+    number, by = either(r, 1 << 45), size(r, 1 << 45)
     return f'{antt.integer(number)} {by}', antt.integer(reference.ratio(number, by))
 
 
