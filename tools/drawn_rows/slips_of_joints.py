@@ -102,7 +102,6 @@ LINES = (
           'if nat_le (length verb.ranges + 1) (length words)'),
     Wrong('track_verb', 'Scripts', '(track (number v 0) (integer v 1) (number v 2))',
           '(track (number v 0) (integer v 1) (number v 2 % 2045))', REMAINDER),
-    Wrong('entries_after', 'Scripts', '(last_time before here) lines', '(last_time 0 here) lines'),
     Wrong('refusal_text', 'Texts', '(codes "err" ∷ decimal n ∷ [])',
           '(codes "err" ∷ decimal (n % 10) ∷ [])'),
 )

@@ -33,7 +33,6 @@ SLIPS = (
     Wrong('almanacs_text', 'Texts', 'signed_decimal set.toa', 'decimal (natural set.toa)',
           'Rattle.definitions.specs.Sums.{natural}'),
     Wrong('until_lost', 'Lives', 'Some k ↦ take k dumps', 'Some k ↦ take (k + 1) dumps'),
-    Wrong('bank_events_at_end', 'Banks', '(asked client slot)', '(asked slot client)'),
-    Wrong('starts_from_near', 'Frames', 'starts_from bits k (n + 300)',
-          'starts_from bits k (n + 299)'),
+    Wrong('starts_from_next', 'Frames', 'starts_from bits k (n + 300)',
+          'starts_from bits k (n + 301)'),
 )

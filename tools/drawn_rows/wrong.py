@@ -26,8 +26,9 @@ PER_COPY = 6
 
 def read() -> list[Wrong]:
     """All wrong definitions."""
-    return [it for module in (slips, slips_of_slots, slips_of_sums, slips_of_words, slips_of_lines,
-                              slips_of_parts, slips_of_joints, slips_of_seldom) for it in module.SLIPS]
+    modules = (slips, slips_of_slots, slips_of_sums, slips_of_words, slips_of_lines,
+               slips_of_parts, slips_of_joints, slips_of_seldom)
+    return [it for module in modules for it in module.SLIPS]
 
 
 def cost(it: Wrong) -> float:

@@ -43,13 +43,17 @@ def at_last(it: Bank, parts: tuple[str, ...]) -> Iterator[str]:
                 yield reference.joined(number, len(it.samples), one)
 
 
+def has_both(it: Bank) -> bool:
+    """Whether clients are told of events and of answers at the last time."""
+    return all(list(at_last(it, (part,))) for part in ('events', 'answers'))
+
+
 def bank_kind(name: str, told: Callable[[Bank], list[str]], order: str) -> None:
     """A kind of some lines of several clients; the arguments are in such an order."""
     @kind(name, group=1, count=3)
     def _(r: Random) -> Row:
         it = drawn_bank(r)
-        while r.random() < .99 and not all(list(at_last(it, (part,)))
-                                          for part in ('events', 'answers')):
+        while r.random() < .99 and not has_both(it):
             it = drawn_bank(r)
         said = {'settings': values.settings(it.settings), 'samples': values.samples(it.samples),
                 'clients': clients_text(it.clients)}

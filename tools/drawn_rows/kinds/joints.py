@@ -30,7 +30,7 @@ def reported_with(r: Random) -> Row:
 @kind('with_first', count=20)
 def with_first(r: Random) -> Row:
     first: Optional[int] = r.choice([None, size(r, 9)])
-    others: Optional[list[int]] = r.choice([None, [], [size(r, 9), size(r, 9)]])
+    others = r.choice([None, list[int](), [size(r, 9), size(r, 9)]])
     told = None if first is None or others is None else [first, *others]
     return (f'{{A = ℕ}} {antt.optional(first)} {antt.optional(others, antt.listed)}',
             antt.optional(told, antt.listed))

@@ -79,7 +79,8 @@ class Followed:
         self.settings: Settings = drawing.slow(r, 5000)
         self.samples: list[Sample] = drawing.samples(r, r.randint(1, 6))
         self.commands: list[Command] = []
-        self.slot, self.begun = Slot(self.settings, self.samples), ('', ())
+        self.slot = Slot(self.settings, self.samples)
+        self.begun: tuple[str, tuple[int, ...]] = ('', ())
         time = 0
         for _ in range(r.randint(1, 4)):
             time = min(len(self.samples) - early, time + r.choice([0, 0, 1, 2]))

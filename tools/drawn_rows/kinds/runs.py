@@ -70,15 +70,25 @@ def full(r: Random) -> Row:
     return f'{it.arguments()} {clients_text(it.clients)}', antt.text(bytes_of(lines))
 
 
+def is_mixed(lines: list[str]) -> bool:
+    """Whether some time has an event and an answer."""
+    times = [{line.split()[1] for line in lines if (line.split()[2] == 'count') == is_event}
+             for is_event in (True, False)]
+    return bool(times[0] & times[1])
+
+
 @kind('body', group=1, count=2)
 def body(r: Random) -> Row:
     it = Drawn(r, most=2)
+    while not is_mixed(it.body()):
+        it = Drawn(r, most=2)
     return f'{it.arguments()} {clients_text(it.clients)}', antt.text(bytes_of(it.body()))
 
 
 @kind('alone_to_end', group=1, count=3)
 def alone_to_end(r: Random) -> Row:
-    it, lines = Drawn(r, most=1), []
+    it = Drawn(r, most=1)
+    lines: list[str] = []
     while not any(line.startswith(f'{len(it.samples)} ') for line in lines):
         # Something is told at the last time too.
         it = Drawn(r, most=1)

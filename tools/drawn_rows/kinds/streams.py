@@ -103,14 +103,19 @@ def starts_of_header(r: Random) -> Row:
     return values.bits(bits), antt.listed(message.starts(bits))
 
 
-@kind('starts_from_near', group=1, count=2, of='starts_from')
-def starts_from_near(r: Random) -> Row:
-    """A second header 299 or 300 bits after the first one, or 301."""
-    (bits, place), words = whole_header(r), frames.data_words(r)
-    bits = bits + some_bits(r, r.choice([237, 237, 238, 239])) + [r.randint(0, 1)] * 2
-    bits = frames.with_words(bits, words)[:len(bits) + 60]
-    found = [it for it in message.starts(bits) if it >= place]
-    return f'{values.bits(bits)} 2 {place}', antt.listed(found[:2])
+def second_kind(name: str, ahead: int) -> None:
+    """A kind of starts, with a second header so many bits after the first one."""
+    @kind(name, group=1, count=1, of='starts_from')
+    def _(r: Random) -> Row:
+        (bits, place), words = whole_header(r), frames.data_words(r)
+        bits += some_bits(r, ahead - 62) + [r.randint(0, 1)] * 2
+        bits = frames.with_words(bits, words)[:len(bits) + 60]
+        found = [it for it in message.starts(bits) if it >= place]
+        return f'{values.bits(bits)} 2 {place}', antt.listed(found[:2])
+
+
+second_kind('starts_from_near', 299)
+second_kind('starts_from_next', 300)
 
 
 @kind('found_among', group=1, count=6)

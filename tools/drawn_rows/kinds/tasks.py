@@ -45,14 +45,14 @@ class Task(NamedTuple):
         """The task and its input."""
         return f'{self.text()} {antt.record(bytes=antt.listed(self.data), end=self.end)}'
 
-    def count(self) -> int:
+    def came(self) -> int:
         """How many samples came."""
         return len(self.data) * signal.SAMPLES_PER_BYTE[self.packing]
 
     def samples(self) -> list[Sample]:
         """The samples that are taken: those up to the limit."""
         return [signal.sample(self.packing, self.data, it)
-                for it in range(min(self.limit, self.count()))]
+                for it in range(min(self.limit, self.came()))]
 
     def lines(self, has_ends: bool) -> list[str]:
         """The lines of these samples."""
@@ -89,7 +89,7 @@ def text_kind(name: str, count: int) -> None:
     @kind(name, group=1, count=count)
     def _(r: Random) -> Row:
         it = drawn_task(r, 4)
-        is_whole = it.end == 'exhausted' and it.count() <= it.limit
+        is_whole = it.end == 'exhausted' and it.came() <= it.limit
         has_ends = {'body_text': False, 'full_text': True, 'due_text': is_whole}[name]
         return it.arguments(), antt.text(bytes_of(it.lines(has_ends)))
 
@@ -108,7 +108,7 @@ def bank_events_at_end(r: Random) -> Row:
     given = (drawing.satellite(r), 0, 2045)
     slot.answer(0, verb, given)
     slot.answer(0, 'counts', (9,))
-    samples = samples[:slot.life.dumps(len(samples))[-1].time]
+    samples = samples[:max(it for it in range(5) if slot.events(it))]
     commands = antt.listed([antt.record(time=0, request=values.request(verb, given)),
                             antt.record(time=0, request='(counts 9)')])
     keys = [(r.randint(1, 4), r.randint(5, 7)), (r.randint(5, 8), r.randint(0, 3))]
