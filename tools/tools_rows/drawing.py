@@ -93,7 +93,7 @@ def slips(rows: Any, _: str) -> None:
         rows.say(f'{it.module}: {it.new[:40]}', ['its place is not there once'] * (
             texts[it.module].count(it.old) != 1))
     turns = [it for turn in range(wrong.TURNS) for it in wrong.of_turn(turn)]
-    rows.say('turns of a week', ['one is left out or has two']
+    rows.say('turns of wrong definitions', ['one is left out or has two']
              * (sorted(turns) != sorted(wrong.read())) + ['a day has none']
              * (not all(map(wrong.of_turn, range(wrong.TURNS)))))
     bare = set(KINDS) - {it.kind for it in wrong.read()}

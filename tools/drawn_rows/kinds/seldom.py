@@ -108,7 +108,7 @@ def named_cell_of_bins(r: Random) -> Row:
     bins, power, at = 1, r.randint(5, 90), r.randrange(40)
     powers = [1] * (acquisition.HALF_CHIPS * (1 + 2 * bins))
     powers[at] = power
-    threshold = 10 * power * len(powers) // sum(powers) + r.choice([0, 0, 1])
+    threshold = 10 * power * len(powers) // sum(powers) - r.randint(0, 1)
     plan = Plan(drawing.satellite(r), 0, bins, 1, threshold)
     return (f'{values.plan(plan)} (λ k. if k == {at} then {power} else 1)',
             values.cell(acquisition.named(plan, powers)))
