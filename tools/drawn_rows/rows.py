@@ -25,7 +25,8 @@ use Rattle.std.specs.Prelude.{if◌then◌else◌, ◌==◌, ◌||◌, ◌&&◌}
 
 # Where the words stand that the library of the prover has apart.
 APART = {'xor': 'mathlib.Core.Bool', 'digits': 'Rattle.std.specs.Fmt',
-         'is_some': 'Rattle.std.specs.Option', 'take': 'Rattle.std.specs.Prelude'}
+         'is_some': 'Rattle.std.specs.Option', 'take': 'Rattle.std.specs.Prelude',
+         'flat_map': 'Rattle.std.specs.Prelude'}
 
 # Short names: six sums, and what is computed of a channel, which has a function in it, at first and
 # after some dumps.

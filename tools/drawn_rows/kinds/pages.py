@@ -16,12 +16,13 @@ from .frames import DATA, data_words
 from .registry import Row, kind
 
 
-@kind('kind_of_page', count=400)
+@kind('kind_of_page', group=1, count=1, is_whole=True)
 def kind_of_page(r: Random) -> Row:
-    subframe = r.choice([4, 5, r.randrange(8)])
-    satellite = r.choice([r.choice([0, 1, 32, 33, *range(50, 58)]), r.randrange(64)])
-    return (f'{subframe} {satellite}',
-            antt.optional(reference.kind_of_page(subframe, satellite)))
+    """All subframes, with all satellites."""
+    subframes, satellites = r.sample(range(8), 8), r.sample(range(64), 64)
+    told = [reference.kind_of_page(it, satellite) for it in subframes for satellite in satellites]
+    return (f'flat_map (λ it. map (kind_of_page it) {antt.listed(satellites)})'
+            f' {antt.listed(subframes)}', antt.listed(told, antt.optional))
 
 
 def page_words(r: Random) -> Words:

@@ -117,7 +117,7 @@ def named_cell_of_bins(r: Random) -> Row:
 @kind('news_of_many', group=1, count=1, of='news_of')
 def news_of_many(r: Random) -> Row:
     """Past dump 65,535 the last of ten bad windows still ends the lock."""
-    good = 199 + 20 * r.randint(3268, 3300)
+    good = 199 + 20 * r.randint(3267, 3270)
     dumps = antt.listed([GOOD] * good + [BAD] * 200, values.sums)
     return dumps, 'unlock'
 

@@ -110,14 +110,15 @@ def carrier_phase_after(r: Random) -> Row:
 
 
 def sign_kind(name: str, ahead: int) -> None:
-    """A kind of the sign of the chip so far ahead of a phase."""
-    @kind(name, count=30)
+    """A kind of the sign of the chip so far ahead of a phase. The first chips are computed soonest;
+    some phases are less than half a chip from an end of the code."""
+    @kind(name, count=40)
     def _(r: Random) -> Row:
-        # The first chips are computed soonest.
         satellite, number = drawing.satellite(r), size(r, 20)
-        if r.random() < .1:
-            number = r.choice([1021, 1022, size(r, 1022)])
         within = r.choice([0, HALF_CHIP - 1, HALF_CHIP, CYCLE - 1, r.randrange(CYCLE)])
+        if r.random() < .1:
+            number = 1022 if ahead > 0 else 0
+            within = HALF_CHIP * (ahead > 0) + r.choice([0, HALF_CHIP - 1])
         phase = (number << 32) + within
         return f'{satellite} {phase}', antt.integer(reference.chip_sign(satellite, phase + ahead))
 
