@@ -129,8 +129,8 @@ def selection_of(r: Random) -> Row:
 def code_phase_selections(r: Random) -> Row:
     """All satellites."""
     satellites = r.sample(range(1, 33), 32)
-    return (f'map (λ it. get_or code_phase_selections (it - 1) []) {antt.listed(satellites)}',
-            stages(satellites))
+    places = antt.listed([it - 1 for it in satellites])
+    return f'map (λ it. get_or code_phase_selections it []) {places}', stages(satellites)
 
 
 @kind('chip_after', group=5, count=10)

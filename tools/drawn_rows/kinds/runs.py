@@ -33,6 +33,9 @@ def drawn_script(r: Random, slots: int) -> list[int]:
     if r.random() < .4:
         verb, half = r.choice(['hold', 'track']), r.randint(2042, 2045)
         lines = [f'0 {verb} 0 {drawing.satellite(r)} 0 {half}', f'0 counts 0 {r.randint(1, 3)}']
+        if r.random() < .5:
+            # That dump is told all the same.
+            time, lines = 1, [*lines, r.choice(['1 stop 0', '1 counts 0 0'])]
     for _ in range(r.randint(0, 3)):
         time += r.choice([0, 0, 1, 2])
         slot, verb = r.randrange(slots), r.choice(['hold', 'track'])
@@ -63,7 +66,7 @@ class Drawn:
         return reference.body_lines(self.settings, self.samples, self.clients)
 
 
-@kind('full', group=1, count=16)
+@kind('full', group=1, count=5)
 def full(r: Random) -> Row:
     it = Drawn(r)
     lines = it.body() + reference.end_lines(it.samples, it.clients)
