@@ -9,8 +9,8 @@ from typing import Iterable, Mapping, NamedTuple, Sequence
 from .definitions import Definitions, words_in
 from .kinds.registry import KINDS, Kind, Row
 
-# Inputs of kinds with equations of so many are computed soon, and are drawn all; of the others so
-# many are drawn where each has as many as it says.
+# Inputs of kinds with equations of so many are computed soon, and half of them are drawn at least;
+# of the others so many are drawn where each has as many as it says.
 SOON = 10
 USUAL = sum(it.usual for it in KINDS.values() if it.group < SOON)
 
@@ -87,18 +87,25 @@ def drawn(kind: Kind, seed: str, count: int) -> list[Equation]:
             for at in range(0, count, kind.group)]
 
 
-def count_by_seed(kind: Kind, at: int, seeds: int, share: float) -> list[int]:
-    """How many inputs of the kind at a place each seed draws. Together they draw as many as it says
-    where these are computed soon, else a share of them, and one at least."""
-    count = kind.usual if kind.group >= SOON else max(1, round(share * kind.usual))
-    return [(count + (at + it) % seeds) // seeds for it in range(seeds)]
+def count_of(kind: Kind, at: int, seeds: Sequence[str], share: float) -> int:
+    """How many inputs of the kind at a place are drawn: a share of what it says. Of one that is
+    computed soon that is half at least. Of every second other one it is one at least, by the
+    seeds."""
+    if kind.group >= SOON:
+        return max(1, round(max(share, .5) * kind.usual))
+    return max((at + sum(map(int, seeds))) % 2, round(share * kind.usual))
 
 
 def drawn_of_all(kinds: Iterable[Kind], seeds: Sequence[str], inputs: int) -> list[Equation]:
-    """Some inputs of each kind, about so many of all those that aren't computed soon."""
-    return [it for at, kind in enumerate(kinds)
-            for seed, count in zip(seeds, count_by_seed(kind, at, len(seeds), inputs / USUAL))
-            for it in drawn(kind, seed, count)]
+    """Some inputs of each kind, about so many of all those that aren't computed soon. The seeds
+    share them."""
+    equations = []
+    for at, kind in enumerate(kinds):
+        count = count_of(kind, at, seeds, inputs / USUAL)
+        for number, seed in enumerate(seeds):
+            own = (count + (at // 2 + number) % len(seeds)) // len(seeds)
+            equations += drawn(kind, seed, own)
+    return equations
 
 
 def imports(words: set[str], definitions: Definitions) -> list[str]:

@@ -18,7 +18,7 @@ from .slips import Wrong
 AT_ONCE = 60
 
 # In how many days each has its turn.
-TURNS = 14
+TURNS = 21
 
 # About as many equations as this are computed while the copies of one are read.
 PER_COPY = 6
