@@ -89,11 +89,12 @@ def drawn(kind: Kind, seed: str, count: int) -> list[Equation]:
 
 def count_of(kind: Kind, at: int, seeds: Sequence[str], share: float) -> int:
     """How many inputs of the kind at a place are drawn: a share of what it says. Of one that is
-    computed soon that is half at least. Of every second other one it is one at least, by the
+    computed soon that is half at least. Of every third other one it is one at least, by the
     seeds."""
     if kind.group >= SOON:
         return max(1, round(max(share, .5) * kind.usual))
-    return max((at + sum(map(int, seeds))) % 2, round(share * kind.usual))
+    is_its_turn = (at + sum(map(int, seeds))) % 3 == 0
+    return max(int(is_its_turn), round(share * kind.usual))
 
 
 def drawn_of_all(kinds: Iterable[Kind], seeds: Sequence[str], inputs: int) -> list[Equation]:
@@ -103,7 +104,7 @@ def drawn_of_all(kinds: Iterable[Kind], seeds: Sequence[str], inputs: int) -> li
     for at, kind in enumerate(kinds):
         count = count_of(kind, at, seeds, inputs / USUAL)
         for number, seed in enumerate(seeds):
-            own = (count + (at // 2 + number) % len(seeds)) // len(seeds)
+            own = (count + (at // 3 + number) % len(seeds)) // len(seeds)
             equations += drawn(kind, seed, own)
     return equations
 
