@@ -38,42 +38,28 @@ WORDS = {
 DRAWN = 4
 
 EDGE = 'an edge has 301 pushes, and 60 are computed'
-LOSS = 'a signal is lost with 1,199 dumps at least, after each of which it is asked for'
-SEARCH = 'a search has 2,046 cells, and one is computed'
 BITS = 'a page has 302 bits, and they are drawn as the bits of one subframe'
 
 # All definitions that aren't drawn.
 TABLE: Mapping[str, Reason] = {
-    'Acquisition.result_of': Reason('size', limit=SEARCH),
-    'Answers.life_view': reached('answer_at_end'), 'Answers.view_of': reached('answer_at_end'),
-    'BitEdge.is_edge': Reason('size', 'edge_of', EDGE),
     'BitEdge.has_edge': Reason('size', 'tracking_view', EDGE),
     'BitEdge.bits_of': Reason('size', 'steered_events', EDGE),
     'Codes.g1_taps': Reason('constant', 'chip'), 'Codes.g2_taps': Reason('constant', 'chip'),
     'Correlation.no_counts': Reason('constant'),
-    'DataSets.kind_number': reached('is_of'), 'DataSets.with_first': reached('almanacs_of'),
-    'DataSets.all_there': reached('almanacs_of'), 'DataSets.reported_with': reached('new_set'),
+    'DataSets.kind_number': reached('is_of'),
     'DataSets.ephemerides': Reason('constant', 'reports_of'),
     'DataSets.almanac_sets': Reason('constant', 'reports_of_almanacs'),
     'Events.pages_among': Reason('size', 'bit_events', BITS),
     'Events.page_events': Reason('size', 'bit_events', BITS),
     'Events.push_events': Reason('size', 'steered_events', EDGE),
     'Events.life_events': reached('events_at_end'),
-    'Fields.health_field': reached('health_fields'),
     'Fields.characters_of_word': reached('message_fields'),
-    'Lives.acquired_channel': Reason('size', limit=SEARCH),
     'Lives.channel_of': Reason('function', 'life_now'),
-    'Lives.dumps_of_channel': reached('life_now'), 'Lives.dumps_of_life': reached('life_now'),
-    'Lives.lost_after': Reason('size', 'is_lost', LOSS),
-    'Lives.until_lost': Reason('size', 'life_now', LOSS),
-    'Lives.life_with': reached('life_of'), 'Lives.life_after': reached('life_of'),
+    'Lives.dumps_of_channel': reached('life_now'),
     'Loops.no_counts': Reason('constant', 'loops_start'),
     'Oscillators.code_cycle': Reason('constant', 'code_phase_after'),
     'Oscillators.carrier_cycle': Reason('constant', 'carrier_phase_after'),
     'Parity.equations': Reason('constant', 'passes'),
-    'Receiver.at_each_time': Reason('function', 'alone'),
-    'Receiver.for_each_client': Reason('function', 'answer_lines'),
-    'Receiver.at_each_sample': Reason('function'),
     'Runs.BeginsWith': Reason('relation'), 'Runs.IsUntouched': Reason('relation'),
     'Runs.AreRight': Reason('relation'), 'Runs.IsAnswer': Reason('relation'),
     **{f'Scripts.{it}': Reason('constant', 'entry_of') for it in (

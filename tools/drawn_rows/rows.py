@@ -9,8 +9,10 @@ from typing import Iterable, Mapping, NamedTuple, Sequence
 from .definitions import Definitions, words_in
 from .kinds.registry import KINDS, Kind, Row
 
-# How many inputs of all kinds are drawn where each has as many as it says.
-USUAL = sum(it.usual for it in KINDS.values())
+# Inputs of kinds with equations of so many are computed soon, and half of them are drawn at least;
+# of the others so many are drawn where each has as many as it says.
+SOON = 10
+USUAL = sum(it.usual for it in KINDS.values() if it.group < SOON)
 
 MODULE = 'DrawnRows'
 
@@ -18,12 +20,13 @@ HEAD = '''-- Drawn rows.
 use Rattle.std.proofs.Common.{◌≡◌, [], ◌∷◌, ◌++◌, refl}
 use Rattle.std.specs.Prelude.{ℕ, ℤ, pos, negsuc, List, Bool, true, false, Option, Some, None}
 use Rattle.std.specs.Prelude.{Result, Ok, Err, codes, get_or, replicate, map, not}
-use Rattle.std.specs.Prelude.{if◌then◌else◌, ◌==◌}
+use Rattle.std.specs.Prelude.{if◌then◌else◌, ◌==◌, ◌||◌, ◌&&◌}
 '''
 
 # Where the words stand that the library of the prover has apart.
 APART = {'xor': 'mathlib.Core.Bool', 'digits': 'Rattle.std.specs.Fmt',
-         'is_some': 'Rattle.std.specs.Option'}
+         'is_some': 'Rattle.std.specs.Option', 'take': 'Rattle.std.specs.Prelude',
+         'flat_map': 'Rattle.std.specs.Prelude'}
 
 # Short names: six sums, and what is computed of a channel, which has a function in it, at first and
 # after some dumps.
@@ -84,11 +87,26 @@ def drawn(kind: Kind, seed: str, count: int) -> list[Equation]:
             for at in range(0, count, kind.group)]
 
 
+def count_of(kind: Kind, at: int, seeds: Sequence[str], share: float) -> int:
+    """How many inputs of the kind at a place are drawn: a share of what it says. Of one that is
+    computed soon that is half at least. Of every third other one it is one at least, by the
+    seeds."""
+    if kind.group >= SOON:
+        return max(1, round(max(share, .5) * kind.usual))
+    is_its_turn = (at + sum(map(int, seeds))) % 3 == 0
+    return max(int(is_its_turn), round(share * kind.usual))
+
+
 def drawn_of_all(kinds: Iterable[Kind], seeds: Sequence[str], inputs: int) -> list[Equation]:
-    """Some inputs of each kind, and about so many of all that there are, by each seed alike."""
-    share = inputs / USUAL / len(seeds)
-    return [it for kind in kinds for seed in seeds
-            for it in drawn(kind, seed, max(1, round(share * kind.usual)))]
+    """Some inputs of each kind, about so many of all those that aren't computed soon. The seeds
+    share them."""
+    equations = []
+    for at, kind in enumerate(kinds):
+        count = count_of(kind, at, seeds, inputs / USUAL)
+        for number, seed in enumerate(seeds):
+            own = (count + (at // 3 + number) % len(seeds)) // len(seeds)
+            equations += drawn(kind, seed, own)
+    return equations
 
 
 def imports(words: set[str], definitions: Definitions) -> list[str]:

@@ -13,6 +13,7 @@ from .reference.sets import Almanacs, Ephemeris, Report, Reports
 from .reference.signal import Channel, Dump, Phases, Sample, Segment, Settings, Shift, Sums
 from .reference.slots import Answer, Event, View
 
+
 def sums(it: Sums) -> str:
     """Six sums, by a short name that each module of rows has."""
     return f'(counts6 {" ".join(map(integer, it))})'

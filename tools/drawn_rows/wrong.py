@@ -7,29 +7,43 @@ from typing import Optional, Sequence
 
 from definition_trials import imports, modules_above, modules_below, numbered, refusals
 
-from . import (slips, slips_of_lines, slips_of_parts, slips_of_slots, slips_of_sums,
-               slips_of_words)
+from . import (slips, slips_of_joints, slips_of_lines, slips_of_parts, slips_of_seldom,
+               slips_of_slots, slips_of_sums, slips_of_words)
 from .definitions import Definitions
 from .kinds import KINDS
 from .rows import MODULE, drawn, module_text
 from .slips import Wrong
 
 # How many are tried in one check.
-AT_ONCE = 24
+AT_ONCE = 60
 
 # In how many days each has its turn.
-TURNS = 7
+TURNS = 21
+
+# About as many equations as this are computed while the copies of one are read.
+PER_COPY = 6
 
 
 def read() -> list[Wrong]:
     """All wrong definitions."""
-    return [it for module in (slips, slips_of_slots, slips_of_sums, slips_of_words, slips_of_lines,
-                              slips_of_parts) for it in module.SLIPS]
+    modules = (slips, slips_of_slots, slips_of_sums, slips_of_words, slips_of_lines,
+               slips_of_parts, slips_of_joints, slips_of_seldom)
+    return [it for module in modules for it in module.SLIPS]
+
+
+def cost(it: Wrong) -> float:
+    """About what it costs to try one: its copies, and the equations of its kind."""
+    kind = KINDS[it.kind]
+    return PER_COPY + kind.usual / kind.group
 
 
 def of_turn(turn: int) -> list[Wrong]:
-    """Those that have their turn on one of so many days."""
-    return read()[turn::TURNS]
+    """Those that have their turn on one of so many days: the costliest first, each on the day that
+    costs least so far."""
+    days: list[list[Wrong]] = [[] for _ in range(TURNS)]
+    for it in sorted(read(), key=cost, reverse=True):
+        min(days, key=lambda day: sum(map(cost, day))).append(it)
+    return days[turn]
 
 
 def changed(it: Wrong, text: str) -> str:

@@ -93,7 +93,7 @@ def slips(rows: Any, _: str) -> None:
         rows.say(f'{it.module}: {it.new[:40]}', ['its place is not there once'] * (
             texts[it.module].count(it.old) != 1))
     turns = [it for turn in range(wrong.TURNS) for it in wrong.of_turn(turn)]
-    rows.say('turns of a week', ['one is left out or has two']
+    rows.say('turns of wrong definitions', ['one is left out or has two']
              * (sorted(turns) != sorted(wrong.read())) + ['a day has none']
              * (not all(map(wrong.of_turn, range(wrong.TURNS)))))
     bare = set(KINDS) - {it.kind for it in wrong.read()}
@@ -113,7 +113,8 @@ WRONG_TABLES = (
     ({'Codes.g1_taps': coverage.Reason('dull')}, 'Codes.g1_taps has no reason: dull'),
     ({'Codes.g1_taps': coverage.Reason('function')}, 'Codes.g1_taps is none: function'),
     ({'Codes.g1_taps': coverage.Reason('relation')}, 'Codes.g1_taps is none: relation'),
-    ({'Lives.life_with': coverage.Reason('constant')}, 'Lives.life_with is none: constant'),
+    ({'Lives.dumps_of_channel': coverage.Reason('constant')},
+     'Lives.dumps_of_channel is none: constant'),
 )
 
 

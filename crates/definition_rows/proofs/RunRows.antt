@@ -1,5 +1,5 @@
 -- Worked examples of whole runs, from the bytes of samples and scripts to the bytes written.
-use Rattle.std.proofs.Common.{◌≡◌, ℕ, List, [], ◌∷◌, ◌++◌, drop, refl, ap}
+use Rattle.std.proofs.Common.{◌≡◌, ℕ, List, [], ◌∷◌, ◌++◌, drop, refl, ap, sym, ◌∙◌}
 use Rattle.std.specs.Prelude.{codes, pos, replicate, false}
 use Rattle.std.specs.Fmt.{digits}
 use Rattle.definitions.specs.Sums.{total, least_below}
@@ -24,7 +24,7 @@ use Rattle.definitions.specs.Texts.{event_text, answer_text}
 use Rattle.definitions.specs.Banks.{layout}
 use Rattle.definitions.specs.Runs.{Task, Input, InputEnd, exhausted, failed, unfinished}
 use Rattle.definitions.specs.Runs.{taken_samples, due_text, are_shares, are_clients, IsAnswer}
-use Rattle.definitions.specs.Runs.{write_failed}
+use Rattle.definitions.specs.Runs.{write_failed, too_long, no_memory}
 use Rattle.definitions.specs.Receiver.{body, Client, entries_of, commands_to, body_lines, end_lines}
 use Rattle.definitions.specs.Receiver.{full_lines, at_each_time, lines_at, event_lines}
 use Rattle.definitions.specs.Receiver.{answer_lines, for_each_client, event_texts, answer_texts}
@@ -308,6 +308,24 @@ no_end_yet (right, (rest, due)) = ended (ap (drop 17) due)
   where
     ended : {b : ℕ} {bytes : List ℕ} → [] ≡ b ∷ bytes → ⊥
     ended e = cc
+
+-- past the limit the samples up to it are told, and no end
+too_long_by_one : IsAnswer (task 7 (codes "7 state 0" ∷ [])) (input (0 ∷ []) unfinished)
+    (text (codes "1 7 state 0 idle" ∷ [])) too_long
+unfolding body taken_samples full full_lines body_lines end_lines at_each_time lines_at event_lines
+    answer_lines for_each_client event_texts answer_texts entries_of commands_to script entry_of
+    entries_after pieces_ended_by values_in as_bytes digits events_at_end life_now life_of
+    life_events is_over answer_at_end view_of event_text answer_text sample samples_from IsAnswer
+too_long_by_one = ((refl, refl), refl, refl)
+
+-- memory is taken after the shares were checked
+no_memory_for_wrong_shares : (task : Task) → are_shares task.shares task.scripts ≡ false
+    → IsAnswer task (input [] unfinished) [] no_memory → ⊥
+unfolding IsAnswer
+no_memory_for_wrong_shares task wrong (right, untouched) = differ (sym wrong ∙ right.1)
+  where
+    differ : false ≡ true → ⊥
+    differ e = cc
 
 fewer_shares : are_shares (4 ∷ []) ([] ∷ [] ∷ []) ≡ false
 fewer_shares = refl

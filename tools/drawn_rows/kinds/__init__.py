@@ -1,10 +1,10 @@
 """All kinds of inputs, by what their definitions describe."""
-from . import (almanacs, banks, bits, cells, clients, commands, entries, events, fields, frames,
-               lines, lives, loops, pages, pieces, runs, scripts, searches, segments, sets, signal,
-               slots, streams, tasks, texts, totals, windows, words)
+from . import (almanacs, banks, bits, cells, clients, commands, edges, entries, events, fields,
+               found, frames, joints, lines, lives, loops, pages, pieces, runs, scripts, searches,
+               segments, seldom, sets, signal, slots, streams, tasks, texts, totals, windows, words)
 from .registry import KINDS, Kind
 
-__all__ = ['KINDS', 'Kind', 'almanacs', 'banks', 'bits', 'cells', 'clients', 'commands', 'entries',
-           'events', 'fields', 'frames', 'lines', 'lives', 'loops', 'pages', 'pieces', 'runs',
-           'scripts', 'searches', 'segments', 'sets', 'signal', 'slots', 'streams', 'tasks',
-           'texts', 'totals', 'windows', 'words']
+__all__ = ['KINDS', 'Kind', 'almanacs', 'banks', 'bits', 'cells', 'clients', 'commands', 'edges',
+           'entries', 'events', 'fields', 'found', 'frames', 'joints', 'lines', 'lives', 'loops',
+           'pages', 'pieces', 'runs', 'scripts', 'searches', 'segments', 'seldom', 'sets',
+           'signal', 'slots', 'streams', 'tasks', 'texts', 'totals', 'windows', 'words']

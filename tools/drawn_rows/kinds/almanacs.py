@@ -18,7 +18,7 @@ def is_almanac_of(r: Random) -> Row:
     page, satellite = drawn_page(r), r.randint(1, 32)
     is_almanac = page.kind == 'almanac'
     if is_almanac and r.random() < .6:
-        satellite = page.values[SATELLITE]
+        satellite = page.values[SATELLITE] % 32 or 32
     return (f'{satellite} {values.page(page)}',
             antt.boolean(is_almanac and page.values[SATELLITE] == satellite))
 
@@ -33,8 +33,8 @@ def last_almanac(r: Random) -> Row:
 
 def of_times(r: Random) -> list[Page]:
     """Some almanacs of one time, or all but one of them."""
-    pages = [almanac(it, 5) for it in range(1, r.randint(2, 5))]
-    if r.random() < .5:
+    pages = [almanac(it, 5) for it in range(1, r.choice([2, 3, 4, 33]))]
+    if r.random() < .6:
         pages[r.choice([0, -1])] = almanac(1, r.choice([4, 6]))
     return pages
 

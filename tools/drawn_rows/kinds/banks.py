@@ -43,13 +43,17 @@ def at_last(it: Bank, parts: tuple[str, ...]) -> Iterator[str]:
                 yield reference.joined(number, len(it.samples), one)
 
 
+def has_both(it: Bank) -> bool:
+    """Whether clients are told of events and of answers at the last time."""
+    return all(list(at_last(it, (part,))) for part in ('events', 'answers'))
+
+
 def bank_kind(name: str, told: Callable[[Bank], list[str]], order: str) -> None:
     """A kind of some lines of several clients; the arguments are in such an order."""
     @kind(name, group=1, count=3)
     def _(r: Random) -> Row:
         it = drawn_bank(r)
-        while r.random() < .9 and not all(list(at_last(it, (part,)))
-                                          for part in ('events', 'answers')):
+        while r.random() < .99 and not has_both(it):
             it = drawn_bank(r)
         said = {'settings': values.settings(it.settings), 'samples': values.samples(it.samples),
                 'clients': clients_text(it.clients)}
@@ -60,5 +64,13 @@ bank_kind('answer_lines', lambda it: list(at_last(it, ('answers',))), 'settings 
 bank_kind('lines_at', lambda it: list(at_last(it, ('events', 'answers'))),
           'settings clients samples')
 bank_kind('body_lines', lambda it: it.body(), 'settings samples clients')
-bank_kind('end_lines', lambda it: it.ends(), 'samples clients')
 bank_kind('full_lines', lambda it: it.body() + it.ends(), 'settings samples clients')
+
+
+@kind('end_lines', group=5, count=10)
+def end_lines(r: Random) -> Row:
+    """Of up to eight clients."""
+    samples = drawing.samples(r, r.randint(0, 12))
+    clients: list[Client] = [(1, [])] * r.choice([1, 8, r.randint(1, 8)])
+    return (f'{values.samples(samples)} {clients_text(clients)}',
+            texts(reference.end_lines(samples, clients)))

@@ -40,7 +40,8 @@ def edge_of(r: Random) -> Row:
 @kind('bits_after', group=4, count=20)
 def bits_after(r: Random) -> Row:
     pushes = [r.randint(-3, 3) for _ in range(r.randint(20, 110))]
-    first = r.choice([None, r.randint(0, len(pushes))])
+    first = r.choice([None, r.randint(0, len(pushes)), len(pushes) % 20 + 1,
+                      (len(pushes) + 1) % 20])
     for at in range(len(pushes) if first is None else first, len(pushes) - 19, 20):
         wanted = r.choice([0, 0, -1, 1])
         pushes[at + 19] = max(-9, min(9, wanted - sum(pushes[at:at + 19])))
@@ -62,6 +63,11 @@ def changes_at(r: Random) -> Row:
     until = r.choice([len(pushes) - 1, r.randrange(len(pushes))])
     since = r.choice([0, r.randint(0, until)])
     place = r.choice([r.randrange(20), until % 20])
+    if r.random() < .4:
+        # After a push that is a change itself, which isn't counted.
+        since = r.choice([0, *(it for it in range(1, until + 1)
+                               if reference.is_change(pushes, it))])
+        place = since % 20
     return (f'{antt.listed(pushes, antt.integer)} {place} {since} {until}',
             str(changes(pushes, since, until)[place]))
 

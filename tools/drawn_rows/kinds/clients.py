@@ -51,7 +51,7 @@ def drawn_alone(r: Random, most: int = 3) -> Alone:
 def telling(r: Random) -> Alone:
     """One that mostly is told of events and of answers at the last time."""
     it = drawn_alone(r)
-    while r.random() < .9 and not (it.texts('events') and it.texts('answers')):
+    while r.random() < .99 and not (it.texts('events') and it.texts('answers')):
         it = drawn_alone(r)
     return it
 

@@ -127,9 +127,9 @@ def asked_of(made: object) -> str:
 
 def meaning_kind(verb: str) -> None:
     """A kind of what a verb means, by the values of its words."""
-    @kind(f'{verb}_verb', group=5, count=10, is_whole=True)
+    @kind(f'{verb}_verb', group=10, count=20, is_whole=True)
     def _(r: Random) -> Row:
-        slot, given = r.randint(0, 7), [r.randint(*it) for it in VERBS[verb]]
+        slot, given = r.randint(0, 7), [r.choice([*it, r.randint(*it)]) for it in VERBS[verb]]
         return (f'meant {verb}_verb (Ok {antt.listed([slot, *given], antt.integer)})',
                 asked_of(Command(verb, slot, tuple(given))))
 
@@ -148,7 +148,7 @@ def meant(r: Random) -> Row:
             asked_of(Command(verb, given[0], tuple(given[1:]))))
 
 
-@kind('command_with', group=5, count=30)
+@kind('command_with', group=10, count=40)
 def command_with(r: Random) -> Row:
     slots, verb = r.choice([1, 4, 8]), r.choice(list(VERBS))
     words = spoilt_words(r, right_words(r, verb))
@@ -158,10 +158,11 @@ def command_with(r: Random) -> Row:
     return (f'{slots} (Some {verb}_verb) {antt.listed(words, antt.text)}', asked_of(made))
 
 
-@kind('command_in', group=5, count=30)
+@kind('command_in', group=10, count=60)
 def command_in(r: Random) -> Row:
     slots, verb = r.choice([1, 4, 8]), r.choice(list(VERBS))
     words = spoilt_words(r, right_words(r, verb))
-    given = [r.choice([verb] * 5 + ['fly', 'Stop']), *words] if r.random() < .9 else []
+    name = r.choice([verb] * 5 + ['fly', 'Stop', verb + 'p', verb[:-1]])
+    given = [name, *words] if r.random() < .9 else []
     made = reference.command([it.encode() for it in given], slots)
     return f'verbs {slots} {antt.listed(given, antt.text)}', asked_of(made)

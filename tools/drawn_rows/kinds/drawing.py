@@ -57,8 +57,8 @@ def shift(r: Random) -> Shift:
 
 
 def satellite(r: Random) -> int:
-    """A satellite."""
-    return r.randint(1, 32)
+    """A satellite, often one of both ends."""
+    return r.choice([1, 32, *(r.randint(1, 32) for _ in range(6))])
 
 
 def code_phase(r: Random, step: int = 1 << 32) -> int:

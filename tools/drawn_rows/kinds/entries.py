@@ -46,7 +46,8 @@ def entry_of_words(r: Random) -> Row:
 @kind('entries_after', group=2, count=12)
 def entries_after(r: Random) -> Row:
     slots, before = r.choice([1, 4, 8]), r.randint(0, 30)
-    lines, time, found = [drawn_line(r) for _ in range(r.randint(0, 4))], before, []
+    lines, time, found = [r.choice([drawn_line(r), drawn_line(r), [32] * r.randint(0, 2)])
+                          for _ in range(r.randint(0, 5))], before, []
     for line in lines:
         made = reference.entry(slots, time, line)
         if made:

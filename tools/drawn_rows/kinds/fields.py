@@ -84,11 +84,12 @@ def minus(r: Random) -> Row:
     return str(number), antt.integer(-number)
 
 
-@kind('place_of', count=30)
+@kind('place_of', group=10, count=10, is_whole=True)
 def place_of(r: Random) -> Row:
+    """Of all fields of a table."""
     of = r.choice(NAMED)
-    place = r.randrange(len(FIELDS[of]))
-    return f'{antt.text(FIELDS[of][place].name)} {of}_fields', str(place)
+    return (f'map (λ (f : Field). place_of f.name {of}_fields) {of}_fields',
+            antt.listed(range(len(FIELDS[of]))))
 
 
 def table_kind(of: str) -> None:
@@ -150,12 +151,15 @@ def word_at_place(r: Random) -> Row:
 @kind('bit_at_place', count=30)
 def bit_at_place(r: Random) -> Row:
     words, place = page_words(r), drawn_place(r)
+    if r.random() < .3:
+        words[(place - 1) // 30] = None
     return f'{values.subframe(words)} {place}', str(reference.bit(words, place))
 
 
 @kind('number_of', count=30)
 def number_of(r: Random) -> Row:
-    digits, is_signed = [r.randint(0, 1) for _ in range(r.randint(1, 32))], r.random() < .6
+    count, is_signed = r.choice([1, 8, 31, 32, r.randint(1, 32)]), r.random() < .7
+    digits = [r.randint(0, 1) for _ in range(count)]
     if r.random() < .3:
         digits[1:] = [r.randint(0, 1)] * (len(digits) - 1)
     number = int(''.join(map(str, digits)), 2) - (is_signed and digits[0]) * (1 << len(digits))

@@ -136,13 +136,16 @@ def report_text(r: Random) -> Row:
 @kind('almanacs_text', group=3, count=9)
 def almanacs_text(r: Random) -> Row:
     slot, event = r.randint(0, 7), drawn_event(r, 'als')
+    if r.random() < .4:
+        # No set has such a time, but a number is told as it is.
+        event = Event('als', event.value._replace(time=-1 - size(r, 255)))
     return (f'{slot} {values.almanacs(event.value)}',
             antt.text(reference.event_text(slot, event)))
 
 
-@kind('refusal_text', count=10)
+@kind('refusal_text', count=20)
 def refusal_text(r: Random) -> Row:
-    number = r.randint(1, 10)
+    number = r.choice([1, 10, 9, r.randint(1, 10)])
     return str(number), antt.text(f'err {number}')
 
 

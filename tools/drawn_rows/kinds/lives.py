@@ -23,8 +23,9 @@ class Counted:
     """A holding life, dumps that have come, and one more. Dumps come at a time each."""
 
     def __init__(self, r: Random) -> None:
-        self.wanted, self.since = r.randint(0, 4), r.randint(0, 9)
         times = sorted(r.randint(1, 20) for _ in range(r.randint(0, 6)))
+        self.wanted = r.choice([1, 1, r.randint(0, 4)])
+        self.since = r.choice([r.randint(0, 9), (times or [0])[-1]])
         self.before = [Dump(it, NOTHING) for it in times]
         self.dump = Dump((times or [1])[-1] + r.randint(0, 3), drawing.sums(r))
 
@@ -42,13 +43,13 @@ class Counted:
         return [Event('count', self.dump.sums)] * (left > 0)
 
 
-@kind('dump_events', group=5, count=20)
+@kind('dump_events', group=10, count=30)
 def dump_events(r: Random) -> Row:
     it = Counted(r)
     return f'{it.life()} {it.dumps()} {values.dump(it.dump)}', events(it.events())
 
 
-@kind('last_dump_events', group=5, count=20)
+@kind('last_dump_events', group=10, count=30)
 def last_dump_events(r: Random) -> Row:
     it, is_there = Counted(r), r.random() < .8
     now = it.dump.time + r.choice([0, 0, 0, 1])
@@ -78,7 +79,8 @@ class Followed:
         self.settings: Settings = drawing.slow(r, 5000)
         self.samples: list[Sample] = drawing.samples(r, r.randint(1, 6))
         self.commands: list[Command] = []
-        self.slot, self.begun = Slot(self.settings, self.samples), ('', ())
+        self.slot = Slot(self.settings, self.samples)
+        self.begun: tuple[str, tuple[int, ...]] = ('', ())
         time = 0
         for _ in range(r.randint(1, 4)):
             time = min(len(self.samples) - early, time + r.choice([0, 0, 1, 2]))
@@ -131,7 +133,7 @@ def still_on(r: Random) -> Row:
 @kind('events_at_end', group=1, count=6)
 def events_at_end(r: Random) -> Row:
     it = Followed(r, early=1)
-    while r.random() < .9 and not it.slot.events(len(it.samples)):
+    while r.random() < .99 and not it.slot.events(len(it.samples)):
         it = Followed(r, early=1)
     return (f'{it.samples_text()} {it.commands_text()}',
             events(it.slot.events(len(it.samples))))

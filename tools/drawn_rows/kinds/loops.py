@@ -28,7 +28,7 @@ def clamp_shift(r: Random) -> Row:
 
 @kind('ratio')
 def ratio(r: Random) -> Row:
-    number, by = either(r, 1 << 37), size(r, 1 << 37)
+    number, by = either(r, 1 << 45), size(r, 1 << 45)
     return f'{antt.integer(number)} {by}', antt.integer(reference.ratio(number, by))
 
 
@@ -53,7 +53,8 @@ def code_error(r: Random) -> Row:
 
 @kind('loops_after_dump', count=100)
 def loops_after_dump(r: Random) -> Row:
-    taken, last, now = r.choice([0, 197, 198, 199, 200, size(r, 1000)]), sums(r), sums(r)
+    taken = r.choice([0, 197, 198, 199, 200, 256, 4095, 65535, size(r, 1 << 30)])
+    last, now = sums(r), sums(r)
     u = r.choice([either(r, LIMIT), r.choice([1, -1]) * (LIMIT - size(r, 700000))])
     before = Loops(taken, last, u, reference.limited(u + either(r, 700000)),
                    either(r, drawing.GREATEST_CORRECTION))
@@ -71,7 +72,7 @@ def loops_after(r: Random) -> Row:
 
 def close_window(r: Random) -> list[Sums]:
     """A window of sums of either sign that is good or bad by one."""
-    half = r.randint(1, 40)
+    half = r.choice([r.randint(1, 40), r.randint(70000, 90000)])
     one = Sums(0, 0, r.choice([1, -1]) * (2 * half + r.randint(-1, 1)), 0, 0, 0)
     two = Sums(0, 0, 0, r.choice([1, -1]) * half, 0, 0)
     others = [Sums(0, 0, *it, 0, 0) for it in SIGNS[:r.choice([0, 4, 6])]]
@@ -135,7 +136,7 @@ def is_locked(r: Random) -> Row:
 def is_good(r: Random) -> Row:
     dumps = lock_dumps(r, 3)
     while len(dumps) < 219:
-        dumps = lock_dumps(r, 3)
+        dumps = lock_dumps(r, 3) if r.random() < .5 else [sums(r)] * 199 + close_window(r)
     first = 199 + 20 * r.randrange((len(dumps) - 199) // 20)
     return (f'{antt.listed(dumps, values.sums)} {(first - 199) // 20}',
             antt.boolean(reference.is_good(dumps[first:first + 20])))
@@ -144,6 +145,9 @@ def is_good(r: Random) -> Row:
 @kind('is_lost_with', group=5, count=20)
 def is_lost_with(r: Random) -> Row:
     dumps = lock_dumps(r)
+    if r.random() < .2:
+        # Just as many bad windows as lose the signal.
+        dumps = [sums(r)] * 199 + [BAD] * 1000
     count = max(0, len(dumps) - r.choice([0, 0, 0, 1, 20]))
     is_lost = count > 0 and reference.answers(dumps).by_dump.get(count) == 'lost'
     return f'{antt.listed(dumps, values.sums)} {count}', antt.boolean(is_lost)

@@ -16,11 +16,13 @@ from .frames import DATA, data_words
 from .registry import Row, kind
 
 
-@kind('kind_of_page', count=400)
+@kind('kind_of_page', group=1, count=1, is_whole=True)
 def kind_of_page(r: Random) -> Row:
-    subframe, satellite = r.choice([4, 5, r.randrange(8)]), r.randrange(64)
-    return (f'{subframe} {satellite}',
-            antt.optional(reference.kind_of_page(subframe, satellite)))
+    """All subframes, with all satellites."""
+    subframes, satellites = r.sample(range(8), 8), r.sample(range(64), 64)
+    told = [reference.kind_of_page(it, satellite) for it in subframes for satellite in satellites]
+    return (f'flat_map (λ it. map (kind_of_page it) {antt.listed(satellites)})'
+            f' {antt.listed(subframes)}', antt.listed(told, antt.optional))
 
 
 def page_words(r: Random) -> Words:
@@ -31,7 +33,7 @@ def page_words(r: Random) -> Words:
     if ident in (4, 5):
         satellite = r.choice([55, 56, 51, 1, 32, 0, 33, 63, r.randrange(64)])
         words[2] = (words[2] or 0) & ~(63 << 16) | satellite << 16
-    if r.random() < .1:
+    if r.random() < .25:
         words[r.randrange(10)] = None
     return words
 

@@ -52,7 +52,10 @@ def sign_of(r: Random) -> Row:
 @kind('bit_in', count=40)
 def bit_in(r: Random) -> Row:
     data = packed(r)[1]
-    place = r.choice([0, 8 * len(data) - 1, r.randrange(8 * len(data))])
+    if r.random() < .1:
+        # More bytes than 12 or 16 bits count.
+        data = [0] * r.choice([4096, 65536]) + [r.randint(1, 255)]
+    place = r.choice([0, *range(8 * len(data) - 8, 8 * len(data)), r.randrange(8 * len(data))])
     return f'{antt.listed(data)} {place}', str(data[place // 8] >> 7 - place % 8 & 1)
 
 
@@ -110,17 +113,24 @@ def register_after(r: Random) -> Row:
             antt.listed(reference.REGISTERS[count][of]))
 
 
-@kind('selection_of', count=32)
+def stages(satellites: Sequence[int]) -> str:
+    """The stages of these satellites."""
+    return antt.listed([reference.STAGES[it - 1] for it in satellites], antt.listed)
+
+
+@kind('selection_of', group=2, count=2, is_whole=True)
 def selection_of(r: Random) -> Row:
-    satellite = drawing.satellite(r)
-    return str(satellite), antt.listed(reference.STAGES[satellite - 1])
+    """All satellites."""
+    satellites = r.sample(range(1, 33), 32)
+    return f'map selection_of {antt.listed(satellites)}', stages(satellites)
 
 
-@kind('code_phase_selections', count=32, is_whole=True)
+@kind('code_phase_selections', group=2, count=2, is_whole=True)
 def code_phase_selections(r: Random) -> Row:
-    satellite = drawing.satellite(r)
-    return (f'get_or code_phase_selections {satellite - 1} []',
-            antt.listed(reference.STAGES[satellite - 1]))
+    """All satellites."""
+    satellites = r.sample(range(1, 33), 32)
+    places = antt.listed([it - 1 for it in satellites])
+    return f'map (λ it. get_or code_phase_selections it []) {places}', stages(satellites)
 
 
 @kind('chip_after', group=5, count=10)

@@ -33,6 +33,9 @@ def drawn_script(r: Random, slots: int) -> list[int]:
     if r.random() < .4:
         verb, half = r.choice(['hold', 'track']), r.randint(2042, 2045)
         lines = [f'0 {verb} 0 {drawing.satellite(r)} 0 {half}', f'0 counts 0 {r.randint(1, 3)}']
+        if r.random() < .5:
+            # That dump is told all the same.
+            time, lines = 1, [*lines, r.choice(['1 stop 0', '1 counts 0 0'])]
     for _ in range(r.randint(0, 3)):
         time += r.choice([0, 0, 1, 2])
         slot, verb = r.randrange(slots), r.choice(['hold', 'track'])
@@ -63,24 +66,37 @@ class Drawn:
         return reference.body_lines(self.settings, self.samples, self.clients)
 
 
-@kind('full', group=1, count=16)
+@kind('full', group=1, count=5)
 def full(r: Random) -> Row:
     it = Drawn(r)
     lines = it.body() + reference.end_lines(it.samples, it.clients)
     return f'{it.arguments()} {clients_text(it.clients)}', antt.text(bytes_of(lines))
 
 
+def is_mixed(lines: list[str]) -> bool:
+    """Whether some time has an event and an answer."""
+    times = [{line.split()[1] for line in lines if (line.split()[2] == 'count') == is_event}
+             for is_event in (True, False)]
+    return bool(times[0] & times[1])
+
+
 @kind('body', group=1, count=2)
 def body(r: Random) -> Row:
     it = Drawn(r, most=2)
+    while not is_mixed(it.body()):
+        it = Drawn(r, most=2)
     return f'{it.arguments()} {clients_text(it.clients)}', antt.text(bytes_of(it.body()))
 
 
 @kind('alone_to_end', group=1, count=3)
 def alone_to_end(r: Random) -> Row:
     it = Drawn(r, most=1)
-    (slots, script), = it.clients
-    lines = reference.alone_lines(it.settings, it.samples, slots, script)
+    lines: list[str] = []
+    while not any(line.startswith(f'{len(it.samples)} ') for line in lines):
+        # Something is told at the last time too.
+        it = Drawn(r, most=1)
+        (slots, script), = it.clients
+        lines = reference.alone_lines(it.settings, it.samples, slots, script)
     client = antt.record(slots=slots, script=antt.text(script))
     return (f'{it.arguments()} {client}',
             antt.listed([*lines, f'{len(it.samples)} end'], antt.text))

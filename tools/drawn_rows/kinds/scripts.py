@@ -23,7 +23,8 @@ def is_printable(r: Random) -> Row:
 
 def number_text(r: Random) -> str:
     """Digits, with or without a sign, or what is near to a number."""
-    digits = ''.join(r.choice('0123456789') for _ in range(r.choice([1, 2, 5, 12, 13, 13, 14])))
+    count = r.choice([1, 2, 12, 13, 13, 14, 65, 78])
+    digits = ''.join(r.choice('0123456789') for _ in range(count))
     return r.choice([digits, digits, digits, '-' + digits, '-' + digits, r.choice(ODD_NUMBERS)])
 
 
@@ -60,7 +61,7 @@ def spoilt_words(r: Random, words: list[str]) -> list[str]:
     made = [it if r.random() >= .06 else r.choice(
         ['z', '-', '-0', '0' + it, '0' * 13, '0' * 14, '-' + '0' * 13, it + 'x', '--1'])
         for it in words]
-    made += ['0'] * (r.random() < .08)
+    made += ['0'] * (r.random() < .12)
     return made[:len(made) - (r.random() < .06)]
 
 
@@ -69,7 +70,7 @@ def drawn_line(r: Random, latest: int = 60) -> list[int]:
     verb = r.choice(list(VERBS))
     words = spoilt_words(r, right_words(r, verb))
     if r.random() < .08:
-        verb = r.choice(['fly', 'State', 'holds', '', 'hol'])
+        verb = r.choice(['fly', 'State', 'holds', '', 'hol', 'stopp', 'state0'])
     time = str(r.randint(0, latest))
     if r.random() < .15:
         time = r.choice(['0', 'x', str(LATEST + r.randint(0, 1))])

@@ -58,8 +58,11 @@ def cells_done(r: Random) -> Row:
 def power_of(r: Random) -> Row:
     rate = r.choice([1999, 2500, 2000, r.randint(1000, 3999)])
     settings = Settings(rate, r.randint(-700, 700))
-    plan = Plan(drawing.satellite(r), r.randint(-6000, 6000), r.randint(0, 2),
-                r.choice([1, 3, 4]), 10)
+    dwell = r.choice([1, 3, 4])
+    if r.random() < .3:
+        # A sample for each period.
+        settings, dwell = settings._replace(rate=r.choice([1000, 1500])), r.choice([5, 9, 10])
+    plan = Plan(drawing.satellite(r), r.randint(-6000, 6000), r.randint(0, 2), dwell, 10)
     start = r.randint(0, 3)
     count = reference.dwell_end(settings, plan, start) + r.randint(0, 2)
     samples, cell = drawing.samples(r, count), r.randrange(reference.cell_count(plan))
@@ -76,13 +79,19 @@ def greatest_of(r: Random) -> Row:
 
 @kind('named_cell', group=1, count=24)
 def named_cell(r: Random) -> Row:
-    usual, at = r.choice([0, 0, 1, 20]), r.choice([0, 1, 5, r.randrange(60)])
-    powers = [usual] * reference.HALF_CHIPS
-    powers[at] = max(usual, r.choice([0, 1, 7, 20, r.randint(0, 90), 1 << 20]))
-    border = 10 * powers[at] * len(powers) // max(1, sum(powers))
+    bins = r.choice([0, 0, 0, 0, 0, 1])
+    count = reference.HALF_CHIPS * (1 + 2 * bins)
+    usual, at = r.choice([0, 0, 1, 20]), r.choice([0, 1, 5, r.randrange(60), count - 1])
+    powers = [usual] * count
+    powers[at] = max(usual, r.choice([0, 1, 7, 20, r.randint(0, 90), 1 << 20, 1 << 60]))
+    if at > 60:
+        # The first cell, which is nearly as great, shows of each other one that it isn't greatest.
+        powers[at], powers[0] = max(usual + 2, powers[at]), max(usual + 1, powers[at] - 1)
+    border = 10 * powers[at] * count // max(1, sum(powers))
     threshold = r.choice([border, border + 1, border - 1, 1 + size(r, 999)])
-    plan = Plan(drawing.satellite(r), 0, 0, 1, min(1000, max(1, threshold)))
-    return (f'{values.plan(plan)} (λ k. if k == {at} then {powers[at]} else {usual})',
+    plan = Plan(drawing.satellite(r), 0, bins, 1, min(1000, max(1, threshold)))
+    return (f'{values.plan(plan)} (λ k. if k == {at} then {powers[at]} else'
+            f' if k == 0 then {powers[0]} else {usual})',
             values.cell(reference.named(plan, powers)))
 
 
@@ -102,7 +111,7 @@ class Search:
 
     def __init__(self, r: Random) -> None:
         self.settings, self.plan = Settings(1000, 0), drawing.plan(r, bins=0)
-        self.begun = r.randint(0, 9)
+        self.begun = r.randint(1, 9)
         self.due = reference.due_time(self.settings, self.plan, self.begun)
         self.count = self.due + r.choice([-1, 0, 0, 0, 1])
         self.samples = f'(replicate {self.count} (real (pos 1)))'

@@ -81,7 +81,10 @@ def channel(r: Random, is_held: bool, begun: int) -> tuple[str, Channel]:
 @kind('progress', group=1, count=4)
 def progress(r: Random) -> Row:
     settings, samples = drawing.slow(r, 5000), drawing.samples(r, r.randint(4, 9))
-    text, made = channel(r, r.random() < .3, r.randint(0, 2))
+    if r.random() < .4:
+        # The code runs through with each sample.
+        settings = settings._replace(rate=1000)
+    text, made = channel(r, r.random() < .6, r.randint(0, 2))
     return (f'{values.settings(settings)} {text} {values.samples(samples)}',
             values.progress(*signal.segments(settings, samples, made)))
 
@@ -108,11 +111,11 @@ class Open(NamedTuple):
 
 def open_segment(r: Random) -> Open:
     """One whose code has come to anywhere, mostly to near its end."""
-    settings, (text, made) = drawing.slow(r), channel(r, False, 0)
+    settings, (text, made) = drawing.slow(r), channel(r, False, r.randint(0, 3))
     dumps = [Dump(1, drawing.sums(r)) for _ in range(r.randint(0, 3))]
     steps = signal.steps(settings, made.steering([it.sums for it in dumps]))
     far = 1 << 34 if r.random() < .8 else signal.CODE
-    segment = Segment(r.randint(0, 3), drawing.code_phase(r, far), size(r, CYCLE - 1))
+    segment = Segment(made.start + r.randint(0, 3), drawing.code_phase(r, far), size(r, CYCLE - 1))
     phases = Phases(segment.code, segment.carrier, *steps)
     return Open(settings, text, made, dumps,
                 Drawn(segment, phases, signal.segment_end(segment, steps[0])))

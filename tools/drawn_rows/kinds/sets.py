@@ -18,7 +18,8 @@ Maybe = Optional[list[int]]
 
 def drawn_page(r: Random) -> Page:
     """A page of any kind."""
-    return r.choice([any_page(r, 7), almanac(r.randint(1, 32), r.randint(5, 6), r.randint(0, 1))])
+    satellite = r.choice([0, 33, 63, r.randint(1, 32)])
+    return r.choice([any_page(r, 7), almanac(satellite, r.randint(5, 6), r.randint(0, 1))])
 
 
 def drawn_pages(r: Random) -> list[Page]:
@@ -42,6 +43,10 @@ def is_ephemeris(r: Random) -> Row:
 @kind('last_page', group=10, count=20)
 def last_page(r: Random) -> Row:
     pages, of = drawn_pages(r), r.choice([*EPHEMERIS, 'almanac'])
+    if r.random() < .4:
+        # More than a few bits count.
+        pages = [Page('utc', [])] * r.randint(0, 1)
+        pages += [Page(of, [it]) for it in range(r.choice([17, 65, 130]))]
     found = [it for it in pages if it.kind == of]
     return (f'(is_of {of}) {pages_text(pages)}',
             antt.optional(found[-1] if found else None, values.page))
@@ -73,10 +78,11 @@ value_kind('toa_of', 'almanac', TIME)
 
 def three(r: Random) -> list[Page]:
     """A page of each kind of an ephemeris, whose issues are mostly one."""
-    pages = []
+    pages, issue = [], r.choice([0, 255, r.randrange(256)])
+    other = r.choice([None, None, *EPHEMERIS])
     for of in EPHEMERIS:
         made = [r.randint(-3, 3) for _ in FIELDS[of]]
-        made[ISSUES[of]] = r.choice([7, 7, 7, 7, 8])
+        made[ISSUES[of]] = issue ^ (1 << r.randrange(8)) * (of == other)
         if of == 'clock':
             made[ISSUES[of]] += r.choice([0, 256, 768])
         pages.append(Page(of, made))
@@ -116,10 +122,10 @@ def joined_values(r: Random) -> Row:
 
 def lists(r: Random) -> tuple[list[int], list[int]]:
     """Two lists, often equal, or different in one value or in length."""
-    first = [r.randint(-2, 2) for _ in range(r.randint(0, 5))]
+    first = [r.randint(-2, 2) for _ in range(r.choice([31, 416, *(r.randint(0, 5),) * 3]))]
     other = list(first)
-    if first and r.random() < .3:
-        other[r.choice([0, -1])] += 1
+    if first and r.random() < .5:
+        other[r.choice([0, -1, -1])] += 1
     return first, other + [0] * (r.random() < .2)
 
 

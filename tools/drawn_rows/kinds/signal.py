@@ -110,18 +110,41 @@ def carrier_phase_after(r: Random) -> Row:
 
 
 def sign_kind(name: str, ahead: int) -> None:
-    """A kind of the sign of the chip so far ahead of a phase."""
-    @kind(name, count=6)
+    """A kind of the sign of the chip so far ahead of a phase. The first chips are computed
+    soonest."""
+    @kind(name, count=30)
     def _(r: Random) -> Row:
-        satellite, number = drawing.satellite(r), r.choice([0, 1, 1021, 1022, size(r, 1022)])
+        satellite, number = drawing.satellite(r), size(r, 20)
         within = r.choice([0, HALF_CHIP - 1, HALF_CHIP, CYCLE - 1, r.randrange(CYCLE)])
-        phase = (number << 32) + within
+        phase = (number << 32) + max(within, number == 0 and HALF_CHIP)
         return f'{satellite} {phase}', antt.integer(reference.chip_sign(satellite, phase + ahead))
 
 
 sign_kind('early_sign', HALF_CHIP)
 sign_kind('prompt_sign', 0)
 sign_kind('late_sign', -HALF_CHIP)
+
+
+def of_unlike_ends(r: Random) -> int:
+    """A satellite whose first chip isn't its last one."""
+    while True:
+        satellite = drawing.satellite(r)
+        if reference.chip(satellite, 1022) != reference.chip(satellite, 0):
+            return satellite
+
+
+@kind('late_sign_at_start', group=1, count=1, of='late_sign')
+def late_sign_at_start(r: Random) -> Row:
+    """Less than half a chip after the start it is the last chip's."""
+    satellite, phase = of_unlike_ends(r), r.choice([0, HALF_CHIP - 1])
+    return f'{satellite} {phase}', antt.integer(1 - 2 * reference.chip(satellite, 1022))
+
+
+@kind('early_sign_at_end', group=1, count=1, of='early_sign')
+def early_sign_at_end(r: Random) -> Row:
+    """Half a chip before the end, or less, it is the first chip's."""
+    satellite, phase = of_unlike_ends(r), CODE - r.choice([1, HALF_CHIP])
+    return f'{satellite} {phase}', antt.integer(1 - 2 * reference.chip(satellite, 0))
 
 
 def wave_kind(name: str, table: tuple[int, ...]) -> None:

@@ -125,7 +125,7 @@ def asked(r: Random) -> tuple[str, tuple[int, ...]]:
     """A command, which starts nothing large."""
     verb, numbers = drawing.start(r)
     return r.choice([(verb, (1, 0, 0, 1, 10) if verb == 'acquire' else numbers),
-                     ('counts', (size(r, 99),)), ('state', ()), ('stop', ())])
+                     ('counts', (r.choice([0, size(r, 99)]),)), ('state', ()), ('stop', ())])
 
 
 @kind('answer_at_end', group=4, count=30)
@@ -147,10 +147,12 @@ def answer_at_end(r: Random) -> Row:
 def answer_with(r: Random) -> Row:
     """Whether a life is on decides; what it is doesn't matter, but for `state`."""
     is_on, command = r.random() < .6, asked(r)
-    while command[0] == 'state':
+    while is_on and command[0] == 'state':
         command = asked(r)
     is_start = command[0] in reference.STARTS
     answer = Answer('err', 9 if is_on else 10) if is_on == is_start else Answer('ok')
+    if command[0] == 'state':
+        answer = Answer('state', View('idle'))
     on = f'(Some {life(values.start(*drawing.start(r)))})' if is_on else 'None'
     return (f'{values.settings(drawing.settings(r))} [] {on} {values.request(*command)}',
             values.answer(answer))

@@ -55,12 +55,17 @@ def checked_at(r: Random) -> Row:
     return f'{values.bits(bits)} {place}', antt.optional(message.check(word, prior))
 
 
-def header(r: Random) -> tuple[list[int], int]:
-    """Some bits with a header, in half of them with one of its bits changed, and its place."""
+def whole_header(r: Random) -> tuple[list[int], int]:
+    """Some bits with a header, and its place."""
     place = r.randint(2, 6)
     bits = [*some_bits(r, place - 2), *[r.randint(0, 1)] * 2]
-    bits = frames.with_words(bits, frames.data_words(r))[:place + 60]
-    if r.random() < .5:
+    return frames.with_words(bits, frames.data_words(r))[:place + 60], place
+
+
+def header(r: Random) -> tuple[list[int], int]:
+    """Some bits with a header, in two of five with one of its bits changed, and its place."""
+    bits, place = whole_header(r)
+    if r.random() < .4:
         bits[r.randrange(place - 2, len(bits))] ^= 1
     return bits, place
 
@@ -68,8 +73,9 @@ def header(r: Random) -> tuple[list[int], int]:
 @kind('is_candidate', group=2, count=10)
 def is_candidate(r: Random) -> Row:
     bits, place = header(r)
-    bits = bits[:len(bits) - r.choice([0, 0, 0, 1])] + some_bits(r, r.choice([0, 0, 2]))
-    place = max(0, place + r.choice([0, 0, 0, 0, -1, 1, -place]))
+    if r.random() < .6:
+        bits = bits[:len(bits) - r.choice([0, 0, 0, 1])] + some_bits(r, r.choice([0, 0, 2]))
+        place = max(0, place + r.choice([0, 0, 0, 0, -1, 1, -place]))
     return (f'{values.bits(bits)} {place}',
             antt.boolean(message.is_candidate(bits, place)))
 
@@ -90,14 +96,40 @@ def starts_from(r: Random) -> Row:
     return f'{values.bits(bits)} {most} {first}', antt.listed(found[:min(1, most)])
 
 
+@kind('starts_of_header', group=1, count=3, of='starts_of')
+def starts_of_header(r: Random) -> Row:
+    """Of fewer bits than a subframe has."""
+    bits, _ = header(r)
+    return values.bits(bits), antt.listed(message.starts(bits))
+
+
+def second_kind(name: str, ahead: int) -> None:
+    """A kind of starts, with a second header so many bits after the first one."""
+    @kind(name, group=1, count=1, of='starts_from')
+    def _(r: Random) -> Row:
+        (bits, place), words = whole_header(r), frames.data_words(r)
+        bits += some_bits(r, ahead - 62) + [r.randint(0, 1)] * 2
+        bits = frames.with_words(bits, words)[:len(bits) + 60]
+        found = [it for it in message.starts(bits) if it >= place]
+        return f'{values.bits(bits)} 2 {place}', antt.listed(found[:2])
+
+
+second_kind('starts_from_near', 299)
+second_kind('starts_from_next', 300)
+
+
 @kind('found_among', group=1, count=6)
 def found_among(r: Random) -> Row:
     """Starts among bits of a subframe's length or more, the last of which ends with them, or not.
     Its words are those that pass, whatever begins there."""
-    bits = some_bits(r, 2) + some_bits(r, 300 + r.choice([0, 5]))
+    more = r.choice([0, 5, 300, 301, 340])
+    bits = some_bits(r, 2) + some_bits(r, 300 + more)
     last = len(bits) - 300 + r.choice([0, 0, 0, 1])
     awaited = r.choice([None, last, last - r.randint(1, 2)])
-    told = None
+    told, due, before = None, awaited, [2] * (more >= 300)
+    if before:
+        awaited, due = None, 302
     if last + 300 == len(bits):
-        told = message.Found(message.subframe(bits, last), message.gap_before(awaited, last))
-    return f'{values.bits(bits)} {antt.optional(awaited)} ({last} ∷ [])', values.found(told)
+        told = message.Found(message.subframe(bits, last), message.gap_before(due, last))
+    starts = antt.listed([*before, last])
+    return f'{values.bits(bits)} {antt.optional(awaited)} {starts}', values.found(told)

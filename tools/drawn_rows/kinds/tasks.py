@@ -45,14 +45,14 @@ class Task(NamedTuple):
         """The task and its input."""
         return f'{self.text()} {antt.record(bytes=antt.listed(self.data), end=self.end)}'
 
-    def count(self) -> int:
+    def came(self) -> int:
         """How many samples came."""
         return len(self.data) * signal.SAMPLES_PER_BYTE[self.packing]
 
     def samples(self) -> list[Sample]:
         """The samples that are taken: those up to the limit."""
         return [signal.sample(self.packing, self.data, it)
-                for it in range(min(self.limit, self.count()))]
+                for it in range(min(self.limit, self.came()))]
 
     def lines(self, has_ends: bool) -> list[str]:
         """The lines of these samples."""
@@ -89,7 +89,7 @@ def text_kind(name: str, count: int) -> None:
     @kind(name, group=1, count=count)
     def _(r: Random) -> Row:
         it = drawn_task(r, 4)
-        is_whole = it.end == 'exhausted' and it.count() <= it.limit
+        is_whole = it.end == 'exhausted' and it.came() <= it.limit
         has_ends = {'body_text': False, 'full_text': True, 'due_text': is_whole}[name]
         return it.arguments(), antt.text(bytes_of(it.lines(has_ends)))
 
@@ -101,19 +101,23 @@ text_kind('due_text', 6)
 
 @kind('bank_events_at_end', group=1, count=4)
 def bank_events_at_end(r: Random) -> Row:
-    """Two slots that have the same commands."""
+    """Slots of which one of a client, or all of it, have commands. They tell of a dump that ends
+    with the last sample."""
     settings, samples = drawing.slow(r, 5000), drawing.samples(r, r.randint(1, 4))
     slot, verb = slots.Slot(settings, samples), r.choice(['hold', 'track'])
-    given = (drawing.satellite(r), 0, r.randint(2040, 2045))
+    given = (drawing.satellite(r), 0, 2045)
     slot.answer(0, verb, given)
     slot.answer(0, 'counts', (9,))
+    samples = samples[:max(it for it in range(5) if slot.events(it))]
     commands = antt.listed([antt.record(time=0, request=values.request(verb, given)),
                             antt.record(time=0, request='(counts 9)')])
-    keys = [(r.randint(1, 8), r.randint(0, 7)) for _ in range(r.randint(0, 2))]
+    keys = [(r.randint(1, 4), r.randint(5, 7)), (r.randint(5, 8), r.randint(0, 3))]
+    mine = r.choice(keys)[0]
     told = [antt.record(client=client, slot=number, time=len(samples), event=values.event(it))
-            for client, number in keys for it in slot.events(len(samples))]
+            for client, number in keys if client == mine for it in slot.events(len(samples))]
     pairs = antt.listed([f'({client}, {number})' for client, number in keys])
-    return (f'{values.settings(settings)} {pairs} (λ c. λ s. {commands})'
+    asked_for = f'(λ c. λ s. if c == {mine} then {commands} else [])'
+    return (f'{values.settings(settings)} {pairs} {asked_for}'
             f' {values.samples(samples)}', antt.listed(told))
 
 

@@ -7,7 +7,7 @@ from __future__ import annotations
 
 from typing import Iterator, Sequence
 
-from .fields import EPHEMERIS, FIELDS, Page
+from .fields import EPHEMERIS, FIELDS
 from .message import Words, ident, time_of_week
 from .scripts import Command, script
 from .sets import Ephemeris, Report
